@@ -1,0 +1,32 @@
+-- digests, and the text that stands for one
+use Rattle.std.specs.Prelude.{◌≡◌, ℕ, ◌+◌, ◌%◌, ◌/◌, ◌<◌, All, List, [], ◌∷◌, ◌++◌, length, codes, nat_lt, if◌then◌else◌}
+use Rattle.std.specs.List.{flat_map}
+use Rattle.std.specs.Int.{to_le_bytes, w64}
+
+-- the digit of half a byte, in lower case
+abbrev pub hex_digit : ℕ → ℕ
+hex_digit half = if nat_lt half 10 then 48 + half else 87 + half
+
+-- the two digits of a byte, that of the low half first
+abbrev pub hex_pair : ℕ → List ℕ
+hex_pair byte = hex_digit (byte % 16) ∷ hex_digit (byte / 16) ∷ []
+
+-- the digits of these bytes
+abbrev pub hex_text : List ℕ → List ℕ
+hex_text bytes = flat_map hex_pair bytes
+
+-- the digest text of these bytes, by this hash
+abbrev pub digest_text : (List ℕ → List ℕ) → List ℕ → List ℕ
+digest_text hash bytes = hex_text (hash bytes)
+
+-- a name between the bytes that set it apart
+abbrev pub delimiter_bytes : List ℕ → List ℕ
+delimiter_bytes name = (0 ∷ codes "SCCACHE" ++ 0 ∷ []) ++ name ++ 0 ∷ []
+
+-- the length of these bytes, as 8 bytes with the lowest first, and the bytes
+abbrev pub length_prefixed : List ℕ → List ℕ
+length_prefixed bytes = to_le_bytes w64 (length bytes) ++ bytes
+
+-- equal digits are of equal bytes
+abbrev pub HexTellsBytes : Type 0
+HexTellsBytes = (a b : List ℕ) → All (λ byte. byte < 256) a → All (λ byte. byte < 256) b → hex_text a ≡ hex_text b → a ≡ b

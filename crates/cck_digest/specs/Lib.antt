@@ -1,0 +1,4 @@
+pub mod Digest
+pub mod Finder
+pub mod Stream
+pub mod TimeMacros

@@ -1,0 +1,98 @@
+//! Digests, and the text that stands for one.
+ghost use Rattle.std.specs.Prelude.{◌≡◌, ◌<◌, ℕ, List, [], ◌++◌, IfOk, IsOkUnless, string_bytes};
+ghost use Rattle.cck_digest.specs.Digest.{delimiter_bytes, digest_text, hex_digit, hex_text, length_prefixed};
+
+use crate::{HashState, UtilError};
+use std::alloc::Global;
+use std::marker::Model;
+
+/// A digest in the making: what is fed piece by piece is one text, and its pieces don't show.
+///
+/// Upstream's `util::Digest`, with the hash function handed in.
+#[derive(Drop)]
+pub struct Digest<H: HashState> {
+    state: H,
+}
+
+impl<H: HashState> Model for Digest<H> {
+    ghost Value = { H };
+
+    ghost view = { λ digest. digest.state };
+}
+
+impl<H: HashState> Digest<H> {
+    /// A digest that was fed nothing. It takes no memory.
+    pub fn new() -> Digest<H>
+        ensures { H.holds result [] }
+    {
+        Digest { state: H::start() }
+    }
+
+    /// Feeds these bytes. It takes no memory.
+    pub fn update(&mut self, bytes: &[u8])
+        ensures { (fed : List ℕ) → H.holds self.old fed → H.holds self.new (fed ++ bytes.now) }
+    {
+        self.state.feed(bytes);
+    }
+
+    /// Feeds a zero byte, `SCCACHE`, a zero byte, the name and a zero byte, so that what follows
+    /// is told from what came before. It takes no memory.
+    pub fn delimiter(&mut self, name: &[u8])
+        ensures { (fed : List ℕ) → H.holds self.old fed → H.holds self.new (fed ++ delimiter_bytes name.now) }
+    {
+        self.update(b"\0SCCACHE\0");
+        self.update(name);
+        self.update(b"\0");
+    }
+
+    /// The digest text of all that was fed: the 64 digits that [`hex`] writes of the output.
+    ///
+    /// It is refused only for want of memory, as [`UtilError::Memory`].
+    pub fn finish(self, alloc: Global) -> Result<String, UtilError>
+        ensures text { IfOk result (λ text. (fed : List ℕ) → H.holds self fed → string_bytes text ≡ digest_text H.hash fed) }
+        ensures refused { IsOkUnless result UtilError.Memory }
+    {
+        let out = self.state.out();
+        hex(alloc, &out)
+    }
+}
+
+/// Feeds the length of these bytes, as 8 bytes with the lowest first, and then the bytes. It takes
+/// no memory.
+///
+/// In the place of upstream's `HashToDigest`, whose lengths are as wide as the machine's words.
+pub fn hash_len_prefixed<H: HashState>(digest: &mut Digest<H>, bytes: &[u8])
+    ensures { (fed : List ℕ) → H.holds digest.old fed → H.holds digest.new (fed ++ length_prefixed bytes.now) }
+{
+    let length = bytes.len() as u64;
+    digest.update(&length.to_le_bytes());
+    digest.update(bytes);
+}
+
+// The digit of half a byte, in lower case.
+fn digit(half: u8) -> char
+    requires { half < 16 }
+    ensures { result ≡ hex_digit half }
+{
+    if half < 10 {
+        char::from(b'0' + half)
+    } else {
+        char::from(b'a' + (half - 10))
+    }
+}
+
+/// Two hexadecimal digits for each byte, in lower case, those of the low half first.
+///
+/// The order of the halves is upstream's `util::hex`: `1f` is written `f1`. It is refused only for
+/// want of memory, as [`UtilError::Memory`].
+pub fn hex(alloc: Global, bytes: &[u8]) -> Result<String, UtilError>
+    ensures text { IfOk result (λ text. string_bytes text ≡ hex_text bytes.now) }
+    ensures refused { IsOkUnless result UtilError.Memory }
+{
+    let mut text = String::new(alloc);
+    for byte in bytes {
+        text.push(digit(*byte % 16))?;
+        text.push(digit(*byte / 16))?;
+    }
+    Ok(text)
+}

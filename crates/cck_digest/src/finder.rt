@@ -1,0 +1,159 @@
+//! Which macros of time a stream holds, however it is cut into pieces.
+ghost use Rattle.std.specs.Prelude.{◌≡◌, ℕ, List, [], ◌++◌, ◌≤◌, ◌⊎◌, ◌↔◌, IsTrue, length, take};
+ghost use Rattle.cck_digest.specs.TimeMacros.{Follows, Has, date_macro, last_bytes, time_macro, timestamp_macro};
+
+use memchr::memmem;
+use std::marker::Model;
+
+const TIME: &[u8] = b"__TIME__";
+
+const DATE: &[u8] = b"__DATE__";
+
+const TIMESTAMP: &[u8] = b"__TIMESTAMP__";
+
+// What both macros with a time in them begin with. Where it is absent, so are they.
+const TIME_STEM: &[u8] = b"__TIME";
+
+// How much of the longest macro can stand at the end of a piece.
+const TAIL_LENGTH: usize = 12;
+
+// The end of what came before, and as much of the next piece.
+const WINDOW_LENGTH: usize = 24;
+
+/// Finds the macros `__TIME__`, `__DATE__` and `__TIMESTAMP__` in a stream that is handed over
+/// piece by piece. Where the pieces are cut changes nothing.
+///
+/// It keeps the last 12 bytes of the stream, and takes no memory. In the place of upstream's
+/// `util::TimeMacroFinder`, which can join pieces that are not neighbours.
+#[derive(Debug, Drop)]
+pub struct TimeMacroFinder {
+    found_time: bool,
+    found_date: bool,
+    found_timestamp: bool,
+    tail: [u8; TAIL_LENGTH],
+    length: usize,
+}
+
+impl Model for TimeMacroFinder {
+    ghost use Rattle.std.specs.Prelude.{◌≤◌};
+    ghost use Rattle.cck_digest.specs.TimeMacros.{Seen};
+
+    ghost Value = { Seen };
+
+    ghost use Rattle.cck_digest.specs.Finder.{seen_by};
+
+    ghost view = { seen_by };
+
+    ghost invariant = { λ finder. finder.length ≤ 12 };
+}
+
+// Whether the word stands in the text.
+fn has(text: &[u8], word: &[u8]) -> bool
+    ensures { IsTrue result ↔ Has text.now word.now }
+{
+    memmem::find(text, word).is_some()
+}
+
+// Writes the end of what came before and the beginning of the piece, and says how many bytes they are.
+fn fill(window: &mut [u8; WINDOW_LENGTH], tail: &[u8], piece: &[u8]) -> usize
+    requires { length tail.now ≤ 12 }
+    ensures within { result ≤ 24 }
+    ensures across { take result window.new ≡ tail.now ++ take 12 piece.now }
+{
+    let kept = tail.len();
+    let first = piece.len().min(TAIL_LENGTH);
+    window[..kept].copy_from_slice(tail);
+    window[kept..kept + first].copy_from_slice(&piece[..first]);
+    kept + first
+}
+
+// Writes the last bytes of a text, and says how many they are.
+fn keep(tail: &mut [u8; TAIL_LENGTH], text: &[u8]) -> usize
+    ensures within { result ≤ 12 }
+    ensures last { take result tail.new ≡ last_bytes text.now }
+{
+    let start = text.len().saturating_sub(TAIL_LENGTH);
+    let length = text.len() - start;
+    tail[..length].copy_from_slice(&text[start..]);
+    length
+}
+
+impl TimeMacroFinder {
+    /// A finder that was handed nothing.
+    pub fn new() -> TimeMacroFinder
+        ensures { Follows result [] }
+    {
+        TimeMacroFinder {
+            found_time: false,
+            found_date: false,
+            found_timestamp: false,
+            tail: [0; TAIL_LENGTH],
+            length: 0,
+        }
+    }
+
+    /// Goes on with the next piece of the stream. An empty one changes nothing.
+    pub fn find_time_macros(&mut self, piece: &[u8])
+        ensures follows { (stream : List ℕ) → Follows self.old stream → Follows self.new (stream ++ piece.now) }
+        ensures empty { piece.now ≡ [] → self.new ≡ self.old }
+    {
+        if piece.is_empty() {
+            return;
+        }
+        let mut window = [0u8; WINDOW_LENGTH];
+        let filled = fill(&mut window, &self.tail[..self.length], piece);
+        let across = &window[..filled];
+        self.mark(across);
+        self.mark(piece);
+        let last = if piece.len() < TAIL_LENGTH {
+            across
+        } else {
+            piece
+        };
+        self.length = keep(&mut self.tail, last);
+    }
+
+    // Sets the flags of the macros that stand in this text. No search is made for what was found.
+    fn mark(&mut self, text: &[u8])
+        ensures time { IsTrue self.new.time ↔ (IsTrue self.old.time ⊎ Has text.now time_macro) }
+        ensures date { IsTrue self.new.date ↔ (IsTrue self.old.date ⊎ Has text.now date_macro) }
+        ensures timestamp { IsTrue self.new.timestamp ↔ (IsTrue self.old.timestamp ⊎ Has text.now timestamp_macro) }
+        ensures tail { self.new.tail ≡ self.old.tail }
+    {
+        self.found_date = self.found_date || has(text, DATE);
+        let is_settled = self.found_time && self.found_timestamp;
+        if !is_settled && has(text, TIME_STEM) {
+            self.found_time = self.found_time || has(text, TIME);
+            self.found_timestamp = self.found_timestamp || has(text, TIMESTAMP);
+        }
+    }
+
+    /// Whether any of the three macros stands in the stream.
+    pub fn found_time_macros(&self) -> bool
+        ensures { (stream : List ℕ) → Follows self.now stream
+            → IsTrue result ↔ (Has stream time_macro ⊎ (Has stream date_macro ⊎ Has stream timestamp_macro)) }
+    {
+        self.found_time || self.found_date || self.found_timestamp
+    }
+
+    /// Whether `__TIME__` stands in the stream.
+    pub fn found_time(&self) -> bool
+        ensures { (stream : List ℕ) → Follows self.now stream → IsTrue result ↔ Has stream time_macro }
+    {
+        self.found_time
+    }
+
+    /// Whether `__DATE__` stands in the stream.
+    pub fn found_date(&self) -> bool
+        ensures { (stream : List ℕ) → Follows self.now stream → IsTrue result ↔ Has stream date_macro }
+    {
+        self.found_date
+    }
+
+    /// Whether `__TIMESTAMP__` stands in the stream.
+    pub fn found_timestamp(&self) -> bool
+        ensures { (stream : List ℕ) → Follows self.now stream → IsTrue result ↔ Has stream timestamp_macro }
+    {
+        self.found_timestamp
+    }
+}

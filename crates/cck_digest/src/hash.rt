@@ -1,0 +1,64 @@
+//! The hash function under every digest. It is handed in, so that no theorem rests on which one it is.
+ghost use Rattle.std.specs.Prelude.{◌≡◌, ℕ, List, [], ◌++◌, length};
+ghost use Rattle.sha2.specs.Sha256.{sha256};
+ghost use Rattle.sha2.specs.Hashers.{Holds256};
+
+use sha2::{Digest as _, Sha256};
+
+/// A hash function with an output of 32 bytes, fed piece by piece.
+///
+/// A state may be said to hold a list of bytes: those that it was fed. Feeding two pieces in turn
+/// is feeding their concatenation, and the output depends on what is held and on nothing else.
+/// No call takes memory.
+pub trait HashState: Drop {
+    // The state was fed these bytes.
+    ghost holds: { Self → List ℕ → Type 0 };
+
+    // The output for these bytes.
+    ghost hash: { List ℕ → List ℕ };
+
+    /// A state that was fed nothing.
+    fn start() -> Self
+        ensures { holds result [] };
+
+    /// Feeds a piece, behind what was fed before.
+    fn feed(&mut self, bytes: &[u8])
+        ensures { (fed : List ℕ) → holds self.old fed → holds self.new (fed ++ bytes.now) };
+
+    /// The output for all that was fed.
+    fn out(self) -> [u8; 32]
+        ensures { (fed : List ℕ) → holds self fed → result ≡ hash fed };
+
+    // An output has 32 bytes.
+    ghost length_hash: { (fed : List ℕ) → length (hash fed) ≡ 32 };
+}
+
+/// SHA-256, of FIPS 180-4.
+#[derive(Drop)]
+pub struct Sha256State {
+    hasher: Sha256,
+}
+
+impl HashState for Sha256State {
+    ghost use Rattle.sha2.proofs.Facts256.{length-sha256};
+
+    ghost holds = { λ state fed. Holds256 state.hasher fed };
+
+    ghost hash = { sha256 };
+
+    fn start() -> Sha256State {
+        Sha256State {
+            hasher: Sha256::new(),
+        }
+    }
+
+    fn feed(&mut self, bytes: &[u8]) {
+        self.hasher.update(bytes);
+    }
+
+    fn out(self) -> [u8; 32] {
+        self.hasher.finalize()
+    }
+
+    ghost length_hash = { length-sha256 };
+}

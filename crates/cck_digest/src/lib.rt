@@ -1,0 +1,36 @@
+//! Digests, and what they are fed.
+//!
+//! A cache key is the *digest text* of a list of bytes, its *material*: the output of a hash
+//! function, written as digits. This crate has the calls that make one, and each of them says
+//! which bytes it feeds, so that a layer above can say what its whole material is.
+//!
+//! - [`HashState`] is the hash function, handed in by the caller; [`Sha256State`] is the program's.
+//! - [`Digest`] is fed piece by piece and ends in a text; [`hash_len_prefixed`] and [`hex`] go with it.
+//! - [`read_to_end`] reads a reader to its end and hands each piece to a [`Sink`].
+//! - [`Digest::reader_sync`] and its kin digest what a reader gives.
+//! - [`TimeMacroFinder`] finds the macros of time in a stream, however it is cut.
+//! - [`laws`] has what the definitions say above what they compute.
+//!
+//! ```rust
+//! let mut digest = Digest::<Sha256State>::new();
+//! digest.update(b"ab");
+//! digest.update(b"c");
+//! let text = digest.finish(alloc)?; // the text of the SHA-256 of `abc`
+//! ```
+#![tactic(auto)]
+
+mod digest;
+mod error;
+mod finder;
+mod hash;
+pub mod laws;
+mod reader;
+mod stream;
+#[cfg(test)]
+mod tests;
+
+pub use digest::{Digest, hash_len_prefixed, hex};
+pub use error::UtilError;
+pub use finder::TimeMacroFinder;
+pub use hash::{HashState, Sha256State};
+pub use stream::{HASH_BUFFER_SIZE, Sink, read_all, read_to_end};

@@ -1,0 +1,118 @@
+//! Digests of what a reader gives: upstream's `Digest::reader_sync` and its kin, with the allocator
+//! handed in.
+ghost use Rattle.std.specs.Prelude.{◌≡◌, ◌++◌, ◌⊎◌, ℕ, List, [], IfOk, IfSome, IfErr, string_bytes};
+ghost use Rattle.std.specs.Fn.{CalledAt};
+ghost use Rattle.std.specs.List.{FoldsTo};
+ghost use Rattle.cck_digest.specs.Digest.{digest_text};
+ghost use Rattle.cck_digest.specs.Stream.{concatenation};
+ghost use Rattle.cck_digest.specs.TimeMacros.{Follows};
+
+use crate::{Digest, HashState, Sink, TimeMacroFinder, UtilError, read_to_end};
+use std::alloc::{AllocError, Global};
+use std::io::Read;
+
+/// Feeds each piece.
+impl<H: HashState> Sink for Digest<H> {
+    ghost takes = { λ before piece after. (fed : List ℕ) → H.holds before fed → H.holds after (fed ++ piece) };
+
+    fn take(&mut self, piece: &[u8]) -> Result<(), AllocError> {
+        self.update(piece);
+        Ok(())
+    }
+}
+
+// A digest whose stream is searched for the macros of time.
+#[derive(Drop)]
+struct Watched<H: HashState> {
+    digest: Digest<H>,
+    finder: TimeMacroFinder,
+}
+
+impl<H: HashState> Sink for Watched<H> {
+    ghost takes = { λ before piece after.
+        ((fed : List ℕ) → H.holds before.digest fed → H.holds after.digest (fed ++ piece))
+        × ((fed : List ℕ) → Follows before.finder fed → Follows after.finder (fed ++ piece)) };
+
+    fn take(&mut self, piece: &[u8]) -> Result<(), AllocError> {
+        self.digest.update(piece);
+        self.finder.find_time_macros(piece);
+        Ok(())
+    }
+}
+
+// A digest whose pieces are shown to a closure.
+#[derive(Drop)]
+struct Each<H: HashState, F: Drop> {
+    digest: Digest<H>,
+    each: F,
+}
+
+impl<H: HashState, F: FnMut(&[u8]) + Drop> Sink for Each<H, F> {
+    ghost is_open = { λ shown. F.IsAlwaysCallable shown.each };
+
+    ghost takes = { λ before piece after.
+        CalledAt F.FnMut before.each piece tt after.each
+        × ((fed : List ℕ) → H.holds before.digest fed → H.holds after.digest (fed ++ piece)) };
+
+    fn take(&mut self, piece: &[u8]) -> Result<(), AllocError> {
+        (self.each)(piece);
+        self.digest.update(piece);
+        Ok(())
+    }
+}
+
+impl<H: HashState> Digest<H> {
+    /// The digest text of all that the reader gives. It is refused as [`read_to_end`] is, and there
+    /// is no digest then.
+    pub fn reader_sync<R: Read>(alloc: Global, reader: &mut R) -> Result<String, UtilError>
+        ensures text { IfOk result (λ text. IfSome (R.remaining reader.old) (λ stream.
+            string_bytes text ≡ digest_text H.hash stream)) }
+        ensures refused { IfErr result (λ e. (e ≡ UtilError.Memory) ⊎ (e ≡ UtilError.Read)) }
+    {
+        let mut digest = Digest::<H>::new();
+        read_to_end(alloc, reader, &mut digest)?;
+        digest.finish(alloc)
+    }
+
+    /// A digest that was fed all that the reader gives. `each` is called with each piece before
+    /// the piece is fed. It is refused as [`read_to_end`] is.
+    pub fn reader_sync_with<R: Read, F: FnMut(&[u8]) + Drop>(
+        alloc: Global,
+        reader: &mut R,
+        each: F,
+    ) -> Result<Digest<H>, UtilError>
+        requires { F.IsAlwaysCallable each }
+        ensures fed { IfOk result (λ digest. (pieces : List (List ℕ)) × (last : F)
+            × FoldsTo (λ before piece after. CalledAt F.FnMut before piece tt after) each pieces last
+            × H.holds digest (concatenation pieces)
+            × IfSome (R.remaining reader.old) (λ stream. stream ≡ concatenation pieces)) }
+        ensures refused { IfErr result (λ e. (e ≡ UtilError.Memory) ⊎ (e ≡ UtilError.Read)) }
+    {
+        let mut shown = Each {
+            digest: Digest::<H>::new(),
+            each,
+        };
+        read_to_end(alloc, reader, &mut shown)?;
+        Ok(shown.digest)
+    }
+
+    /// The digest text of all that the reader gives, and a finder that was handed the same. It is
+    /// refused as [`read_to_end`] is.
+    pub fn reader_sync_time_macros<R: Read>(
+        alloc: Global,
+        reader: &mut R,
+    ) -> Result<(String, TimeMacroFinder), UtilError>
+        ensures text { IfOk result (λ pair. IfSome (R.remaining reader.old) (λ stream.
+            string_bytes pair.0 ≡ digest_text H.hash stream)) }
+        ensures macros { IfOk result (λ pair. IfSome (R.remaining reader.old) (λ stream. Follows pair.1 stream)) }
+        ensures refused { IfErr result (λ e. (e ≡ UtilError.Memory) ⊎ (e ≡ UtilError.Read)) }
+    {
+        let mut watched = Watched {
+            digest: Digest::<H>::new(),
+            finder: TimeMacroFinder::new(),
+        };
+        read_to_end(alloc, reader, &mut watched)?;
+        let Watched { digest, finder } = watched;
+        Ok((digest.finish(alloc)?, finder))
+    }
+}
