@@ -1,0 +1,9 @@
+pub mod BestLemmas
+pub mod CutLemmas
+pub mod Examples
+pub mod FoundLemmas
+pub mod GatherLemmas
+pub mod PlaceLemmas
+pub mod PositionLemmas
+pub mod ScanLemmas
+pub mod WithoutLemmas
