@@ -1,0 +1,11 @@
+pub mod CaseLemmas
+pub mod ComponentLemmas
+pub mod DurationLemmas
+pub mod EscapeLemmas
+pub mod JoinLemmas
+pub mod MomentLemmas
+pub mod NameLemmas
+pub mod NormalLemmas
+pub mod OrderLemmas
+pub mod PartLemmas
+pub mod PrefixLemmas

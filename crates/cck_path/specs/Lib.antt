@@ -1,0 +1,9 @@
+pub mod Components
+pub mod Duration
+pub mod Escape
+pub mod Names
+pub mod Path
+pub mod Prefixed
+pub mod Text
+pub mod Timestamp
+pub mod WinPath

@@ -1,0 +1,297 @@
+//! Paths: byte strings that are read as lists of components.
+ghost use Rattle.std.specs.Prelude.{◌≡◌, ◌≢◌, ◌++◌, ◌<◌, ◌∷◌, [], length, map, OnOk, IfOk, IsOkUnless, MatchOption, MatchBool, option_to_list};
+ghost use Rattle.std.specs.List.{join_with_byte};
+ghost use Rattle.std.specs.Option.{option_copied, option_map, option_and_then};
+ghost use Rattle.std.specs.Iterator.{YieldsFirstBy, at_most};
+ghost use Rattle.std.specs.Io.KnownBytes.{Appends};
+ghost use Rattle.std.specs.Path.{extension_of_split, rsplit_once};
+ghost use Rattle.cck_path.specs.Path.{Name, components, beginning, inner_components, part_components, has_root, joined, normal, leading_names, path_cmp};
+ghost use Rattle.cck_path.specs.Text.{ends_in_slash, path_text, join_path as joined_text};
+ghost use Rattle.cck_path.specs.Names.{file_name_of, extension_of};
+ghost use Rattle.cck_path.specs.Components.{component_of, components_behind, components_left};
+
+use cck_digest::UtilError;
+use memchr::{memchr, memrchr};
+use std::alloc::Global;
+use std::cmp::Ordering;
+use std::io::Write;
+
+/// A component of a path. They stand in this order, and names among them in that of their bytes.
+#[derive(Debug, Copy, Clone, PartialEq, Eq, PartialOrd, Ord)]
+pub enum Component<'a> {
+    /// The root: a `/` that the path begins with.
+    RootDir,
+    /// A `.` that is the first part of a path. Others are left out.
+    CurDir,
+    /// `..`.
+    ParentDir,
+    /// A name: any other part that isn't empty.
+    Normal(&'a [u8]),
+}
+
+/// The components of a path, in order.
+///
+/// `/` separates. Empty parts are left out, and so is a part `.` unless it is the first part of a
+/// path without root. Two paths are the same if their components are.
+///
+/// ```rust
+/// Components::new(b"/a//./b/") // the root, `a`, `b`
+/// ```
+#[derive(Debug, Clone, Drop)]
+pub struct Components<'a> {
+    rest: &'a [u8],
+    has_started: bool,
+}
+
+impl<'a> Components<'a> {
+    /// The components of this path. It takes no memory.
+    pub fn new(path: &'a [u8]) -> Components<'a>
+        ensures { components_left result ≡ components path.now }
+    {
+        Components {
+            rest: path,
+            has_started: false,
+        }
+    }
+}
+
+impl<'a> Iterator for Components<'a> {
+    type Item = Component<'a>;
+
+    ghost next_gives = { YieldsFirstBy component_of components_left };
+
+    ghost remaining = { λ c. at_most (length (components_left c)) };
+
+    fn next(&mut self) -> Option<Component<'a>> {
+        let (component, rest) = take_component(self.has_started, self.rest)?;
+        self.rest = rest;
+        self.has_started = true;
+        Some(component)
+    }
+}
+
+// The first of the components that are still to come, and what follows it.
+#[tactic(auto, unfolding(crate::specs::Path::components))]
+fn take_component(has_started: bool, rest: &[u8]) -> Option<(Component<'_>, &[u8])>
+    ensures { MatchOption result (components_behind has_started rest.now ≡ []) (λ next.
+        components_behind has_started rest.now
+        ≡ component_of next.0 ∷ inner_components next.1.now) }
+{
+    if has_started {
+        return next_component(rest);
+    }
+    match first_component(rest) {
+        Some(first) => Some((first, rest)),
+        None => next_component(rest),
+    }
+}
+
+// The root or the `.` that the path begins with.
+fn first_component(path: &[u8]) -> Option<Component<'_>>
+    ensures { option_to_list (option_map component_of result) ≡ beginning path.now }
+{
+    match path {
+        [b'/', ..] => Some(Component::RootDir),
+        [b'.'] => Some(Component::CurDir),
+        [b'.', b'/', ..] => Some(Component::CurDir),
+        _ => None,
+    }
+}
+
+// The first component behind the beginning of a path, and what follows it.
+fn next_component(path: &[u8]) -> Option<(Component<'_>, &[u8])>
+    ensures { MatchOption result (inner_components path.now ≡ []) (λ next.
+        inner_components path.now ≡ component_of next.0 ∷ inner_components next.1.now) }
+{
+    let mut left = path;
+    while !left.is_empty() {
+        let (part, rest) = cut_part(left);
+        left = rest;
+        if let Some(component) = part_component(part) {
+            return Some((component, left));
+        }
+    }
+    None
+}
+
+// What stands before the first `/`, and what stands behind it.
+fn cut_part(path: &[u8]) -> (&[u8], &[u8])
+    requires { 0 < length path.now }
+    ensures parts { inner_components path.now
+        ≡ part_components result.0.now ++ inner_components result.1.now }
+    ensures shorter { length result.1.now < length path.now }
+{
+    match memchr(b'/', path) {
+        Some(end) => (&path[..end], &path[end + 1..]),
+        None => (path, &[]),
+    }
+}
+
+// The component that a part stands for, behind the beginning of a path.
+fn part_component(part: &[u8]) -> Option<Component<'_>>
+    ensures { option_to_list (option_map component_of result) ≡ part_components part.now }
+{
+    match part {
+        [] | [b'.'] => None,
+        [b'.', b'.'] => Some(Component::ParentDir),
+        _ => Some(Component::Normal(part)),
+    }
+}
+
+/// The order of two paths: that of their lists of components, with a beginning before what it
+/// begins. It takes no memory.
+pub fn compare_paths(a: &[u8], b: &[u8]) -> Ordering
+    ensures { result ≡ path_cmp (components a.now) (components b.now) }
+{
+    Components::new(a).cmp(Components::new(b))
+}
+
+/// Whether two paths have the same components. It takes no memory.
+pub fn same_path(a: &[u8], b: &[u8]) -> bool
+    ensures { MatchBool result (components a.now ≡ components b.now)
+        (components a.now ≢ components b.now) }
+{
+    compare_paths(a, b).is_eq()
+}
+
+/// Whether a path begins at the root. It takes no memory.
+#[tactic(auto, using(crate::proofs::PartLemmas::root_by_slash))]
+pub fn is_absolute(path: &[u8]) -> bool
+    ensures { result ≡ has_root (components path.now) }
+{
+    match path {
+        [first, ..] => *first == b'/',
+        [] => false,
+    }
+}
+
+/// The file name of a path: its last component, if that is a name. It takes no memory.
+pub fn file_name(path: &[u8]) -> Option<&[u8]>
+    ensures { option_copied result ≡ file_name_of (components path.now) }
+{
+    let mut name: Option<&[u8]> = None;
+    for component in Components::new(path) {
+        name = match component {
+            Component::Normal(name) => Some(name),
+            _ => None,
+        };
+    }
+    name
+}
+
+/// The extension of a path: what follows the last `.` of its file name. There is none where that
+/// `.` is missing or is the first byte. It takes no memory.
+pub fn extension(path: &[u8]) -> Option<&[u8]>
+    ensures { option_copied result
+        ≡ option_and_then extension_of (file_name_of (components path.now)) }
+{
+    let name = file_name(path)?;
+    let dot = memrchr(b'.', name)?;
+    if dot == 0 {
+        return None;
+    }
+    Some(&name[dot + 1..])
+}
+
+/// `path` as seen from `base`: `path` itself if it is absolute or `base` is empty, and else `base`,
+/// a `/` unless `base` ends in one, and `path`.
+///
+/// It is refused only for want of memory, as [`UtilError::Memory`].
+pub fn join_path(alloc: Global, base: &[u8], path: &[u8]) -> Result<Vec<u8>, UtilError>
+    ensures bytes { IfOk result (λ whole. whole.items ≡ joined_text base.now path.now) }
+    ensures components { IfOk result (λ whole.
+        components whole.items ≡ joined (components base.now) (components path.now)) }
+    ensures refused { IsOkUnless result UtilError.Memory }
+{
+    if base.is_empty() || is_absolute(path) {
+        return Ok(path.to_vec(alloc)?);
+    }
+    let mut whole = base.to_vec(alloc)?;
+    if !ends_in_slash(base) {
+        whole.push(b'/')?;
+    }
+    whole.extend_from_slice(path)?;
+    Ok(whole)
+}
+
+// Whether a path ends in a `/`.
+#[tactic(auto, using(crate::proofs::JoinLemmas::ends_by_last))]
+fn ends_in_slash(path: &[u8]) -> bool
+    ensures { result ≡ ends_in_slash path.now }
+{
+    match path {
+        [.., last] => *last == b'/',
+        [] => false,
+    }
+}
+
+/// The path without `.`, `..` and doubled slashes: its root, if it has one, and the names that lead
+/// to its place. A `..` takes the name before it away, and does nothing where there is none.
+///
+/// Upstream's `util::normalize_path`. No link is followed. It is refused only for want of memory,
+/// as [`UtilError::Memory`].
+pub fn normalize_path(alloc: Global, path: &[u8]) -> Result<Vec<u8>, UtilError>
+    ensures bytes { IfOk result (λ text. text.items ≡ path_text (normal (components path.now))) }
+    ensures components { IfOk result (λ text.
+        components text.items ≡ normal (components path.now)) }
+    ensures refused { IsOkUnless result UtilError.Memory }
+{
+    let mut names: Vec<&[u8]> = Vec::new(alloc);
+    for component in Components::new(path) {
+        match component {
+            Component::Normal(name) => names.push(name)?,
+            Component::ParentDir => {
+                names.pop();
+            }
+            Component::RootDir | Component::CurDir => {}
+        }
+    }
+    let mut text = Vec::new(alloc);
+    if is_absolute(path) {
+        text.push(b'/')?;
+    }
+    push_names(&mut text, &names)?;
+    Ok(text)
+}
+
+// Appends the names, with a `/` between each two.
+fn push_names(text: &mut Vec<u8>, names: &[&[u8]]) -> Result<(), UtilError>
+    ensures appended { OnOk result
+        (text.new.items ≡ text.old.items ++ join_with_byte 47 (map (λ n. n.now) names.now)) }
+    ensures refused { IsOkUnless result UtilError.Memory }
+{
+    let Some((first, others)) = names.split_first() else {
+        return Ok(());
+    };
+    text.extend_from_slice(first)?;
+    for name in others {
+        text.push(b'/')?;
+        text.extend_from_slice(name)?;
+    }
+    Ok(())
+}
+
+/// Writes the bytes of a path.
+///
+/// It is refused where the writer fails, as [`UtilError::Write`], and nothing is known then of how
+/// much went out. It takes no memory.
+pub fn encode_path<W: Write>(writer: &mut W, path: &[u8]) -> Result<(), UtilError>
+    ensures written { OnOk result
+        (Appends (W.contents writer.old) (W.contents writer.new) path.now) }
+    ensures refused { IsOkUnless result UtilError.Write }
+{
+    match writer.write_all(path) {
+        Ok(()) => Ok(()),
+        Err(_) => Err(UtilError::Write),
+    }
+}
+
+/// The path that these bytes are: themselves.
+///
+/// It is refused only for want of memory, as [`UtilError::Memory`].
+pub fn decode_path(alloc: Global, bytes: &[u8]) -> Result<Vec<u8>, UtilError>
+    ensures path { IfOk result (λ path. path.items ≡ bytes.now) }
+    ensures refused { IsOkUnless result UtilError.Memory }
+{
+    Ok(bytes.to_vec(alloc)?)
+}
