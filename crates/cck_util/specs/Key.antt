@@ -1,0 +1,84 @@
+-- the key of an object
+use Rattle.std.specs.Prelude.{ℕ, List, [], ◌∷◌, ◌++◌, Bool, true, false, Option, Some, None, codes, map}
+use Rattle.std.specs.List.{flat_map}
+use Rattle.cck_digest.specs.Digest.{digest_text}
+use Rattle.cck_strip.specs.Argument.{argument_bytes, stripped_argument}
+use Rattle.cck_strip.specs.Text.{stripped_text}
+use Rattle.cck_util.specs.Language.{language_name}
+use Rattle.cck_util.specs.Variables.{Variable, object_variables, variable_bytes}
+use Rattle.cck_util.specs.declared.language.Language.{Language}
+
+-- what a caller hands in for a key
+pub record Params : Type 0 where
+  pub compiler_digest : List ℕ
+  pub language : Language
+  pub arguments : List (List ℕ)
+  pub preprocessor_output : List ℕ
+  pub extra_hashes : List (List ℕ)
+  pub env_vars : List Variable
+  pub plusplus : Bool
+  pub basedirs : List (List ℕ)
+  pub assembler_digest : Option (List ℕ)
+
+-- these parts, and no other is set
+abbrev pub plain_params : List ℕ → Language → List (List ℕ) → List ℕ → Params
+plain_params compiler_digest language arguments preprocessor_output = record {
+  compiler_digest = compiler_digest;
+  language = language;
+  arguments = arguments;
+  preprocessor_output = preprocessor_output;
+  extra_hashes = [];
+  env_vars = [];
+  plusplus = false;
+  basedirs = [];
+  assembler_digest = None;
+}
+
+-- what enters a key
+pub record KeyParts : Type 0 where
+  pub compiler_digest : List ℕ
+  pub plusplus : Bool
+  pub language : Language
+  pub arguments : List (List ℕ)
+  pub extra_hashes : List (List ℕ)
+  pub assembler_digest : Option (List ℕ)
+  pub variables : List Variable
+  pub output : List ℕ
+
+-- what of the handed in enters the key: the arguments and the text without the base directories, of the variables those
+-- that change what a compiler writes, and all else whole
+abbrev pub key_parts : Params → KeyParts
+key_parts p = record {
+  compiler_digest = p.compiler_digest;
+  plusplus = p.plusplus;
+  language = p.language;
+  arguments = map (stripped_argument p.basedirs) p.arguments;
+  extra_hashes = p.extra_hashes;
+  assembler_digest = p.assembler_digest;
+  variables = object_variables p.env_vars;
+  output = stripped_text p.basedirs p.preprocessor_output;
+}
+
+-- a flag as a byte
+abbrev pub flag_byte : Bool → ℕ
+flag_byte true = 1
+flag_byte false = 0
+
+-- the digest text of an assembler, if there is one
+abbrev pub assembler_bytes : Option (List ℕ) → List ℕ
+assembler_bytes None = []
+assembler_bytes (Some digest) = digest
+
+-- the key material: all that is hashed for a key, in order
+abbrev pub material : KeyParts → List ℕ
+material p =
+    p.compiler_digest ++ flag_byte p.plusplus ∷ [] ++ codes "13" ++ language_name p.language
+    ++ flat_map argument_bytes p.arguments
+    ++ flat_map (λ digest. digest) p.extra_hashes
+    ++ assembler_bytes p.assembler_digest
+    ++ flat_map variable_bytes p.variables
+    ++ p.output
+
+-- the key, by this hash
+abbrev pub object_key : (List ℕ → List ℕ) → Params → List ℕ
+object_key hash p = digest_text hash (material (key_parts p))

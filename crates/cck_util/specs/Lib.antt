@@ -1,0 +1,5 @@
+pub mod HashKeyParams
+pub mod Key
+pub mod Language
+pub mod Shape
+pub mod Variables

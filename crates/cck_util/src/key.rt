@@ -1,0 +1,156 @@
+//! The key of an object.
+ghost use Rattle.std.specs.Prelude.{◌≡◌, ℕ, List, ◌++◌, IfOk, IsOkUnless, string_bytes, map};
+ghost use Rattle.std.specs.List.{flat_map};
+ghost use Rattle.std.specs.Option.{option_map};
+ghost use Rattle.cck_util.specs.Key.{assembler_bytes, object_key, plain_params};
+
+use crate::Language;
+use crate::variables::hash_object_variables;
+use cck_digest::{Digest, HashState, UtilError};
+use cck_strip::{hash_arguments, strip_basedirs};
+use std::alloc::Global;
+use std::marker::Model;
+
+/// The version of the key material. A key of one version is no key of another.
+pub const CACHE_VERSION: &[u8] = b"13";
+
+/// What the key of an object is made of.
+///
+/// Upstream's `HashKeyParams`. Parts that are not set are empty, false or `None`. Neither `new` nor
+/// the calls that set a part take memory.
+///
+/// ```rust
+/// let key = HashKeyParams::new(digest, Language::C, &arguments, text)
+///     .with_plusplus(false)
+///     .compute::<Sha256State>(alloc)?;
+/// ```
+#[derive(Debug, Clone, Drop)]
+pub struct HashKeyParams<'a> {
+    compiler_digest: &'a str,
+    language: Language,
+    arguments: &'a [Vec<u8>],
+    preprocessor_output: &'a [u8],
+    extra_hashes: &'a [String],
+    env_vars: &'a [(Vec<u8>, Vec<u8>)],
+    plusplus: bool,
+    basedirs: &'a [Vec<u8>],
+    assembler_digest: Option<&'a str>,
+}
+
+impl<'a> Model for HashKeyParams<'a> {
+    ghost use Rattle.cck_util.specs.Key.{Params};
+
+    ghost Value = { Params };
+
+    ghost use Rattle.cck_util.specs.HashKeyParams.{params_of};
+
+    ghost view = { params_of };
+}
+
+impl<'a> HashKeyParams<'a> {
+    /// These parts, and no other is set.
+    pub fn new(
+        compiler_digest: &'a str,
+        language: Language,
+        arguments: &'a [Vec<u8>],
+        preprocessor_output: &'a [u8],
+    ) -> HashKeyParams<'a>
+        ensures { result ≡ plain_params compiler_digest.now language
+            (map (λ a. a.items) arguments.now) preprocessor_output.now }
+    {
+        HashKeyParams {
+            compiler_digest,
+            language,
+            arguments,
+            preprocessor_output,
+            extra_hashes: &[],
+            env_vars: &[],
+            plusplus: false,
+            basedirs: &[],
+            assembler_digest: None,
+        }
+    }
+
+    /// Sets the digest texts of the further files that the compiler reads.
+    pub fn with_extra_hashes(mut self, extra_hashes: &'a [String]) -> HashKeyParams<'a>
+        ensures { result ≡ record self.entry { extra_hashes = map string_bytes extra_hashes.now } }
+    {
+        self.extra_hashes = extra_hashes;
+        self
+    }
+
+    /// Sets the variables of the environment, as pairs of a name and a value. Those that change
+    /// what a compiler writes enter the key, in this order.
+    pub fn with_env_vars(mut self, env_vars: &'a [(Vec<u8>, Vec<u8>)]) -> HashKeyParams<'a>
+        ensures { result ≡ record self.entry { env_vars = map (λ v. (v.0.items, v.1.items)) env_vars.now } }
+    {
+        self.env_vars = env_vars;
+        self
+    }
+
+    /// Sets whether the compiler takes its inputs for C++.
+    pub fn with_plusplus(mut self, plusplus: bool) -> HashKeyParams<'a>
+        ensures { result ≡ record self.entry { plusplus = plusplus } }
+    {
+        self.plusplus = plusplus;
+        self
+    }
+
+    /// Sets the base directories, which are cut out of the arguments and the text, so that checkouts
+    /// in several places can share a key.
+    pub fn with_basedirs(mut self, basedirs: &'a [Vec<u8>]) -> HashKeyParams<'a>
+        ensures { result ≡ record self.entry { basedirs = map (λ b. b.items) basedirs.now } }
+    {
+        self.basedirs = basedirs;
+        self
+    }
+
+    /// Sets the digest text of an assembler that the compiler runs, or that there is none.
+    pub fn with_assembler_digest(mut self, assembler_digest: Option<&'a str>) -> HashKeyParams<'a>
+        ensures { result ≡ record self.entry { assembler_digest = option_map (λ d. d.now) assembler_digest.entry } }
+    {
+        self.assembler_digest = assembler_digest;
+        self
+    }
+
+    /// The key of these parts: the digest text of the key material.
+    ///
+    /// It is refused only for want of memory, as [`UtilError::Memory`].
+    pub fn compute<H: HashState>(&self, alloc: Global) -> Result<String, UtilError>
+        ensures key { IfOk result (λ key. string_bytes key ≡ object_key H.hash self.now) }
+        ensures refused { IsOkUnless result UtilError.Memory }
+    {
+        let output = strip_basedirs(alloc, self.preprocessor_output, self.basedirs)?;
+        let mut digest = Digest::<H>::new();
+        digest.update(self.compiler_digest.as_bytes());
+        digest.update(&[u8::from(self.plusplus)]);
+        digest.update(CACHE_VERSION);
+        digest.update(self.language.as_str().as_bytes());
+        hash_arguments(alloc, &mut digest, self.arguments, self.basedirs)?;
+        hash_extra_hashes(&mut digest, self.extra_hashes);
+        hash_assembler_digest(&mut digest, self.assembler_digest);
+        hash_object_variables(&mut digest, self.env_vars);
+        digest.update(output.as_slice());
+        digest.finish(alloc)
+    }
+}
+
+// Feeds the digest texts of further files, with nothing between them.
+fn hash_extra_hashes<H: HashState>(digest: &mut Digest<H>, hashes: &[String])
+    ensures { (fed : List ℕ) → H.holds digest.old fed →
+        H.holds digest.new (fed ++ flat_map (λ hash. hash) (map string_bytes hashes.now)) }
+{
+    for hash in hashes {
+        digest.update(hash.as_bytes());
+    }
+}
+
+// Feeds the digest text of the assembler, if there is one.
+fn hash_assembler_digest<H: HashState>(digest: &mut Digest<H>, assembler_digest: Option<&str>)
+    ensures { (fed : List ℕ) → H.holds digest.old fed →
+        H.holds digest.new (fed ++ assembler_bytes (option_map (λ d. d.now) assembler_digest.entry)) }
+{
+    if let Some(text) = assembler_digest {
+        digest.update(text.as_bytes());
+    }
+}

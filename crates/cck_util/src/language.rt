@@ -1,0 +1,120 @@
+//! The languages of a compilation, and their names.
+ghost use Rattle.std.specs.Prelude.{◌≡◌};
+ghost use Rattle.cck_util.specs.Language.{NamesLanguage, is_preprocessed_first, language_name};
+
+use std::str::FromStr;
+use thiserror::Error;
+
+/// The language of an input.
+#[derive(Debug, Copy, Clone, PartialEq, Eq)]
+pub enum Language {
+    /// Assembly.
+    Assembler,
+    /// Assembly that the C preprocessor goes over first.
+    AssemblerToPreprocess,
+    /// C.
+    C,
+    /// A C header.
+    CHeader,
+    /// C after its preprocessing.
+    CPreprocessed,
+    /// C++.
+    Cxx,
+    /// A C++ header.
+    CxxHeader,
+    /// C++ after its preprocessing.
+    CxxPreprocessed,
+    /// A header that doesn't say whether it is of C or of C++.
+    GenericHeader,
+    /// Objective-C.
+    ObjectiveC,
+    /// Objective-C after its preprocessing.
+    ObjectiveCPreprocessed,
+    /// Objective-C++.
+    ObjectiveCxx,
+    /// Objective-C++ after its preprocessing.
+    ObjectiveCxxPreprocessed,
+    /// CUDA.
+    Cuda,
+    /// HIP.
+    Hip,
+}
+
+/// A text that is no language's name.
+#[derive(Debug, Copy, Clone, PartialEq, Eq, Error)]
+#[error("no language has this name")]
+pub struct UnknownLanguage;
+
+impl Language {
+    /// Every language, each once.
+    pub const ALL: [Language; 15] = [
+        Language::Assembler,
+        Language::AssemblerToPreprocess,
+        Language::C,
+        Language::CHeader,
+        Language::CPreprocessed,
+        Language::Cxx,
+        Language::CxxHeader,
+        Language::CxxPreprocessed,
+        Language::GenericHeader,
+        Language::ObjectiveC,
+        Language::ObjectiveCPreprocessed,
+        Language::ObjectiveCxx,
+        Language::ObjectiveCxxPreprocessed,
+        Language::Cuda,
+        Language::Hip,
+    ];
+
+    /// The name of the language, as it stands in a key. No two languages share one.
+    pub fn as_str(&self) -> &'static str
+        ensures { result.now ≡ language_name self.now }
+    {
+        match self {
+            Language::Assembler => "assembler",
+            Language::AssemblerToPreprocess => "assemblerToPreprocess",
+            Language::C => "c",
+            Language::CHeader => "cHeader",
+            Language::CPreprocessed => "cPreprocessed",
+            Language::Cxx => "c++",
+            Language::CxxHeader => "c++Header",
+            Language::CxxPreprocessed => "c++Preprocessed",
+            Language::GenericHeader => "c/c++",
+            Language::ObjectiveC => "objc",
+            Language::ObjectiveCPreprocessed => "objcPreprocessed",
+            Language::ObjectiveCxx => "objc++",
+            Language::ObjectiveCxxPreprocessed => "objc++Preprocessed",
+            Language::Cuda => "cuda",
+            Language::Hip => "hip",
+        }
+    }
+
+    /// Whether the C preprocessor goes over an input in this language before it is compiled.
+    pub fn needs_c_preprocessing(&self) -> bool
+        ensures { result ≡ is_preprocessed_first self.now }
+    {
+        !matches!(
+            self,
+            Language::Assembler
+                | Language::CPreprocessed
+                | Language::CxxPreprocessed
+                | Language::ObjectiveCPreprocessed
+                | Language::ObjectiveCxxPreprocessed
+        )
+    }
+}
+
+/// The language of a name, exactly as [`Language::as_str`] writes it.
+impl FromStr for Language {
+    type Err = UnknownLanguage;
+
+    ghost from_str_gives = { NamesLanguage };
+
+    fn from_str(name: &str) -> Result<Language, UnknownLanguage> {
+        for language in Language::ALL {
+            if language.as_str() == name {
+                return Ok(language);
+            }
+        }
+        Err(UnknownLanguage)
+    }
+}

@@ -1,0 +1,26 @@
+//! Laws about the definitions: what they say above what they compute. Each is the contract of a
+//! function that does nothing.
+ghost use Rattle.cck_util.specs.Shape.{EqualWithoutBasedirs, OneShapeOneMaterial};
+
+pub use cck_digest::laws::hex_tells_bytes;
+pub use cck_path::laws::{
+    components_in_order, escape_is_undone, names_that_lead, timestamps_by_nanos,
+};
+pub use cck_strip::laws::{
+    arguments_have_cuts, cuts_are_unique, cuts_exist, stripped_by_any_cuts, texts_have_cuts,
+};
+
+/// Within one shape, equal key material is of equal parts, and the other way round.
+///
+/// The shape is what the material itself doesn't tell: one language, digests of equal lengths, and
+/// equal counts of arguments, extra hashes and variables. The extra hashes and the digest of the
+/// assembler stand side by side, so no law without such a premise holds.
+pub fn one_shape_one_material()
+    ensures { OneShapeOneMaterial }
+{}
+
+/// Arguments and texts that are equal once the base directories are cut out give equal keys, all
+/// other parts being equal: so two checkouts share a key.
+pub fn equal_without_basedirs()
+    ensures { EqualWithoutBasedirs }
+{}
