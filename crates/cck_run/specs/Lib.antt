@@ -1,0 +1,4 @@
+pub mod Engine
+pub mod KeyRequest
+pub mod Request
+pub mod Status

@@ -1,0 +1,18 @@
+-- what the words of a command line ask for
+use Rattle.std.specs.Prelude.{◌≢◌, ℕ, List, ◌∷◌, codes}
+use Rattle.cck_util.specs.Language.{language_name}
+use Rattle.cck_util.specs.declared.language.Language.{Language}
+
+-- a key that is asked for, but for the text that is read
+pub record Request : Type 0 where
+  pub compiler_digest : List ℕ
+  pub language : Language
+  pub arguments : List (List ℕ)
+
+-- the words that ask for it
+abbrev pub words_of : Request → List (List ℕ)
+words_of request = codes "key" ∷ request.compiler_digest ∷ language_name request.language ∷ request.arguments
+
+-- these words ask for nothing
+abbrev pub AskNothing : List (List ℕ) → Type 0
+AskNothing words = (request : Request) → words ≢ words_of request

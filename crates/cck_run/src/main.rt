@@ -1,0 +1,37 @@
+//! The program `cck`: the keys of sccache's C compiler cache, from the command line.
+//!
+//! `cck key DIGEST LANGUAGE [ARG..]` reads a preprocessed text from standard input and prints the
+//! key of the object that a compiler with this digest makes of it. All that is printed, errors too,
+//! goes to standard output. `main` only hands the words and the standard streams to
+//! [`engine`](engine::engine), which is what the theorems speak of.
+#![tactic(auto)]
+
+mod engine;
+mod request;
+mod status;
+#[cfg(test)]
+mod tests;
+
+use cck_util::Sha256State;
+use std::env;
+use std::io::ErrorKind;
+use std::process::ExitCode;
+
+fn main(rt: HostRuntime) -> ExitCode {
+    let alloc = rt.alloc();
+    let mut reader = rt.stdin();
+    let mut writer = rt.stdout();
+    let words = match env::args(&rt) {
+        Ok(all) => all.skip(1).collect::<Vec<String>>(alloc).ok(),
+        // A word that is no UTF-8 asks for nothing, as no word does.
+        Err(error) if error.kind() != ErrorKind::OutOfMemory => Some(Vec::new(alloc)),
+        Err(_) => None,
+    };
+    let status = match words {
+        Some(words) => {
+            engine::engine::<Sha256State, _, _>(alloc, &words, &mut reader, &mut writer)
+        }
+        None => engine::refuse(&mut writer),
+    };
+    ExitCode::from(status.code())
+}
