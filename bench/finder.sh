@@ -1,0 +1,55 @@
+#!/bin/sh
+# Times TimeMacroFinder over two texts of 64 MB, in pieces of 131072 bytes, beside searches of the
+# kit's memchr over the same bytes, and prints a table. The texts are system headers as gcc -E
+# leaves them, and names with many underscores, among them beginnings of the macros.
+#
+#     bench/finder.sh [FOLDER]
+#
+# All is made in FOLDER, by default a new one below /tmp: the texts, a copy of the crates and the
+# program. Compare times within one run.
+set -e
+here=$(cd "$(dirname "$0")" && pwd)
+top=$(cd "$here/.." && pwd)
+folder=${1:-$(mktemp -d)}
+size=67108864
+mkdir -p "$folder"
+
+if [ ! -s "$folder/headers.i" ]; then
+    for header in /usr/include/*.h /usr/include/linux/*.h; do
+        gcc -E -D_GNU_SOURCE "$header" 2>/dev/null || true
+    done > "$folder/once.i"
+    : > "$folder/all.i"
+    while [ "$(wc -c < "$folder/all.i")" -lt $size ]; do
+        cat "$folder/once.i" >> "$folder/all.i"
+    done
+    head -c $size "$folder/all.i" > "$folder/headers.i"
+    rm "$folder/once.i" "$folder/all.i"
+fi
+if [ ! -s "$folder/underscores.i" ]; then
+    yes '__attribute__ ((__nothrow__, __leaf__)) ________ __TIME_ __DATE_ __TIMEOUT__ _T_I_M_E_' |
+        head -c $size > "$folder/underscores.i"
+fi
+
+rm -rf "$folder/work"
+mkdir -p "$folder/work/crates/finder_bench/src"
+cp -r "$top/crates/cck_digest" "$folder/work/crates/"
+cp "$here/finder/main.rt.in" "$folder/work/crates/finder_bench/src/main.rt"
+cp "$top/HANDLES" "$folder/work/"
+{
+    grep '^cck_digest:' "$top/crates.txt"
+    echo 'finder_bench: cck_digest memchr'
+} > "$folder/work/crates.txt"
+if ! (cd "$folder/work/crates/finder_bench" && rt run < /dev/null > "$folder/build.log" 2>&1); then
+    tail -20 "$folder/build.log" >&2
+    exit 1
+fi
+
+echo 'text          finder  one macro  ratio  each __  ratio   (milliseconds, best of 11)'
+for text in headers underscores; do
+    "$folder/work/crates/finder_bench/out/finder_bench" < "$folder/$text.i" |
+        awk -v text="$text" '{
+            if ($5 != "false") { print text ": a macro was found, so not all was searched"; exit 1 }
+            printf "%-12s %7.1f  %9.1f  %5.2f  %7.1f  %5.2f   (%d bytes, %d times __)\n",
+                text, $2 / 1000, $3 / 1000, $2 / $3, $4 / 1000, $2 / $4, $1, $6
+        }'
+done

@@ -1,0 +1,22 @@
+#!/bin/sh
+# Refuses each request for memory in turn: runs the tests of a crate with the first allocation of
+# each refused, then with the second, and so on, until a run meets no refusal or as many runs were
+# made as are asked for (40). Each test then has to pass or to end in want of memory, said as its
+# type says it. Run by hand: fail_alloc.sh CRATE [RUNS]. Its last line counts the runs.
+set -eu
+cd "$(dirname "$0")/../crates/$1"
+runs=${2:-40}
+n=0
+while [ "$n" -lt "$runs" ]; do
+    n=$((n + 1))
+    said=$(rt try --test --fail-alloc "$n" 2>/dev/null) || true
+    tests=$(echo "$said" | sed -n 's/^tests: //p')
+    failed=$(echo "$said" | grep -c 'FAILED$' || true)
+    # The last two: the program said that it was refused, or had no memory left to say it.
+    memory=$(echo "$said" | grep -c -e '^    Error: Memory$' -e '^    Error: AllocError$' \
+        -e '^      left: Refused$' -e '^      left: \[\]$' || true)
+    echo "$1: allocation $n refused: $tests tests, $failed of them ended, $memory in want of memory"
+    [ -n "$tests" ] && [ "$failed" -eq "$memory" ] || { echo "$said"; exit 1; }
+    [ "$failed" -gt 0 ] || break
+done
+echo "$1: $n runs, each with tests that passed or ended in want of memory"
