@@ -1,4 +1,4 @@
-use Rattle.std.proofs.Common.{◌≡◌, ℕ, List, ap, ◌∙◌}
+use Rattle.std.proofs.Common.{◌≡◌, ap}
 use Rattle.cck_digest.specs.Digest.{digest_text}
 use Rattle.cck_util.specs.Key.{KeyParts, key_parts, material}
 use Rattle.cck_util.proofs.laws.equal_without_basedirs.Goals as goal
