@@ -1,9 +1,9 @@
 -- A byte is told by its two digits.
-use Rattle.std.proofs.Common.{◌≡◌, ℕ, ◌<◌, ◌%◌, ◌/◌, List, [], ◌∷◌, refl, arith, All}
+use Rattle.std.proofs.Common.{◌≡◌, ℕ, ◌<◌, ◌*◌, ◌%◌, ◌/◌, List, [], ◌∷◌, length, refl, ap, ◌∙◌, arith, All}
 use Rattle.std.proofs.lemmas.Bool.Decides.{nat_tests}
 use Rattle.std.proofs.lemmas.List.Elements.{recursion_from_All}
 use Rattle.std.specs.List.{AllByRecursion}
-use Rattle.cck_digest.specs.Digest.{hex_digit, hex_text}
+use Rattle.cck_digest.specs.Digest.{digest_text, hex_digit, hex_text}
 
 hex_digit-injective : (a b : ℕ) → a < 16 → b < 16 → hex_digit a ≡ hex_digit b → a ≡ b
 hex_digit-injective a b ha hb e = grind (arith, nat_tests)
@@ -25,3 +25,12 @@ bytes_from_digits (x ∷ a) (y ∷ b) ha hb e =
 
 pub bytes_from_hex : (a b : List ℕ) → All (λ byte. byte < 256) a → All (λ byte. byte < 256) b → hex_text a ≡ hex_text b → a ≡ b
 bytes_from_hex a b ha hb e = bytes_from_digits a b (recursion_from_All _ a ha) (recursion_from_All _ b hb) e
+
+-- and each has two
+pub hex_length : (bytes : List ℕ) → length (hex_text bytes) ≡ 2 * length bytes
+hex_length [] = refl
+hex_length (byte ∷ bytes) = omega (arith, hex_length bytes)
+
+-- so the text of 32 bytes has 64
+pub text_length : (hash : List ℕ → List ℕ) (fed : List ℕ) → length (hash fed) ≡ 32 → length (digest_text hash fed) ≡ 64
+text_length hash fed h = omega (arith, hex_length (hash fed), h)

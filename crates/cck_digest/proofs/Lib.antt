@@ -1,4 +1,5 @@
 pub mod FinderLemmas
+pub mod HasLemmas
 pub mod FindLemmas
 pub mod HexLemmas
 pub mod ReadsBack

@@ -1,4 +1,5 @@
 pub mod Digest
+pub mod Error
 pub mod Finder
 pub mod Stream
 pub mod TimeMacros

@@ -1,9 +1,19 @@
 -- the macros of time that a stream holds
-use Rattle.std.specs.Prelude.{◌≡◌, ℕ, ◌-◌, List, ◌++◌, ◌↔◌, Bool, IsTrue, length, drop, codes}
+use Rattle.std.specs.Prelude.{◌≡◌, ℕ, ◌-◌, List, [], ◌∷◌, ◌++◌, ◌↔◌, ◌||◌, Bool, IsTrue, length, drop, codes, nat_eq}
+use Rattle.std.specs.List.{starts_with}
 
 -- the word is a contiguous part of the text
 abbrev pub Has : List ℕ → List ℕ → Type 0
 Has text word = (before : List ℕ) × (after : List ℕ) × (text ≡ before ++ (word ++ after))
+
+-- the same as a test
+abbrev pub has : List ℕ → List ℕ → Bool
+has [] word = starts_with nat_eq [] word
+has (byte ∷ text) word = starts_with nat_eq (byte ∷ text) word || has text word
+
+-- the test tells whether the word is a part
+abbrev pub HasIsTested : Type 0
+HasIsTested = (text word : List ℕ) → IsTrue (has text word) ↔ Has text word
 
 abbrev pub time_macro : List ℕ
 time_macro = codes "__TIME__"

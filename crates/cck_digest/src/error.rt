@@ -1,9 +1,27 @@
 //! What the calls of the libraries are refused for.
 ghost use Rattle.std.specs.Prelude.{◌≡◌};
 ghost use Rattle.cck_digest.specs.declared.error.UtilError.TheVariants.{Memory};
+ghost use Rattle.cck_digest.specs.declared.error.FileError.TheVariants.{Memory as FileMemory};
 
 use std::alloc::{AllocError, AllocFailed};
 use thiserror::Error;
+
+/// Why a call on files gave no answer.
+#[derive(Debug, Clone, Copy, PartialEq, Eq, Error)]
+pub enum FileError {
+    /// Nothing stands at the path.
+    #[error("there is no such file")]
+    NotFound,
+    /// What stands at the path is of another kind than the call asks for.
+    #[error("the file is of another kind")]
+    OtherKind,
+    /// A device or a file system failed.
+    #[error("a call on a file failed")]
+    Fault,
+    /// A growth of memory was refused.
+    #[error("out of memory")]
+    Memory,
+}
 
 /// Why a call of the libraries gave no answer.
 #[derive(Debug, Clone, Copy, PartialEq, Eq, Error)]
@@ -14,6 +32,12 @@ pub enum UtilError {
     /// A reader failed, by an interrupted read too.
     #[error("a read failed")]
     Read,
+    /// A call on files failed, for this reason. Want of memory is [`UtilError::Memory`] instead.
+    #[error("a file can't be read: {0}")]
+    File(FileError),
+    /// A folder stands deeper than 100 levels.
+    #[error("a folder stands too deep")]
+    TooDeep,
     /// There are more bytes than their length in four bytes can say: more than 4294967295.
     #[error("too many bytes for a length of four bytes")]
     TooLong,
@@ -32,6 +56,36 @@ pub enum UtilError {
     /// A digit of `\x` is no hexadecimal digit.
     #[error("a digit of an escape is not hexadecimal")]
     InvalidHex,
+}
+
+impl From<AllocError> for FileError {
+    ghost from_gives = { λ _ e. e ≡ FileMemory };
+
+    fn from(_: AllocError) -> FileError {
+        FileError::Memory
+    }
+}
+
+impl<T: Drop> From<AllocFailed<T>> for FileError {
+    ghost from_gives = { λ _ e. e ≡ FileMemory };
+
+    fn from(_: AllocFailed<T>) -> FileError {
+        FileError::Memory
+    }
+}
+
+/// A want of memory stays one, and all else is [`UtilError::File`].
+impl From<FileError> for UtilError {
+    ghost use Rattle.cck_digest.specs.Error.{util_error};
+
+    ghost from_gives = { λ file e. e ≡ util_error file };
+
+    fn from(error: FileError) -> UtilError {
+        match error {
+            FileError::Memory => UtilError::Memory,
+            other => UtilError::File(other),
+        }
+    }
 }
 
 impl From<AllocError> for UtilError {

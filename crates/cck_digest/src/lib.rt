@@ -8,7 +8,8 @@
 //! - [`Digest`] is fed piece by piece and ends in a text; [`hash_len_prefixed`] and [`hex`] go with it.
 //! - [`read_to_end`] reads a reader to its end and hands each piece to a [`Sink`].
 //! - [`Digest::reader_sync`] and its kin digest what a reader gives.
-//! - [`TimeMacroFinder`] finds the macros of time in a stream, however it is cut.
+//! - [`TimeMacroFinder`] finds the macros of time in a stream, however it is cut, and
+//!   [`WatchedDigest`] feeds it and a digest in one pass.
 //! - [`laws`] has what the definitions say above what they compute.
 //!
 //! ```rust
@@ -26,11 +27,10 @@ mod hash;
 pub mod laws;
 mod reader;
 mod stream;
-#[cfg(test)]
-mod tests;
 
 pub use digest::{Digest, hash_len_prefixed, hex};
-pub use error::UtilError;
+pub use error::{FileError, UtilError};
 pub use finder::TimeMacroFinder;
 pub use hash::{HashState, Sha256State};
+pub use reader::WatchedDigest;
 pub use stream::{HASH_BUFFER_SIZE, Sink, read_all, read_to_end};

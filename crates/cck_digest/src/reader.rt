@@ -1,6 +1,6 @@
 //! Digests of what a reader gives: upstream's `Digest::reader_sync` and its kin, with the allocator
 //! handed in.
-ghost use Rattle.std.specs.Prelude.{◌≡◌, ◌++◌, ◌⊎◌, ℕ, List, [], IfOk, IfSome, IfErr, string_bytes};
+ghost use Rattle.std.specs.Prelude.{◌≡◌, ◌++◌, ◌⊎◌, ℕ, List, [], IfOk, IfSome, IfErr, IsOkUnless, string_bytes};
 ghost use Rattle.std.specs.Fn.{CalledAt};
 ghost use Rattle.std.specs.List.{FoldsTo};
 ghost use Rattle.cck_digest.specs.Digest.{digest_text};
@@ -21,14 +21,44 @@ impl<H: HashState> Sink for Digest<H> {
     }
 }
 
-// A digest whose stream is searched for the macros of time.
+/// A digest and a finder of the macros of time, for one stream in one pass.
+///
+/// As a [`Sink`] it hands each piece to both.
 #[derive(Drop)]
-struct Watched<H: HashState> {
-    digest: Digest<H>,
-    finder: TimeMacroFinder,
+pub struct WatchedDigest<H: HashState> {
+    /// The digest of the stream so far.
+    pub digest: Digest<H>,
+    /// The finder that was handed the stream so far.
+    pub finder: TimeMacroFinder,
 }
 
-impl<H: HashState> Sink for Watched<H> {
+impl<H: HashState> WatchedDigest<H> {
+    /// A digest that was fed nothing, and a finder that was handed nothing. It takes no memory.
+    pub fn new() -> WatchedDigest<H>
+        ensures digest { H.holds result.digest [] }
+        ensures finder { Follows result.finder [] }
+    {
+        WatchedDigest {
+            digest: Digest::<H>::new(),
+            finder: TimeMacroFinder::new(),
+        }
+    }
+
+    /// The digest text of all that was fed, and the finder.
+    ///
+    /// It is refused only for want of memory, as [`UtilError::Memory`].
+    pub fn finish(self, alloc: Global) -> Result<(String, TimeMacroFinder), UtilError>
+        ensures text { IfOk result (λ pair. (fed : List ℕ) → H.holds self.digest fed
+            → string_bytes pair.0 ≡ digest_text H.hash fed) }
+        ensures finder { IfOk result (λ pair. pair.1 ≡ self.finder) }
+        ensures refused { IsOkUnless result UtilError.Memory }
+    {
+        let WatchedDigest { digest, finder } = self;
+        Ok((digest.finish(alloc)?, finder))
+    }
+}
+
+impl<H: HashState> Sink for WatchedDigest<H> {
     ghost takes = { λ before piece after.
         ((fed : List ℕ) → H.holds before.digest fed → H.holds after.digest (fed ++ piece))
         × ((fed : List ℕ) → Follows before.finder fed → Follows after.finder (fed ++ piece)) };
@@ -107,12 +137,8 @@ impl<H: HashState> Digest<H> {
         ensures macros { IfOk result (λ pair. IfSome (R.remaining reader.old) (λ stream. Follows pair.1 stream)) }
         ensures refused { IfErr result (λ e. (e ≡ UtilError.Memory) ⊎ (e ≡ UtilError.Read)) }
     {
-        let mut watched = Watched {
-            digest: Digest::<H>::new(),
-            finder: TimeMacroFinder::new(),
-        };
+        let mut watched = WatchedDigest::<H>::new();
         read_to_end(alloc, reader, &mut watched)?;
-        let Watched { digest, finder } = watched;
-        Ok((digest.finish(alloc)?, finder))
+        watched.finish(alloc)
     }
 }

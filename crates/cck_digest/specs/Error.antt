@@ -1,0 +1,12 @@
+-- what a refusal of a call on files is as one of the libraries
+use Rattle.cck_digest.specs.declared.error.FileError.{FileError}
+use Rattle.cck_digest.specs.declared.error.FileError.TheVariants.{NotFound, OtherKind, Fault, Memory}
+use Rattle.cck_digest.specs.declared.error.UtilError.{UtilError}
+use Rattle.cck_digest.specs.declared.error.UtilError.TheVariants as util
+
+-- a want of memory stays one
+abbrev pub util_error : FileError → UtilError
+util_error NotFound = util.File NotFound
+util_error OtherKind = util.File OtherKind
+util_error Fault = util.File Fault
+util_error Memory = util.Memory
