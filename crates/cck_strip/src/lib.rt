@@ -22,8 +22,6 @@ mod argument;
 mod cuts;
 mod hashing;
 pub mod laws;
-#[cfg(test)]
-mod tests;
 mod text;
 
 pub use argument::{pathname_positions, strip_basedirs_from_arg};
