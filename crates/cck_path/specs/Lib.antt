@@ -6,4 +6,5 @@ pub mod Path
 pub mod Prefixed
 pub mod Text
 pub mod Timestamp
+pub mod Variables
 pub mod WinPath

@@ -8,6 +8,7 @@
 //!   its parts.
 //! - [`OsStrExt`], [`ascii_unescape_default`], [`fmt_duration_as_secs`] and [`write_length_prefixed`]
 //!   are of texts.
+//! - [`first_value`] looks a variable of the environment up.
 //! - [`Timestamp`] is a moment, and [`Metadata`] what a file system says of a file.
 //! - [`laws`] has what the definitions say above what they compute.
 //!
@@ -24,9 +25,8 @@ mod metadata;
 mod os_str;
 mod path;
 mod prefixed;
-#[cfg(test)]
-mod tests;
 mod timestamp;
+mod variables;
 mod win_path;
 
 pub use duration::fmt_duration_as_secs;
@@ -39,4 +39,5 @@ pub use path::{
 };
 pub use prefixed::write_length_prefixed;
 pub use timestamp::Timestamp;
+pub use variables::first_value;
 pub use win_path::normalize_win_path;
