@@ -1,0 +1,2 @@
+pub mod PathMap
+pub mod Values

@@ -1,0 +1,22 @@
+//! A map keyed by paths.
+//!
+//! [`PathMap`] gives values to paths, and takes two paths for one where their components are the
+//! same: `/a/x` and `//a/./x/` have one value, `x` and `./x` two. Its entries stand in one vector, in
+//! the order of the paths, so that a look-up is a binary search and takes no memory.
+//!
+//! A map is seen as the finite map from lists of components to values that it is.
+//!
+//! ```rust
+//! let mut map = PathMap::new(alloc);
+//! map.insert(b"/a-b", 2)?;
+//! map.insert(b"/a/x", 1)?;
+//! map.get(b"//a/./x/"); // `Some(&1)`
+//! map.entries(); // `/a/x` and `/a-b`: by components, `a` comes before `a-b`
+//! ```
+#![tactic(auto)]
+
+mod path_map;
+#[cfg(test)]
+mod tests;
+
+pub use path_map::{Entry, PathMap};
