@@ -1,0 +1,5 @@
+pub mod CallsLemmas
+mod ChildLemmas
+pub mod FileLemmas
+mod NamesLemmas
+mod PlacesLemmas

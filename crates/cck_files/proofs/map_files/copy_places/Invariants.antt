@@ -1,0 +1,6 @@
+use Rattle.cck_files.proofs.PlacesLemmas.{IsCopied}
+use Rattle.cck_files.proofs.map_files.copy_places.Given as goal
+
+-- what the first places hold was copied
+abbrev pub invariant-loop-entry : goal.invariant-loop-entry
+invariant-loop-entry l = IsCopied l.entries l.entry-index l.copy

@@ -1,0 +1,38 @@
+-- what calls on files do to their map and to their count of faults
+use Rattle.std.specs.Prelude.{◌≡◌, ℕ, ◌+◌, ◌-◌, ◌^◌, ◌<◌, ◌≤◌, ◌⊎◌, List, length, take, drop, Result, Err}
+use Rattle.cck_digest.specs.declared.error.FileError.{FileError}
+use Rattle.cck_digest.specs.declared.error.FileError.TheVariants.{NotFound, OtherKind, Fault, Memory}
+use Rattle.cck_files.specs.FileMap.{FileMap}
+
+-- a count of 64 bits rose: it is higher, or at its greatest value, where it stays
+abbrev pub Rose : ℕ → ℕ → Type 0
+Rose before after = (before < after) ⊎ (2 ^ 64 ≤ after + 1)
+
+-- the map stays, the count of faults falls at no time, and quiet files stay quiet and meet no fault
+pub record Keeps {F : Type 0} (file_map : F → FileMap) (faults : F → ℕ) (is_quiet : F → Type 0) (before after : F) : Type 0 where
+  pub same_map : file_map after ≡ file_map before
+  pub not_lower : faults before ≤ faults after
+  pub stays_quiet : is_quiet before → is_quiet after
+  pub stays_calm : is_quiet before → faults after ≡ faults before
+
+-- the refusal of a call that takes no memory: the map's own, or a fault where one came
+abbrev pub IsRefusal : {X : Type 0} → Result X FileError → Type 0 → FileError → Type 0
+IsRefusal answer HasFault NotFound = answer ≡ Err NotFound
+IsRefusal answer HasFault OtherKind = answer ≡ Err OtherKind
+IsRefusal answer HasFault Fault = HasFault
+IsRefusal answer HasFault Memory = ⊥
+
+-- the same of a call that takes memory
+abbrev pub IsRefusalOrMemory : {X : Type 0} → Result X FileError → Type 0 → FileError → Type 0
+IsRefusalOrMemory answer HasFault NotFound = answer ≡ Err NotFound
+IsRefusalOrMemory answer HasFault OtherKind = answer ≡ Err OtherKind
+IsRefusalOrMemory answer HasFault Fault = HasFault
+IsRefusalOrMemory answer HasFault Memory = Unit {0}
+
+-- n bytes of these contents were read from an offset on, and none of them only at the end
+pub record IsRead (contents : List ℕ) (offset n : ℕ) (buffer : List ℕ) : Type 0 where
+  pub within : n ≤ length buffer
+  pub inside : n ≤ length contents - offset
+  pub bytes : take n buffer ≡ take n (drop offset contents)
+  pub at_end : n ≡ 0 → 0 < length buffer → length contents ≤ offset
+  pub fits : offset ≤ 2 ^ 64 - 1 - n

@@ -1,0 +1,5 @@
+pub mod Calls
+pub mod Children
+pub mod FileMap
+pub mod FileState
+pub mod Node

@@ -1,0 +1,60 @@
+//! The last names of a folder's children.
+ghost use Rattle.std.specs.Prelude.{◌≡◌, ◌≢◌, ℕ, List, [], ◌∷◌, ◌++◌, IfOk, IsOkUnless, MatchOption, map, vec_items};
+ghost use Rattle.std.specs.Ordering.{is_eq};
+ghost use Rattle.cck_path.specs.Path.{IsName, Name, components, path_cmp};
+ghost use Rattle.cck_files.specs.Children.{HasChildNames};
+
+use cck_digest::FileError;
+use cck_path::{Component, Components, file_name};
+use cck_path_map::PathMap;
+use std::alloc::Global;
+use std::iter;
+
+/// The last name of a path, where the path is that of a direct child of the folder. It takes no
+/// memory.
+pub fn child_name<'a>(folder: &[u8], path: &'a [u8]) -> Option<&'a [u8]>
+    ensures { MatchOption result
+        ((name : List ℕ) → components path.now ≢ components folder.now ++ Name name ∷ [])
+        (λ name. IsName name.now
+        × (components path.now ≡ components folder.now ++ Name name.now ∷ [])) }
+{
+    let Some(name) = file_name(path) else {
+        return None;
+    };
+    if is_child(folder, name, path) {
+        return Some(name);
+    }
+    None
+}
+
+/// The last names of a path's direct children in a map, each once, in their order. A child whose
+/// last component is no name has none.
+///
+/// It is refused only for want of memory, as [`FileError::Memory`].
+pub fn child_names<V>(
+    alloc: Global,
+    paths: &PathMap<V>,
+    folder: &[u8],
+) -> Result<Vec<Vec<u8>>, FileError>
+    ensures names { IfOk result (λ names.
+        HasChildNames paths.now (components folder.now) (map vec_items names.items)) }
+    ensures refused { IsOkUnless result FileError.Memory }
+{
+    let entries = paths.entries();
+    let mut names = Vec::new(alloc);
+    for entry in entries {
+        if let Some(name) = child_name(folder, &entry.path) {
+            names.push(name.to_vec(alloc)?)?;
+        }
+    }
+    Ok(names)
+}
+
+// Whether a path is the folder's and then the name.
+fn is_child(folder: &[u8], name: &[u8], path: &[u8]) -> bool
+    ensures { result ≡ is_eq (path_cmp (components path.now)
+        (components folder.now ++ Name name.now ∷ [])) }
+{
+    let child = Components::new(folder).chain(iter::once(Component::Normal(name)));
+    Components::new(path).cmp(child).is_eq()
+}

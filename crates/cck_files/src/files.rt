@@ -1,0 +1,81 @@
+//! The interface to files.
+ghost use Rattle.std.specs.Prelude.{◌≡◌, ℕ, ◌^◌, ◌+◌, ◌<◌, ◌⊎◌, Ok, length, map, MatchResult, MatchBool, IsOkAnd, vec_items, true, false};
+ghost use Rattle.cck_path.specs.Path.{components};
+
+use cck_digest::FileError;
+use cck_path::Metadata;
+use std::alloc::Global;
+
+/// Files, as one map that no call changes, and a count of faults.
+///
+/// An implementation is seen as a finite map from paths to nodes, a map of canonical paths, and a
+/// count of faults, which has 64 bits and stays at its greatest value. Links are followed in the
+/// map. Each answer is the map's own, or, only where the count rose, a fault. An implementation
+/// also says which of its states are *quiet*: no call on them meets a fault or leaves quiet
+/// states.
+///
+/// Paths are compared by components. Every call is refused as
+///
+/// - [`FileError::NotFound`] exactly where nothing stands at the path,
+/// - [`FileError::OtherKind`] exactly where what stands there isn't what the call asks for,
+/// - [`FileError::Fault`] only where the count of faults rose,
+/// - [`FileError::Memory`] where it takes memory, and never where it doesn't.
+pub trait Files {
+    ghost use Rattle.cck_files.specs.FileMap.{FileMap, metadata_at, contents_at, folder_at, stands_at, canonical_at, IsListing};
+    ghost use Rattle.cck_files.specs.Calls.{Keeps, IsRefusal, IsRefusalOrMemory, IsRead, Rose};
+
+    // The nodes and the canonical paths.
+    ghost file_map: { Self → FileMap };
+
+    // How often a call met a fault.
+    ghost faults: { Self → ℕ };
+
+    // No call meets a fault from here on.
+    ghost is_quiet: { Self → Type 0 };
+
+    /// What is known of what stands at a path. It takes no memory, and asks for no kind.
+    fn metadata(&mut self, path: &[u8]) -> Result<Metadata, FileError>
+        ensures keeps { Keeps file_map faults is_quiet self.old self.new }
+        ensures answer { let found = metadata_at (file_map self.old) (components path.now) in
+            MatchResult result (λ metadata. found ≡ Ok metadata)
+            (IsRefusal found (Rose (faults self.old) (faults self.new))) };
+
+    /// Reads bytes of a regular file, from an offset on, to the beginning of the buffer, and
+    /// answers how many. There may be fewer than there is room for; into a buffer with room it reads
+    /// none only at the end. What stands in the buffer behind them, or after a refusal, is open. It
+    /// takes no memory.
+    fn read_at(&mut self, path: &[u8], offset: u64, buffer: &mut [u8]) -> Result<usize, FileError>
+        ensures keeps { Keeps file_map faults is_quiet self.old self.new }
+        ensures answer { let found = contents_at (file_map self.old) (components path.now) in
+            MatchResult result (λ n. IsOkAnd found (λ contents. IsRead contents offset n buffer.new))
+            (IsRefusal found (Rose (faults self.old) (faults self.new))) };
+
+    /// The last names of a folder's direct children, each once, in any order. A child whose last
+    /// component is no name has none.
+    fn read_dir(&mut self, alloc: Global, path: &[u8]) -> Result<Vec<Vec<u8>>, FileError>
+        ensures keeps { Keeps file_map faults is_quiet self.old self.new }
+        ensures answer { MatchResult result
+            (λ names. IsListing (file_map self.old) (components path.now) (map vec_items names.items))
+            (IsRefusalOrMemory (folder_at (file_map self.old) (components path.now))
+            (Rose (faults self.old) (faults self.new))) };
+
+    /// Whether something stands at a path. `false` may stand for a fault too. It takes no memory.
+    fn exists(&mut self, path: &[u8]) -> bool
+        ensures keeps { Keeps file_map faults is_quiet self.old self.new }
+        ensures answer { let stands = stands_at (file_map self.old) (components path.now) in
+            MatchBool result (stands ≡ true)
+            ((stands ≡ false) ⊎ Rose (faults self.old) (faults self.new)) };
+
+    /// The path that leads to the same place without links.
+    fn canonical(&mut self, alloc: Global, path: &[u8]) -> Result<Vec<u8>, FileError>
+        ensures keeps { Keeps file_map faults is_quiet self.old self.new }
+        ensures answer { let found = canonical_at (file_map self.old) (components path.now) in
+            MatchResult result (λ path. found ≡ Ok (components path.items))
+            (IsRefusalOrMemory found (Rose (faults self.old) (faults self.new))) };
+
+    // The count has 64 bits.
+    ghost faults_fit: { (files : Self) → faults files < 2 ^ 64 };
+
+    // Quiet files have a count that could still rise.
+    ghost quiet_is_low: { (files : Self) → is_quiet files → faults files + 1 < 2 ^ 64 };
+}

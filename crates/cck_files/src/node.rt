@@ -1,0 +1,37 @@
+//! What stands at a path.
+ghost use Rattle.std.specs.Prelude.{◌≡◌, IfOk, IsOkUnless};
+ghost use Rattle.cck_files.specs.Node.{node_of};
+
+use cck_digest::UtilError;
+use cck_path::{FileKind, Metadata, Timestamp};
+use std::alloc::Global;
+
+/// What stands at a path of [`MapFiles`](crate::MapFiles).
+#[derive(Debug, Drop, PartialEq, Eq)]
+pub struct Node {
+    /// What it is.
+    pub kind: FileKind,
+    /// The contents of a regular file. Of anything else they say nothing.
+    pub contents: Vec<u8>,
+    /// When the contents were last modified, where that is known.
+    pub modified: Option<Timestamp>,
+    /// When the file was last changed, its names and rights among it, where that is known.
+    pub changed: Option<Timestamp>,
+}
+
+impl Node {
+    /// The same node once more.
+    ///
+    /// It is refused only for want of memory, as [`UtilError::Memory`].
+    pub fn copy(&self, alloc: Global) -> Result<Node, UtilError>
+        ensures same { IfOk result (λ copy. node_of copy ≡ node_of self.now) }
+        ensures refused { IsOkUnless result UtilError.Memory }
+    {
+        Ok(Node {
+            kind: self.kind,
+            contents: self.contents.to_vec(alloc)?,
+            modified: self.modified,
+            changed: self.changed,
+        })
+    }
+}
