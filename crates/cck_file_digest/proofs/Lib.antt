@@ -1,0 +1,10 @@
+pub mod ChildLemmas
+pub mod ChildNames
+pub mod FolderSteps
+pub mod MaterialLemmas
+pub mod Membership
+pub mod NameOrder
+pub mod NodeLemmas
+pub mod ReachedLemmas
+pub mod ReadLemmas
+pub mod TextLemmas

@@ -1,0 +1,74 @@
+-- Reads of a file's contents, piece by piece.
+use Rattle.std.proofs.Common.{◌≡◌, ℕ, ◌+◌, ◌<◌, ◌≤◌, arith, refl, ◌∙◌, ap, sym, List, [], ◌∷◌, length, take, drop, ◌++◌, Result, Ok, Err, IfOk, IsOkAnd, subst, append_assoc, Vec, Global}
+use Rattle.std.proofs.lemmas.Fn.{FoldsTo-push}
+use Rattle.std.proofs.lemmas.List.{take-append-drop, take-take, drop-take, take_all, flat_map_more}
+use Rattle.cck_digest.specs.Stream.{concatenation}
+use Rattle.cck_digest.specs.declared.error.FileError.{FileError}
+use Rattle.cck_digest.proofs.StreamLemmas.{holds_after}
+use Rattle.cck_files.specs.Calls.{IsRead}
+use Rattle.cck_file_digest.specs.Contents.{TakesAll}
+
+-- the sink took the contents up to an offset
+pub record IsFed {S : Type 0} (takes : S → List ℕ → S → Type 0) (first now : S) (offset : ℕ) (contents : List ℕ) : Type 0 where
+  pub within : offset ≤ length contents
+  pub taken : TakesAll takes first (take offset contents) now
+
+take_in_two : (xs : List ℕ) (a b : ℕ) → take (a + b) xs ≡ take a xs ++ take b (drop a xs)
+take_in_two xs a b =
+    sym (take-append-drop a (take (a + b) xs))
+    ∙ ap (λ p. p ++ drop a (take (a + b) xs)) (take-take a (a + b) xs (omega arith))
+    ∙ ap (λ p. take a xs ++ p) (drop-take a b xs)
+
+module _ {S : Type 0} (takes : S → List ℕ → S → Type 0) where
+  pub fed_at_first : (first : S) (found : Result (List ℕ) FileError) → IfOk found (IsFed takes first first 0)
+  fed_at_first first (Ok contents) = record { within = omega arith; taken = ([], refl, refl) }
+  fed_at_first first (Err e) = tt
+
+  pub fed_more : (first now next : S) (offset n : ℕ) (buffer : List ℕ) (found : Result (List ℕ) FileError)
+      → IfOk found (IsFed takes first now offset) → IsOkAnd found (λ contents. IsRead contents offset n buffer)
+      → takes now (take n buffer) next → IfOk found (IsFed takes first next (offset + n))
+  fed_more first now next offset n buffer (Ok contents) fed read taking =
+      let (pieces, folds, whole) = fed.taken in
+      record {
+        within = omega (arith, fed.within, read.inside);
+        taken = (
+          pieces ++ take n buffer ∷ [],
+          FoldsTo-push takes first pieces now (take n buffer) next folds taking,
+          take_in_two contents offset n
+              ∙ ap (λ b. b ++ take n (drop offset contents)) whole
+              ∙ ap (λ b. concatenation pieces ++ b) (sym read.bytes)
+              ∙ flat_map_more (λ p. p) [] pieces (take n buffer),
+        );
+      }
+  fed_more first now next offset n buffer (Err e) fed read taking = tt
+
+  pub fed_whole : (first now : S) (offset n : ℕ) (buffer : List ℕ) (found : Result (List ℕ) FileError)
+      → IfOk found (IsFed takes first now offset) → IsOkAnd found (λ contents. IsRead contents offset n buffer)
+      → n ≡ 0 → 0 < length buffer → IsOkAnd found (λ contents. TakesAll takes first contents now)
+  fed_whole first now offset n buffer (Ok contents) fed read none room =
+      let (pieces, folds, whole) = fed.taken in
+      (pieces, folds, sym (take_all offset contents (read.at_end none room)) ∙ whole)
+  fed_whole first now offset n buffer (Err e) fed read none room = read
+
+  -- what holds piece by piece, holds of the whole contents
+  pub holds_of_contents : (holds : S → List ℕ → Type 0)
+      → ((before : S) (piece : List ℕ) (after : S) → takes before piece after → (fed : List ℕ) → holds before fed → holds after (fed ++ piece))
+      → (first now : S) (contents : List ℕ) → TakesAll takes first contents now → (fed : List ℕ) → holds first fed → holds now (fed ++ contents)
+  holds_of_contents holds keeps first now contents (pieces, folds, whole) fed h =
+      subst (λ c. holds now (fed ++ c)) (sym whole) (holds_after takes holds keeps pieces first now folds fed h)
+
+  -- the contents behind what was fed before them
+  pub contents_behind : (holds : S → List ℕ → Type 0)
+      → ((before : S) (piece : List ℕ) (after : S) → takes before piece after → (fed : List ℕ) → holds before fed → holds after (fed ++ piece))
+      → (start first now : S) (front : List ℕ) (found : Result (List ℕ) FileError) → ((fed : List ℕ) → holds start fed → holds first (fed ++ front))
+      → IsOkAnd found (λ contents. TakesAll takes first contents now) → IsOkAnd found (λ contents. (fed : List ℕ) → holds start fed → holds now (fed ++ (front ++ contents)))
+  contents_behind holds keeps start first now front (Ok contents) before all = λ fed h.
+      subst (holds now) (append_assoc fed front contents) (holds_of_contents holds keeps first now contents all (fed ++ front) (before fed h))
+  contents_behind holds keeps start first now front (Err e) before all = absurd all
+
+-- what a vector took into nothing are its items
+pub contents_read : (found : Result (List ℕ) FileError) (empty full : Vec ℕ Global) → empty.items ≡ []
+    → IsOkAnd found (λ contents. TakesAll (λ before piece after. after.items ≡ before.items ++ piece) empty contents full) → found ≡ Ok full.items
+contents_read (Ok contents) empty full none all =
+    ap Ok (sym (holds_of_contents _ (λ vec fed. vec.items ≡ fed) (λ before piece after step fed h. step ∙ ap (λ x. x ++ piece) h) empty full contents all [] none))
+contents_read (Err e) empty full none all = absurd all

@@ -1,0 +1,20 @@
+use Rattle.std.proofs.Common.{◌<◌, [], length, IfOk, ◌-◌}
+use Rattle.std.specs.Result.{result_unwrap_or}
+use Rattle.cck_path.specs.Path.{components}
+use Rattle.cck_files.specs.FileMap.{contents_at}
+use Rattle.cck_files.specs.Calls.{Keeps}
+use Rattle.cck_file_digest.proofs.ReadLemmas.{IsFed}
+use Rattle.cck_file_digest.proofs.contents.feed_contents.Given as goal
+
+-- the sink took the contents up to the offset, and is ready for more
+abbrev pub invariant-loop-count : goal.invariant-loop-count
+invariant-loop-count g l = let F = g.F.Files in let S = g.S.Sink in record {
+  keeps : Keeps F.file_map F.faults F.is_quiet l.fn.files l.files;
+  room : 0 < length l.buffer;
+  ready : S.is_open l.sink;
+  fed : IfOk (contents_at (F.file_map l.fn.files) (components l.path)) (IsFed S.takes l.fn.sink l.sink l.offset);
+}
+
+-- what is left of the contents
+abbrev pub decreases-loop-count : goal.decreases-loop-count
+decreases-loop-count g l = length (result_unwrap_or (contents_at (g.F.Files.file_map l.fn.files) (components l.path)) []) - l.offset

@@ -1,0 +1,5 @@
+use Rattle.cck_file_digest.proofs.Membership.{reached_told}
+use Rattle.cck_file_digest.proofs.laws.reached_tells.Goals as goal
+
+pub returns : goal.returns
+returns c = reached_told

@@ -1,0 +1,89 @@
+//! The contents of regular files.
+ghost use Rattle.std.specs.Prelude.{◌≡◌, ◌<◌, Ok, length, IfOk, OnOk, MatchResult, IsOkAnd, vec_len};
+ghost use Rattle.cck_path.specs.Path.{components};
+ghost use Rattle.cck_files.specs.FileMap.{contents_at};
+ghost use Rattle.cck_files.specs.Calls.{Keeps, IsRefusalOrMemory, Rose};
+ghost use Rattle.cck_file_digest.specs.Contents.{TakesAll};
+
+use cck_digest::{FileError, HASH_BUFFER_SIZE, Sink};
+use cck_files::Files;
+use std::alloc::{AllocError, Global};
+
+/// Hands the contents of a regular file to a sink, read through this buffer, which has room.
+///
+/// It is refused as [`Files::read_at`] is, and as [`FileError::Memory`] where the sink is refused
+/// memory. After a refusal the sink may have taken a beginning of the contents.
+pub fn feed_contents<F: Files, S: Sink>(
+    files: &mut F,
+    path: &[u8],
+    buffer: &mut [u8],
+    sink: &mut S,
+) -> Result<(), FileError>
+    requires room { 0 < length buffer.old }
+    requires ready { S.is_open sink.old }
+    ensures keeps { Keeps F.file_map F.faults F.is_quiet files.old files.new }
+    ensures ready { OnOk result (S.is_open sink.new) }
+    ensures answer { let found = contents_at (F.file_map files.old) (components path.now) in
+        MatchResult result (λ _. IsOkAnd found (λ contents. TakesAll S.takes sink.old contents sink.new))
+        (IsRefusalOrMemory found (Rose (F.faults files.old) (F.faults files.new))) }
+{
+    let mut offset: u64 = 0;
+    loop {
+        let count = files.read_at(path, offset, buffer)?;
+        if count == 0 {
+            return Ok(());
+        }
+        sink.take(&buffer[..count])?;
+        offset += count as u64;
+    }
+}
+
+/// A buffer to read through.
+pub(crate) fn new_buffer(alloc: Global) -> Result<Vec<u8>, AllocError>
+    ensures { IfOk result (λ buffer. 0 < vec_len buffer) }
+{
+    Ok(vec![in alloc; 0u8; HASH_BUFFER_SIZE]?)
+}
+
+/// Hands the contents of a regular file to a sink, in pieces of [`HASH_BUFFER_SIZE`] bytes at most.
+///
+/// It is refused as
+///
+/// - [`FileError::NotFound`] where nothing stands at the path,
+/// - [`FileError::OtherKind`] where what stands there is no regular file,
+/// - [`FileError::Fault`] only where the count of faults rose,
+/// - [`FileError::Memory`].
+///
+/// After a refusal the sink may have taken a beginning of the contents.
+pub fn feed_file<F: Files, S: Sink>(
+    alloc: Global,
+    files: &mut F,
+    path: &[u8],
+    sink: &mut S,
+) -> Result<(), FileError>
+    requires { S.is_open sink.old }
+    ensures keeps { Keeps F.file_map F.faults F.is_quiet files.old files.new }
+    ensures ready { OnOk result (S.is_open sink.new) }
+    ensures answer { let found = contents_at (F.file_map files.old) (components path.now) in
+        MatchResult result (λ _. IsOkAnd found (λ contents. TakesAll S.takes sink.old contents sink.new))
+        (IsRefusalOrMemory found (Rose (F.faults files.old) (F.faults files.new))) }
+{
+    let mut buffer = new_buffer(alloc)?;
+    feed_contents(files, path, &mut buffer, sink)
+}
+
+/// The contents of a regular file. It is refused as [`feed_file`] is.
+pub fn read_contents<F: Files>(
+    alloc: Global,
+    files: &mut F,
+    path: &[u8],
+) -> Result<Vec<u8>, FileError>
+    ensures keeps { Keeps F.file_map F.faults F.is_quiet files.old files.new }
+    ensures answer { let found = contents_at (F.file_map files.old) (components path.now) in
+        MatchResult result (λ contents. found ≡ Ok contents.items)
+        (IsRefusalOrMemory found (Rose (F.faults files.old) (F.faults files.new))) }
+{
+    let mut contents = Vec::new(alloc);
+    feed_file(alloc, files, path, &mut contents)?;
+    Ok(contents)
+}

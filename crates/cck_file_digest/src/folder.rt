@@ -1,0 +1,142 @@
+//! What is fed for a file or a folder.
+ghost use Rattle.std.specs.Prelude.{◌≡◌, ℕ, List, ◌++◌, ◌<◌, ◌≤◌, length, map, vec_items, true, Ok, IfOk, OnOk, IsOkUnless, MatchResult, IsOkAnd};
+ghost use Rattle.std.specs.Option.{option_copied};
+ghost use Rattle.cck_path.specs.Path.{components};
+ghost use Rattle.cck_files.specs.FileMap.{contents_at, folder_at, stands_at};
+ghost use Rattle.cck_files.specs.Calls.{Keeps, IsRefusalOrMemory, Rose};
+ghost use Rattle.cck_file_digest.specs.Folder.{IsFedNodes, IsInOrder, child_name, child_names};
+ghost use Rattle.cck_file_digest.specs.FolderText.{lossy, opening, whole};
+ghost use Rattle.cck_file_digest.specs.Refusals.{IsRefusalAt};
+
+use crate::contents::feed_contents;
+use bstr::ByteSlice;
+use cck_digest::{Digest, FileError, HashState, UtilError};
+use cck_files::Files;
+use cck_path::{FileKind, join_path};
+use std::alloc::{AllocError, Global};
+
+// How many levels of folders a digest has.
+const FOLDER_LEVELS: u32 = 100;
+
+// Feeds the delimiter of a name, if there is one.
+#[tactic(auto, unfolding(crate::specs::FolderText::opening, crate::specs::FolderText::lossy))]
+fn feed_name<H: HashState>(
+    alloc: Global,
+    name: Option<&[u8]>,
+    digest: &mut Digest<H>,
+) -> Result<(), AllocError>
+    ensures { OnOk result ((fed : List ℕ) → H.holds digest.old fed
+        → H.holds digest.new (fed ++ opening (option_copied name.entry))) }
+{
+    if let Some(name) = name {
+        let text = name.to_str_lossy(alloc)?;
+        digest.delimiter(text.as_bytes());
+    }
+    Ok(())
+}
+
+// Feeds the delimiter of a name, if there is one, and the contents of a regular file.
+fn feed_named<H: HashState, F: Files>(
+    alloc: Global,
+    files: &mut F,
+    path: &[u8],
+    name: Option<&[u8]>,
+    buffer: &mut [u8],
+    digest: &mut Digest<H>,
+) -> Result<(), FileError>
+    requires { 0 < length buffer.old }
+    ensures keeps { Keeps F.file_map F.faults F.is_quiet files.old files.new }
+    ensures answer { let found = contents_at (F.file_map files.old) (components path.now) in
+        MatchResult result (λ _. IsOkAnd found (λ contents. (fed : List ℕ) → H.holds digest.old fed
+        → H.holds digest.new (fed ++ (opening (option_copied name.entry) ++ contents))))
+        (IsRefusalOrMemory found (Rose (F.faults files.old) (F.faults files.new))) }
+{
+    feed_name(alloc, name, digest)?;
+    feed_contents(files, path, buffer, digest)
+}
+
+/// The last names of a folder's direct children, in the order of their bytes. A child whose last
+/// component is no name has none.
+///
+/// It is refused as
+///
+/// - [`FileError::NotFound`] where nothing stands at the path,
+/// - [`FileError::OtherKind`] where what stands there is no folder,
+/// - [`FileError::Fault`] only where the count of faults rose,
+/// - [`FileError::Memory`].
+pub fn sorted_names<F: Files>(
+    alloc: Global,
+    files: &mut F,
+    path: &[u8],
+) -> Result<Vec<Vec<u8>>, FileError>
+    ensures keeps { Keeps F.file_map F.faults F.is_quiet files.old files.new }
+    ensures folder { OnOk result (folder_at (F.file_map files.old) (components path.now) ≡ Ok tt) }
+    ensures names { IfOk result (λ names.
+        map vec_items names.items ≡ child_names (F.file_map files.old).nodes (components path.now)) }
+    ensures answer { MatchResult result
+        (λ names. IsInOrder (F.file_map files.old).nodes (components path.now) (map vec_items names.items))
+        (IsRefusalOrMemory (folder_at (F.file_map files.old) (components path.now))
+        (Rose (F.faults files.old) (F.faults files.new))) }
+{
+    let mut names = files.read_dir(alloc, path)?;
+    names.sort_unstable();
+    Ok(names)
+}
+
+// The name of a child, below a folder of this name, if it has one.
+fn name_child(alloc: Global, folder: Option<&[u8]>, child: &[u8]) -> Result<Vec<u8>, AllocError>
+    ensures { IfOk result (λ name. name.items ≡ child_name (option_copied folder.entry) child.now) }
+{
+    let Some(folder) = folder else {
+        return child.to_vec(alloc);
+    };
+    let mut name = folder.to_vec(alloc)?;
+    name.push(b'/')?;
+    name.extend_from_slice(child)?;
+    Ok(name)
+}
+
+/// Feeds what stands at a path, which is of this level: a file behind its name, if it has one, or
+/// all that is reached from a folder, in path order.
+pub(crate) fn feed_node<H: HashState, F: Files>(
+    alloc: Global,
+    files: &mut F,
+    path: &[u8],
+    name: Option<&[u8]>,
+    level: u32,
+    buffer: &mut [u8],
+    digest: &mut Digest<H>,
+) -> Result<(), UtilError>
+    requires room { 0 < length buffer.old }
+    requires level { level ≤ 101 }
+    ensures keeps { Keeps F.file_map F.faults F.is_quiet files.old files.new }
+    ensures answer { let fm = F.file_map files.old in MatchResult result
+        (λ _. (stands_at fm (components path.now) ≡ true)
+        × IsFedNodes H.holds level (option_copied name.entry) (whole fm.nodes (components path.now)) digest.old digest.new)
+        (IsRefusalAt level fm (components path.now) (Rose (F.faults files.old) (F.faults files.new))) }
+{
+    match files.metadata(path)?.kind {
+        FileKind::File => Ok(feed_named(alloc, files, path, name, buffer, digest)?),
+        FileKind::Folder => {
+            if level > FOLDER_LEVELS {
+                return Err(UtilError::TooDeep);
+            }
+            let names = sorted_names(alloc, files, path)?;
+            for child in &names {
+                let child_path = join_path(alloc, path, child)?;
+                let child_name = name_child(alloc, name, child)?;
+                feed_node(
+                    alloc,
+                    files,
+                    &child_path,
+                    Some(&child_name),
+                    level + 1,
+                    buffer,
+                    digest,
+                )?;
+            }
+            Ok(())
+        }
+        FileKind::Other => Err(UtilError::File(FileError::OtherKind)),
+    }
+}
