@@ -1,1 +1,3 @@
+pub mod FindLemmas
 pub mod ShapeLemmas
+pub mod WrapperLemmas

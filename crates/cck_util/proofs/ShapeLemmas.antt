@@ -5,11 +5,12 @@ use Rattle.std.specs.List.{flat_map}
 use Rattle.std.specs.Option.{option_map}
 use Rattle.cck_digest.specs.Digest.{length_prefixed}
 use Rattle.cck_digest.proofs.ReadsBack.{ReadsBack, bytes_read_back, length_prefixed_reads_back, items_read_back, pieces_read_back}
+use Rattle.cck_path.specs.Variables.{Variable}
 use Rattle.cck_strip.specs.Argument.{argument_bytes}
 use Rattle.cck_util.specs.Key.{KeyParts, assembler_bytes, flag_byte, material}
 use Rattle.cck_util.specs.Language.{language_name}
 use Rattle.cck_util.specs.Shape.{IsTold, OneShape}
-use Rattle.cck_util.specs.Variables.{Variable, variable_bytes}
+use Rattle.cck_util.specs.Variables.{variable_bytes}
 
 -- the material, each part before all that follows it
 material-nested : (p : KeyParts) → material p ≡ p.compiler_digest ++ (flag_byte p.plusplus ∷ (codes "13" ++ (language_name p.language

@@ -2,10 +2,11 @@
 use Rattle.std.specs.Prelude.{ℕ, List, [], ◌∷◌, ◌++◌, Bool, true, false, Option, Some, None, codes, map}
 use Rattle.std.specs.List.{flat_map}
 use Rattle.cck_digest.specs.Digest.{digest_text}
+use Rattle.cck_path.specs.Variables.{Variable}
 use Rattle.cck_strip.specs.Argument.{argument_bytes, stripped_argument}
 use Rattle.cck_strip.specs.Text.{stripped_text}
 use Rattle.cck_util.specs.Language.{language_name}
-use Rattle.cck_util.specs.Variables.{Variable, object_variables, variable_bytes}
+use Rattle.cck_util.specs.Variables.{object_variables, variable_bytes}
 use Rattle.cck_util.specs.declared.language.Language.{Language}
 
 -- what a caller hands in for a key

@@ -3,3 +3,4 @@ pub mod Key
 pub mod Language
 pub mod Shape
 pub mod Variables
+pub mod Wrapper

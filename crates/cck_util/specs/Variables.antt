@@ -1,12 +1,9 @@
 -- the variables of the environment that change what a compiler writes
-use Rattle.std.specs.Prelude.{ℕ, List, [], ◌∷◌, ◌++◌, Bool, codes, filter}
+use Rattle.std.specs.Prelude.{ℕ, List, [], ◌∷◌, ◌++◌, codes, filter}
 use Rattle.std.specs.List.{list_any}
 use Rattle.std.specs.Str.{bytes_eq}
 use Rattle.cck_digest.specs.Digest.{length_prefixed}
-
--- a variable: its name and its value
-abbrev pub Variable : Type 0
-Variable = List ℕ × List ℕ
+use Rattle.cck_path.specs.Variables.{Variable}
 
 -- the names of the variables that stand in an object's key
 abbrev pub object_variable_names : List (List ℕ)
@@ -15,13 +12,13 @@ object_variable_names =
     ∷ codes "IPHONEOS_DEPLOYMENT_TARGET" ∷ codes "TVOS_DEPLOYMENT_TARGET"
     ∷ codes "WATCHOS_DEPLOYMENT_TARGET" ∷ codes "SDKROOT" ∷ codes "CCC_OVERRIDE_OPTIONS" ∷ []
 
--- whether a variable of this name stands in an object's key
-abbrev pub is_object_variable : List ℕ → Bool
-is_object_variable name = list_any (bytes_eq name) object_variable_names
+-- the variables that have one of these names, in their order
+abbrev pub variables_named : List (List ℕ) → List Variable → List Variable
+variables_named names variables = filter (λ v. list_any (bytes_eq (v.0)) names) variables
 
 -- the variables that stand in an object's key, in their order
 abbrev pub object_variables : List Variable → List Variable
-object_variables variables = filter (λ v. is_object_variable (v.0)) variables
+object_variables variables = variables_named object_variable_names variables
 
 -- a variable as it stands in a key: the length-prefixed name, `=` and the length-prefixed value
 abbrev pub variable_bytes : Variable → List ℕ

@@ -135,8 +135,8 @@ impl<'a> HashKeyParams<'a> {
     }
 }
 
-// Feeds the digest texts of further files, with nothing between them.
-fn hash_extra_hashes<H: HashState>(digest: &mut Digest<H>, hashes: &[String])
+/// Feeds the digest texts of further files, with nothing between them. It takes no memory.
+pub fn hash_extra_hashes<H: HashState>(digest: &mut Digest<H>, hashes: &[String])
     ensures { (fed : List ℕ) → H.holds digest.old fed →
         H.holds digest.new (fed ++ flat_map (λ hash. hash) (map string_bytes hashes.now)) }
 {
@@ -145,8 +145,8 @@ fn hash_extra_hashes<H: HashState>(digest: &mut Digest<H>, hashes: &[String])
     }
 }
 
-// Feeds the digest text of the assembler, if there is one.
-fn hash_assembler_digest<H: HashState>(digest: &mut Digest<H>, assembler_digest: Option<&str>)
+/// Feeds the digest text of the assembler, if there is one. It takes no memory.
+pub fn hash_assembler_digest<H: HashState>(digest: &mut Digest<H>, assembler_digest: Option<&str>)
     ensures { (fed : List ℕ) → H.holds digest.old fed →
         H.holds digest.new (fed ++ assembler_bytes (option_map (λ d. d.now) assembler_digest.entry)) }
 {

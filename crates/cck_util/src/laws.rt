@@ -2,7 +2,8 @@
 //! function that does nothing.
 ghost use Rattle.cck_util.specs.Shape.{EqualWithoutBasedirs, OneShapeOneMaterial};
 
-pub use cck_digest::laws::hex_tells_bytes;
+pub use cck_digest::laws::{has_is_tested, hex_tells_bytes, text_has_64_characters};
+pub use cck_file_digest::laws::{file_material, folder_material, reached_tells, refusals_tell};
 pub use cck_path::laws::{
     components_in_order, escape_is_undone, names_that_lead, timestamps_by_nanos,
 };

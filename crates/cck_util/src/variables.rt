@@ -1,25 +1,55 @@
 //! The variables of the environment that change what a compiler writes.
 ghost use Rattle.std.specs.Prelude.{◌≡◌, ℕ, List, ◌++◌, map};
-ghost use Rattle.std.specs.List.{flat_map};
-ghost use Rattle.cck_util.specs.Variables.{is_object_variable, object_variables, variable_bytes};
+ghost use Rattle.std.specs.List.{flat_map, list_any};
+ghost use Rattle.std.specs.Str.{bytes_eq};
+ghost use Rattle.cck_util.specs.Variables.{object_variables, variable_bytes, variables_named};
 
 use cck_digest::{Digest, HashState, hash_len_prefixed};
 
-// Whether a variable of this name stands in an object's key. Names are compared byte for byte.
-fn is_object_variable(name: &[u8]) -> bool
-    ensures { result ≡ is_object_variable name.now }
+// The names of the variables that stand in an object's key.
+const OBJECT_VARIABLES: [&[u8]; 7] = [
+    b"SCCACHE_C_CUSTOM_CACHE_BUSTER",
+    b"MACOSX_DEPLOYMENT_TARGET",
+    b"IPHONEOS_DEPLOYMENT_TARGET",
+    b"TVOS_DEPLOYMENT_TARGET",
+    b"WATCHOS_DEPLOYMENT_TARGET",
+    b"SDKROOT",
+    b"CCC_OVERRIDE_OPTIONS",
+];
+
+// Whether the name is one of these, byte for byte.
+fn is_one_of(name: &[u8], names: &[&[u8]]) -> bool
+    ensures { result ≡ list_any (bytes_eq name.now) (map (λ n. n.now) names.now) }
 {
-    name == b"SCCACHE_C_CUSTOM_CACHE_BUSTER".as_slice()
-        || name == b"MACOSX_DEPLOYMENT_TARGET".as_slice()
-        || name == b"IPHONEOS_DEPLOYMENT_TARGET".as_slice()
-        || name == b"TVOS_DEPLOYMENT_TARGET".as_slice()
-        || name == b"WATCHOS_DEPLOYMENT_TARGET".as_slice()
-        || name == b"SDKROOT".as_slice()
-        || name == b"CCC_OVERRIDE_OPTIONS".as_slice()
+    for known in names {
+        if name == *known {
+            return true;
+        }
+    }
+    false
 }
 
-// Feeds the variables that stand in an object's key, in their order: the length-prefixed name, `=`
-// and the length-prefixed value. A name that comes twice is fed twice.
+/// Feeds the variables that have one of these names, in their order: the length-prefixed name, `=`
+/// and the length-prefixed value. A name that comes twice is fed twice. It takes no memory.
+pub fn hash_variables_named<H: HashState>(
+    digest: &mut Digest<H>,
+    variables: &[(Vec<u8>, Vec<u8>)],
+    names: &[&[u8]],
+)
+    ensures { (fed : List ℕ) → H.holds digest.old fed →
+        H.holds digest.new (fed ++ flat_map variable_bytes
+        (variables_named (map (λ n. n.now) names.now) (map (λ v. (v.0.items, v.1.items)) variables.now))) }
+{
+    for (name, value) in variables {
+        if is_one_of(name, names) {
+            hash_len_prefixed(digest, name);
+            digest.update(b"=");
+            hash_len_prefixed(digest, value);
+        }
+    }
+}
+
+// Feeds the variables that stand in an object's key.
 pub(crate) fn hash_object_variables<H: HashState>(
     digest: &mut Digest<H>,
     variables: &[(Vec<u8>, Vec<u8>)],
@@ -28,11 +58,5 @@ pub(crate) fn hash_object_variables<H: HashState>(
         H.holds digest.new (fed ++ flat_map variable_bytes
         (object_variables (map (λ v. (v.0.items, v.1.items)) variables.now))) }
 {
-    for (name, value) in variables {
-        if is_object_variable(name) {
-            hash_len_prefixed(digest, name);
-            digest.update(b"=");
-            hash_len_prefixed(digest, value);
-        }
-    }
+    hash_variables_named(digest, variables, &OBJECT_VARIABLES);
 }

@@ -1,0 +1,10 @@
+use Rattle.std.proofs.Common.{List, ℕ, ◌++◌, take, map}
+use Rattle.std.specs.List.{flat_map}
+use Rattle.cck_util.specs.Variables.{variable_bytes, variables_named}
+use Rattle.cck_util.proofs.variables.hash_variables_named.Given as goal
+
+-- fed are the variables so far that have one of the names
+abbrev pub invariant-loop-name : goal.invariant-loop-name
+invariant-loop-name g l = (fed : List ℕ) → g.H.HashState.holds l.initial.digest fed →
+    g.H.HashState.holds l.digest (fed ++ flat_map variable_bytes
+    (variables_named (map (λ n. n.now) l.names) (map (λ v. (v.0.items, v.1.items)) (take l.name-index l.variables))))

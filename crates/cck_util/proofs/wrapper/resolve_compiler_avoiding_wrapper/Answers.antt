@@ -1,0 +1,9 @@
+use Rattle.std.proofs.Common.{map}
+use Rattle.cck_util.specs.Wrapper.{candidates}
+use Rattle.cck_util.proofs.WrapperLemmas.{contains_later}
+use Rattle.cck_util.proofs.wrapper.resolve_compiler_avoiding_wrapper.Goals as goal
+
+pub returns-in-Some-clause-place : goal.returns-in-Some-clause-place
+returns-in-Some-clause-place g c =
+    let place = rw c.in-Some.is at c.in_ok-compiler.ensures.place in
+    contains_later c.args.executable.now (candidates c.args.executable.now (map (λ v. (v.0.items, v.1.items)) c.args.vars.now)) c.in-Some.compiler.items place

@@ -1,0 +1,223 @@
+//! Compilers that stand behind wrappers.
+ghost use Rattle.std.specs.Prelude.{◌≡◌, ◌∷◌, map, IfOk, IsOkUnless, IfSome, Contains, ◌⊎◌};
+ghost use Rattle.std.specs.List.{find};
+ghost use Rattle.std.specs.Option.{option_map};
+ghost use Rattle.std.specs.Str.{str_eq_ignore_ascii_case};
+ghost use Rattle.cck_files.specs.Calls.{Keeps, Rose};
+ghost use Rattle.cck_path.specs.Components.{component_of};
+ghost use Rattle.cck_path.specs.Path.{components};
+ghost use Rattle.cck_path.specs.Text.{join_path as joined_text};
+ghost use Rattle.cck_util.specs.Wrapper.{begins_with, is_wrapper_name, is_wrapper, leads_to_wrapper, has_wrapper_component, is_wrapper_component, kept_parts, candidates, is_compiler, is_settled, found, resolved};
+
+use cck_digest::{FileError, UtilError};
+use cck_files::Files;
+use cck_path::{Component, Components, file_name, first_value, is_absolute, join_path};
+use std::alloc::Global;
+
+/// The path of the compiler that `executable` means, without a wrapper such as `ccache` in between.
+///
+/// A path *leads to a wrapper* if the file name of its canonical path is `ccache` or `sccache`, or
+/// begins with one of these and a `.`, in any ASCII case. Without a canonical path, or where asking
+/// for it meets a fault, it doesn't.
+///
+/// The answer is `executable` itself where it is absolute and doesn't lead to a wrapper. Otherwise
+/// its file name is looked up in the folders of the first variable `PATH`, in order and without
+/// those that have a component `ccache` or `sccache`. The answer is the first of these paths at
+/// which something stands and that doesn't lead to a wrapper. Where there is none, or no file name,
+/// or no variable `PATH`, it is `executable` too. Where the count of faults rose the answer may be
+/// another of these paths, or `executable`.
+///
+/// Upstream's `util::resolve_compiler_avoiding_wrapper`. It is refused only for want of memory, as
+/// [`UtilError::Memory`].
+pub fn resolve_compiler_avoiding_wrapper<F: Files>(
+    alloc: Global,
+    files: &mut F,
+    executable: &[u8],
+    vars: &[(Vec<u8>, Vec<u8>)],
+) -> Result<Vec<u8>, UtilError>
+    ensures keeps { Keeps F.file_map F.faults F.is_quiet files.old files.new }
+    ensures answer { IfOk result (λ path.
+        (path.items ≡ resolved (F.file_map files.old) executable.now
+        (map (λ v. (v.0.items, v.1.items)) vars.now))
+        ⊎ Rose (F.faults files.old) (F.faults files.new)) }
+    ensures place { IfOk result (λ path. Contains
+        (executable.now ∷ candidates executable.now (map (λ v. (v.0.items, v.1.items)) vars.now))
+        path.items) }
+    ensures refused { IsOkUnless result UtilError.Memory }
+{
+    match find_compiler(alloc, files, executable, vars)? {
+        Some(compiler) => Ok(compiler),
+        None => Ok(executable.to_vec(alloc)?),
+    }
+}
+
+// The compiler that takes the executable's place, if one does.
+fn find_compiler<F: Files>(
+    alloc: Global,
+    files: &mut F,
+    executable: &[u8],
+    vars: &[(Vec<u8>, Vec<u8>)],
+) -> Result<Option<Vec<u8>>, UtilError>
+    ensures keeps { Keeps F.file_map F.faults F.is_quiet files.old files.new }
+    ensures answer { IfOk result (λ compiler.
+        (option_map (λ path. path.items) compiler ≡ found (F.file_map files.old) executable.now
+        (map (λ v. (v.0.items, v.1.items)) vars.now))
+        ⊎ Rose (F.faults files.old) (F.faults files.new)) }
+    ensures place { IfOk result (λ compiler. IfSome compiler (λ path. Contains
+        (candidates executable.now (map (λ v. (v.0.items, v.1.items)) vars.now))
+        path.items)) }
+    ensures refused { IsOkUnless result UtilError.Memory }
+{
+    if is_settled(alloc, files, executable)? {
+        return Ok(None);
+    }
+    let Some(name) = file_name(executable) else {
+        return Ok(None);
+    };
+    let Some(path) = first_value(vars, b"PATH") else {
+        return Ok(None);
+    };
+    let parts = kept_parts(alloc, path)?;
+    first_compiler(alloc, files, &parts, name)
+}
+
+// Whether a path is absolute and doesn't lead to a wrapper.
+fn is_settled<F: Files>(alloc: Global, files: &mut F, path: &[u8]) -> Result<bool, UtilError>
+    ensures keeps { Keeps F.file_map F.faults F.is_quiet files.old files.new }
+    ensures answer { IfOk result (λ settled.
+        (settled ≡ is_settled (F.file_map files.old) (components path.now))
+        ⊎ Rose (F.faults files.old) (F.faults files.new)) }
+    ensures refused { IsOkUnless result UtilError.Memory }
+{
+    if !is_absolute(path) {
+        return Ok(false);
+    }
+    let leads = leads_to_wrapper(alloc, files, path)?;
+    Ok(!leads)
+}
+
+// The parts of a search path that are no wrapper's.
+fn kept_parts(alloc: Global, path: &[u8]) -> Result<Vec<&[u8]>, UtilError>
+    ensures parts { IfOk result (λ parts.
+        map (λ part. part.now) parts.items ≡ kept_parts path.now) }
+    ensures refused { IsOkUnless result UtilError.Memory }
+{
+    Ok(
+        path.split(|byte| *byte == b':')
+            .filter(|part| !has_wrapper_component(part))
+            .collect(alloc)?,
+    )
+}
+
+// Whether a path has a component `ccache` or `sccache`.
+fn has_wrapper_component(path: &[u8]) -> bool
+    ensures { result ≡ has_wrapper_component path.now }
+{
+    Components::new(path).any(|component| is_wrapper_component(component))
+}
+
+// Whether a component is `ccache` or `sccache`.
+fn is_wrapper_component(component: Component<'_>) -> bool
+    ensures { result ≡ is_wrapper_component (component_of component.entry) }
+{
+    match component {
+        Component::Normal(name) => { name == b"ccache".as_slice() || name == b"sccache".as_slice() }
+        _ => false,
+    }
+}
+
+// The first of the parts, joined with a name, at which a compiler stands.
+fn first_compiler<F: Files>(
+    alloc: Global,
+    files: &mut F,
+    parts: &[&[u8]],
+    name: &[u8],
+) -> Result<Option<Vec<u8>>, UtilError>
+    ensures keeps { Keeps F.file_map F.faults F.is_quiet files.old files.new }
+    ensures answer { IfOk result (λ compiler.
+        (option_map (λ path. path.items) compiler
+        ≡ find (λ path. is_compiler (F.file_map files.old) (components path))
+        (map (λ part. joined_text part.now name.now) parts.now))
+        ⊎ Rose (F.faults files.old) (F.faults files.new)) }
+    ensures place { IfOk result (λ compiler. IfSome compiler (λ path. Contains
+        (map (λ part. joined_text part.now name.now) parts.now) path.items)) }
+    ensures refused { IsOkUnless result UtilError.Memory }
+{
+    for part in parts {
+        let path = join_path(alloc, part, name)?;
+        if is_compiler(alloc, files, &path)? {
+            return Ok(Some(path));
+        }
+    }
+    Ok(None)
+}
+
+// Whether something stands at a path that doesn't lead to a wrapper.
+fn is_compiler<F: Files>(alloc: Global, files: &mut F, path: &[u8]) -> Result<bool, UtilError>
+    ensures keeps { Keeps F.file_map F.faults F.is_quiet files.old files.new }
+    ensures answer { IfOk result (λ compiler.
+        (compiler ≡ is_compiler (F.file_map files.old) (components path.now))
+        ⊎ Rose (F.faults files.old) (F.faults files.new)) }
+    ensures refused { IsOkUnless result UtilError.Memory }
+{
+    if !files.exists(path) {
+        return Ok(false);
+    }
+    let leads = leads_to_wrapper(alloc, files, path)?;
+    Ok(!leads)
+}
+
+// Whether a path leads to a wrapper.
+fn leads_to_wrapper<F: Files>(alloc: Global, files: &mut F, path: &[u8]) -> Result<bool, UtilError>
+    ensures keeps { Keeps F.file_map F.faults F.is_quiet files.old files.new }
+    ensures answer { IfOk result (λ leads.
+        (leads ≡ leads_to_wrapper (F.file_map files.old) (components path.now))
+        ⊎ Rose (F.faults files.old) (F.faults files.new)) }
+    ensures refused { IsOkUnless result UtilError.Memory }
+{
+    match files.canonical(alloc, path) {
+        Ok(canonical) => Ok(is_wrapper(&canonical)),
+        Err(error) => match error {
+            FileError::Memory => Err(UtilError::Memory),
+            _ => Ok(false),
+        },
+    }
+}
+
+// Whether the file name of a path is a wrapper's.
+fn is_wrapper(path: &[u8]) -> bool
+    ensures { result ≡ is_wrapper (components path.now) }
+{
+    match file_name(path) {
+        Some(name) => is_wrapper_name(name),
+        None => false,
+    }
+}
+
+// Whether a file name is a wrapper's.
+#[tactic(auto, unfolding(crate::specs::Wrapper::is_wrapper_name, crate::specs::Wrapper::is_program))]
+fn is_wrapper_name(name: &[u8]) -> bool
+    ensures { result ≡ is_wrapper_name name.now }
+{
+    is_same_name(name, b"ccache")
+        || begins_with(name, b"ccache.")
+        || is_same_name(name, b"sccache")
+        || begins_with(name, b"sccache.")
+}
+
+// Whether a name begins so, in any ASCII case.
+fn begins_with(name: &[u8], beginning: &[u8]) -> bool
+    ensures { result ≡ begins_with name.now beginning.now }
+{
+    match name.split_at_checked(beginning.len()) {
+        Some((front, _)) => is_same_name(front, beginning),
+        None => false,
+    }
+}
+
+// Whether two names are the same in any ASCII case.
+fn is_same_name(a: &[u8], b: &[u8]) -> bool
+    ensures { result ≡ str_eq_ignore_ascii_case a.now b.now }
+{
+    a.eq_ignore_ascii_case(b)
+}
