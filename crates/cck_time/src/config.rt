@@ -1,0 +1,66 @@
+//! The options of the preprocessor cache mode.
+ghost use Rattle.std.specs.Prelude.{◌≡◌, true, false};
+
+/// The options of the preprocessor cache mode, in which a result is answered without preprocessing
+/// where nothing that was read has changed.
+///
+/// Upstream's `config::PreprocessorCacheModeConfig`. No call takes memory.
+#[derive(Debug, Copy, Clone, PartialEq, Eq)]
+pub struct PreprocessorCacheModeConfig {
+    /// Whether the mode is on. Off by default.
+    pub use_preprocessor_cache_mode: bool,
+    /// Whether a file of equal size and equal times is taken to be unchanged without a look at its
+    /// contents. Off by default.
+    pub file_stat_matches: bool,
+    /// Whether the time of the last change of status counts among these times, beside that of the
+    /// last modification. On by default.
+    pub use_ctime_for_stat: bool,
+    /// Whether `__DATE__`, `__TIME__` and `__TIMESTAMP__` in a file are taken for any other text. Off
+    /// by default.
+    pub ignore_time_macros: bool,
+    /// Whether headers that a line marker calls a system's are left out. Off by default.
+    pub skip_system_headers: bool,
+    /// Whether the working directory is part of the preprocessor key. On by default.
+    pub hash_working_directory: bool,
+}
+
+impl PreprocessorCacheModeConfig {
+    /// The default options with the mode switched on.
+    pub fn activated() -> PreprocessorCacheModeConfig
+        ensures { result ≡ record {
+          use_preprocessor_cache_mode = true;
+          file_stat_matches = false;
+          use_ctime_for_stat = true;
+          ignore_time_macros = false;
+          skip_system_headers = false;
+          hash_working_directory = true;
+        } }
+    {
+        PreprocessorCacheModeConfig {
+            use_preprocessor_cache_mode: true,
+            ..PreprocessorCacheModeConfig::default()
+        }
+    }
+}
+
+impl Default for PreprocessorCacheModeConfig {
+    ghost is_default = { λ config. config ≡ record {
+      use_preprocessor_cache_mode = false;
+      file_stat_matches = false;
+      use_ctime_for_stat = true;
+      ignore_time_macros = false;
+      skip_system_headers = false;
+      hash_working_directory = true;
+    } };
+
+    fn default() -> PreprocessorCacheModeConfig {
+        PreprocessorCacheModeConfig {
+            use_preprocessor_cache_mode: false,
+            file_stat_matches: false,
+            use_ctime_for_stat: true,
+            ignore_time_macros: false,
+            skip_system_headers: false,
+            hash_working_directory: true,
+        }
+    }
+}

@@ -1,0 +1,61 @@
+//! Laws about the definitions, each the contract of a function that does nothing.
+ghost use Rattle.std.specs.Prelude.{◌≡◌, ◌↔◌, ℕ, ℤ, Bool, true, IsTrue, List, Option, Some, IsSome, option_map};
+ghost use Rattle.std.specs.Option.{IsSomeAnd};
+ghost use Rattle.cck_path.specs.Timestamp.{Moment, nanos_of};
+ghost use Rattle.cck_path.specs.Variables.{Variable};
+ghost use Rattle.cck_time.specs.Calendar.{CivilDate, IsInCalendar, date_of_day, day_number};
+ghost use Rattle.cck_time.specs.TimePart.{date_bytes, epoch_text, i64_bytes, is_instant, local_date, local_day, local_second, time_part};
+ghost use Rattle.jiff.specs.Types.{TimeZone};
+ghost use Rattle.jiff.specs.Words.{IsEpochDay, IsTimestampNanos};
+
+/// The date of a day is the one date of the calendar whose day it is: what is found has the day, each
+/// date is found by its day, and each day from -9999-01-01 to 9999-12-31 has one.
+pub fn dates_of_days()
+    ensures day { (day : ℤ) (d : CivilDate) → date_of_day day ≡ Some d →
+        IsInCalendar d × (day_number d ≡ day) }
+    ensures date { (d : CivilDate) → IsInCalendar d → date_of_day (day_number d) ≡ Some d }
+    ensures every { (day : ℤ) → IsEpochDay day →
+        (d : CivilDate) × (date_of_day day ≡ Some d) }
+{}
+
+/// There is a time part exactly where each time that it needs is an instant of `jiff`: the moment for
+/// a date, and for a timestamp a modification time that is known.
+pub fn parts_exist()
+    ensures { (date timestamp : Bool) (modified : Option Moment) (moment : Moment)
+        (zone : TimeZone) (variables : List Variable) →
+        IsSome (time_part date timestamp modified moment zone variables)
+        ↔ ((IsTrue date → IsTimestampNanos (nanos_of moment))
+        × (IsTrue timestamp → IsSomeAnd modified (λ t. IsTimestampNanos (nanos_of t)))) }
+{}
+
+/// Dates of one zone that are written alike are of one local day.
+pub fn one_day()
+    ensures { (zone : TimeZone) (m n : ℤ) (a b : CivilDate) →
+        local_date zone m ≡ Some a → local_date zone n ≡ Some b →
+        date_bytes a ≡ date_bytes b → local_day zone m ≡ local_day zone n }
+{}
+
+/// Two instants whose seconds in a zone are written alike have one local second.
+pub fn one_second()
+    ensures { (zone : TimeZone) (m n : ℤ) → is_instant m ≡ true → is_instant n ≡ true →
+        i64_bytes (local_second zone m) ≡ i64_bytes (local_second zone n) →
+        local_second zone m ≡ local_second zone n }
+{}
+
+/// Equal time parts of one zone and of equal flags, whatever else they were made for, tell what they
+/// show: with a date the local day of the moment and what `SOURCE_DATE_EPOCH` says, and with a
+/// timestamp the local second of the modification.
+pub fn equal_parts_tell()
+    ensures days { (zone : TimeZone) (timestamp : Bool) (m n : Option Moment) (a b : Moment)
+        (v w : List Variable) (part : List ℕ) →
+        time_part true timestamp m a zone v ≡ Some part →
+        time_part true timestamp n b zone w ≡ Some part →
+        (local_day zone (nanos_of a) ≡ local_day zone (nanos_of b))
+        × (epoch_text v ≡ epoch_text w) }
+    ensures seconds { (zone : TimeZone) (date : Bool) (m n : Option Moment) (a b : Moment)
+        (v w : List Variable) (part : List ℕ) →
+        time_part date true m a zone v ≡ Some part →
+        time_part date true n b zone w ≡ Some part →
+        option_map (λ t. local_second zone (nanos_of t)) m
+        ≡ option_map (λ t. local_second zone (nanos_of t)) n }
+{}

@@ -1,0 +1,205 @@
+//! The time part of a file: what its text can show at a moment, in a zone.
+ghost use Rattle.std.specs.Prelude.{◌≡◌, ◌++◌, codes, IfOk, IfErr, OnOk, Some, map, option_map};
+ghost use Rattle.cck_time.specs.Calendar.{civil_date};
+ghost use Rattle.cck_time.specs.TimePart.{IsAppended, date_bytes, date_part, delimiter, epoch_text, i32_bytes, i64_bytes, instant_nanos, local_date, local_second, stamp_part, time_part, u32_bytes};
+ghost use Rattle.jiff.specs.Words.{plain_zone};
+
+use crate::Error;
+use cck_path::{Timestamp, first_value};
+use jiff::civil::Date;
+use jiff::tz::TimeZone;
+use std::alloc::Global;
+
+// The instant of a moment, if it lies in `jiff`'s range.
+fn instant_of(moment: Timestamp) -> Option<jiff::Timestamp>
+    ensures { option_map (λ t. t.nanosecond) result ≡ instant_nanos moment }
+{
+    let nanos = moment.seconds() as i128 * 1_000_000_000 + moment.nanoseconds() as i128;
+    jiff::Timestamp::from_nanosecond(nanos).ok()
+}
+
+// What the zone's calendar shows at the instant.
+fn date_at(zone: &TimeZone<'_>, instant: jiff::Timestamp) -> Date
+    ensures { local_date (plain_zone zone.now) instant.nanosecond
+        ≡ Some (civil_date result) }
+{
+    zone.to_datetime(instant).date()
+}
+
+// The second that a clock in the zone shows at the instant, counted from 1970-01-01T00:00:00.
+fn second_at(zone: &TimeZone<'_>, instant: jiff::Timestamp) -> i64
+    ensures { result ≡ local_second (plain_zone zone.now) instant.nanosecond }
+{
+    zone.to_datetime(instant).to_plain().to_second()
+}
+
+// What a compiler is told to show in place of the date, empty where it isn't told.
+fn epoch_text<'a>(variables: &'a [(Vec<u8>, Vec<u8>)]) -> &'a [u8]
+    ensures { result.now ≡ epoch_text (map (λ v. (v.0.items, v.1.items)) variables.now) }
+{
+    match first_value(variables, b"SOURCE_DATE_EPOCH") {
+        Some(value) => value,
+        None => &[],
+    }
+}
+
+#[tactic(auto, unfolding(crate::specs::TimePart::delimiter))]
+fn put_delimiter(part: &mut Vec<u8>, name: &[u8]) -> Result<(), Error>
+    ensures value { OnOk result (part.new.items ≡ part.old.items ++ delimiter name.now) }
+    ensures refused { IfErr result (λ e. e ≡ Error.Memory) }
+{
+    part.extend_from_slice(b"\0SCCACHE\0")?;
+    part.extend_from_slice(name)?;
+    part.push(0)?;
+    Ok(())
+}
+
+#[tactic(auto, unfolding(crate::specs::TimePart::i32_bytes))]
+fn put_i32(part: &mut Vec<u8>, number: i32) -> Result<(), Error>
+    ensures value { OnOk result (part.new.items ≡ part.old.items ++ i32_bytes number) }
+    ensures refused { IfErr result (λ e. e ≡ Error.Memory) }
+{
+    part.extend_from_slice(&number.to_le_bytes())?;
+    Ok(())
+}
+
+#[tactic(auto, unfolding(crate::specs::TimePart::u32_bytes))]
+fn put_u32(part: &mut Vec<u8>, number: u32) -> Result<(), Error>
+    ensures value { OnOk result (part.new.items ≡ part.old.items ++ u32_bytes number) }
+    ensures refused { IfErr result (λ e. e ≡ Error.Memory) }
+{
+    part.extend_from_slice(&number.to_le_bytes())?;
+    Ok(())
+}
+
+#[tactic(auto, unfolding(crate::specs::TimePart::i64_bytes))]
+fn put_i64(part: &mut Vec<u8>, number: i64) -> Result<(), Error>
+    ensures value { OnOk result (part.new.items ≡ part.old.items ++ i64_bytes number) }
+    ensures refused { IfErr result (λ e. e ≡ Error.Memory) }
+{
+    part.extend_from_slice(&number.to_le_bytes())?;
+    Ok(())
+}
+
+fn put_year_month_day(part: &mut Vec<u8>, date: Date) -> Result<(), Error>
+    ensures value { OnOk result (part.new.items ≡ part.old.items
+        ++ date_bytes (civil_date date)) }
+    ensures refused { IfErr result (λ e. e ≡ Error.Memory) }
+{
+    let date = date.to_plain();
+    put_i32(part, i32::from(date.year))?;
+    put_u32(part, u32::from(date.month))?;
+    put_u32(part, u32::from(date.day))?;
+    Ok(())
+}
+
+fn put_date(part: &mut Vec<u8>, date: Date, variables: &[(Vec<u8>, Vec<u8>)]) -> Result<(), Error>
+    ensures value { OnOk result (part.new.items ≡ part.old.items ++ (delimiter (codes "date")
+        ++ date_bytes (civil_date date)
+        ++ epoch_text (map (λ v. (v.0.items, v.1.items)) variables.now))) }
+    ensures refused { IfErr result (λ e. e ≡ Error.Memory) }
+{
+    put_delimiter(part, b"date")?;
+    put_year_month_day(part, date)?;
+    part.extend_from_slice(epoch_text(variables))?;
+    Ok(())
+}
+
+fn put_second(part: &mut Vec<u8>, second: i64) -> Result<(), Error>
+    ensures value { OnOk result (part.new.items ≡ part.old.items
+        ++ (delimiter (codes "timestamp") ++ i64_bytes second)) }
+    ensures refused { IfErr result (λ e. e ≡ Error.Memory) }
+{
+    put_delimiter(part, b"timestamp")?;
+    put_i64(part, second)?;
+    Ok(())
+}
+
+// Puts the date's part, and answers whether there is one.
+#[tactic(auto, unfolding(crate::specs::TimePart::date_part))]
+fn put_date_part(
+    part: &mut Vec<u8>,
+    date: bool,
+    moment: Timestamp,
+    zone: &TimeZone<'_>,
+    variables: &[(Vec<u8>, Vec<u8>)],
+) -> Result<bool, Error>
+    ensures value { IfOk result (λ there. IsAppended part.old.items part.new.items there
+        (date_part date moment (plain_zone zone.now)
+        (map (λ v. (v.0.items, v.1.items)) variables.now))) }
+    ensures refused { IfErr result (λ e. e ≡ Error.Memory) }
+{
+    if !date {
+        return Ok(true);
+    }
+    let Some(instant) = instant_of(moment) else {
+        return Ok(false);
+    };
+    put_date(part, date_at(zone, instant), variables)?;
+    Ok(true)
+}
+
+// Puts the modification's part, and answers whether there is one.
+#[tactic(auto, unfolding(crate::specs::TimePart::stamp_part))]
+fn put_stamp_part(
+    part: &mut Vec<u8>,
+    timestamp: bool,
+    modified: Option<Timestamp>,
+    zone: &TimeZone<'_>,
+) -> Result<bool, Error>
+    ensures value { IfOk result (λ there. IsAppended part.old.items part.new.items there
+        (stamp_part timestamp modified (plain_zone zone.now))) }
+    ensures refused { IfErr result (λ e. e ≡ Error.Memory) }
+{
+    if !timestamp {
+        return Ok(true);
+    }
+    let Some(modified) = modified else {
+        return Ok(false);
+    };
+    let Some(instant) = instant_of(modified) else {
+        return Ok(false);
+    };
+    put_second(part, second_at(zone, instant))?;
+    Ok(true)
+}
+
+/// The time part of a file: the bytes that stand for what its text can show at the moment, in the
+/// zone, where it holds a `__DATE__` (`date`) or a `__TIMESTAMP__` (`timestamp`).
+///
+/// For a date these are the delimiter `date`, the civil year (an `i32`), month and day (`u32` each,
+/// from 1), lowest byte first, of the moment in the zone, and then the value of the first variable
+/// `SOURCE_DATE_EPOCH`, which compilers show in place of the date. For a timestamp they are the
+/// delimiter `timestamp` and the civil second in the zone at which the file was last modified (an
+/// `i64`), counted from 1970-01-01T00:00:00 without a zone and rounded down. With neither there are
+/// no bytes.
+///
+/// There is no part (`None`) exactly where a time that is needed is missing or outside `jiff`'s range
+/// of instants, from -9999-01-02T01:59:59Z to 9999-12-30T22:00:00.999999999Z. The moment is needed for
+/// a date alone, the modification time for a timestamp alone.
+///
+/// It is refused only as [`Error::Memory`].
+#[tactic(auto, unfolding(crate::specs::TimePart::time_part))]
+pub fn local_time_part(
+    alloc: Global,
+    date: bool,
+    timestamp: bool,
+    modified: Option<Timestamp>,
+    moment: Timestamp,
+    zone: &TimeZone<'_>,
+    variables: &[(Vec<u8>, Vec<u8>)],
+) -> Result<Option<Vec<u8>>, Error>
+    ensures value { IfOk result (λ part. option_map (λ v. v.items) part
+        ≡ time_part date timestamp modified moment (plain_zone zone.now)
+        (map (λ v. (v.0.items, v.1.items)) variables.now)) }
+    ensures refused { IfErr result (λ e. e ≡ Error.Memory) }
+{
+    let mut part = Vec::new(alloc);
+    if !put_date_part(&mut part, date, moment, zone, variables)? {
+        return Ok(None);
+    }
+    if !put_stamp_part(&mut part, timestamp, modified, zone)? {
+        return Ok(None);
+    }
+    Ok(Some(part))
+}
