@@ -1,0 +1,4 @@
+pub mod GatherLemmas
+pub mod LawLemmas
+pub mod MatchLemmas
+pub mod RecordedLemmas

@@ -1,0 +1,82 @@
+-- What one reading of a file tells is the file's.
+use Rattle.std.proofs.Common.{◌≡◌, ◌↔◌, ℕ, Bool, true, false, ◌||◌, List, Option, Some, Result, Ok, Err, IfOk, IsOkAnd, IsTrue, MatchResult, refl, sym, ap, subst}
+use Rattle.std.specs.Prelude.{IsOkUnless, String}
+use Rattle.std.specs.Option.{option_map}
+use Rattle.std.specs.String.{string_bytes}
+use Rattle.std.specs.declared.alloc.Global.{Global}
+use Rattle.cck_digest.specs.Digest.{digest_text}
+use Rattle.cck_digest.specs.declared.error.FileError.{FileError}
+use Rattle.cck_digest.specs.declared.error.FileError.TheVariants.{NotFound, OtherKind, Fault, Memory}
+use Rattle.cck_files.proofs.FileLemmas.{file_with_contents, metadata_of_file, no_file_without_contents, no_file_without_metadata}
+use Rattle.cck_files.specs.Calls.{IsRefusal, IsRefusalOrMemory}
+use Rattle.cck_files.specs.FileMap.{FileMap, FileNode, contents_at, file_at, metadata_at}
+use Rattle.cck_include.specs.Recorded.{Setting, recorded, recorded_by}
+use Rattle.cck_include.specs.Refusal.{IsIoRefusal, io_error}
+use Rattle.cck_include.specs.Scan.{IsScanOf}
+use Rattle.cck_include.specs.declared.recorded.Scan.{Scan}
+use Rattle.cck_path.specs.Path.{Path}
+use Rattle.cck_path.specs.declared.metadata.Metadata.{Metadata}
+use Rattle.cck_time.specs.TimePart.{time_part}
+use Rattle.cck_time.specs.declared.error.Error.{Error}
+use Rattle.cck_time.specs.declared.error.Error.TheVariants as error
+
+-- two tests of one thing agree
+pub same_test : (a b : Bool) (P : Type 0) → IsTrue a ↔ P → IsTrue b ↔ P → a ≡ b
+same_test true true P h k = refl
+same_test true false P h k = sym (k.1 (h.0 refl))
+same_test false true P h k = h.1 (k.0 refl)
+same_test false false P h k = refl
+
+pub ok_by : {X E : Type 0} (r : Result X E) (P Q : X → Type 0) → ((x : X) → P x → Q x) → IsOkAnd r P → IsOkAnd r Q
+ok_by (Ok x) P Q f h = f x h
+ok_by (Err e) P Q f h = h
+
+-- refusals
+pub without_metadata : (files : FileMap) (p : Path) (P : Type 0) (e : FileError) → IsRefusal (metadata_at files p) P e → IsIoRefusal (file_at files p) P (io_error e)
+without_metadata files p P NotFound r = no_file_without_metadata files p NotFound r
+without_metadata files p P OtherKind r = no_file_without_metadata files p OtherKind r
+without_metadata files p P Fault r = r
+without_metadata files p P Memory r = absurd r
+
+pub without_contents : (files : FileMap) (p : Path) (P Q : Type 0) (e : FileError) → (P → Q) → IsRefusalOrMemory (contents_at files p) P e → IsIoRefusal (file_at files p) Q (io_error e)
+without_contents files p P Q NotFound f r = no_file_without_contents files p NotFound r
+without_contents files p P Q OtherKind f r = no_file_without_contents files p OtherKind r
+without_contents files p P Q Fault f r = f r
+without_contents files p P Q Memory f r = tt
+
+-- a file that was read
+with_contents : (files : FileMap) (p : Path) (r : Result (List ℕ) FileError) (P : List ℕ → Type 0) → contents_at files p ≡ r → IsOkAnd r P
+    → (n : FileNode) × (file_at files p ≡ Ok n) × P n.contents
+with_contents files p (Ok c) P e h = let found = file_with_contents files p c e in (found.0, found.1, subst P (sym found.2) h)
+with_contents files p (Err x) P e h = absurd h
+
+-- the digest where the macros are ignored,
+ignoring : (s : Setting) (n : FileNode) (text : List ℕ) → s.config.ignore_time_macros ≡ true → text ≡ digest_text s.hash n.contents → Some text ≡ recorded s n
+unfolding recorded
+ignoring s n text ignores is = rw ignores (ap Some is)
+
+pub recorded_ignoring : (s : Setting) (files : FileMap) (p : Path) (scan : Scan) → s.config.ignore_time_macros ≡ true
+    → IsOkAnd (contents_at files p) (IsScanOf s.hash scan) → IsOkAnd (file_at files p) (λ n. Some (string_bytes scan.text) ≡ recorded s n)
+recorded_ignoring s files p scan ignores read =
+    let (n, is, told) = with_contents files p (contents_at files p) (IsScanOf s.hash scan) refl read in
+    rw is (ignoring s n (string_bytes scan.text) ignores told.text)
+
+-- and where they count
+counting : (s : Setting) (n : FileNode) (scan : Scan) (o : Option (List ℕ)) → s.config.ignore_time_macros ≡ false → IsScanOf s.hash scan n.contents
+    → o ≡ recorded_by s.hash scan.has_time (scan.has_date || scan.has_timestamp) (string_bytes scan.text) (time_part scan.has_date scan.has_timestamp n.modified s.moment s.zone s.variables)
+    → o ≡ recorded s n
+unfolding recorded
+counting s n scan o counts told e = rw (counts, ← told.time, ← told.date, ← told.timestamp, ← told.text) e
+
+pub recorded_counting : (s : Setting) (files : FileMap) (p : Path) (scan : Scan) (m : Metadata) (Q : Type 0) (r : Result (Option (String Global)) Error)
+    → s.config.ignore_time_macros ≡ false → metadata_at files p ≡ Ok m → IsOkAnd (contents_at files p) (IsScanOf s.hash scan)
+    → IfOk r (λ o. option_map string_bytes o ≡ recorded_by s.hash scan.has_time (scan.has_date || scan.has_timestamp) (string_bytes scan.text) (time_part scan.has_date scan.has_timestamp m.modified s.moment s.zone s.variables))
+    → IsOkUnless r error.Memory
+    → MatchResult r (λ o. IsOkAnd (file_at files p) (λ n. option_map string_bytes o ≡ recorded s n)) (IsIoRefusal (file_at files p) Q)
+recorded_counting s files p scan m Q (Ok o) counts known read digest refused =
+    let (n, is, told) = with_contents files p (contents_at files p) (IsScanOf s.hash scan) refl read in
+    let own = metadata_of_file files p n m is known in
+    let modified : m.modified ≡ n.modified = ap (λ (d : Metadata). d.modified) own.0 in
+    rw is (counting s n scan (option_map string_bytes o) counts told (rw (← modified) digest))
+recorded_counting s files p scan m Q (Err e) counts known read digest refused =
+    subst (IsIoRefusal (file_at files p) Q) (sym refused) tt

@@ -1,0 +1,45 @@
+-- what recorded digests tell
+use Rattle.std.specs.Prelude.{◌≡◌, ℕ, true, false, List, length, if◌then◌else◌, Some}
+use Rattle.std.specs.Option.{option_map}
+use Rattle.cck_digest.specs.Digest.{digest_text}
+use Rattle.cck_files.specs.FileMap.{FileNode}
+use Rattle.cck_include.specs.Recorded.{Setting, counts_part, file_time_part, has_date, has_time, has_timestamp, recorded}
+use Rattle.cck_path.specs.Timestamp.{Moment, nanos_of}
+use Rattle.cck_path.specs.Variables.{Variable}
+use Rattle.cck_time.specs.TimePart.{epoch_text, local_day, local_second}
+
+-- with a hash of 32 bytes it has 64 characters, and 128 where a time part counts
+abbrev pub RecordedHasLength : Type 0
+RecordedHasLength =
+    (s : Setting) (n : FileNode) (digest : List ℕ) → ((fed : List ℕ) → length (s.hash fed) ≡ 32) → recorded s n ≡ Some digest
+    → length digest ≡ (if counts_part s n then 128 else 64)
+
+-- the setting at another moment, with other variables
+abbrev pub at_moment : Moment → List Variable → Setting → Setting
+at_moment moment variables s = record { hash = s.hash; config = s.config; moment = moment; zone = s.zone; variables = variables }
+
+-- the digest text tells these two apart
+abbrev pub IsTold : (List ℕ → List ℕ) → List ℕ → List ℕ → Type 0
+IsTold hash a b = digest_text hash a ≡ digest_text hash b → a ≡ b
+
+-- it tells apart what these two files are digested from: their contents, and their time parts where both count
+pub record AreTold (s t : Setting) (n o : FileNode) : Type 0 where
+  pub contents : IsTold s.hash n.contents o.contents
+  pub parts : (p q : List ℕ) → counts_part s n ≡ true → counts_part t o ≡ true → file_time_part s n ≡ Some p → file_time_part t o ≡ Some q → IsTold s.hash p q
+
+-- Two files show the same: they have one text, and where macros of time count no `__TIME__`, one local day and one
+-- `SOURCE_DATE_EPOCH` with a `__DATE__`, and one local second of modification with a `__TIMESTAMP__`.
+pub record ShowTheSame (s t : Setting) (n o : FileNode) : Type 0 where
+  pub contents : n.contents ≡ o.contents
+  pub time : s.config.ignore_time_macros ≡ false → has_time n.contents ≡ false
+  pub day : s.config.ignore_time_macros ≡ false → has_date n.contents ≡ true → local_day s.zone (nanos_of s.moment) ≡ local_day s.zone (nanos_of t.moment)
+  pub epoch : s.config.ignore_time_macros ≡ false → has_date n.contents ≡ true → epoch_text s.variables ≡ epoch_text t.variables
+  pub second : s.config.ignore_time_macros ≡ false → has_timestamp n.contents ≡ true
+      → option_map (λ t. local_second s.zone (nanos_of t)) n.modified ≡ option_map (λ t. local_second s.zone (nanos_of t)) o.modified
+
+-- equal recorded digests, even of other moments and variables, are of files that show the same
+abbrev pub EqualDigestsTell : Type 0
+EqualDigestsTell =
+    (s : Setting) (moment : Moment) (variables : List Variable) (n o : FileNode) (digest : List ℕ) → ((fed : List ℕ) → length (s.hash fed) ≡ 32)
+    → AreTold s (at_moment moment variables s) n o
+    → recorded s n ≡ Some digest → recorded (at_moment moment variables s) o ≡ Some digest → ShowTheSame s (at_moment moment variables s) n o

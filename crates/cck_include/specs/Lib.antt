@@ -1,0 +1,9 @@
+pub mod Gathered
+pub mod Include
+pub mod Known
+pub mod Laws
+pub mod Matching
+pub mod Recorded
+pub mod Refusal
+pub mod Scan
+pub mod Setting

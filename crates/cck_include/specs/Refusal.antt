@@ -1,0 +1,51 @@
+-- why what stands at a path can't be had
+use Rattle.std.specs.Prelude.{Result}
+use Rattle.cck_digest.specs.declared.error.FileError.TheVariants.{NotFound, OtherKind, Fault}
+use Rattle.cck_digest.specs.declared.error.FileError.TheVariants as file
+use Rattle.cck_digest.specs.declared.error.FileError.{FileError}
+use Rattle.cck_digest.specs.declared.error.UtilError.TheVariants as util
+use Rattle.cck_files.specs.Calls.{IsRefusal}
+use Rattle.cck_time.specs.declared.error.Error.{Error}
+use Rattle.cck_time.specs.declared.error.Error.TheVariants.{Io, Deserialization, UnknownFormat, Memory}
+
+-- the map's own answer, a fault where one came, or want of memory
+abbrev pub IsIoRefusal : {X : Type 0} → Result X FileError → Type 0 → Error → Type 0
+IsIoRefusal answer HasFault Memory = Unit {0}
+IsIoRefusal answer HasFault (Io (util.File e)) = IsRefusal answer HasFault e
+IsIoRefusal answer HasFault (Io util.Memory) = ⊥
+IsIoRefusal answer HasFault (Io util.Read) = ⊥
+IsIoRefusal answer HasFault (Io util.TooDeep) = ⊥
+IsIoRefusal answer HasFault (Io util.TooLong) = ⊥
+IsIoRefusal answer HasFault (Io util.Write) = ⊥
+IsIoRefusal answer HasFault (Io util.IncompleteEscape) = ⊥
+IsIoRefusal answer HasFault (Io util.InvalidEscape) = ⊥
+IsIoRefusal answer HasFault (Io util.IncompleteHex) = ⊥
+IsIoRefusal answer HasFault (Io util.InvalidHex) = ⊥
+IsIoRefusal answer HasFault Deserialization = ⊥
+IsIoRefusal answer HasFault (UnknownFormat byte) = ⊥
+
+-- a want of memory stays one, and all else is a refusal of files
+abbrev pub io_error : FileError → Error
+io_error NotFound = Io (util.File NotFound)
+io_error OtherKind = Io (util.File OtherKind)
+io_error Fault = Io (util.File Fault)
+io_error file.Memory = Memory
+
+-- something is missing, a fault came, or memory ran out
+abbrev pub IsMissing : Type 0 → Type 0 → Error → Type 0
+IsMissing Missing HasFault Memory = Unit {0}
+IsMissing Missing HasFault (Io (util.File NotFound)) = Missing
+IsMissing Missing HasFault (Io (util.File OtherKind)) = ⊥
+IsMissing Missing HasFault (Io (util.File Fault)) = HasFault
+IsMissing Missing HasFault (Io (util.File file.Memory)) = ⊥
+IsMissing Missing HasFault (Io util.Memory) = ⊥
+IsMissing Missing HasFault (Io util.Read) = ⊥
+IsMissing Missing HasFault (Io util.TooDeep) = ⊥
+IsMissing Missing HasFault (Io util.TooLong) = ⊥
+IsMissing Missing HasFault (Io util.Write) = ⊥
+IsMissing Missing HasFault (Io util.IncompleteEscape) = ⊥
+IsMissing Missing HasFault (Io util.InvalidEscape) = ⊥
+IsMissing Missing HasFault (Io util.IncompleteHex) = ⊥
+IsMissing Missing HasFault (Io util.InvalidHex) = ⊥
+IsMissing Missing HasFault Deserialization = ⊥
+IsMissing Missing HasFault (UnknownFormat byte) = ⊥

@@ -1,0 +1,93 @@
+//! What is recorded of included files.
+ghost use Rattle.std.specs.Prelude.{◌≡◌, None, Some, MatchResult};
+ghost use Rattle.std.specs.String.{string_bytes};
+ghost use Rattle.cck_files.specs.Calls.{Keeps, Rose};
+ghost use Rattle.cck_include.specs.Gathered.{digested_in, gathered, include_at, is_before, kept, are_before};
+ghost use Rattle.cck_include.specs.Include.{include_in, includes_in};
+ghost use Rattle.cck_include.specs.Refusal.{IsMissing};
+
+use crate::IncludeEntry;
+use crate::refusal::io_error;
+use cck_files::Files;
+use cck_path::Timestamp;
+use cck_time::Error;
+use std::alloc::Global;
+
+// Whether the time lies before the moment.
+fn is_before(time: Timestamp, moment: Timestamp) -> bool
+    ensures { result ≡ is_before time moment }
+{
+    time < moment
+}
+
+// Whether both times are known and lie before the moment.
+fn are_before(modified: Option<Timestamp>, changed: Option<Timestamp>, moment: Timestamp) -> bool
+    ensures { result ≡ are_before modified changed moment }
+{
+    match (modified, changed) {
+        (Some(modified), Some(changed)) => {
+            is_before(modified, moment) && is_before(changed, moment)
+        }
+        _ => false,
+    }
+}
+
+// The time, where it is kept.
+fn kept(keeps: bool, time: Option<Timestamp>) -> Option<Timestamp>
+    ensures { result ≡ kept keeps time }
+{
+    if keeps { time } else { None }
+}
+
+// What is recorded of what stands at a path, with this digest.
+fn include_at<F: Files>(
+    alloc: Global,
+    files: &mut F,
+    moment: Timestamp,
+    digest: &str,
+    path: &[u8],
+) -> Result<IncludeEntry, Error>
+    ensures keeps { Keeps F.file_map F.faults F.is_quiet files.old files.new }
+    ensures answer { let found = include_at (F.file_map files.old) moment (digest.now, path.now) in
+        MatchResult result (λ include. found ≡ Some (include_in include))
+        (IsMissing (found ≡ None) (Rose (F.faults files.old) (F.faults files.new))) }
+{
+    let metadata = match files.metadata(path) {
+        Ok(metadata) => metadata,
+        Err(error) => return Err(io_error(error)),
+    };
+    let keeps = are_before(metadata.modified, metadata.changed, moment);
+    Ok(IncludeEntry {
+        path: path.to_vec(alloc)?,
+        digest: String::from_str(alloc, digest)?,
+        file_size: metadata.len,
+        mtime: kept(keeps, metadata.modified),
+        ctime: kept(keeps, metadata.changed),
+    })
+}
+
+/// What is recorded of each of these files, in their order, with the digest that stands before its
+/// path: its size, and both its times where both are known and lie before the moment, so that a file
+/// that may still be written in that same instant is not known by its times.
+///
+/// It is refused as [`Error::Io`] with [`NotFound`](cck_digest::FileError::NotFound) only where
+/// nothing stands at one of the paths, or with [`Fault`](cck_digest::FileError::Fault) only where a
+/// fault came, and as [`Error::Memory`].
+pub fn gather<F: Files>(
+    alloc: Global,
+    files: &mut F,
+    moment: Timestamp,
+    included: &[(String, Vec<u8>)],
+) -> Result<Vec<IncludeEntry>, Error>
+    ensures keeps { Keeps F.file_map F.faults F.is_quiet files.old files.new }
+    ensures answer { let found = gathered (F.file_map files.old) moment (digested_in included.now) in
+        MatchResult result (λ includes. found ≡ Some (includes_in includes.items))
+        (IsMissing (found ≡ None) (Rose (F.faults files.old) (F.faults files.new))) }
+{
+    let mut includes = Vec::new(alloc);
+    for (digest, path) in included {
+        let include = include_at(alloc, files, moment, digest, path)?;
+        includes.push(include)?;
+    }
+    Ok(includes)
+}

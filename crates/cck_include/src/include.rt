@@ -1,0 +1,42 @@
+//! Files that were included.
+ghost use Rattle.std.specs.Prelude.{◌≡◌, IfErr, IfOk};
+ghost use Rattle.cck_include.specs.Include.{include_in};
+
+use cck_path::Timestamp;
+use cck_time::Error;
+use std::alloc::Global;
+
+/// A file that was included when a result was recorded.
+///
+/// Upstream's `preprocessor_cache::IncludeEntry`.
+#[derive(Debug, PartialEq, Eq, Drop)]
+pub struct IncludeEntry {
+    /// The path of the file, any bytes.
+    pub path: Vec<u8>,
+    /// The digest that was recorded of the file.
+    pub digest: String,
+    /// How many bytes the file had.
+    pub file_size: u64,
+    /// The time of the last change of its contents, if it is to be compared.
+    pub mtime: Option<Timestamp>,
+    /// The time of the last change of its status, if it is to be compared.
+    pub ctime: Option<Timestamp>,
+}
+
+impl IncludeEntry {
+    /// The same values, in memory of their own.
+    ///
+    /// [`Error::Memory`] is the only refusal.
+    pub fn copy(&self, alloc: Global) -> Result<IncludeEntry, Error>
+        ensures value { IfOk result (λ copy. include_in copy ≡ include_in self.now) }
+        ensures err { IfErr result (λ e. e ≡ Error.Memory) }
+    {
+        Ok(IncludeEntry {
+            path: Vec::from_slice(alloc, &self.path)?,
+            digest: String::from_str(alloc, &self.digest)?,
+            file_size: self.file_size,
+            mtime: self.mtime,
+            ctime: self.ctime,
+        })
+    }
+}

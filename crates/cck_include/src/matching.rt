@@ -1,0 +1,194 @@
+//! Whether included files still are what they were.
+ghost use Rattle.std.specs.Prelude.{◌≡◌, ◌≢◌, ◌&&◌, IfOk, MatchBool, IsOkUnless, string_bytes};
+ghost use Rattle.std.specs.List.{list_all};
+ghost use Rattle.std.specs.Option.{option_map};
+ghost use Rattle.cck_files.specs.Calls.{Keeps, Rose};
+ghost use Rattle.cck_files.specs.FileMap.{file_at};
+ghost use Rattle.cck_include.specs.Include.{include_in, includes_in};
+ghost use Rattle.cck_include.specs.Known.{AreKnown};
+ghost use Rattle.cck_include.specs.Matching.{MayMiss, digest_found, is_digest, is_moment, matches, times_agree};
+ghost use Rattle.cck_include.specs.Setting.{setting_in};
+ghost use Rattle.cck_path.specs.Path.{components};
+ghost use Rattle.jiff.specs.Words.{plain_zone};
+
+use crate::{IncludeEntry, recorded_digest};
+use cck_digest::HashState;
+use cck_files::Files;
+use cck_path::{FileKind, Metadata, Timestamp};
+use cck_path_map::PathMap;
+use cck_time::{Error, PreprocessorCacheModeConfig};
+use jiff::tz::TimeZone;
+use std::alloc::Global;
+
+// Whether this is a regular file's.
+fn is_file(metadata: &Metadata) -> bool
+    ensures { MatchBool result (metadata.now.kind ≡ FileKind.File) (metadata.now.kind ≢ FileKind.File) }
+{
+    match metadata.kind {
+        FileKind::File => true,
+        FileKind::Folder | FileKind::Other => false,
+    }
+}
+
+// Whether a time is known and is this one.
+fn is_moment(time: Option<Timestamp>, expected: Timestamp) -> bool
+    ensures { result ≡ is_moment time expected }
+{
+    match time {
+        Some(time) => time == expected,
+        None => false,
+    }
+}
+
+// Whether the times that were recorded are the file's.
+fn times_agree(include: &IncludeEntry, metadata: &Metadata, uses_changed: bool) -> bool
+    ensures { result ≡ times_agree uses_changed include.now.mtime include.now.ctime
+        metadata.now.modified metadata.now.changed }
+{
+    match (include.mtime, include.ctime) {
+        (Some(modified), Some(changed)) => {
+            uses_changed
+                && is_moment(metadata.modified, modified)
+                && is_moment(metadata.changed, changed)
+        }
+        (Some(modified), None) => is_moment(metadata.modified, modified),
+        _ => false,
+    }
+}
+
+// Whether the times alone are enough, by these options.
+fn times_accept(
+    include: &IncludeEntry,
+    metadata: &Metadata,
+    config: PreprocessorCacheModeConfig,
+) -> bool
+    ensures { result ≡ (config.file_stat_matches && times_agree config.use_ctime_for_stat
+        include.now.mtime include.now.ctime metadata.now.modified metadata.now.changed) }
+{
+    config.file_stat_matches && times_agree(include, metadata, config.use_ctime_for_stat)
+}
+
+// Whether there is a digest and it is this one.
+fn is_digest(digest: &Option<String>, expected: &str) -> bool
+    ensures { result ≡ is_digest (option_map string_bytes digest.now) expected.now }
+{
+    match digest {
+        Some(digest) => digest.as_str() == expected,
+        None => false,
+    }
+}
+
+// Whether the file at a path has this recorded digest. With a fault it may be answered that it
+// hasn't.
+fn is_recorded<H: HashState, F: Files>(
+    alloc: Global,
+    files: &mut F,
+    known: &mut PathMap<Option<String>>,
+    path: &[u8],
+    expected: &str,
+    moment: Timestamp,
+    zone: &TimeZone<'_>,
+    vars: &[(Vec<u8>, Vec<u8>)],
+    config: PreprocessorCacheModeConfig,
+) -> Result<bool, Error>
+    requires { AreKnown (setting_in H.hash config moment (plain_zone zone.now) vars.now) (F.file_map files.old) known.old }
+    ensures keeps { Keeps F.file_map F.faults F.is_quiet files.old files.new }
+    ensures known { AreKnown (setting_in H.hash config moment (plain_zone zone.now) vars.now) (F.file_map files.old) known.new }
+    ensures answer { IfOk result (λ answer. MayMiss (Rose (F.faults files.old) (F.faults files.new)) answer
+        (digest_found (setting_in H.hash config moment (plain_zone zone.now) vars.now) expected.now
+        (file_at (F.file_map files.old) (components path.now)))) }
+    ensures refused { IsOkUnless result Error.Memory }
+{
+    if let Some(digest) = known.get(path) {
+        return Ok(is_digest(digest, expected));
+    }
+    let digest = match recorded_digest::<H, F>(alloc, files, path, moment, zone, vars, config) {
+        Ok(digest) => digest,
+        Err(Error::Memory) => return Err(Error::Memory),
+        Err(_) => return Ok(false),
+    };
+    let answer = is_digest(&digest, expected);
+    match known.insert(path, digest) {
+        Ok(()) => Ok(answer),
+        Err(_) => Err(Error::Memory),
+    }
+}
+
+// Whether what stands at the path of an include is what was included. With a fault it may be
+// answered that it isn't.
+fn include_matches<H: HashState, F: Files>(
+    alloc: Global,
+    files: &mut F,
+    known: &mut PathMap<Option<String>>,
+    include: &IncludeEntry,
+    moment: Timestamp,
+    zone: &TimeZone<'_>,
+    vars: &[(Vec<u8>, Vec<u8>)],
+    config: PreprocessorCacheModeConfig,
+) -> Result<bool, Error>
+    requires { AreKnown (setting_in H.hash config moment (plain_zone zone.now) vars.now) (F.file_map files.old) known.old }
+    ensures keeps { Keeps F.file_map F.faults F.is_quiet files.old files.new }
+    ensures known { AreKnown (setting_in H.hash config moment (plain_zone zone.now) vars.now) (F.file_map files.old) known.new }
+    ensures answer { IfOk result (λ answer. MayMiss (Rose (F.faults files.old) (F.faults files.new)) answer
+        (matches (setting_in H.hash config moment (plain_zone zone.now) vars.now) (F.file_map files.old) (include_in include.now))) }
+    ensures refused { IsOkUnless result Error.Memory }
+{
+    let metadata = match files.metadata(&include.path) {
+        Ok(metadata) => metadata,
+        Err(_) => return Ok(false),
+    };
+    if !is_file(&metadata) {
+        return Ok(false);
+    }
+    if metadata.len != include.file_size {
+        return Ok(false);
+    }
+    if times_accept(include, &metadata, config) {
+        return Ok(true);
+    }
+    is_recorded::<H, F>(
+        alloc,
+        files,
+        known,
+        &include.path,
+        &include.digest,
+        moment,
+        zone,
+        vars,
+        config,
+    )
+}
+
+/// Whether all of these included files still are what they were. Each is a regular file of the
+/// recorded size, and its times or its recorded digest say that it is the same; the times do so only
+/// with [`file_stat_matches`](PreprocessorCacheModeConfig::file_stat_matches). A file that can't be
+/// read, for whatever cause, is none. Where a fault came, it may be answered that they are not.
+///
+/// `known` keeps the recorded digests that were found, by path, so that no file is read twice while
+/// files, moment, zone, variables and options are the same. It may be empty at first.
+///
+/// It is refused only as [`Error::Memory`].
+pub fn includes_match<H: HashState, F: Files>(
+    alloc: Global,
+    files: &mut F,
+    known: &mut PathMap<Option<String>>,
+    includes: &[IncludeEntry],
+    moment: Timestamp,
+    zone: &TimeZone<'_>,
+    vars: &[(Vec<u8>, Vec<u8>)],
+    config: PreprocessorCacheModeConfig,
+) -> Result<bool, Error>
+    requires { AreKnown (setting_in H.hash config moment (plain_zone zone.now) vars.now) (F.file_map files.old) known.old }
+    ensures keeps { Keeps F.file_map F.faults F.is_quiet files.old files.new }
+    ensures known { AreKnown (setting_in H.hash config moment (plain_zone zone.now) vars.now) (F.file_map files.old) known.new }
+    ensures answer { IfOk result (λ answer. MayMiss (Rose (F.faults files.old) (F.faults files.new)) answer
+        (list_all (matches (setting_in H.hash config moment (plain_zone zone.now) vars.now) (F.file_map files.old)) (includes_in includes.now))) }
+    ensures refused { IsOkUnless result Error.Memory }
+{
+    for include in includes {
+        if !include_matches::<H, F>(alloc, files, known, include, moment, zone, vars, config)? {
+            return Ok(false);
+        }
+    }
+    Ok(true)
+}

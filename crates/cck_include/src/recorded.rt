@@ -1,0 +1,148 @@
+//! The recorded digest of a file.
+ghost use Rattle.std.specs.Prelude.{◌≡◌, ◌||◌, IfOk, IsOkAnd, IsOkUnless, MatchResult, map, string_bytes};
+ghost use Rattle.std.specs.Option.{option_map};
+ghost use Rattle.cck_digest.specs.Digest.{digest_text};
+ghost use Rattle.cck_files.specs.Calls.{IsRefusalOrMemory, Keeps, Rose};
+ghost use Rattle.cck_files.specs.FileMap.{contents_at, file_at};
+ghost use Rattle.cck_include.specs.Recorded.{recorded, recorded_by};
+ghost use Rattle.cck_include.specs.Refusal.{IsIoRefusal};
+ghost use Rattle.cck_include.specs.Scan.{IsScanOf};
+ghost use Rattle.cck_include.specs.Setting.{setting_in};
+ghost use Rattle.cck_path.specs.Path.{components};
+ghost use Rattle.cck_time.specs.TimePart.{time_part};
+ghost use Rattle.jiff.specs.Words.{plain_zone};
+
+use crate::refusal::io_error;
+use cck_digest::{Digest, FileError, HashState, WatchedDigest};
+use cck_file_digest::feed_file;
+use cck_files::Files;
+use cck_path::Timestamp;
+use cck_time::{Error, PreprocessorCacheModeConfig, local_time_part};
+use jiff::tz::TimeZone;
+use std::alloc::Global;
+
+// The digest text of a file's contents, and which macros of time they hold.
+#[derive(Drop)]
+struct Scan {
+    text: String,
+    has_time: bool,
+    has_date: bool,
+    has_timestamp: bool,
+}
+
+// Reads a regular file once, for its digest and its macros of time.
+fn read_once<H: HashState, F: Files>(
+    alloc: Global,
+    files: &mut F,
+    path: &[u8],
+) -> Result<Scan, FileError>
+    ensures keeps { Keeps F.file_map F.faults F.is_quiet files.old files.new }
+    ensures answer { let found = contents_at (F.file_map files.old) (components path.now) in
+        MatchResult result (λ scan. IsOkAnd found (IsScanOf H.hash scan))
+        (IsRefusalOrMemory found (Rose (F.faults files.old) (F.faults files.new))) }
+{
+    let mut watched = WatchedDigest::<H>::new();
+    feed_file(alloc, files, path, &mut watched)?;
+    let (text, finder) = match watched.finish(alloc) {
+        Ok(finished) => finished,
+        Err(_) => return Err(FileError::Memory),
+    };
+    Ok(Scan {
+        text,
+        has_time: finder.found_time(),
+        has_date: finder.found_date(),
+        has_timestamp: finder.found_timestamp(),
+    })
+}
+
+// The digest text of some bytes.
+fn text_of<H: HashState>(alloc: Global, bytes: &[u8]) -> Result<String, Error>
+    ensures text { IfOk result (λ text. string_bytes text ≡ digest_text H.hash bytes.now) }
+    ensures refused { IsOkUnless result Error.Memory }
+{
+    let mut digest = Digest::<H>::new();
+    digest.update(bytes);
+    match digest.finish(alloc) {
+        Ok(text) => Ok(text),
+        Err(_) => Err(Error::Memory),
+    }
+}
+
+// The recorded digest, from what one reading of the file told and the time of its modification.
+fn digest_of<H: HashState>(
+    alloc: Global,
+    scan: Scan,
+    modified: Option<Timestamp>,
+    moment: Timestamp,
+    zone: &TimeZone<'_>,
+    vars: &[(Vec<u8>, Vec<u8>)],
+) -> Result<Option<String>, Error>
+    ensures digest { IfOk result (λ o. option_map string_bytes o
+        ≡ recorded_by H.hash scan.has_time (scan.has_date || scan.has_timestamp) (string_bytes scan.text)
+        (time_part scan.has_date scan.has_timestamp modified moment (plain_zone zone.now)
+        (map (λ v. (v.0.items, v.1.items)) vars.now))) }
+    ensures refused { IsOkUnless result Error.Memory }
+{
+    let Scan {
+        mut text,
+        has_time,
+        has_date,
+        has_timestamp,
+    } = scan;
+    if has_time {
+        return Ok(None);
+    }
+    if !has_date && !has_timestamp {
+        return Ok(Some(text));
+    }
+    let part = local_time_part(alloc, has_date, has_timestamp, modified, moment, zone, vars)?;
+    let Some(part) = part else {
+        return Ok(None);
+    };
+    text.push_str(text_of::<H>(alloc, &part)?.as_str())?;
+    Ok(Some(text))
+}
+
+/// The recorded digest of the file at a path: the digest text of its contents, and behind it, where
+/// they hold `__DATE__` or `__TIMESTAMP__`, that of its [time part](local_time_part). With
+/// [`ignore_time_macros`](PreprocessorCacheModeConfig::ignore_time_macros) it is the text of the
+/// contents alone. So two files of one recorded digest show the same text to a preprocessor.
+///
+/// There is none (`None`) exactly where macros of time count and the contents hold `__TIME__`, or the
+/// time part can't be told: a time that it needs is missing or out of range. The file is read once.
+///
+/// It is refused as [`Error::Io`] with
+///
+/// - [`NotFound`](FileError::NotFound) where nothing stands at the path,
+/// - [`OtherKind`](FileError::OtherKind) where what stands there is no regular file,
+/// - [`Fault`](FileError::Fault) only where a fault came,
+///
+/// and as [`Error::Memory`].
+pub fn recorded_digest<H: HashState, F: Files>(
+    alloc: Global,
+    files: &mut F,
+    path: &[u8],
+    moment: Timestamp,
+    zone: &TimeZone<'_>,
+    vars: &[(Vec<u8>, Vec<u8>)],
+    config: PreprocessorCacheModeConfig,
+) -> Result<Option<String>, Error>
+    ensures keeps { Keeps F.file_map F.faults F.is_quiet files.old files.new }
+    ensures answer { let found = file_at (F.file_map files.old) (components path.now) in
+        MatchResult result (λ digest. IsOkAnd found (λ file. option_map string_bytes digest
+        ≡ recorded (setting_in H.hash config moment (plain_zone zone.now) vars.now) file))
+        (IsIoRefusal found (Rose (F.faults files.old) (F.faults files.new))) }
+{
+    let metadata = match files.metadata(path) {
+        Ok(metadata) => metadata,
+        Err(error) => return Err(io_error(error)),
+    };
+    let scan = match read_once::<H, F>(alloc, files, path) {
+        Ok(scan) => scan,
+        Err(error) => return Err(io_error(error)),
+    };
+    if config.ignore_time_macros {
+        return Ok(Some(scan.text));
+    }
+    digest_of::<H>(alloc, scan, metadata.modified, moment, zone, vars)
+}

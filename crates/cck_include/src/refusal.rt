@@ -1,0 +1,16 @@
+//! Refusals of calls on files, as those of entries.
+ghost use Rattle.std.specs.Prelude.{◌≡◌};
+ghost use Rattle.cck_include.specs.Refusal.{io_error};
+
+use cck_digest::{FileError, UtilError};
+use cck_time::Error;
+
+// A want of memory stays one, and all else is `Error::Io`.
+pub(crate) fn io_error(error: FileError) -> Error
+    ensures { result ≡ io_error error }
+{
+    match error {
+        FileError::Memory => Error::Memory,
+        other => Error::Io(UtilError::File(other)),
+    }
+}
