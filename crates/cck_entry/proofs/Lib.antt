@@ -1,0 +1,13 @@
+pub mod AppendLemmas
+pub mod EntryLemmas
+pub mod EqualityLemmas
+pub mod FieldLemmas
+pub mod GreatestLemmas
+pub mod IncludeLoop
+pub mod InsertLemmas
+pub mod LastLemmas
+pub mod LawLemmas
+pub mod LookupLemmas
+pub mod ResultLoop
+pub mod TextLemmas
+pub mod Utf8Lemmas

@@ -1,0 +1,5 @@
+use Rattle.cck_entry.proofs.EntryLemmas.{entries_in}
+use Rattle.cck_entry.proofs.entry.PreprocessorCacheEntry.results.Goals as goal
+
+pub returns : goal.returns
+returns c = rw (← c.self.view_is) (entries_in c.self.inside.results.entries c.self.invariant.0)

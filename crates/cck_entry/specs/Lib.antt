@@ -1,0 +1,7 @@
+pub mod Entry
+pub mod Equality
+pub mod Find
+pub mod Laws
+pub mod Reading
+pub mod Results
+pub mod Writing

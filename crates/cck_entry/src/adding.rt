@@ -1,0 +1,47 @@
+//! Results added to an entry.
+ghost use Rattle.std.specs.Prelude.{◌≡◌, List, MatchResult, None, Some};
+ghost use Rattle.cck_entry.specs.Entry.{added};
+ghost use Rattle.cck_files.specs.Calls.{Keeps, Rose};
+ghost use Rattle.cck_include.specs.Gathered.{digested_in, gathered};
+ghost use Rattle.cck_include.specs.Include.{Include};
+ghost use Rattle.cck_include.specs.Refusal.{IsMissing};
+
+use crate::PreprocessorCacheEntry;
+use cck_files::Files;
+use cck_include::gather;
+use cck_path::Timestamp;
+use cck_time::Error;
+
+impl PreprocessorCacheEntry {
+    /// Gives a key the files that its result included, each a digest and a path, as its result. What
+    /// is [recorded of them](gather) is asked of the files first. The result replaces the one that
+    /// the key had.
+    ///
+    /// All results are cleared before if there are more than 100, or if their includes and the new
+    /// ones are more than 10000 together; what the key had counts too. So at most 101 results stand
+    /// afterwards, and at most 10000 includes, unless one result stands alone.
+    ///
+    /// It is refused as [`Error::Io`] with [`NotFound`](cck_digest::FileError::NotFound) only where
+    /// nothing stands at one of the paths, or with [`Fault`](cck_digest::FileError::Fault) only where a
+    /// fault came, and as [`Error::Memory`]. A refusal leaves the entry as it was.
+    ///
+    /// Upstream's `PreprocessorCacheEntry::add_result`.
+    pub fn add_result<F: Files>(
+        &mut self,
+        files: &mut F,
+        moment: Timestamp,
+        key: &str,
+        included: &[(String, Vec<u8>)],
+    ) -> Result<(), Error>
+        ensures keeps { Keeps F.file_map F.faults F.is_quiet files.old files.new }
+        ensures answer { let found = gathered (F.file_map files.old) moment (digested_in included.now) in
+            MatchResult result
+            (λ _. (includes : List Include) × (found ≡ Some includes) × (self.new ≡ added self.old key.now includes))
+            (λ e. (self.new ≡ self.old) × IsMissing (found ≡ None) (Rose (F.faults files.old) (F.faults files.new)) e) }
+    {
+        let alloc = self.allocator();
+        let includes = gather(alloc, files, moment, included)?;
+        let key = String::from_str(alloc, key)?;
+        self.insert_result(key, includes)
+    }
+}

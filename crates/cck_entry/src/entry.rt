@@ -1,0 +1,230 @@
+//! Entries.
+ghost use Rattle.std.specs.Prelude.{◌≡◌, ◌||◌, ◌+◌, IfErr, IfOk, List, OnErr, OnOk, ℕ, map, nat_lt};
+ghost use Rattle.std.specs.FinMap.{empty, entries, len};
+ghost use Rattle.std.specs.Io.KnownBytes.{Appends};
+ghost use Rattle.std.specs.String.{string_bytes};
+ghost use Rattle.cck_digest.specs.declared.error.UtilError.TheVariants as util;
+ghost use Rattle.cck_entry.specs.Entry.{Entry, EntryText, IsEntryOrMemory, IsReadFrom, Reads, added, include_count, is_over};
+ghost use Rattle.cck_entry.specs.Results.{result_in};
+ghost use Rattle.cck_include.specs.Include.{includes_in};
+
+use crate::reading::read_entry;
+use crate::results::{Results, copy_results, insert_counted, total};
+use crate::writing::{FORMAT_VERSION, write_entry};
+use cck_include::IncludeEntry;
+use cck_time::Error;
+use std::alloc::Global;
+use std::collections::BTreeMap;
+use std::fmt::{Debug, Formatter};
+use std::io::Write;
+use std::marker::Model;
+
+/// More results than these are not kept when another one is added.
+const MAX_PREPROCESSOR_CACHE_ENTRIES: usize = 100;
+
+/// Results are cleared when their includes, with those to be added, are more than these.
+const MAX_PREPROCESSOR_CACHE_FILE_INFO_ENTRIES: usize = 10_000;
+
+/// An entry: a finite map from keys to the files that the result of each key included.
+///
+/// It is built by [`PreprocessorCacheEntry::add_result`] alone, or read from bytes.
+///
+/// Upstream's `preprocessor_cache::PreprocessorCacheEntry`.
+#[derive(Drop)]
+pub struct PreprocessorCacheEntry {
+    alloc: Global,
+    /// How many includes all results have together.
+    number_of_entries: usize,
+    results: Results,
+}
+
+impl Model for PreprocessorCacheEntry {
+    ghost use Rattle.std.specs.Prelude.{◌≡◌, map};
+    ghost use Rattle.std.specs.BTreeMap.{IsOrdered};
+    ghost use Rattle.std.specs.String.{string_cmp};
+    ghost use Rattle.cck_entry.specs.Entry.{Entry, entry_code, entry_in, include_count};
+    ghost use Rattle.cck_entry.specs.Results.{result_in};
+
+    ghost Value = { Entry };
+
+    ghost coded = { entry_code };
+
+    ghost view = { λ a. entry_in a.results.entries };
+
+    ghost invariant = { λ a. IsOrdered string_cmp a.results
+        × (a.number_of_entries ≡ include_count (map result_in a.results.entries)) };
+}
+
+impl PreprocessorCacheEntry {
+    /// The entry without results. It takes its memory from this allocator.
+    pub fn new(alloc: Global) -> PreprocessorCacheEntry
+        ensures { result ≡ empty }
+    {
+        PreprocessorCacheEntry {
+            alloc,
+            number_of_entries: 0,
+            results: BTreeMap::new(alloc),
+        }
+    }
+
+    /// The entry whose text these bytes are; for no bytes it is the one without results.
+    ///
+    /// [`Error::UnknownFormat`] names a first byte other than 1. [`Error::Deserialization`] says that
+    /// the bytes begin with 1 and are the text of no entry. A count is judged by the bytes left before
+    /// memory is taken for it. [`Error::Memory`] says that memory was refused.
+    pub fn read(alloc: Global, bytes: &[u8]) -> Result<PreprocessorCacheEntry, Error>
+        ensures reads { Reads result bytes.now }
+        ensures only { (e : Entry) → EntryText e bytes.now → IsEntryOrMemory e result }
+    {
+        let Some((version, rest)) = bytes.split_first() else {
+            return Ok(PreprocessorCacheEntry::new(alloc));
+        };
+        if *version != FORMAT_VERSION {
+            return Err(Error::UnknownFormat(*version));
+        }
+        read_body(alloc, rest)
+    }
+
+    /// Writes the entry's text, the only one that it has.
+    ///
+    /// [`Error::Io`] with `UtilError::Write` says that the writer failed, and is the only refusal. How
+    /// much was written by then is not said.
+    pub fn serialize_to<W: Write>(&self, writer: &mut W) -> Result<(), Error>
+        ensures text { OnOk result ((text : List ℕ) × EntryText self.now text
+            × Appends (W.contents writer.old) (W.contents writer.new) text) }
+        ensures err { IfErr result (λ e. e ≡ Error.Io util.Write) }
+    {
+        write_entry(writer, &self.results)
+    }
+
+    /// How many results there are.
+    pub fn result_count(&self) -> usize
+        ensures { result ≡ len self.now }
+    {
+        self.results.len()
+    }
+
+    /// How many includes all results have together, known without going over them.
+    pub fn number_of_entries(&self) -> usize
+        ensures { result ≡ include_count (entries self.now) }
+    {
+        self.number_of_entries
+    }
+
+    /// The results, in the order of their keys' bytes.
+    pub fn results(&self) -> &BTreeMap<String, Vec<IncludeEntry>>
+        ensures { entries self.now ≡ map result_in result.now.entries }
+    {
+        &self.results
+    }
+
+    /// The allocator that the entry takes its memory from.
+    pub(crate) fn allocator(&self) -> Global {
+        self.alloc
+    }
+
+    /// The same entry, in memory of its own.
+    ///
+    /// [`Error::Memory`] is the only refusal.
+    pub fn copy(&self, alloc: Global) -> Result<PreprocessorCacheEntry, Error>
+        ensures value { IfOk result (λ copy. copy ≡ self.now) }
+        ensures err { IfErr result (λ e. e ≡ Error.Memory) }
+    {
+        let results = copy_results(alloc, &self.results)?;
+        Ok(PreprocessorCacheEntry {
+            alloc,
+            number_of_entries: self.number_of_entries,
+            results,
+        })
+    }
+
+    /// Gives a key these includes as its result, which replaces the one that it had.
+    ///
+    /// All results are cleared before if there are more than 100, or if their includes and the new
+    /// ones are more than 10000 together; what the key had counts too. So at most 101 results stand
+    /// afterwards, and at most 10000 includes, unless one result stands alone.
+    ///
+    /// [`Error::Memory`] is the only refusal, and leaves the entry as it was.
+    pub(crate) fn insert_result(
+        &mut self,
+        key: String,
+        includes: Vec<IncludeEntry>,
+    ) -> Result<(), Error>
+        ensures ok { OnOk result (self.new
+            ≡ added self.old (string_bytes key) (includes_in includes.items)) }
+        ensures err { OnErr result (self.new ≡ self.old) }
+        ensures memory { IfErr result (λ e. e ≡ Error.Memory) }
+    {
+        let count = includes.as_slice().len();
+        if self.is_full(count) {
+            // The new map is made before the old one is let go, since it may be refused.
+            let mut results = BTreeMap::new(self.alloc);
+            insert_counted(&mut results, key, includes)?;
+            self.results = results;
+            self.number_of_entries = count;
+            return Ok(());
+        }
+        let before = insert_counted(&mut self.results, key, includes)?;
+        self.number_of_entries = self.number_of_entries + count - before;
+        Ok(())
+    }
+
+    /// Whether the results are cleared before one with so many includes is added.
+    fn is_full(&self, more: usize) -> bool
+        ensures { result ≡ is_over self.now more }
+    {
+        is_past_a_limit(self.result_count(), self.number_of_entries(), more)
+    }
+}
+
+impl Debug for PreprocessorCacheEntry {
+    fn fmt<W: std::fmt::Write>(&self, f: &mut Formatter<W>) -> std::fmt::Result {
+        f.debug_struct("PreprocessorCacheEntry")
+            .field("number_of_entries", &self.number_of_entries)
+            .field("results", &self.results)
+            .finish()
+    }
+}
+
+impl PartialEq for PreprocessorCacheEntry {
+    ghost use Rattle.cck_entry.specs.Equality.{entry_per, same_entry};
+
+    ghost eq = { same_entry };
+
+    ghost laws = { entry_per };
+
+    fn eq(&self, other: &PreprocessorCacheEntry) -> bool {
+        self.results == other.results
+    }
+}
+
+impl Eq for PreprocessorCacheEntry {
+    ghost use Rattle.cck_entry.specs.Equality.{entry_equiv};
+
+    ghost laws = { entry_equiv };
+}
+
+/// The entry of the bytes behind the format.
+fn read_body(alloc: Global, rest: &[u8]) -> Result<PreprocessorCacheEntry, Error>
+    ensures { IsReadFrom rest.now result }
+{
+    match read_entry(alloc, rest) {
+        Ok(results) => {
+            let number_of_entries = total(&results);
+            Ok(PreprocessorCacheEntry {
+                alloc,
+                number_of_entries,
+                results,
+            })
+        }
+        Err(error) => Err(error),
+    }
+}
+
+/// Whether so many results are too many, or so many includes with those to be added.
+fn is_past_a_limit(results: usize, includes: usize, more: usize) -> bool
+    ensures { result ≡ (nat_lt 100 results || nat_lt 10000 (includes + more)) }
+{
+    results > MAX_PREPROCESSOR_CACHE_ENTRIES
+        || includes.saturating_add(more) > MAX_PREPROCESSOR_CACHE_FILE_INFO_ENTRIES
+}

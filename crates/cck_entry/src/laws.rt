@@ -1,0 +1,44 @@
+//! Laws about the definitions: what they say above what they compute. Each is the contract of a
+//! function that does nothing.
+ghost use Rattle.std.specs.Prelude.{◌≡◌, ◌↔◌, IsTrue};
+ghost use Rattle.cck_entry.specs.Entry.{Entry};
+ghost use Rattle.cck_include.specs.Include.{include_in};
+ghost use Rattle.cck_entry.specs.Find.{GreatestIsFound};
+ghost use Rattle.cck_entry.specs.Laws.{AddedIsLimited, AddedToAllOrNothing, OneTextOneEntry};
+
+use crate::{IncludeEntry, PreprocessorCacheEntry};
+pub use cck_include::laws::{equal_digests_tell, recorded_has_length};
+pub use cck_preprocessor_key::laws::one_request_one_material;
+pub use cck_time::laws::{dates_of_days, equal_parts_tell, one_day, one_second, parts_exist};
+
+/// Texts of entries are equal exactly if the entries are: an entry has at most one text, and bytes
+/// are the text of at most one entry.
+pub fn one_text_one_entry()
+    ensures { OneTextOneEntry }
+{}
+
+/// A result is added to the entry as it stands, or to none of it: to the empty entry if it has more
+/// than 100 results, or if its includes and the new ones are more than 10000.
+pub fn added_to_all_or_nothing()
+    ensures { AddedToAllOrNothing }
+{}
+
+/// Once a result was added, at most 101 results stand, and at most 10000 includes unless one result
+/// stands alone.
+pub fn added_is_limited()
+    ensures { AddedIsLimited }
+{}
+
+/// Entries are equal exactly if they are the same map, and includes exactly if all their fields are
+/// the same.
+pub fn equality_is_exact()
+    ensures entries { (a b : Entry) →
+        IsTrue (⟦<PreprocessorCacheEntry as PartialEq>⟧.eq a b) ↔ (a ≡ b) }
+    ensures includes { (a b : IncludeEntry) →
+        IsTrue (⟦<IncludeEntry as PartialEq>⟧.eq a b) ↔ (include_in a ≡ include_in b) }
+{}
+
+/// What is looked up is the greatest key whose includes all match, and none only if no key's do.
+pub fn greatest_is_found()
+    ensures { GreatestIsFound }
+{}

@@ -1,0 +1,220 @@
+//! What bytes are read as, from the left: each call takes what they begin with, and hands back the
+//! bytes behind it. All lengths and counts are looked at before memory is taken for them.
+ghost use Rattle.std.specs.Prelude.{◌≡◌, ◌∷◌, [], map};
+ghost use Rattle.std.specs.Int.{w32, w64};
+ghost use Rattle.std.specs.String.{string_bytes};
+ghost use Rattle.cck_entry.specs.Results.{result_in};
+ghost use Rattle.cck_include.specs.Include.{include_in, includes_in};
+ghost use Rattle.cck_entry.specs.Reading.{Gives, counted_at, entry_at, include_at, includes_at, length_prefixed_at, moment_at, number_at, result_at, results_from, text_at, time_at};
+
+use crate::results::{Results, comes_last, put_last};
+use cck_include::IncludeEntry;
+use cck_path::Timestamp;
+use cck_time::Error;
+use std::alloc::Global;
+use std::collections::BTreeMap;
+
+/// How many bytes an include takes at least: two lengths, a size and two times that are none.
+const SHORTEST_INCLUDE: usize = 26;
+
+/// How many bytes a result takes at least: the length of its key, and the count of its includes.
+const SHORTEST_RESULT: usize = 16;
+
+/// The nanoseconds of a moment are below this many.
+const NANOS_IN_A_SECOND: u32 = 1_000_000_000;
+
+/// A number of 4 bytes.
+fn read_u32(bytes: &[u8]) -> Result<(u32, &[u8]), Error>
+    ensures { Gives (λ x. (x.0, x.1.now)) result (number_at w32 bytes.now) }
+{
+    if bytes.len() < 4 {
+        return Err(Error::Deserialization);
+    }
+    let (front, rest) = bytes.split_at(4);
+    let number = u32::from_le_bytes([front[0], front[1], front[2], front[3]]);
+    Ok((number, rest))
+}
+
+/// A number of 8 bytes.
+fn read_u64(bytes: &[u8]) -> Result<(u64, &[u8]), Error>
+    ensures { Gives (λ x. (x.0, x.1.now)) result (number_at w64 bytes.now) }
+{
+    if bytes.len() < 8 {
+        return Err(Error::Deserialization);
+    }
+    let (front, rest) = bytes.split_at(8);
+    let number = u64::from_le_bytes([
+        front[0], front[1], front[2], front[3], front[4], front[5], front[6], front[7],
+    ]);
+    Ok((number, rest))
+}
+
+/// Bytes behind their length.
+#[tactic(auto, unfolding(crate::specs::Reading::length_prefixed_at))]
+fn read_length_prefixed(bytes: &[u8]) -> Result<(&[u8], &[u8]), Error>
+    ensures { Gives (λ x. (x.0.now, x.1.now)) result (length_prefixed_at bytes.now) }
+{
+    let (len, rest) = read_u64(bytes)?;
+    if (rest.len() as u64) < len {
+        return Err(Error::Deserialization);
+    }
+    Ok(rest.split_at(len as usize))
+}
+
+/// A text behind its length.
+#[tactic(auto, using(crate::proofs::Utf8Lemmas::tested), unfolding(crate::specs::Reading::text_at))]
+fn read_text(bytes: &[u8]) -> Result<(&str, &[u8]), Error>
+    ensures { Gives (λ x. (x.0.now, x.1.now)) result (text_at bytes.now) }
+{
+    let (text, rest) = read_length_prefixed(bytes)?;
+    match std::str::from_utf8(text) {
+        Ok(text) => Ok((text, rest)),
+        Err(_) => Err(Error::Deserialization),
+    }
+}
+
+/// Seconds, and nanoseconds below a second.
+#[tactic(auto, unfolding(crate::specs::Reading::moment_at))]
+fn read_moment(bytes: &[u8]) -> Result<(Timestamp, &[u8]), Error>
+    ensures { Gives (λ x. (x.0, x.1.now)) result (moment_at bytes.now) }
+{
+    let (seconds, rest) = read_u64(bytes)?;
+    let (nanoseconds, rest) = read_u32(rest)?;
+    if nanoseconds >= NANOS_IN_A_SECOND {
+        return Err(Error::Deserialization);
+    }
+    Ok((Timestamp::new(seconds.cast_signed(), nanoseconds), rest))
+}
+
+/// A time or none, as the first byte says.
+#[tactic(auto, unfolding(crate::specs::Reading::time_at))]
+fn read_time(bytes: &[u8]) -> Result<(Option<Timestamp>, &[u8]), Error>
+    ensures { Gives (λ x. (x.0, x.1.now)) result (time_at bytes.now) }
+{
+    match bytes {
+        [] => Err(Error::Deserialization),
+        [0, rest @ ..] => Ok((None, rest)),
+        [1, rest @ ..] => match read_moment(rest) {
+            Ok((moment, rest)) => Ok((Some(moment), rest)),
+            Err(error) => Err(error),
+        },
+        [_, ..] => Err(Error::Deserialization),
+    }
+}
+
+/// An include.
+#[tactic(auto, unfolding(crate::specs::Reading::include_at))]
+fn read_include(alloc: Global, bytes: &[u8]) -> Result<(IncludeEntry, &[u8]), Error>
+    ensures { Gives (λ x. (include_in x.0, x.1.now)) result (include_at bytes.now) }
+{
+    let (path, rest) = read_length_prefixed(bytes)?;
+    let (digest, rest) = read_text(rest)?;
+    let (file_size, rest) = read_u64(rest)?;
+    let (mtime, rest) = match read_time(rest) {
+        Ok(read) => read,
+        Err(error) => return Err(error)
+    };
+    let (ctime, rest) = match read_time(rest) {
+        Ok(read) => read,
+        Err(error) => return Err(error)
+    };
+    let path = Vec::from_slice(alloc, path)?;
+    let digest = String::from_str(alloc, digest)?;
+    Ok((
+        IncludeEntry {
+            path,
+            digest,
+            file_size,
+            mtime,
+            ctime,
+        },
+        rest,
+    ))
+}
+
+/// So many includes.
+fn read_includes(
+    alloc: Global,
+    count: u64,
+    bytes: &[u8],
+) -> Result<(Vec<IncludeEntry>, &[u8]), Error>
+    ensures { Gives (λ x. (includes_in x.0.items, x.1.now)) result (includes_at count bytes.now) }
+{
+    let mut includes = Vec::new(alloc);
+    let mut rest = bytes;
+    for _ in 0..count {
+        let (include, after) = match read_include(alloc, rest) {
+            Ok(read) => read,
+            Err(error) => return Err(error)
+        };
+        includes.push(include)?;
+        rest = after;
+    }
+    Ok((includes, rest))
+}
+
+/// Includes behind their count.
+#[tactic(auto, unfolding(crate::specs::Reading::counted_at))]
+fn read_counted_includes(alloc: Global, bytes: &[u8]) -> Result<(Vec<IncludeEntry>, &[u8]), Error>
+    ensures { Gives (λ x. (includes_in x.0.items, x.1.now)) result (counted_at bytes.now) }
+{
+    let (count, rest) = read_u64(bytes)?;
+    if ((rest.len() / SHORTEST_INCLUDE) as u64) < count {
+        return Err(Error::Deserialization);
+    }
+    read_includes(alloc, count, rest)
+}
+
+/// A key and its includes.
+#[tactic(auto, unfolding(crate::specs::Reading::result_at))]
+fn read_result(alloc: Global, bytes: &[u8]) -> Result<(String, Vec<IncludeEntry>, &[u8]), Error>
+    ensures { Gives
+        (λ x. ((string_bytes x.0, includes_in x.1.items), x.2.now)) result (result_at bytes.now) }
+{
+    let (key, rest) = read_text(bytes)?;
+    let (includes, rest) = match read_counted_includes(alloc, rest) {
+        Ok(read) => read,
+        Err(error) => return Err(error)
+    };
+    Ok((String::from_str(alloc, key)?, includes, rest))
+}
+
+/// So many results, whose keys ascend.
+fn read_results(alloc: Global, count: u64, bytes: &[u8]) -> Result<(Results, &[u8]), Error>
+    ensures { Gives
+        (λ x. (map result_in x.0.entries, x.1.now)) result (results_from [] count bytes.now) }
+{
+    let mut results = BTreeMap::new(alloc);
+    let mut rest = bytes;
+    for _ in 0..count {
+        let (key, includes, after) = match read_result(alloc, rest) {
+            Ok(read) => read,
+            Err(error) => return Err(error)
+        };
+        if !comes_last(&results, &key) {
+            return Err(Error::Deserialization);
+        }
+        put_last(&mut results, key, includes)?;
+        rest = after;
+    }
+    Ok((results, rest))
+}
+
+/// The results that make up the whole of the bytes, which stand behind the format.
+#[tactic(auto, unfolding(crate::specs::Reading::entry_at))]
+pub(crate) fn read_entry(alloc: Global, bytes: &[u8]) -> Result<Results, Error>
+    ensures { Gives (λ x. map result_in x.entries) result (entry_at bytes.now) }
+{
+    let (count, rest) = read_u64(bytes)?;
+    if ((rest.len() / SHORTEST_RESULT) as u64) < count {
+        return Err(Error::Deserialization);
+    }
+    let (results, rest) = match read_results(alloc, count, rest) {
+        Ok(read) => read,
+        Err(error) => return Err(error)
+    };
+    if !rest.is_empty() {
+        return Err(Error::Deserialization);
+    }
+    Ok(results)
+}

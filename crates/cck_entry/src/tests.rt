@@ -1,0 +1,397 @@
+//! Examples written from the format's rules, byte by byte.
+use crate::{Error, IncludeEntry, PreprocessorCacheEntry};
+use cck_digest::UtilError;
+use cck_path::Timestamp;
+use std::alloc::Global;
+use std::io;
+use std::io::Write;
+use std::process::Abort;
+
+// The key `k` with one include: path `/a`, digest `d`, size 3, contents changed at (5, 7).
+const ONE_RESULT: [u8; 67] = [
+    1, 1, 0, 0, 0, 0, 0, 0, 0, // the format, and 1 result
+    1, 0, 0, 0, 0, 0, 0, 0, b'k', // its key
+    1, 0, 0, 0, 0, 0, 0, 0, // 1 include
+    2, 0, 0, 0, 0, 0, 0, 0, b'/', b'a', // its path
+    1, 0, 0, 0, 0, 0, 0, 0, b'd', // its digest
+    3, 0, 0, 0, 0, 0, 0, 0, // its size
+    1, 5, 0, 0, 0, 0, 0, 0, 0, 7, 0, 0, 0, // a time of its contents
+    0, // no time of its status
+];
+
+const NO_RESULTS: [u8; 9] = [1, 0, 0, 0, 0, 0, 0, 0, 0];
+
+// Fails at every write.
+#[derive(Drop)]
+struct Failing;
+
+impl Write for Failing {
+    fn write(&mut self, _: &[u8]) -> io::Result<usize> {
+        Err(io::Error::from(io::ErrorKind::WriteZero))
+    }
+
+    fn flush(&mut self) -> io::Result<()> {
+        Ok(())
+    }
+}
+
+// `ONE_RESULT` with this byte in the place of another one.
+fn changed(alloc: Global, at: usize, byte: u8) -> Result<Vec<u8>, Error> {
+    let mut bytes = Vec::new(alloc);
+    for (i, old) in ONE_RESULT.iter().enumerate() {
+        bytes.push(if i == at { byte } else { *old })?;
+    }
+    Ok(bytes)
+}
+
+// Results without includes, of these keys in this order.
+fn with_keys(alloc: Global, keys: &[u8]) -> Result<Vec<u8>, Error> {
+    let mut bytes = Vec::from_slice(alloc, &[1])?;
+    bytes.extend_from_slice(&(keys.len() as u64).to_le_bytes())?;
+    for key in keys {
+        bytes.extend_from_slice(&[1, 0, 0, 0, 0, 0, 0, 0, *key])?;
+        bytes.extend_from_slice(&[0; 8])?;
+    }
+    Ok(bytes)
+}
+
+fn expect_damaged(rt: &impl Abort, alloc: Global, bytes: &[u8]) {
+    assert_eq!(rt;
+        PreprocessorCacheEntry::read(alloc, bytes),
+        Err(Error::Deserialization),
+        "{bytes:?}"
+    );
+}
+
+// Reads an entry that is written as it was read.
+fn read_back(
+    rt: &impl Abort,
+    alloc: Global,
+    bytes: &[u8],
+) -> Result<PreprocessorCacheEntry, Error> {
+    let entry = PreprocessorCacheEntry::read(alloc, bytes)?;
+    let mut written = Vec::new(alloc);
+    entry.serialize_to(&mut written)?;
+    assert_eq!(rt; written.as_slice(), bytes);
+    Ok(entry)
+}
+
+fn include(
+    alloc: Global,
+    path: &[u8],
+    mtime: Option<Timestamp>,
+    ctime: Option<Timestamp>,
+) -> Result<IncludeEntry, Error> {
+    Ok(IncludeEntry {
+        path: Vec::from_slice(alloc, path)?,
+        digest: String::from_str(alloc, "d")?,
+        file_size: 3,
+        mtime,
+        ctime,
+    })
+}
+
+fn includes(alloc: Global, count: usize) -> Result<Vec<IncludeEntry>, Error> {
+    let mut all = Vec::new(alloc);
+    for _ in 0..count {
+        all.push(include(alloc, b"/a", None, None)?)?;
+    }
+    Ok(all)
+}
+
+// So many results of one include each, with the keys 0, 1, 2 ..
+fn with_results(alloc: Global, count: usize) -> Result<PreprocessorCacheEntry, Error> {
+    let mut entry = PreprocessorCacheEntry::new(alloc);
+    for number in 0..count {
+        entry.insert_result(format!(in alloc; "{number}")?, includes(alloc, 1)?)?;
+    }
+    Ok(entry)
+}
+
+#[test]
+fn one_result(rt: HostRuntime) -> Result<(), Error> {
+    let alloc = rt.alloc();
+    let entry = read_back(&rt, alloc, &ONE_RESULT)?;
+    assert_eq!(rt; entry.result_count(), 1);
+    assert_eq!(rt; entry.number_of_entries(), 1);
+    let key = String::from_str(alloc, "k")?;
+    let modified = Some(Timestamp::new(5, 7));
+    let list = vec![in alloc; include(alloc, b"/a", modified, None)?]?;
+    assert!(rt; entry.results().get(&key) == Some(&list));
+    let mut made = PreprocessorCacheEntry::new(alloc);
+    made.insert_result(key, list)?;
+    assert_eq!(rt; made, entry);
+    Ok(())
+}
+
+#[test]
+fn no_results(rt: HostRuntime) -> Result<(), Error> {
+    let alloc = rt.alloc();
+    let empty = PreprocessorCacheEntry::new(alloc);
+    assert_eq!(rt; PreprocessorCacheEntry::read(alloc, &[])?, empty);
+    assert_eq!(rt; read_back(&rt, alloc, &NO_RESULTS)?, empty);
+    assert_eq!(rt; empty.result_count(), 0);
+    assert_eq!(rt; empty.number_of_entries(), 0);
+    Ok(())
+}
+
+#[test]
+fn other_formats(rt: HostRuntime) -> Result<(), Error> {
+    let alloc = rt.alloc();
+    for format in [0, 2, 0x1f, 255] {
+        assert_eq!(rt;
+            PreprocessorCacheEntry::read(alloc, &changed(alloc, 0, format)?),
+            Err(Error::UnknownFormat(format))
+        );
+    }
+    assert_eq!(rt;
+        PreprocessorCacheEntry::read(alloc, &[0x1f]),
+        Err(Error::UnknownFormat(0x1f))
+    );
+    let shown = format!(in alloc; "{}", Error::UnknownFormat(0x1f))?;
+    assert_eq!(rt;
+        shown.as_str(),
+        "Unknown preprocessor cache entry format 1f"
+    );
+    Ok(())
+}
+
+#[test]
+fn cut_and_joined(rt: HostRuntime) -> Result<(), Error> {
+    let alloc = rt.alloc();
+    for end in 1..67 {
+        expect_damaged(&rt, alloc, &ONE_RESULT[..end]);
+    }
+    for byte in [0, 1, 255] {
+        let mut more = Vec::from_slice(alloc, &ONE_RESULT)?;
+        more.push(byte)?;
+        expect_damaged(&rt, alloc, &more);
+    }
+    let mut twice = Vec::from_slice(alloc, &ONE_RESULT)?;
+    twice.extend_from_slice(&ONE_RESULT)?;
+    expect_damaged(&rt, alloc, &twice);
+    expect_damaged(&rt, alloc, &[1, 0, 0, 0, 0, 0, 0, 0, 0, 0]);
+    Ok(())
+}
+
+#[test]
+fn damaged_fields(rt: HostRuntime) -> Result<(), Error> {
+    let alloc = rt.alloc();
+    // The highest byte of each length and count, then the key, the digest and the bytes before times.
+    for at in [8, 16, 25, 33, 43] {
+        expect_damaged(&rt, alloc, &changed(alloc, at, 255)?);
+    }
+    for (at, byte) in [(17, 255), (44, 255), (53, 2), (53, 0), (66, 2), (66, 1)] {
+        expect_damaged(&rt, alloc, &changed(alloc, at, byte)?);
+    }
+    let mut counted = Vec::from_slice(alloc, &[1, 255, 255, 255, 255, 255, 255, 255, 255])?;
+    counted.extend_from_slice(&ONE_RESULT[9..])?;
+    expect_damaged(&rt, alloc, &counted);
+    // One result of the shortest form, counted as two.
+    expect_damaged(
+        &rt,
+        alloc,
+        &[
+            1, 2, 0, 0, 0, 0, 0, 0, 0, 0, 0, 0, 0, 0, 0, 0, 0, 0, 0, 0, 0, 0, 0, 0, 0,
+        ],
+    );
+    Ok(())
+}
+
+#[test]
+fn any_bytes_of_a_path_and_a_size(rt: HostRuntime) -> Result<(), Error> {
+    let alloc = rt.alloc();
+    let entry = read_back(&rt, alloc, &changed(alloc, 34, 255)?)?;
+    for (_, list) in entry.results() {
+        for one in list {
+            assert_eq!(rt; one.path.as_slice(), b"\xffa".as_slice());
+        }
+    }
+    let mut large = Vec::from_slice(alloc, &ONE_RESULT[..45])?;
+    large.extend_from_slice(&[255; 8])?;
+    large.extend_from_slice(&ONE_RESULT[53..])?;
+    let entry = read_back(&rt, alloc, &large)?;
+    for (_, list) in entry.results() {
+        for one in list {
+            assert_eq!(rt; one.file_size, u64::MAX);
+        }
+    }
+    Ok(())
+}
+
+#[test]
+fn nanoseconds(rt: HostRuntime) -> Result<(), Error> {
+    let alloc = rt.alloc();
+    for (nanos, is_read) in [
+        (999_999_999u32, true),
+        (1_000_000_000, false),
+        (u32::MAX, false),
+    ] {
+        let mut bytes = Vec::from_slice(alloc, &ONE_RESULT[..62])?;
+        bytes.extend_from_slice(&nanos.to_le_bytes())?;
+        bytes.push(0)?;
+        if is_read {
+            assert_eq!(rt; read_back(&rt, alloc, &bytes)?.number_of_entries(), 1);
+        } else {
+            expect_damaged(&rt, alloc, &bytes);
+        }
+    }
+    Ok(())
+}
+
+#[test]
+fn keys_ascend(rt: HostRuntime) -> Result<(), Error> {
+    let alloc = rt.alloc();
+    for keys in [b"aa", b"ba"] {
+        expect_damaged(&rt, alloc, &with_keys(alloc, keys)?);
+    }
+    expect_damaged(&rt, alloc, &with_keys(alloc, b"acb")?);
+    assert_eq!(rt;
+        read_back(&rt, alloc, &with_keys(alloc, b"ab")?)?.result_count(),
+        2
+    );
+    Ok(())
+}
+
+// An entry of so many results with so many includes each, all with these times.
+fn shape(
+    alloc: Global,
+    results: usize,
+    includes: usize,
+    mtime: Option<Timestamp>,
+    ctime: Option<Timestamp>,
+) -> Result<PreprocessorCacheEntry, Error> {
+    let mut entry = PreprocessorCacheEntry::new(alloc);
+    for key in 0..results {
+        let mut list = Vec::new(alloc);
+        for _ in 0..includes {
+            list.push(include(alloc, b"/w/a.h", mtime, ctime)?)?;
+        }
+        entry.insert_result(format!(in alloc; "key {key}")?, list)?;
+    }
+    Ok(entry)
+}
+
+fn expect_written_and_read(
+    rt: &impl Abort,
+    alloc: Global,
+    entry: &PreprocessorCacheEntry,
+) -> Result<(), Error> {
+    let mut bytes = Vec::new(alloc);
+    entry.serialize_to(&mut bytes)?;
+    assert!(rt; read_back(rt, alloc, &bytes)? == *entry);
+    assert!(rt; entry.copy(alloc)? == *entry);
+    Ok(())
+}
+
+fn expect_shapes(
+    rt: &impl Abort,
+    alloc: Global,
+    mtime: &Option<Timestamp>,
+    ctime: &Option<Timestamp>,
+) -> Result<(), Error> {
+    for results in 0..3 {
+        for includes in 0..3 {
+            let entry = shape(alloc, results, includes, *mtime, *ctime)?;
+            assert!(rt; entry.number_of_entries() == results * includes);
+            expect_written_and_read(rt, alloc, &entry)?;
+        }
+    }
+    Ok(())
+}
+
+#[test]
+fn shapes_are_read_back(rt: HostRuntime) -> Result<(), Error> {
+    let alloc = rt.alloc();
+    let early = Some(Timestamp::new(i64::MIN, 0));
+    let late = Some(Timestamp::new(-1, 999_999_999));
+    expect_shapes(&rt, alloc, &None, &None)?;
+    expect_shapes(&rt, alloc, &late, &None)?;
+    expect_shapes(&rt, alloc, &None, &early)?;
+    expect_shapes(&rt, alloc, &early, &late)
+}
+
+#[test]
+fn many_results_start_over(rt: HostRuntime) -> Result<(), Error> {
+    let alloc = rt.alloc();
+    let mut entry = with_results(alloc, 101)?;
+    assert_eq!(rt; entry.result_count(), 101);
+    assert_eq!(rt; entry.number_of_entries(), 101);
+    entry.insert_result(String::from_str(alloc, "more")?, includes(alloc, 2)?)?;
+    assert_eq!(rt; entry.result_count(), 1);
+    assert_eq!(rt; entry.number_of_entries(), 2);
+    // A key that stands already starts over too.
+    let mut entry = with_results(alloc, 101)?;
+    entry.insert_result(String::from_str(alloc, "7")?, includes(alloc, 0)?)?;
+    assert_eq!(rt; entry.result_count(), 1);
+    assert_eq!(rt; entry.number_of_entries(), 0);
+    Ok(())
+}
+
+#[test]
+fn many_includes_start_over(rt: HostRuntime) -> Result<(), Error> {
+    let alloc = rt.alloc();
+    let mut entry = PreprocessorCacheEntry::new(alloc);
+    entry.insert_result(String::from_str(alloc, "a")?, includes(alloc, 9_999)?)?;
+    entry.insert_result(String::from_str(alloc, "b")?, includes(alloc, 1)?)?;
+    assert_eq!(rt; entry.result_count(), 2);
+    assert_eq!(rt; entry.number_of_entries(), 10_000);
+    // What the key had before counts too.
+    let mut again = entry.copy(alloc)?;
+    again.insert_result(String::from_str(alloc, "a")?, includes(alloc, 1)?)?;
+    assert_eq!(rt; again.result_count(), 1);
+    assert_eq!(rt; again.number_of_entries(), 1);
+    entry.insert_result(String::from_str(alloc, "c")?, includes(alloc, 0)?)?;
+    assert_eq!(rt; entry.result_count(), 3);
+    entry.insert_result(String::from_str(alloc, "c")?, includes(alloc, 1)?)?;
+    assert_eq!(rt; entry.result_count(), 1);
+    assert_eq!(rt; entry.number_of_entries(), 1);
+    // One result may have more than 10000 alone.
+    entry.insert_result(String::from_str(alloc, "d")?, includes(alloc, 10_001)?)?;
+    assert_eq!(rt; entry.result_count(), 1);
+    assert_eq!(rt; entry.number_of_entries(), 10_001);
+    Ok(())
+}
+
+#[test]
+fn a_key_is_replaced(rt: HostRuntime) -> Result<(), Error> {
+    let alloc = rt.alloc();
+    let mut entry = with_results(alloc, 3)?;
+    entry.insert_result(String::from_str(alloc, "1")?, includes(alloc, 5)?)?;
+    assert_eq!(rt; entry.result_count(), 3);
+    assert_eq!(rt; entry.number_of_entries(), 7);
+    entry.insert_result(String::from_str(alloc, "1")?, includes(alloc, 0)?)?;
+    assert_eq!(rt; entry.number_of_entries(), 2);
+    Ok(())
+}
+
+#[test]
+fn entries_and_includes_compared(rt: HostRuntime) -> Result<(), Error> {
+    let alloc = rt.alloc();
+    let one = include(alloc, b"/a", Some(Timestamp::new(5, 7)), None)?;
+    assert_eq!(rt; one.copy(alloc)?, one);
+    assert!(rt; one != include(alloc, b"/a", None, Some(Timestamp::new(5, 7)))?);
+    assert!(rt; with_results(alloc, 2)? != with_results(alloc, 3)?);
+    let entry = PreprocessorCacheEntry::new(alloc);
+    let shown = format!(in alloc; "{entry:?}")?;
+    assert_eq!(rt;
+        shown.as_str(),
+        "PreprocessorCacheEntry { number_of_entries: 0, results: {} }"
+    );
+    Ok(())
+}
+
+#[test]
+fn failed_writes(rt: HostRuntime) -> Result<(), Error> {
+    let alloc = rt.alloc();
+    let entry = with_results(alloc, 1)?;
+    assert_eq!(rt;
+        entry.serialize_to(&mut Failing),
+        Err(Error::Io(UtilError::Write))
+    );
+    assert_eq!(rt; entry.result_count(), 1);
+    let mut again = PreprocessorCacheEntry::new(entry.allocator());
+    again.insert_result(String::from_str(alloc, "0")?, includes(alloc, 1)?)?;
+    assert_eq!(rt; again, entry);
+    Ok(())
+}
