@@ -1,0 +1,7 @@
+pub mod Cuts
+pub mod EachText
+pub mod ItemLemmas
+pub mod LastMark
+pub mod LineLemmas
+pub mod OneList
+pub mod SkipLemmas

@@ -1,0 +1,122 @@
+-- bytes that are plain because words stand nowhere among them
+use Rattle.std.proofs.Common.{◌≡◌, ◌≢◌, ℕ, zero, suc, ◌+◌, ◌-◌, ◌<◌, ◌≤◌, Bool, true, false, ◌==◌, ◌&&◌, nat_eq, nat_lt, List, [], ◌∷◌, ◌++◌, length, drop, take, get_or, refl, sym, ap, ap₂, add-one, ◌∙◌, arith, length-append}
+use Rattle.std.specs.Prelude.{codes, if◌then◌else◌}
+use Rattle.std.specs.List.{starts_with}
+use Rattle.std.proofs.lemmas.Bool.{eqb-true, ltb-true}
+use Rattle.std.proofs.lemmas.List.{drop_more, length-drop, get_or-drop, get_or_append_left}
+use Rattle.memchr.specs.Find.{Nowhere, OccursAt}
+use Rattle.cck_markers.specs.Marks.{Mark, Short, Marker, Hidden, Inclusion, Plain, what, is_marker, is_hidden, is_inclusion, plain}
+use Rattle.cck_markers.specs.Markers.{Unread, Gives}
+use Rattle.cck_markers.specs.Searches.{AreKnown, ArePlain, starts_line_at}
+use Rattle.cck_markers.specs.declared.search.Searches.{Searches}
+use Rattle.cck_markers.proofs.Cuts.{slice_from}
+use Rattle.cck_markers.proofs.EachText.{any_true, behind_word, marker_starts}
+use Rattle.cck_markers.proofs.ItemLemmas.{gives_both, gives_nothing}
+
+-- plain bytes give no mark
+pub plain_bytes : (text : List ℕ) (size : ℕ) → size ≤ length text → ArePlain text size
+    → Gives (record { starts_line = false; text = text }) [] (record { starts_line = starts_line_at text size; text = drop size text })
+plain_bytes text zero within are_plain = gives_nothing _
+plain_bytes text (suc size) within are_plain =
+    let before = plain_bytes text size (omega arith) (λ place l. are_plain place (omega arith)) in
+    λ marks left. before marks (plain (are_plain size (omega arith)) (get_or text size 0) (drop (suc size) text) (next_byte size (omega arith)) left)
+  where
+    next_byte : (place : ℕ) → place < length text → drop place text ≡ get_or text place 0 ∷ drop (suc place) text
+    next_byte place l = rw (← add-one place) (drop_more text place 0 l)
+
+-- a word with which the rest begins stands there
+pub occurs : (text word rest : List ℕ) (place : ℕ) → 0 < length word → drop place text ≡ word ++ rest → OccursAt text word place
+occurs text word rest place some is =
+    record {
+      fits = omega (arith, some, ap length is, length-drop place text, length-append word rest);
+      reads = λ j l. sym (get_or-drop place text j 0) ∙ ap (λ (t : List ℕ). get_or t j 0) is ∙ get_or_append_left word rest 0 j l;
+    }
+
+-- behind a line's end it is one with that
+occurs_behind : (text word rest : List ℕ) (place : ℕ) → suc place ≤ length text → starts_line_at text (suc place) ≡ true → drop (suc place) text ≡ word ++ rest → OccursAt text (10 ∷ word) place
+occurs_behind text word rest place within starts is =
+    occurs text (10 ∷ word) rest place (omega arith)
+    (drop_more text place 0 within ∙ ap₂ (λ byte behind. byte ∷ behind) (eqb-true (get_or text place 0) 10 starts) (rw (add-one place) is))
+
+is_false : (b : Bool) → (b ≡ true → ⊥) → b ≡ false
+is_false true h = absurd (h refl)
+is_false false h = refl
+
+-- where nothing else stands a byte is plain
+what_plain : (a b c d e : Bool) → a ≡ false → (b ≡ true → (c ≡ false) × (d ≡ false)) → e ≡ false
+    → (if a then Short else if b && c then Marker else if b && d then Hidden else if e then Inclusion else Plain) ≡ Plain
+what_plain true b c d e p q r = cc
+what_plain false false c d false p q r = refl
+what_plain false false c d true p q r = cc
+what_plain false true c d e p q r = rw ((q refl).0, (q refl).1, r) refl
+
+inclusion_starts : (text : List ℕ) → is_inclusion text ≡ true → (rest : List ℕ) × (text ≡ codes ".incbin" ++ rest)
+unfolding is_inclusion
+inclusion_starts text h =
+    any_true (starts_with nat_eq text (codes ".incbin" ++ 34 ∷ [])) (starts_with nat_eq text (codes ".incbin " ++ 34 ∷ [])) (starts_with nat_eq text (codes ".incbin " ++ 92 ∷ 34 ∷ [])) ((rest : List ℕ) × (text ≡ codes ".incbin" ++ rest)) h
+    (λ e. (_, behind_word text (codes ".incbin" ++ 34 ∷ []) e))
+    (λ e. (_, behind_word text (codes ".incbin " ++ 34 ∷ []) e))
+    (λ e. (_, behind_word text (codes ".incbin " ++ 92 ∷ 34 ∷ []) e))
+
+hidden_starts : (text : List ℕ) → is_hidden text ≡ true → (rest : List ℕ) × (text ≡ codes "__________" ++ rest)
+unfolding is_hidden
+hidden_starts text h = (_, behind_word text (codes "__________") h)
+
+module _ (text : List ℕ) (marker hidden inclusion : ℕ)
+    (no_marker : Nowhere (OccursAt text (10 ∷ 35 ∷ [])) 0 marker)
+    (no_hidden : Nowhere (OccursAt text (10 ∷ codes "__________")) 0 hidden)
+    (no_inclusion : Nowhere (OccursAt text (codes ".incbin")) 0 inclusion) where
+  -- no marker and no hidden line starts at a place that the searches passed
+  no_line : (place : ℕ) → place < length text → place < marker + 1 → place < hidden + 1 → starts_line_at text place ≡ true
+      → (is_marker (drop place text) ≡ false) × (is_hidden (drop place text) ≡ false)
+  no_line zero within before_marker before_hidden starts = cc
+  no_line (suc place) within before_marker before_hidden starts = (
+    is_false _ (λ e.
+        let hash = marker_starts (drop (suc place) text) e in
+        no_marker place (omega arith) (omega arith) (occurs_behind text (35 ∷ []) hash.0 place (omega arith) starts hash.1)),
+    is_false _ (λ e.
+        let word = hidden_starts (drop (suc place) text) e in
+        no_hidden place (omega arith) (omega arith) (occurs_behind text (codes "__________") word.0 place (omega arith) starts word.1)),
+  )
+
+  pub are_plain : (size : ℕ) → size ≤ length text - 6 → size ≤ marker + 1 → size ≤ hidden + 1 → size ≤ inclusion → ArePlain text size
+  unfolding what
+  are_plain size enough before_marker before_hidden before_inclusion place l =
+      what_plain (nat_lt (length (drop place text)) 7) (starts_line_at text place) (is_marker (drop place text)) (is_hidden (drop place text)) (is_inclusion (drop place text))
+      (is_false _ (λ short. absurd (omega (arith, ltb-true (length (drop place text)) 7 short, length-drop place text))))
+      (no_line place (omega arith) (omega arith) (omega arith))
+      (is_false _ (λ e.
+      let word = inclusion_starts (drop place text) e in
+      no_inclusion place (omega arith) (omega arith) (occurs text (codes ".incbin") word.0 place (omega arith) word.1)))
+
+-- what a word's search knows stays true of what is left
+pub known_behind : (text word : List ℕ) (size left : ℕ) → Nowhere (OccursAt text word) 0 (length text - left) → size ≤ length text → Nowhere (OccursAt (drop size text) word) 0 (length (drop size text) - left)
+known_behind text word size left known within = λ place low high at.
+    known (size + place) (omega arith) (omega (arith, high, length-drop size text)) (record {
+      fits = omega (arith, at.fits, length-drop size text);
+      reads = λ j l. ap (λ (k : ℕ). get_or text k 0) (omega arith) ∙ sym (get_or-drop size text (place + j) 0) ∙ at.reads j l;
+    })
+
+pub known_after : (searches : Searches) (text : List ℕ) (size : ℕ) → AreKnown searches text → size ≤ length text → AreKnown searches (drop size text)
+known_after searches text size known within =
+    record {
+      marker = known_behind text (10 ∷ 35 ∷ []) size searches.marker known.marker within;
+      hidden = known_behind text (10 ∷ codes "__________") size searches.hidden known.hidden within;
+      inclusion = known_behind text (codes ".incbin") size searches.inclusion known.inclusion within;
+    }
+
+starts_behind : (text : List ℕ) (size : ℕ) → size ≢ 0 → starts_line_at text size ≡ (get_or text (size - 1) 0 == 10)
+starts_behind text zero some = absurd (some refl)
+starts_behind text (suc size) some = let before : suc size - 1 ≡ size = omega arith in rw before refl
+
+-- the bytes that were passed, as the program cuts them off
+pub passed_bytes : (text : List ℕ) (size : ℕ) → size ≤ length text → size ≢ 0 → ArePlain text size
+    → Gives (record { starts_line = false; text = text }) [] (record { starts_line = get_or text (size - 1) 0 == 10; text = take (length text - size) (drop size text) })
+passed_bytes text size within some are_plain =
+    rw (slice_from text size, ← starts_behind text size some) (plain_bytes text size within are_plain)
+
+-- an item behind them, as the program cuts it off
+pub passed_item : (old : Unread) (starts_line starts_after : Bool) (text : List ℕ) (given : List Mark) (size : ℕ) → Gives old [] (record { starts_line = starts_line; text = text })
+    → Gives (record { starts_line = starts_line; text = text }) given (record { starts_line = starts_after; text = drop size text })
+    → Gives old given (record { starts_line = starts_after; text = take (length text - size) (drop size text) })
+passed_item old starts_line starts_after text given size before item = rw (slice_from text size) (gives_both old _ _ [] given before item)

@@ -1,0 +1,32 @@
+-- one item of a text: a marker, a line that is skipped, an inclusion, or a byte
+use Rattle.std.specs.Prelude.{ℕ, ◌≤◌, ◌<◌, Bool, List, [], ◌∷◌, length, drop, Option, Some, None}
+use Rattle.cck_markers.specs.Marks as marks
+use Rattle.cck_markers.specs.Marks.{Marks}
+use Rattle.cck_markers.specs.Markers.{Gives, mark_of}
+use Rattle.cck_markers.specs.declared.item.Item.{Item}
+use Rattle.cck_markers.specs.declared.item.What.{What}
+use Rattle.cck_markers.specs.declared.item.What.TheVariants.{Short, Marker, Hidden, Inclusion, Plain}
+use Rattle.cck_markers.specs.declared.mark.Mark.{Mark}
+
+-- what is meant to stand at a place
+abbrev pub what_of : What → marks.What
+what_of Short = marks.Short
+what_of Marker = marks.Marker
+what_of Hidden = marks.Hidden
+what_of Inclusion = marks.Inclusion
+what_of Plain = marks.Plain
+
+-- the marks of an item: one or none
+abbrev pub marks_of : Option Mark → List marks.Mark
+marks_of None = []
+marks_of (Some mark) = mark_of mark ∷ []
+
+-- a text that begins with an item: the marks that it makes, how many bytes it is, and whether a line starts behind it
+abbrev pub IsItem : Bool → List ℕ → List marks.Mark → ℕ → Bool → Type 0
+IsItem starts_line text given size starts_behind =
+    (0 < size) × (size ≤ length text) × Gives (record { starts_line = starts_line; text = text }) given (record { starts_line = starts_behind; text = drop size text })
+
+-- a text that begins with this item, or makes no more marks
+abbrev pub BeginsWith : Bool → List ℕ → Option Item → Type 0
+BeginsWith starts_line text None = Marks starts_line text []
+BeginsWith starts_line text (Some item) = IsItem starts_line text (marks_of item.mark) item.size item.starts_line

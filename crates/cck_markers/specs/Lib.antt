@@ -1,0 +1,5 @@
+pub mod Items
+pub mod Lines
+pub mod Markers
+pub mod Marks
+pub mod Searches

@@ -1,0 +1,136 @@
+//! One item of a text: a marker, a line that is skipped, an inclusion, or a byte.
+ghost use Rattle.std.specs.Prelude.{◌≡◌, Some};
+ghost use Rattle.cck_markers.specs.Items.{BeginsWith, what_of};
+ghost use Rattle.cck_markers.specs.Marks.{Marker, is_hidden, is_inclusion, is_marker, what};
+
+use crate::line::{Line, read_line};
+use crate::mark::Mark;
+use memchr::memchr;
+
+/// How many bytes must be left for a place to be looked at.
+pub const LEAST_LEFT: usize = 7;
+
+/// What stands at a place.
+enum What {
+    Short,
+    Marker,
+    Hidden,
+    Inclusion,
+    Plain,
+}
+
+/// What a text begins with.
+#[derive(Debug, Clone, Copy)]
+pub struct Item<'a> {
+    /// The mark that it makes.
+    pub mark: Option<Mark<'a>>,
+    /// How many bytes it is.
+    pub size: usize,
+    /// Whether a line starts behind it.
+    pub starts_line: bool,
+}
+
+// Whether a line that starts here is a marker.
+#[tactic(auto, unfolding(crate::specs::Marks::is_marker))]
+fn is_marker(text: &[u8]) -> bool
+    ensures { result ≡ is_marker text.now }
+{
+    text.starts_with(b"# ") && text.len() > 2 && text[2].is_ascii_digit()
+        || text.starts_with(b"#pragma GCC pch_preprocess")
+        || text.starts_with(b"#line ")
+}
+
+// Whether a line that starts here is skipped.
+#[tactic(auto, unfolding(crate::specs::Marks::is_hidden))]
+fn is_hidden(text: &[u8]) -> bool
+    ensures { result ≡ is_hidden text.now }
+{
+    text.starts_with(b"__________")
+}
+
+// Whether the bytes of a file are included here.
+#[tactic(auto, unfolding(crate::specs::Marks::is_inclusion))]
+fn is_inclusion(text: &[u8]) -> bool
+    ensures { result ≡ is_inclusion text.now }
+{
+    text.starts_with(b".incbin\"")
+        || text.starts_with(b".incbin \"")
+        || text.starts_with(b".incbin \\\"")
+}
+
+// What stands where this text is left, by whether a line starts there.
+#[tactic(auto, unfolding(crate::specs::Marks::what))]
+fn what_stands(text: &[u8], starts_line: bool) -> What
+    ensures { what_of result ≡ what starts_line text.now }
+{
+    if text.len() < LEAST_LEFT {
+        return What::Short;
+    }
+    if starts_line && is_marker(text) {
+        return What::Marker;
+    }
+    if starts_line && is_hidden(text) {
+        return What::Hidden;
+    }
+    if is_inclusion(text) {
+        return What::Inclusion;
+    }
+    What::Plain
+}
+
+/// What a text begins with, by whether a line starts there. `None` where no mark is to come.
+pub fn read_item(text: &[u8], starts_line: bool) -> Option<Item<'_>>
+    ensures { BeginsWith starts_line text.now result }
+{
+    match what_stands(text, starts_line) {
+        What::Short => None,
+        What::Marker => Some(read_marker(text, starts_line)),
+        What::Hidden => {
+            let end = memchr(b'\n', text)?;
+            Some(Item {
+                mark: None,
+                size: end + 1,
+                starts_line: true,
+            })
+        }
+        What::Inclusion => Some(Item {
+            mark: Some(Mark::Refusal),
+            size: text.len(),
+            starts_line: false,
+        }),
+        What::Plain => Some(Item {
+            mark: None,
+            size: 1,
+            starts_line: text[0] == b'\n',
+        }),
+    }
+}
+
+// A marker is passed up to its line's end or its closing quote, and no line starts there.
+fn read_marker(text: &[u8], starts_line: bool) -> Item<'_>
+    requires { what starts_line text.now ≡ Marker }
+    ensures { BeginsWith starts_line text.now (Some result) }
+{
+    match read_line(text) {
+        Line::Unnamed { end } => Item {
+            mark: None,
+            size: end,
+            starts_line: false,
+        },
+        Line::Named {
+            end,
+            name,
+            is_system,
+            ..
+        } => Item {
+            mark: Some(Mark::Name { name, is_system }),
+            size: end,
+            starts_line: false,
+        },
+        Line::Malformed => Item {
+            mark: Some(Mark::Malformed),
+            size: text.len(),
+            starts_line: false,
+        },
+    }
+}

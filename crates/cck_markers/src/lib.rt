@@ -1,0 +1,45 @@
+//! Which files a preprocessed text says that it was made of.
+//!
+//! A C preprocessor leaves *line markers* in the text that it prints: `# 33 "stdio.h" 3 4` says
+//! that the next line is the 33rd of `stdio.h`, which is a system header by the `3`. Who knows the
+//! files that a text names knows what it was made of, unless the assembler is told to include one
+//! more. So a text is read as a list of marks:
+//!
+//! - a *name* that a line marker gives;
+//! - a *refusal*: `.incbin` and a quote stand somewhere, so the assembler may include a file that
+//!   no marker names;
+//! - a *malformed* marker, which neither has a name nor ends its line without one.
+//!
+//! [`Markers`] gives them in order, up to the first that is no name. [`read_line`] reads a single
+//! marker and says where its name stands. Neither opens a file or takes memory, and a text is read
+//! in time linear in its length. Text is bytes, in no encoding.
+//!
+//! A place is looked at while at least 7 bytes are left from it on. A line starts at the text's
+//! start and behind each line feed. A marker starts a line with `# ` and a digit, with `#line ` or
+//! with `#pragma GCC pch_preprocess`. A line that starts with ten underscores is skipped.
+//!
+//! ```rust
+//! let mut names = Vec::new(alloc);
+//! for mark in Markers::new(b"# 1 \"a.c\"\n# 1 \"stdio.h\" 1 3 4\nint puts(const char *);\n") {
+//!     match mark {
+//!         Mark::Name { name, is_system } if !is_system => names.push(name)?,
+//!         Mark::Name { .. } => {}
+//!         Mark::Refusal | Mark::Malformed => return Ok(None),
+//!     }
+//! }
+//! Ok(Some(names)) // `a.c`
+//! ```
+//!
+//! [`laws`] has what the definitions say above what they compute.
+#![tactic(auto)]
+
+mod item;
+pub mod laws;
+mod line;
+mod mark;
+mod search;
+#[cfg(test)]
+mod tests;
+
+pub use line::{Line, read_line};
+pub use mark::{Mark, Markers};

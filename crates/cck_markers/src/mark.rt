@@ -1,0 +1,88 @@
+//! The marks of a text, one after another.
+ghost use Rattle.std.specs.Prelude.{◌≡◌, length};
+ghost use Rattle.std.specs.Iterator.{at_most};
+ghost use Rattle.cck_markers.specs.Markers.{YieldsMark, whole};
+
+use crate::item::read_item;
+use crate::search::Searches;
+use std::marker::Model;
+
+/// What a text says at one place about the files that it was made of.
+#[derive(Debug, Clone, Copy, PartialEq, Eq)]
+pub enum Mark<'a> {
+    /// A line marker's name.
+    Name {
+        /// Its bytes, as they stand in the text. They may be none.
+        name: &'a [u8],
+        /// Whether a `3` stands between the closing quote and the line's end.
+        is_system: bool,
+    },
+    /// `.incbin` and a quote, by itself, behind a space, or behind a space and a backslash: bytes
+    /// of a file are included that no marker names.
+    Refusal,
+    /// A line marker that neither has a name nor ends its line without one.
+    Malformed,
+}
+
+/// The marks of a text, in order, up to the first that is no name: behind a refusal or a malformed
+/// marker nothing comes.
+///
+/// It takes no memory and looks at each byte a few times at most, whatever the text. This is the
+/// scan of upstream's `process_preprocessed_file`.
+///
+/// ```rust
+/// Markers::new(b"# 1 \"a.h\" 3\n.incbin \"f\"") // the name `a.h`, of a system header; a refusal
+/// ```
+#[derive(Debug, Drop)]
+pub struct Markers<'a> {
+    rest: &'a [u8],
+    starts_line: bool,
+    searches: Searches,
+}
+
+impl<'a> Model for Markers<'a> {
+    ghost use Rattle.cck_markers.specs.Markers.{Unread};
+
+    ghost Value = { Unread };
+
+    ghost view = { λ m. record { starts_line = m.starts_line; text = m.rest.now } };
+
+    ghost use Rattle.cck_markers.specs.Searches.{AreKnown};
+
+    ghost invariant = { λ m. AreKnown m.searches m.rest.now };
+}
+
+impl<'a> Markers<'a> {
+    /// The marks of this text, from its start on.
+    pub fn new(text: &'a [u8]) -> Markers<'a>
+        ensures { result ≡ whole text.now }
+    {
+        Markers {
+            rest: text,
+            starts_line: true,
+            searches: Searches::new(),
+        }
+    }
+}
+
+impl<'a> Iterator for Markers<'a> {
+    type Item = Mark<'a>;
+
+    ghost next_gives = { YieldsMark };
+
+    ghost remaining = { λ markers. at_most (length markers.text) };
+
+    fn next(&mut self) -> Option<Mark<'a>> {
+        loop {
+            let (rest, starts_line) = self.searches.skip_plain(self.rest, self.starts_line);
+            self.rest = rest;
+            self.starts_line = starts_line;
+            let item = read_item(rest, starts_line)?;
+            self.rest = &rest[item.size..];
+            self.starts_line = item.starts_line;
+            if item.mark.is_some() {
+                return item.mark;
+            }
+        }
+    }
+}
