@@ -1,0 +1,4 @@
+pub mod JudgeLemmas
+pub mod LineLemmas
+pub mod RecordLemmas
+pub mod WalkLemmas

@@ -1,0 +1,45 @@
+-- What a line marker does, from what is read of it.
+use Rattle.std.proofs.Common.{◌≡◌, ◌≢◌, ◌⊎◌, inl, inr, ℕ, ◌+◌, Bool, true, false, List, [], ◌∷◌, length, Ok, Err, refl, sym, ap, arith, ◌∙◌}
+use Rattle.cck_markers.specs.Lines.{IsNamedAt, IsUnnamedTo}
+use Rattle.cck_markers.specs.Marks.{Named, Unnamed, is_system}
+use Rattle.cck_walk.specs.Decided.{Context, Digests, Refuses, after, outcome}
+use Rattle.cck_walk.specs.Line.{IsLineAnswer, IsNameAnswer}
+use Rattle.cck_walk.specs.declared.error.WalkError.{WalkError}
+use Rattle.cck_walk.specs.declared.error.WalkError.TheVariants as error
+use Rattle.cck_walk.specs.declared.line.LineAction.TheVariants.{Continue, Break}
+
+-- what was read of a marker with a name
+abbrev pub IsReadAt : List ℕ → ℕ → ℕ → List ℕ → Bool → Type 0
+IsReadAt text begin end name is_system_in = (marker : Named text) × IsNamedAt text begin end marker × (marker.name ≡ name) × (is_system marker.rest ≡ is_system_in)
+
+module _ (c : Context) (HasFault : Type 0) (text : List ℕ) (start hash : ℕ) (old : Digests) where
+  pub unnamed : (end : ℕ) → IsUnnamedTo text end → IsLineAnswer c HasFault text start hash old old (Ok (Break (start + end, hash, true)))
+  unnamed end u = (refl, inl (end, u, refl, refl))
+
+  pub malformed : (Unnamed text → ⊥) × (Named text → ⊥) → IsLineAnswer c HasFault text start hash old old (Err error.Marker)
+  malformed h = (refl, h)
+
+  module _ (begin end : ℕ) (name : List ℕ) (is_system_in : Bool) (r : IsReadAt text begin end name is_system_in) where
+    pub unwritten : name ≡ [] → IsLineAnswer c HasFault text start hash old old (Ok (Break (start + end, start + begin, true)))
+    unwritten none = (refl, inr (r.0, begin, end, r.1, r.2 ∙ none, refl, refl))
+
+    same_outcome : outcome c old r.0.name (is_system r.0.rest) ≡ outcome c old name is_system_in
+    same_outcome i = outcome c old (r.2 i) (r.3 i)
+
+    pub goes_on : (new : Digests) → name ≢ [] → IsNameAnswer c HasFault old new name is_system_in (Ok true) → IsLineAnswer c HasFault text start hash old new (Ok (Continue (start + end, start + end)))
+    goes_on new some does = (begin, end, refl, refl, (r.0, r.1, λ e. some (sym r.2 ∙ e), ap (after old) same_outcome ∙ does))
+
+    stopped : (outcome c old name is_system_in ≡ Refuses) ⊎ HasFault → (outcome c old r.0.name (is_system r.0.rest) ≡ Refuses) ⊎ HasFault
+    stopped (inl e) = inl (same_outcome ∙ e)
+    stopped (inr f) = inr f
+
+    pub stops : (new : Digests) → name ≢ [] → IsNameAnswer c HasFault old new name is_system_in (Ok false) → IsLineAnswer c HasFault text start hash old new (Ok (Break (start + end, start + begin, false)))
+    stops new some does = (begin, end, refl, refl, does.0, (r.0, r.1, λ e. some (sym r.2 ∙ e), stopped does.1))
+
+pub wants_memory : (c : Context) (HasFault : Type 0) (text : List ℕ) (start hash : ℕ) (old new : Digests) (name : List ℕ) (is_system_in : Bool) (e : WalkError) → IsNameAnswer c HasFault old new name is_system_in (Err e) → IsLineAnswer c HasFault text start hash old new (Err e)
+wants_memory c HasFault text start hash old new name is_system_in error.Memory h = h
+wants_memory c HasFault text start hash old new name is_system_in error.Marker h = absurd h
+
+pub empty_of : (name : List ℕ) → length name ≡ 0 → name ≡ []
+empty_of [] e = refl
+empty_of (byte ∷ name) e = absurd (omega (arith, e))

@@ -1,0 +1,42 @@
+use Rattle.std.proofs.Common.{drop, sym, ap, length, subst}
+use Rattle.std.proofs.lemmas.Bool.{eqb-true, eqb-false}
+use Rattle.cck_files.specs.Calls.{Rose}
+use Rattle.cck_markers.proofs.Cuts.{slice_from}
+use Rattle.cck_markers.specs.Lines.{IsUnnamedTo}
+use Rattle.cck_walk.specs.Decided.{context_in}
+use Rattle.cck_walk.proofs.LineLemmas.{IsReadAt, empty_of, goes_on, stops, unnamed, unwritten}
+use Rattle.jiff.specs.Words.{plain_zone}
+use Rattle.cck_walk.proofs.line.process_preprocessor_line.Goals as goal
+
+pub returns-in-Unnamed-clause-answer : goal.returns-in-Unnamed-clause-answer
+returns-in-Unnamed-clause-answer g c =
+    let F = g.F.Files in
+    let x = context_in g.H.HashState.hash c.args.config c.args.moment (plain_zone c.args.zone.now) c.args.vars.now (F.file_map c.args.files.now) c.args.input_file.now c.args.cwd.now in
+    unnamed x (Rose (F.faults c.args.files.now) (F.faults c.args.files.now)) (drop c.args.start c.args.text.now) c.args.start c.args.hash_start c.args.records.now c.in-Unnamed.end
+    (subst (λ t. IsUnnamedTo t c.in-Unnamed.end) (slice_from c.args.text.now c.args.start) c.in-Unnamed.ensures)
+
+pub returns-then-is_empty-clause-answer : goal.returns-then-is_empty-clause-answer
+returns-then-is_empty-clause-answer g c =
+    let F = g.F.Files in
+    let x = context_in g.H.HashState.hash c.args.config c.args.moment (plain_zone c.args.zone.now) c.args.vars.now (F.file_map c.args.files.now) c.args.input_file.now c.args.cwd.now in
+    let n = c.in-Named in
+    unwritten x (Rose (F.faults c.args.files.now) (F.faults c.args.files.now)) (drop c.args.start c.args.text.now) c.args.start c.args.hash_start c.args.records.now n.begin n.end n.name.now n.is_system
+    (subst (λ t. IsReadAt t n.begin n.end n.name.now n.is_system) (slice_from c.args.text.now c.args.start) n.ensures) (empty_of n.name.now (eqb-true _ 0 (sym c.if-is_empty.ensures)))
+
+pub returns-in-Ok-true-clause-answer : goal.returns-in-Ok-true-clause-answer
+returns-in-Ok-true-clause-answer g c =
+    let F = g.F.Files in
+    let x = context_in g.H.HashState.hash c.args.config c.args.moment (plain_zone c.args.zone.now) c.args.vars.now (F.file_map c.args.files.now) c.args.input_file.now c.args.cwd.now in
+    let n = c.in-Named in
+    goes_on x (Rose (F.faults c.args.files.now) (F.faults c.take_name.new.files)) (drop c.args.start c.args.text.now) c.args.start c.args.hash_start c.args.records.now n.begin n.end n.name.now n.is_system
+    (subst (λ t. IsReadAt t n.begin n.end n.name.now n.is_system) (slice_from c.args.text.now c.args.start) n.ensures) c.take_name.new.records
+    (λ none. eqb-false _ 0 (sym c.if-is_empty.ensures) (ap length none)) (rw c.in-Ok-true.field-0-test at c.in-Ok-true.ensures.answer)
+
+pub returns-in-Ok-false-clause-answer : goal.returns-in-Ok-false-clause-answer
+returns-in-Ok-false-clause-answer g c =
+    let F = g.F.Files in
+    let x = context_in g.H.HashState.hash c.args.config c.args.moment (plain_zone c.args.zone.now) c.args.vars.now (F.file_map c.args.files.now) c.args.input_file.now c.args.cwd.now in
+    let n = c.in-Named in
+    stops x (Rose (F.faults c.args.files.now) (F.faults c.take_name.new.files)) (drop c.args.start c.args.text.now) c.args.start c.args.hash_start c.args.records.now n.begin n.end n.name.now n.is_system
+    (subst (λ t. IsReadAt t n.begin n.end n.name.now n.is_system) (slice_from c.args.text.now c.args.start) n.ensures) c.take_name.new.records
+    (λ none. eqb-false _ 0 (sym c.if-is_empty.ensures) (ap length none)) (rw c.in-Ok-false.field-0-test at c.in-Ok-false.ensures.answer)

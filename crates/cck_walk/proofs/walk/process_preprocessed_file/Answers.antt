@@ -1,0 +1,57 @@
+use Rattle.std.proofs.Common.{◌≡◌, ◌⊎◌, ◌∷◌, [], Some, inl}
+use Rattle.cck_files.proofs.CallsLemmas.{keeps_all, rose_earlier}
+use Rattle.cck_files.specs.Calls.{Rose}
+use Rattle.cck_markers.specs.Markers.{Gives}
+use Rattle.cck_markers.specs.Marks.{Malformed, Name, Refusal}
+use Rattle.cck_walk.proofs.WalkLemmas.{accepted, leads_on, malformed, refused, refused_by}
+use Rattle.cck_walk.specs.Decided.{Refuses, after, context_in, outcome}
+use Rattle.jiff.specs.Words.{plain_zone}
+use Rattle.cck_walk.proofs.walk.process_preprocessed_file.Goals as goal
+
+pub returns-in-Refusal-clause-answer : goal.returns-in-Refusal-clause-answer
+returns-in-Refusal-clause-answer g c =
+    let F = g.F.Files in
+    let x = context_in g.H.HashState.hash c.args.config c.args.moment (plain_zone c.args.zone.now) c.args.vars.now (F.file_map c.args.files.now) c.args.input_file.now c.args.cwd.now in
+    let gives : Gives c.loop-mark.mark-iterator (Refusal ∷ []) c.next.new.self = rw c.in-Refusal.is at c.in-Some.ensures.steps in
+    inl (refused x c.args.text.now c.loop-mark.mark-iterator c.next.new.self c.loop-mark.records c.loop-mark.invariant.leads gives)
+
+pub returns-in-Malformed-clause-answer : goal.returns-in-Malformed-clause-answer
+returns-in-Malformed-clause-answer g c =
+    let F = g.F.Files in
+    let x = context_in g.H.HashState.hash c.args.config c.args.moment (plain_zone c.args.zone.now) c.args.vars.now (F.file_map c.args.files.now) c.args.input_file.now c.args.cwd.now in
+    let gives : Gives c.loop-mark.mark-iterator (Malformed ∷ []) c.next.new.self = rw c.in-Malformed.is at c.in-Some.ensures.steps in
+    malformed x c.args.text.now c.loop-mark.mark-iterator c.next.new.self c.loop-mark.records c.loop-mark.invariant.leads gives
+
+pub loop-mark-preserved : goal.loop-mark-preserved
+loop-mark-preserved g c =
+    let F = g.F.Files in
+    let x = context_in g.H.HashState.hash c.args.config c.args.moment (plain_zone c.args.zone.now) c.args.vars.now (F.file_map c.args.files.now) c.args.input_file.now c.args.cwd.now in
+    let name = c.in-Name.name.now in
+    let held = c.loop-mark.records in
+    let gives : Gives c.loop-mark.mark-iterator (Name name c.in-Name.is_system ∷ []) c.next.new.self = rw c.in-Name.is at c.in-Some.ensures.steps in
+    let does : after held (outcome x held name c.in-Name.is_system) ≡ Some c.take_name.new.records =
+    rw (← c.loop-mark.invariant.keeps.same_map) (rw c.in-Ok-true.field-0-test at c.in-Ok-true.ensures.answer) in
+    record {
+      keeps = keeps_all c.args.files.now c.loop-mark.files c.take_name.new.files c.loop-mark.invariant.keeps c.in-Ok-true.ensures.keeps;
+      leads = leads_on x c.args.text.now c.loop-mark.mark-iterator c.next.new.self held c.take_name.new.records name c.in-Name.is_system c.loop-mark.invariant.leads gives does;
+    }
+
+pub returns-in-Ok-false-clause-answer : goal.returns-in-Ok-false-clause-answer
+returns-in-Ok-false-clause-answer g c =
+    let F = g.F.Files in
+    let x = context_in g.H.HashState.hash c.args.config c.args.moment (plain_zone c.args.zone.now) c.args.vars.now (F.file_map c.args.files.now) c.args.input_file.now c.args.cwd.now in
+    let name = c.in-Name.name.now in
+    let held = c.loop-mark.records in
+    let R = Rose (F.faults c.loop-mark.files) (F.faults c.take_name.new.files) in
+    let S = Rose (F.faults c.args.files.now) (F.faults c.take_name.new.files) in
+    let gives : Gives c.loop-mark.mark-iterator (Name name c.in-Name.is_system ∷ []) c.next.new.self = rw c.in-Name.is at c.in-Some.ensures.steps in
+    let why : (c.take_name.new.records ≡ held) × ((outcome x held name c.in-Name.is_system ≡ Refuses) ⊎ R) =
+    rw (← c.loop-mark.invariant.keeps.same_map) (rw c.in-Ok-false.field-0-test at c.in-Ok-false.ensures.answer) in
+    refused_by x c.args.text.now R S c.loop-mark.mark-iterator c.next.new.self held name c.in-Name.is_system c.loop-mark.invariant.leads gives
+    (rose_earlier (F.faults c.args.files.now) (F.faults c.loop-mark.files) (F.faults c.take_name.new.files) c.loop-mark.invariant.keeps.not_lower) why.1
+
+pub returns-in-Ok-clause-answer : goal.returns-in-Ok-clause-answer
+returns-in-Ok-clause-answer g c =
+    let F = g.F.Files in
+    let x = context_in g.H.HashState.hash c.args.config c.args.moment (plain_zone c.args.zone.now) c.args.vars.now (F.file_map c.args.files.now) c.args.input_file.now c.args.cwd.now in
+    (c.loop-mark.records, accepted x c.args.text.now c.loop-mark.mark-iterator c.loop-mark.records c.loop-mark.invariant.leads c.in-None.ensures.steps.0, c.in-Ok.ensures.all)

@@ -1,0 +1,92 @@
+-- what the marks of a text decide
+use Rattle.std.specs.Prelude.{◌≡◌, ◌&&◌, ◌||◌, ◌==◌, ◌-◌, if◌then◌else◌, ℕ, nat_le, Bool, true, List, [], ◌∷◌, length, slice_index, is_some, Option, Some, None}
+use Rattle.std.specs.FinMap.{FinMap, empty, get, insert}
+use Rattle.std.specs.Ordering.{eq_by_cmp}
+use Rattle.cck_files.specs.FileMap.{FileMap}
+use Rattle.cck_include.specs.Recorded.{Setting}
+use Rattle.cck_include.specs.Setting.{setting_in}
+use Rattle.cck_markers.specs.Marks.{Mark, Marks, Name, Refusal, Malformed}
+use Rattle.cck_path.specs.Path.{Path, components, joined, normal, path_cmp}
+use Rattle.cck_path.specs.Timestamp.{Moment}
+use Rattle.cck_time.specs.declared.config.PreprocessorCacheModeConfig.{PreprocessorCacheModeConfig}
+use Rattle.cck_walk.specs.Standing.{Standing, standing_at}
+use Rattle.jiff.specs.Types.{TimeZone}
+use Rattle.std.specs.Global.{Vec}
+
+-- digests by paths
+abbrev pub Digests : Type 0
+Digests = FinMap path_cmp (List ℕ)
+
+-- how files are judged, which files there are, which of them the text was made from, and where names begin
+pub record Context : Type 0 where
+  pub setting : Setting
+  pub files : FileMap
+  pub input : Path
+  pub cwd : Path
+
+-- the context that a caller hands in
+abbrev pub context_in : (List ℕ → List ℕ) → PreprocessorCacheModeConfig → Moment → TimeZone → List (Vec ℕ × Vec ℕ) → FileMap → List ℕ → List ℕ → Context
+context_in hash config moment zone variables files input cwd = record {
+  setting = setting_in hash config moment zone variables;
+  files = files;
+  input = components input;
+  cwd = components cwd;
+}
+
+-- `<` and `>` round it
+unfoldable pub is_angled : List ℕ → Bool
+is_angled name = nat_le 2 (length name) && (slice_index name 0 == 60) && (slice_index name (length name - 1) == 62)
+
+-- a name that no file is looked for: an empty one, one in angles, and that of a system header where these are skipped
+unfoldable pub is_passed : Bool → List ℕ → Bool → Bool
+is_passed skips [] is_system = true
+is_passed skips (byte ∷ name) is_system = is_angled (byte ∷ name) || (skips && is_system)
+
+-- the path that a name means, as seen from the working directory
+abbrev pub path_named : Context → List ℕ → Path
+path_named c name = normal (joined c.cwd (components name))
+
+-- the path is the input, or has a digest
+unfoldable pub is_known : Context → Digests → Path → Bool
+is_known c held p = is_some (get held p) || eq_by_cmp path_cmp p c.input
+
+-- what comes of a name: nothing, the digest of a path, or that the text is refused
+pub data Outcome : Type 0 where
+  Passes : Outcome
+  Records : Path → List ℕ → Outcome
+  Refuses : Outcome
+
+abbrev pub standing_outcome : Path → Standing → Outcome
+standing_outcome p Standing.Folder = Passes
+standing_outcome p (Standing.Regular digest) = Records p digest
+standing_outcome p Standing.Bad = Refuses
+
+abbrev pub path_outcome : Context → Digests → Path → Outcome
+path_outcome c held p = if is_known c held p then Passes else standing_outcome p (standing_at c.setting c.files p)
+
+unfoldable pub outcome : Context → Digests → List ℕ → Bool → Outcome
+outcome c held name is_system = if is_passed c.setting.config.skip_system_headers name is_system then Passes else path_outcome c held (path_named c name)
+
+-- the digests after it, unless the text is refused
+abbrev pub after : Digests → Outcome → Option Digests
+after held Passes = Some held
+after held (Records p digest) = Some (insert held p digest)
+after held Refuses = None
+
+-- the text is accepted with these digests, refused, or has a malformed marker
+pub data Decided : Type 0 where
+  Accepts : Digests → Decided
+  IsRefused : Decided
+  Errs : Decided
+
+-- the first mark decides that is a refusal, malformed, or a name that refuses
+unfoldable pub decided : Context → Option Digests → List Mark → Decided
+decided c None marks = IsRefused
+decided c (Some held) [] = Accepts held
+decided c (Some held) (Refusal ∷ marks) = IsRefused
+decided c (Some held) (Malformed ∷ marks) = Errs
+decided c (Some held) (Name name is_system ∷ marks) = decided c (after held (outcome c held name is_system)) marks
+
+-- the marks of the text decide this
+abbrev pub Decides : Context → List ℕ → Decided → Type 0
+Decides c text d = (marks : List Mark) × Marks true text marks × (decided c (Some empty) marks ≡ d)

@@ -1,0 +1,34 @@
+-- what a line marker does
+use Rattle.std.specs.Prelude.{◌≡◌, ◌≢◌, ◌⊎◌, ◌+◌, ℕ, Bool, true, false, List, [], Some, Result, Ok, Err}
+use Rattle.cck_markers.specs.Lines.{IsNamedAt, IsUnnamedTo}
+use Rattle.cck_markers.specs.Marks.{Named, Unnamed, is_system}
+use Rattle.cck_walk.specs.Decided.{Context, Digests, Refuses, after, outcome}
+use Rattle.cck_walk.specs.declared.error.WalkError.{WalkError}
+use Rattle.cck_walk.specs.declared.error.WalkError.TheVariants.{Memory, Marker}
+use Rattle.cck_walk.specs.declared.line.LineAction.{LineAction}
+use Rattle.cck_walk.specs.declared.line.LineAction.TheVariants.{Continue, Break}
+
+-- a name was taken, or it refuses the text, or a fault came and it counts as one that does
+abbrev pub IsNameAnswer : Context → Type 0 → Digests → Digests → List ℕ → Bool → Result Bool WalkError → Type 0
+IsNameAnswer c HasFault old new name is_system_in (Ok true) = after old (outcome c old name is_system_in) ≡ Some new
+IsNameAnswer c HasFault old new name is_system_in (Ok false) = (new ≡ old) × ((outcome c old name is_system_in ≡ Refuses) ⊎ HasFault)
+IsNameAnswer c HasFault old new name is_system_in (Err Memory) = new ≡ old
+IsNameAnswer c HasFault old new name is_system_in (Err Marker) = ⊥
+
+-- a marker with a name that has bytes, and where they stand
+abbrev pub IsLongNamed : List ℕ → ℕ → ℕ → (List ℕ → Bool → Type 0) → Type 0
+IsLongNamed text begin end Does = (marker : Named text) × IsNamedAt text begin end marker × (marker.name ≢ []) × Does marker.name (is_system marker.rest)
+
+-- the answer for the marker with which this text begins, where the text begins at a place of a longer one
+abbrev pub IsLineAnswer : Context → Type 0 → List ℕ → ℕ → ℕ → Digests → Digests → Result LineAction WalkError → Type 0
+IsLineAnswer c HasFault text start hash_start old new (Ok (Continue (next, also))) =
+    (begin : ℕ) × (end : ℕ) × (next ≡ start + end) × (also ≡ start + end)
+    × IsLongNamed text begin end (λ name is_system_in. after old (outcome c old name is_system_in) ≡ Some new)
+IsLineAnswer c HasFault text start hash_start old new (Ok (Break (next, from, false))) =
+    (begin : ℕ) × (end : ℕ) × (next ≡ start + end) × (from ≡ start + begin) × (new ≡ old)
+    × IsLongNamed text begin end (λ name is_system_in. (outcome c old name is_system_in ≡ Refuses) ⊎ HasFault)
+IsLineAnswer c HasFault text start hash_start old new (Ok (Break (next, from, true))) =
+    (new ≡ old) × (((end : ℕ) × IsUnnamedTo text end × (next ≡ start + end) × (from ≡ hash_start))
+    ⊎ ((marker : Named text) × (begin : ℕ) × (end : ℕ) × IsNamedAt text begin end marker × (marker.name ≡ []) × (next ≡ start + end) × (from ≡ start + begin)))
+IsLineAnswer c HasFault text start hash_start old new (Err Marker) = (new ≡ old) × ((Unnamed text → ⊥) × (Named text → ⊥))
+IsLineAnswer c HasFault text start hash_start old new (Err Memory) = new ≡ old

@@ -1,0 +1,63 @@
+-- what a path stands for
+use Rattle.std.specs.Prelude.{◌≡◌, ◌⊎◌, ◌||◌, if◌then◌else◌, not, ℕ, Bool, false, List, Option, Some, None, Result, Ok, Err, string_bytes}
+use Rattle.std.specs.FinMap.{get}
+use Rattle.cck_files.specs.FileMap.{FileMap, FileNode}
+use Rattle.cck_include.specs.Gathered.{is_before}
+use Rattle.cck_include.specs.Recorded.{Setting, recorded}
+use Rattle.cck_path.specs.Path.{Path}
+use Rattle.cck_path.specs.Timestamp.{Moment}
+use Rattle.cck_path.specs.declared.metadata.FileKind.{FileKind}
+use Rattle.cck_path.specs.declared.metadata.FileKind.TheVariants as kind
+use Rattle.cck_time.specs.declared.error.Error.{Error}
+use Rattle.cck_time.specs.declared.error.Error.TheVariants as error
+use Rattle.cck_walk.specs.declared.error.WalkError.{WalkError}
+use Rattle.cck_walk.specs.declared.error.WalkError.TheVariants.{Memory, Marker}
+use Rattle.cck_walk.specs.declared.judge.Judged.{Judged}
+use Rattle.cck_walk.specs.declared.judge.Judged.TheVariants as judged
+
+-- a folder, a regular file with its recorded digest, or what can't be recorded
+pub data Standing : Type 0 where
+  Folder : Standing
+  Regular : List ℕ → Standing
+  Bad : Standing
+
+-- the time is known, and doesn't lie before the moment
+abbrev pub is_late : Moment → Option Moment → Bool
+is_late moment None = false
+is_late moment (Some time) = not (is_before time moment)
+
+abbrev pub digest_standing : Option (List ℕ) → Standing
+digest_standing None = Bad
+digest_standing (Some digest) = Regular digest
+
+-- a regular file is recorded if no time of it is late and it has a recorded digest
+abbrev pub file_standing : Setting → FileNode → Standing
+file_standing s n = if is_late s.moment n.modified || is_late s.moment n.changed then Bad else digest_standing (recorded s n)
+
+abbrev pub kind_standing : Setting → FileNode → FileKind → Standing
+kind_standing s n kind.File = file_standing s n
+kind_standing s n kind.Folder = Folder
+kind_standing s n kind.Other = Bad
+
+abbrev pub node_standing : Setting → Option FileNode → Standing
+node_standing s None = Bad
+node_standing s (Some n) = kind_standing s n n.kind
+
+-- what a path stands for in these files
+unfoldable pub standing_at : Setting → FileMap → Path → Standing
+standing_at s files p = node_standing s (get files.nodes p)
+
+-- the path was judged by what it stands for, or a fault came and it counts as bad
+abbrev pub IsJudged : Standing → Type 0 → Result Judged WalkError → Type 0
+IsJudged standing HasFault (Ok judged.Folder) = standing ≡ Folder
+IsJudged standing HasFault (Ok (judged.Regular digest)) = standing ≡ Regular (string_bytes digest)
+IsJudged standing HasFault (Ok judged.Bad) = (standing ≡ Bad) ⊎ HasFault
+IsJudged standing HasFault (Err Memory) = Unit {0}
+IsJudged standing HasFault (Err Marker) = ⊥
+
+-- a file that can't be read is bad, unless it was memory that ran out
+abbrev pub judged_unread : Error → Result Judged WalkError
+judged_unread error.Memory = Err Memory
+judged_unread (error.Io e) = Ok judged.Bad
+judged_unread error.Deserialization = Ok judged.Bad
+judged_unread (error.UnknownFormat byte) = Ok judged.Bad

@@ -1,0 +1,91 @@
+//! What a path stands for.
+ghost use Rattle.std.specs.Prelude.{◌≡◌, ◌||◌};
+ghost use Rattle.cck_files.specs.Calls.{Keeps, Rose};
+ghost use Rattle.cck_include.specs.Setting.{setting_in};
+ghost use Rattle.cck_path.specs.Path.{components};
+ghost use Rattle.cck_walk.specs.Standing.{IsJudged, is_late, judged_unread, standing_at};
+ghost use Rattle.jiff.specs.Words.{plain_zone};
+
+use crate::WalkError;
+use cck_digest::HashState;
+use cck_files::Files;
+use cck_include::recorded_digest;
+use cck_path::{FileKind, Metadata, Timestamp};
+use cck_time::{Error, PreprocessorCacheModeConfig};
+use jiff::tz::TimeZone;
+use std::alloc::Global;
+
+/// What a path stands for in a walk.
+#[derive(Debug, Drop)]
+pub enum Judged {
+    /// A folder.
+    Folder,
+    /// A regular file that can be recorded, with its digest.
+    Regular(String),
+    /// Nothing, or what can't be recorded.
+    Bad,
+}
+
+// Whether a time is known and doesn't lie before the moment.
+fn is_late(time: Option<Timestamp>, moment: Timestamp) -> bool
+    ensures { result ≡ is_late moment time }
+{
+    match time {
+        Some(time) => !(time < moment),
+        None => false,
+    }
+}
+
+// Whether one of the times that are known doesn't lie before the moment.
+fn has_late_time(metadata: &Metadata, moment: Timestamp) -> bool
+    ensures { result ≡ (is_late moment metadata.now.modified || is_late moment metadata.now.changed) }
+{
+    is_late(metadata.modified, moment) || is_late(metadata.changed, moment)
+}
+
+// A file that can't be read is bad, unless it was memory that ran out.
+fn judge_unread(error: Error) -> Result<Judged, WalkError>
+    ensures { result ≡ judged_unread error }
+{
+    match error {
+        Error::Memory => Err(WalkError::Memory),
+        Error::Io(_) | Error::Deserialization | Error::UnknownFormat(_) => Ok(Judged::Bad),
+    }
+}
+
+/// What a path stands for: a folder, or a regular file with a recorded digest of which no time is
+/// the moment or later, since it may still be written in that same instant. All else is bad, and
+/// where a fault came anything may be.
+///
+/// It is refused only as [`WalkError::Memory`].
+pub fn judge<H: HashState, F: Files>(
+    alloc: Global,
+    files: &mut F,
+    path: &[u8],
+    config: PreprocessorCacheModeConfig,
+    moment: Timestamp,
+    zone: &TimeZone<'_>,
+    vars: &[(Vec<u8>, Vec<u8>)],
+) -> Result<Judged, WalkError>
+    ensures keeps { Keeps F.file_map F.faults F.is_quiet files.old files.new }
+    ensures answer { IsJudged (standing_at (setting_in H.hash config moment (plain_zone zone.now) vars.now)
+        (F.file_map files.old) (components path.now)) (Rose (F.faults files.old) (F.faults files.new)) result }
+{
+    let metadata = match files.metadata(path) {
+        Ok(metadata) => metadata,
+        Err(_) => return Ok(Judged::Bad),
+    };
+    match metadata.kind {
+        FileKind::Folder => return Ok(Judged::Folder),
+        FileKind::Other => return Ok(Judged::Bad),
+        FileKind::File => {}
+    }
+    if has_late_time(&metadata, moment) {
+        return Ok(Judged::Bad);
+    }
+    match recorded_digest::<H, F>(alloc, files, path, moment, zone, vars, config) {
+        Ok(Some(digest)) => Ok(Judged::Regular(digest)),
+        Ok(None) => Ok(Judged::Bad),
+        Err(error) => judge_unread(error),
+    }
+}

@@ -1,0 +1,92 @@
+//! One line marker.
+ghost use Rattle.std.specs.Prelude.{◌≤◌, ◌<◌, drop, length};
+ghost use Rattle.cck_files.specs.Calls.{Keeps, Rose};
+ghost use Rattle.cck_walk.specs.Decided.{context_in};
+ghost use Rattle.cck_walk.specs.Line.{IsLineAnswer};
+ghost use Rattle.jiff.specs.Words.{plain_zone};
+
+use crate::name::take_name;
+use crate::{Records, WalkError};
+use cck_digest::HashState;
+use cck_files::Files;
+use cck_markers::{Line, read_line};
+use cck_path::Timestamp;
+use cck_time::PreprocessorCacheModeConfig;
+use jiff::tz::TimeZone;
+use std::alloc::Global;
+
+/// What to do behind a line marker. Places are counted in bytes from the text's start.
+#[derive(Debug, Clone, Copy, PartialEq, Eq)]
+pub enum LineAction {
+    /// Its name was recorded or passed over. Go on at the first place, which is that behind the
+    /// name, as the second is.
+    Continue((usize, usize)),
+    /// With `true` no name was looked at: go on at the first place. With `false` the name refuses
+    /// the text. The second place is that of the name's first byte, or, where the marker has no name,
+    /// the `#` that was handed in.
+    Break((usize, usize, bool)),
+}
+
+/// Reads the line marker that begins at `start`, and records the file that it names. `hash_start` is
+/// the place of its `#`, which an answer for a marker without a name hands back; nothing before
+/// `start` is read.
+///
+/// - The line ends before a quote comes: `Break` with the place of the line feed, `hash_start` and
+///   `true`.
+/// - The name is empty: `Break` with the places behind it and of it, and `true`.
+/// - The name is in angles, or is that of a system header where the options skip these, or means a
+///   folder, the input, or a path that was recorded: `Continue`.
+/// - The name means a regular file with a recorded digest and with no time at the moment or later:
+///   `Continue`, and the file is recorded.
+/// - The name means anything else, or a fault came: `Break` with the places behind it and of it, and
+///   `false`.
+///
+/// It is refused as [`WalkError::Marker`] exactly where neither a quote nor a line feed comes, or a
+/// quote first, as the text's last byte; and as [`WalkError::Memory`]. Records change by a `Continue`
+/// alone.
+///
+/// Upstream's `compiler::c::process_preprocessor_line`.
+pub fn process_preprocessor_line<H: HashState, F: Files>(
+    alloc: Global,
+    files: &mut F,
+    input_file: &[u8],
+    cwd: &[u8],
+    records: &mut Records,
+    text: &[u8],
+    start: usize,
+    hash_start: usize,
+    config: PreprocessorCacheModeConfig,
+    moment: Timestamp,
+    zone: &TimeZone<'_>,
+    vars: &[(Vec<u8>, Vec<u8>)],
+) -> Result<LineAction, WalkError>
+    requires hash { hash_start ≤ start }
+    requires start { start < length text.now }
+    ensures keeps { Keeps F.file_map F.faults F.is_quiet files.old files.new }
+    ensures answer { IsLineAnswer (context_in H.hash config moment (plain_zone zone.now) vars.now
+        (F.file_map files.old) input_file.now cwd.now) (Rose (F.faults files.old) (F.faults files.new))
+        (drop start text.now) start hash_start records.old records.new result }
+{
+    match read_line(&text[start..]) {
+        Line::Unnamed { end } => Ok(LineAction::Break((start + end, hash_start, true))),
+        Line::Malformed => Err(WalkError::Marker),
+        Line::Named {
+            begin,
+            end,
+            name,
+            is_system,
+        } => {
+            let (begin, end) = (start + begin, start + end);
+            if name.is_empty() {
+                return Ok(LineAction::Break((end, begin, true)));
+            }
+            match take_name::<H, F>(
+                alloc, files, input_file, cwd, records, name, is_system, config, moment, zone, vars,
+            ) {
+                Ok(true) => Ok(LineAction::Continue((end, end))),
+                Ok(false) => Ok(LineAction::Break((end, begin, false))),
+                Err(error) => Err(error),
+            }
+        }
+    }
+}

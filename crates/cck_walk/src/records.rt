@@ -1,0 +1,113 @@
+//! The files that a walk found, by path.
+ghost use Rattle.std.specs.Prelude.{◌≡◌, IfOk, IsOkUnless, OnErr, OnOk, map, string_bytes};
+ghost use Rattle.std.specs.FinMap as finite;
+ghost use Rattle.std.specs.Option.{option_copied};
+ghost use Rattle.cck_path.specs.Path.{components, normal};
+ghost use Rattle.cck_path_map.specs.Values.{map_values};
+ghost use Rattle.cck_walk.specs.Digests.{AreNormal, listed, written};
+
+use crate::WalkError;
+use cck_path::normalize_path;
+use cck_path_map::PathMap;
+use std::alloc::Global;
+use std::marker::Model;
+
+/// Files that were found, each with its recorded digest.
+///
+/// It is seen as a finite map from paths to digests, and paths are told apart by their components.
+/// Only [`process_preprocessor_line`](crate::process_preprocessor_line) adds to it.
+#[derive(Debug, Drop)]
+pub struct Records {
+    digests: PathMap<String>,
+}
+
+impl Model for Records {
+    ghost use Rattle.std.specs.Prelude.{string_bytes};
+    ghost use Rattle.cck_path_map.specs.Values.{map_values};
+    ghost use Rattle.cck_walk.specs.Decided.{Digests};
+    ghost use Rattle.cck_walk.specs.Digests.{AreNormal, coded_digests};
+
+    ghost Value = { Digests };
+
+    ghost coded = { coded_digests };
+
+    ghost view = { λ a. map_values string_bytes a.digests };
+
+    ghost invariant = { λ a. AreNormal a.digests };
+}
+
+impl Records {
+    /// No files. It keeps the allocator, and takes no memory.
+    pub fn new(alloc: Global) -> Records
+        ensures { result ≡ finite.empty }
+    {
+        Records {
+            digests: PathMap::new(alloc),
+        }
+    }
+
+    /// How many files there are. It takes no memory.
+    pub fn len(&self) -> usize
+        ensures { result ≡ finite.len self.now }
+    {
+        self.digests.len()
+    }
+
+    /// The digest of the file at a path, if it was found. It takes no memory.
+    pub fn get(&self, path: &[u8]) -> Option<&str>
+        ensures { option_copied result ≡ finite.get self.now (components path.now) }
+    {
+        let digest = self.digests.get(path)?;
+        Some(digest.as_str())
+    }
+
+    // Whether the file at a path was found.
+    pub(crate) fn contains(&self, path: &[u8]) -> bool
+        ensures { result ≡ finite.contains_key self.now (components path.now) }
+    {
+        self.digests.contains(path)
+    }
+
+    // Adds a file at a path without `.` and `..`, or gives it another digest.
+    pub(crate) fn insert(&mut self, path: &[u8], digest: String) -> Result<(), WalkError>
+        requires { normal (components path.now) ≡ components path.now }
+        ensures set { OnOk result
+            (self.new ≡ finite.insert self.old (components path.now) (string_bytes digest)) }
+        ensures kept { OnErr result (self.new ≡ self.old) }
+        ensures refused { IsOkUnless result WalkError.Memory }
+    {
+        match self.digests.insert(path, digest) {
+            Ok(()) => Ok(()),
+            Err(_) => Err(WalkError::Memory),
+        }
+    }
+
+    // All files in the order of their paths.
+    pub(crate) fn to_list(&self, alloc: Global) -> Result<Vec<(Vec<u8>, String)>, WalkError>
+        ensures all { IfOk result (λ files.
+            map listed files.items ≡ map written (finite.entries self.now)) }
+        ensures refused { IsOkUnless result WalkError.Memory }
+    {
+        list_of(alloc, &self.digests)
+    }
+}
+
+// All entries of a map in the order of their paths. A path stands there as it was written first:
+// without `.` and `..` it is written in one way as a normal one.
+fn list_of(alloc: Global, digests: &PathMap<String>) -> Result<Vec<(Vec<u8>, String)>, WalkError>
+    requires { AreNormal digests.now }
+    ensures all { IfOk result (λ files. map listed files.items
+        ≡ map written (finite.entries (map_values string_bytes digests.now))) }
+    ensures refused { IsOkUnless result WalkError.Memory }
+{
+    let entries = digests.entries();
+    let mut files = Vec::new(alloc);
+    for entry in entries {
+        let Ok(path) = normalize_path(alloc, &entry.path) else {
+            return Err(WalkError::Memory);
+        };
+        let digest = String::from_str(alloc, &entry.value)?;
+        files.push((path, digest))?;
+    }
+    Ok(files)
+}

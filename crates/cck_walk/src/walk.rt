@@ -1,0 +1,84 @@
+//! The walk over a text.
+ghost use Rattle.cck_files.specs.Calls.{Keeps, Rose};
+ghost use Rattle.cck_walk.specs.Decided.{context_in};
+ghost use Rattle.cck_walk.specs.Walk.{IsWalk};
+ghost use Rattle.jiff.specs.Words.{plain_zone};
+
+use crate::name::take_name;
+use crate::{Records, WalkError};
+use cck_digest::HashState;
+use cck_files::Files;
+use cck_markers::{Mark, Markers};
+use cck_path::Timestamp;
+use cck_time::PreprocessorCacheModeConfig;
+use jiff::tz::TimeZone;
+use std::alloc::Global;
+
+/// What a walk over a text decides.
+#[derive(Debug, PartialEq, Eq, Drop)]
+pub enum Walk {
+    /// Each file that the text names is known: their paths, normalised, in the order of paths and
+    /// each once, with their recorded digests. Folders and the input are left out.
+    Accepted(Vec<(Vec<u8>, String)>),
+    /// The text can't be known by the files that it names.
+    Refused,
+}
+
+/// Looks at each file that a preprocessed text names.
+///
+/// The first mark of the text decides that is an inclusion by the assembler, a name that is neither a
+/// folder nor a regular file with a recorded digest and with no time at the moment or later, or a
+/// malformed marker. The text is refused for the first two. Where no mark decides, it is accepted.
+/// Names are joined to the working directory. Empty names, names in angles, the input, and the
+/// names of system headers where the options skip these are passed over.
+///
+/// Where a fault came the text may be refused. What is accepted, and which marker is malformed, is
+/// exact then too. It is refused as [`WalkError::Marker`] exactly where a malformed marker decides,
+/// and as [`WalkError::Memory`].
+///
+/// Upstream's `compiler::c::process_preprocessed_file`.
+pub fn process_preprocessed_file<H: HashState, F: Files>(
+    alloc: Global,
+    files: &mut F,
+    input_file: &[u8],
+    cwd: &[u8],
+    text: &[u8],
+    config: PreprocessorCacheModeConfig,
+    moment: Timestamp,
+    zone: &TimeZone<'_>,
+    vars: &[(Vec<u8>, Vec<u8>)],
+) -> Result<Walk, WalkError>
+    ensures keeps { Keeps F.file_map F.faults F.is_quiet files.old files.new }
+    ensures answer { IsWalk (context_in H.hash config moment (plain_zone zone.now) vars.now
+        (F.file_map files.old) input_file.now cwd.now) (Rose (F.faults files.old) (F.faults files.new))
+        text.now result }
+{
+    let mut records = Records::new(alloc);
+    for mark in Markers::new(text) {
+        match mark {
+            Mark::Refusal => return Ok(Walk::Refused),
+            Mark::Malformed => return Err(WalkError::Marker),
+            Mark::Name { name, is_system } => match take_name::<H, F>(
+                alloc,
+                files,
+                input_file,
+                cwd,
+                &mut records,
+                name,
+                is_system,
+                config,
+                moment,
+                zone,
+                vars,
+            ) {
+                Ok(true) => {}
+                Ok(false) => return Ok(Walk::Refused),
+                Err(error) => return Err(error),
+            },
+        }
+    }
+    match records.to_list(alloc) {
+        Ok(files) => Ok(Walk::Accepted(files)),
+        Err(error) => Err(error),
+    }
+}
