@@ -1,0 +1,163 @@
+-- What is recorded of a call's files, and the entry of one result.
+use Rattle.std.proofs.Common.{◌≡◌, inl, inr, Bool, true, false, ◌&&◌, ◌||◌, List, [], ◌∷◌, length, map, refl, sym, ap, ◌∙◌, subst, Option, Some, None, Result, Ok, Err}
+use Rattle.std.proofs.lemmas.Bool.{eq-eqb}
+use Rattle.std.proofs.lemmas.Slice.Eq.{bytes_eq-Decides}
+use Rattle.std.specs.Cmp.Lexicographic.{nat_list_cmp_total}
+use Rattle.std.specs.FinMap.{empty, entries, entries-insert, get, insert}
+use Rattle.std.specs.FinMap.Entries.{put}
+use Rattle.std.specs.Option.{option_map}
+use Rattle.std.specs.Prelude.{Contains, MatchBool, nat_eq}
+use Rattle.std.specs.Str.{bytes_eq}
+use Rattle.cck_digest.specs.declared.error.FileError.{FileError}
+use Rattle.cck_entry.proofs.EntryLemmas.{entries_of_empty}
+use Rattle.cck_entry.proofs.LawLemmas.{added_to_all_or_nothing}
+use Rattle.cck_entry.specs.Entry.{Entry, added, is_over, text_cmp}
+use Rattle.cck_files.specs.FileMap.{FileMap, FileNode, contents_of_kind, file_at, file_if, file_in, metadata_at, metadata_in, metadata_of}
+use Rattle.cck_include.specs.Gathered.{Digested, all_of, gathered, include_at, include_of, include_said}
+use Rattle.cck_include.specs.Include.{Include}
+use Rattle.cck_include.specs.Matching.{file_matches, is_digest, matches, times_accept}
+use Rattle.cck_include.specs.Recorded.{Setting, recorded}
+use Rattle.cck_path.proofs.NormalLemmas.{components-normal}
+use Rattle.cck_path.proofs.JoinLemmas.{components-join}
+use Rattle.cck_path.specs.Path.{Path, components, joined, normal}
+use Rattle.cck_path.specs.Text.{join_path, path_text}
+use Rattle.cck_path.specs.Timestamp.{Moment}
+use Rattle.cck_path.specs.declared.metadata.FileKind.{FileKind}
+use Rattle.cck_path.specs.declared.metadata.FileKind.TheVariants.{File, Folder, Other}
+use Rattle.c_cache_keys.specs.Arguments.{Bytes}
+use Rattle.c_cache_keys.proofs.Elements.{both_true, first_in, later_in, none_in, one_of}
+
+pub same_some : {A : Type 0} (x y : A) → Some x ≡ Some y → x ≡ y
+same_some x y e = cc
+
+pub same_ok : {A E : Type 0} (x y : A) → ◌≡◌ {A = Result A E} (Ok x) (Ok y) → x ≡ y
+same_ok x y e = cc
+
+pub none_is_some : {A : Type 0} {x : A} → None ≡ Some x → ⊥
+none_is_some e = cc
+
+-- ---- files
+
+-- a path that a name means is read as it is written
+pub components-meant : (cwd name : Bytes) → components (path_text (normal (joined (components cwd) (components name)))) ≡ normal (joined (components cwd) (components name))
+components-meant cwd name =
+    ap (λ p. components (path_text (normal p))) (sym (components-join cwd name)) ∙ components-normal (join_path cwd name) ∙ ap normal (components-join cwd name)
+
+file_of_kind : (n m : FileNode) (k : FileKind) → n.kind ≡ k → file_if n k ≡ Ok m → (n ≡ m) × (m.kind ≡ File)
+file_of_kind n m File is e = let same : n ≡ m = same_ok n m e in (same, ap (λ v. v.kind) (sym same) ∙ is)
+file_of_kind n m Folder is e = absurd cc
+file_of_kind n m Other is e = absurd cc
+
+-- what is said of a regular file
+said_of : (o : Option FileNode) (n : FileNode) → file_in o ≡ Ok n → metadata_in o ≡ Ok (metadata_of n) × (n.kind ≡ File)
+said_of None n e = absurd cc
+said_of (Some m) n e = let (same, kind) = file_of_kind m n m.kind refl e in (ap (λ v. Ok (metadata_of v)) same, kind)
+
+size_of : (n : FileNode) (k : FileKind) → n.kind ≡ k → k ≡ File → (metadata_of n).len ≡ length n.contents
+size_of n File is e = ap (λ k. length (contents_of_kind k n.contents)) is
+size_of n Folder is e = absurd cc
+size_of n Other is e = absurd cc
+
+-- what is recorded of a regular file
+pub include_here : (files : FileMap) (moment : Moment) (d : Digested) (p : Path) (n : FileNode) → components (d.1) ≡ p → file_at files p ≡ Ok n
+    → (include_at files moment d ≡ Some (include_of moment d (metadata_of n))) × ((include_of moment d (metadata_of n)).size ≡ length n.contents)
+unfolding file_at metadata_at
+include_here files moment d p n is file =
+    let (said, kind) = said_of (get files.nodes p) n file in
+    (ap (λ q. include_said moment d (metadata_in (get files.nodes q))) is ∙ ap (include_said moment d) said, size_of n n.kind refl kind)
+
+-- ---- lists of what is recorded
+
+one_more : {A : Type 0} (x : A) (o : Option (List A)) (xs : List A) → option_map (λ ys. x ∷ ys) o ≡ Some xs → (ys : List A) × (o ≡ Some ys) × (x ∷ ys ≡ xs)
+one_more x None xs e = absurd cc
+one_more x (Some ys) xs e = (ys, refl, same_some (x ∷ ys) xs e)
+
+module _ {D A : Type 0} (f : D → Option A) where
+  split : (d : D) (ds : List D) (o : Option A) (xs : List A) → f d ≡ o → all_of (o ∷ map f ds) ≡ Some xs
+      → (x : A) × (ys : List A) × (f d ≡ Some x) × (all_of (map f ds) ≡ Some ys) × (x ∷ ys ≡ xs)
+  split d ds None xs is e = absurd cc
+  split d ds (Some x) xs is e = let (ys, rest, same) = one_more x (all_of (map f ds)) xs e in (x, ys, is, rest, same)
+
+  pub of_each : (ds : List D) (xs : List A) → all_of (map f ds) ≡ Some xs → (d : D) → Contains ds d → (x : A) × Contains xs x × (f d ≡ Some x)
+  of_each [] xs e d at = absurd (none_in d at)
+  of_each (c ∷ ds) xs e d at =
+      let (x, ys, first, rest, same) = split c ds (f c) xs refl e in
+      elim (one_of c d ds at) [
+        | inl is ↦ (x, subst (λ l. Contains l x) same (first_in x ys), ap f (sym is) ∙ first)
+        | inr more ↦ (let (y, at-y, is-y) = of_each ds ys rest d more in (y, subst (λ l. Contains l y) same (later_in x y ys at-y), is-y))
+      ]
+
+  pub from_each : (ds : List D) (xs : List A) → all_of (map f ds) ≡ Some xs → (x : A) → Contains xs x → (d : D) × Contains ds d × (f d ≡ Some x)
+  from_each [] xs e x at = absurd (none_in x (subst (λ l. Contains l x) (sym (same_some [] xs e)) at))
+  from_each (c ∷ ds) xs e x at =
+      let (y, ys, first, rest, same) = split c ds (f c) xs refl e in
+      elim (one_of y x ys (subst (λ l. Contains l x) (sym same) at)) [
+        | inl is ↦ (c, first_in c ds, first ∙ ap Some is)
+        | inr more ↦ (let (d, at-d, is-d) = from_each ds ys rest x more in (d, later_in c d ds at-d, is-d))
+      ]
+
+pub gathered_each : (files : FileMap) (moment : Moment) (ds : List Digested) (xs : List Include) → gathered files moment ds ≡ Some xs
+    → (d : Digested) → Contains ds d → (x : Include) × Contains xs x × (include_at files moment d ≡ Some x)
+unfolding gathered
+gathered_each files moment ds xs e = of_each (include_at files moment) ds xs e
+
+pub gathered_from : (files : FileMap) (moment : Moment) (ds : List Digested) (xs : List Include) → gathered files moment ds ≡ Some xs
+    → (x : Include) → Contains xs x → (d : Digested) × Contains ds d × (include_at files moment d ≡ Some x)
+unfolding gathered
+gathered_from files moment ds xs e = from_each (include_at files moment) ds xs e
+
+-- ---- matches
+
+off_or : (a b : Bool) → a ≡ false → (a && b) ≡ false
+off_or true b h = absurd cc
+off_or false b h = refl
+
+digest_is : (o : Option Bytes) (digest : Bytes) → is_digest o digest ≡ true → o ≡ Some digest
+digest_is None digest e = absurd cc
+digest_is (Some d) digest e = ap Some ((bytes_eq-Decides d digest).0 e)
+
+-- a file that matches by its digest is regular and has this recorded digest
+matches_known : (s : Setting) (i : Include) (r : Result FileNode FileError) → s.config.file_stat_matches ≡ false → file_matches s i r ≡ true
+    → (o : FileNode) × (r ≡ Ok o) × (recorded s o ≡ Some i.digest)
+matches_known s i (Err e) off h = absurd cc
+matches_known s i (Ok o) off h =
+    let parts = both_true (nat_eq (length o.contents) i.size) _ h in
+    (o, refl, digest_is (recorded s o) i.digest (ap (λ b. b || is_digest (recorded s o) i.digest) (sym (off_or s.config.file_stat_matches _ off)) ∙ parts.1))
+
+pub match_known : (s : Setting) (files : FileMap) (i : Include) (p : Path) → s.config.file_stat_matches ≡ false → components i.path ≡ p → matches s files i ≡ true
+    → (o : FileNode) × (file_at files p ≡ Ok o) × (recorded s o ≡ Some i.digest)
+unfolding matches
+match_known s files i p off is h =
+    let (o, file, digest) = matches_known s i (file_at files (components i.path)) off h in
+    (o, ap (file_at files) (sym is) ∙ file, digest)
+
+or_right : (a b : Bool) → b ≡ true → (a || b) ≡ true
+or_right true b h = refl
+or_right false b h = h
+
+is_the_digest : (o : Option Bytes) (digest : Bytes) → o ≡ Some digest → is_digest o digest ≡ true
+is_the_digest None digest e = absurd cc
+is_the_digest (Some d) digest e = ap (λ v. bytes_eq v digest) (same_some d digest e) ∙ (bytes_eq-Decides digest digest).1 refl
+
+-- a regular file of the size and of the recorded digest matches
+pub match_by_digest : (s : Setting) (files : FileMap) (i : Include) (p : Path) (o : FileNode) → components i.path ≡ p → file_at files p ≡ Ok o
+    → length o.contents ≡ i.size → recorded s o ≡ Some i.digest → matches s files i ≡ true
+unfolding matches
+match_by_digest s files i p o is file size digest =
+    ap (file_matches s i) (ap (file_at files) is ∙ file)
+    ∙ ap (λ b. b && (times_accept s.config i o || is_digest (recorded s o) i.digest)) (eq-eqb (length o.contents) i.size size)
+    ∙ or_right (times_accept s.config i o) _ (is_the_digest (recorded s o) i.digest digest)
+
+-- ---- the entry of one result
+
+either_way : {X : Type 0} (b : Bool) (x y z : X) → y ≡ z → MatchBool b (x ≡ y) (x ≡ z) → x ≡ y
+either_way true x y z e h = h
+either_way false x y z e h = h ∙ sym e
+
+no_results : Entry
+no_results = empty
+
+pub entries-added : (key : Bytes) (includes : List Include) → entries (added empty key includes) ≡ (key, includes) ∷ []
+entries-added key includes =
+    ap entries (either_way (is_over empty (length includes)) (added empty key includes) (insert empty key includes) (insert empty key includes) refl (added_to_all_or_nothing empty key includes))
+    ∙ entries-insert nat_list_cmp_total empty key includes ∙ ap (put text_cmp key includes) entries_of_empty

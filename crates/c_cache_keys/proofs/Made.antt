@@ -1,0 +1,289 @@
+-- How a key is made afresh.
+use Rattle.std.proofs.Common.{◌≡◌, ◌≢◌, ℕ, suc, ◌⊎◌, inl, inr, Bool, true, false, cond, List, [], ◌∷◌, map, Option, Some, None, Result, Ok, Err, String, refl, sym, ap, ◌∙◌, subst}
+use Rattle.std.proofs.lemmas.Bool.{eqb-true}
+use Rattle.std.specs.Prelude.{◌==◌, length, Contains, IfOk, IsOkUnless, string_bytes}
+use Rattle.std.specs.FinMap.{get}
+use Rattle.std.specs.Global.{Vec}
+use Rattle.std.specs.Option.{option_map}
+use Rattle.std.specs.declared.alloc.Global.{Global}
+use Rattle.cck_digest.specs.declared.error.FileError.{FileError}
+use Rattle.cck_digest.specs.declared.error.FileError.TheVariants as file
+use Rattle.cck_files.specs.Calls.{IsRefusalOrMemory}
+use Rattle.cck_files.specs.FileMap.{FileNode, contents_at, contents_if, contents_in, file_at, file_if, file_in}
+use Rattle.cck_include.specs.Gathered.{Digested, all_of, gathered, include_at}
+use Rattle.cck_include.specs.Include.{Include}
+use Rattle.cck_markers.proofs.OneList.{one_list}
+use Rattle.cck_markers.specs.Marks.{Mark, Name, Refusal, Malformed}
+use Rattle.cck_path.specs.Path.{components}
+use Rattle.cck_path.specs.Text.{path_text}
+use Rattle.cck_path.specs.declared.metadata.FileKind.{FileKind}
+use Rattle.cck_path.specs.declared.metadata.FileKind.TheVariants.{File, Folder, Other}
+use Rattle.cck_util.specs.Key.{object_key}
+use Rattle.cck_walk.specs.declared.error.WalkError.{WalkError}
+use Rattle.cck_walk.specs.declared.error.WalkError.TheVariants as failed
+use Rattle.cck_walk.specs.declared.walk.Walk as walk
+use Rattle.cck_walk.specs.declared.walk.Walk.TheVariants as answer
+use Rattle.c_cache_keys.proofs.Elements.{first_in, later_in, none_in}
+use Rattle.c_cache_keys.proofs.HitPlain.{components-named}
+use Rattle.c_cache_keys.proofs.Includes.{include_here, same_some}
+use Rattle.c_cache_keys.proofs.Opened.{some_none}
+use Rattle.c_cache_keys.specs.Arguments.{Bytes}
+use Rattle.c_cache_keys.specs.Call.{Call, Refused, Memory}
+use Rattle.c_cache_keys.specs.Hasher.{IsPrintedFor, IsPut, made_of}
+use Rattle.c_cache_keys.specs.Keys.{extra_texts, input_file, is_preprocessed, key_material, params, plain_key, preprocessor_key_of, printed, text_of, told, uses_cache}
+use Rattle.c_cache_keys.specs.Refusals.{input_refusal, text_refusal, walk_refusal}
+use Rattle.c_cache_keys.specs.Seen.{IsPrinted, why_of}
+use Rattle.c_cache_keys.specs.Step.{Keeps, Makes, NotErring, NothingNew, StopsMaking, gives, stops}
+use Rattle.c_cache_keys.specs.Store.{Store}
+use Rattle.c_cache_keys.specs.Walk.{Accepted, AreRecorded, Decides, Errs, IsNamed, IsRecorded, NotAccepted, Verdict, Walk, input_path}
+use Rattle.c_cache_keys.specs.Walked.{IsWalked, digested_of}
+use Rattle.c_cache_keys.specs.World.{World}
+use Rattle.c_cache_keys.specs.declared.error.KeyError.{KeyError}
+use Rattle.c_cache_keys.specs.declared.error.KeyError.TheVariants as key
+use Rattle.c_cache_keys.specs.declared.error.PreprocessError.{PreprocessError}
+use Rattle.c_cache_keys.specs.declared.error.PreprocessError.TheVariants as text
+
+-- ---- the input itself
+
+read_kind : (n : FileNode) (k : FileKind) (contents : Bytes) → contents_if k n.contents ≡ Ok contents → (file_if n k ≡ Ok n) × (n.contents ≡ contents)
+read_kind n File contents e = (refl, cc)
+read_kind n Folder contents e = absurd cc
+read_kind n Other contents e = absurd cc
+
+read_node : (o : Option FileNode) (contents : Bytes) → contents_in o ≡ Ok contents → (n : FileNode) × (file_in o ≡ Ok n) × (n.contents ≡ contents)
+read_node None contents e = absurd cc
+read_node (Some n) contents e = let r = read_kind n n.kind contents e in (n, r.0, r.1)
+
+no_kind : (n : FileNode) (k : FileKind) (e : FileError) → contents_if k n.contents ≡ Err e → told (file_if n k) ≡ None
+no_kind n File e is = absurd cc
+no_kind n Folder e is = refl
+no_kind n Other e is = refl
+
+no_node : (o : Option FileNode) (e : FileError) → contents_in o ≡ Err e → told (file_in o) ≡ None
+no_node None e is = refl
+no_node (Some n) e is = no_kind n n.kind e is
+
+-- ---- what is recorded
+
+mapped_none : {X Y : Type 0} (f : X → Y) (o : Option X) → option_map f o ≡ None → o ≡ None
+mapped_none f None e = refl
+mapped_none f (Some x) e = absurd cc
+
+all_there : {X : Type 0} (f : Digested → Option X) (ds : List Digested) → ((d : Digested) → Contains ds d → f d ≢ None) → all_of (map f ds) ≢ None
+all_there f [] each e = absurd cc
+all_there f (d ∷ ds) each e = by (f d) (each d (first_in d ds)) (all_there f ds (λ x at. each x (later_in d x ds at))) e
+  where
+    by : (o : Option _) → o ≢ None → all_of (map f ds) ≢ None → all_of (o ∷ map f ds) ≡ None → ⊥
+    by None here rest e = here refl
+    by (Some x) here rest e = rest (mapped_none (λ xs. x ∷ xs) (all_of (map f ds)) e)
+
+-- a list with nothing in it, and one with something
+pub empty_list : {X : Type 0} (xs : List X) (b : Bool) → b ≡ (length xs == 0) → b ≡ true → xs ≡ []
+empty_list [] b is e = refl
+empty_list (x ∷ xs) b is e = absurd (zero_true (length xs) (sym is ∙ e))
+  where
+    zero_true : (n : ℕ) → (suc n == 0) ≡ true → ⊥
+    zero_true n e = not_zero (eqb-true (suc n) 0 e)
+      where
+        not_zero : suc n ≡ 0 → ⊥
+        not_zero e = cc
+
+pub some_list : {X : Type 0} (xs : List X) (b : Bool) → b ≡ (length xs == 0) → b ≡ false → xs ≢ []
+some_list [] b is e none = true_false (sym is ∙ e)
+  where
+    true_false : (0 == 0) ≡ false → ⊥
+    true_false e = cc
+some_list (x ∷ xs) b is e none = absurd cc
+
+pub nothing_mapped : {X Y : Type 0} (f : X → Y) (xs : List X) → map f xs ≡ [] → xs ≡ []
+nothing_mapped f [] e = refl
+nothing_mapped f (x ∷ xs) e = absurd cc
+
+-- ---- what a walk answered
+
+module _ {V : Type 0} (w : World V) (c : Call V) (text : Bytes) (F : Type 0) where
+  pub refused_walk : (r : walk.Walk) → r ≡ answer.Refused → IsWalked w c text F (Ok r) → Walk w c text NotAccepted ⊎ F
+  refused_walk r is h = subst (λ r. IsWalked w c text F (Ok r)) is h
+
+  pub accepted_walk : (r : walk.Walk) (files : Vec (Vec ℕ × String Global)) → r ≡ answer.Accepted files → IsWalked w c text F (Ok r) → Walk w c text Accepted × AreRecorded w c text (digested_of files.items)
+  accepted_walk r files is h = subst (λ r. IsWalked w c text F (Ok r)) is h
+
+-- ---- one verdict on a text
+
+accepts_errs : ◌≡◌ {A = Verdict} Accepted Errs → ⊥
+accepts_errs e = cc
+
+module _ {V : Type 0} (w : World V) where
+  one_decision : (c : Call V) (marks : List Mark) (u v : Verdict) → Decides w c marks u → Decides w c marks v → u ≡ v
+  one_decision c [] u v a b = a ∙ sym b
+  one_decision c (Refusal ∷ marks) u v a b = a ∙ sym b
+  one_decision c (Malformed ∷ marks) u v a b = a ∙ sym b
+  one_decision c (Name name system ∷ marks) u v a b =
+      elim a [
+        | inl more ↦ (elim b [
+          | inl more' ↦ one_decision c marks u v more.1 more'.1
+          | inr bad ↦ absurd (bad.1 (more.0 bad.0))
+        ])
+        | inr bad ↦ (elim b [
+          | inl more ↦ absurd (bad.1 (more.0 bad.0))
+          | inr bad' ↦ bad.2 ∙ sym bad'.2
+        ])
+      ]
+
+  -- a text has one verdict
+  pub one_verdict : (c : Call V) (text : Bytes) (u v : Verdict) → Walk w c text u → Walk w c text v → u ≡ v
+  one_verdict c text u v (marks, are, a) (marks', are', b) =
+      one_decision c marks u v a (subst (λ ms. Decides w c ms v) (one_list true text marks' marks are' are) b)
+
+module _ {V S : Type 0} (w : World V) (st : Store S) (c : Call V) (F : Type 0) where
+  prints_text : (text : Bytes) → is_preprocessed c.request ≡ true → printed w c ≡ Some text → text_of w c ≡ Some text
+  unfolding text_of
+  prints_text text needs is = ap (λ b. cond b (printed w c) (option_map (λ n. n.contents) (input_file w c))) needs ∙ is
+
+  no_preprocessor : (bytes : Bytes) (n : FileNode) → is_preprocessed c.request ≡ false → input_file w c ≡ Some n → n.contents ≡ bytes → text_of w c ≡ Some bytes
+  unfolding text_of
+  no_preprocessor bytes n needs is same =
+      ap (λ b. cond b (printed w c) (option_map (λ n. n.contents) (input_file w c))) needs ∙ ap (option_map (λ (n : FileNode). n.contents)) is ∙ ap Some same
+
+  -- the plain key of a text
+  pub is_plain : (xs : List Bytes) (text : Bytes) → extra_texts w c ≡ Some xs → text_of w c ≡ Some text → plain_key w c ≡ Some (object_key w.hash (params w c.request xs text))
+  unfolding plain_key
+  is_plain xs text extra is = rw (extra, is) refl
+
+  -- a language that needs no preprocessor has no key to ask under
+  no_key : is_preprocessed c.request ≡ false → preprocessor_key_of w c ≡ None
+  unfolding preprocessor_key_of key_material uses_cache
+  no_key needs = rw needs refl
+
+  -- memory ran out
+  pub stop_memory : (s : S) (e : KeyError) → e ≡ key.Memory → Makes w st c F s (made_of (Err e)) s
+  stop_memory s e is = stops Memory tt (ap (λ e. Refused (why_of e)) is) refl
+
+  -- it ran out while an entry was made
+  pub stop_put : (s t : S) (e : KeyError) → e ≡ key.Memory → t ≡ s → Makes w st c F s (made_of (Err e)) t
+  stop_put s t e is same = stops Memory tt (ap (λ e. Refused (why_of e)) is) same
+
+  nothing_new : preprocessor_key_of w c ≡ None → NothingNew w c
+  nothing_new none k includes some keeps = some_none some none
+
+  quiet_without : preprocessor_key_of w c ≡ None → NotErring w c F
+  quiet_without none text some prints errs = absurd (some none)
+
+  -- a key of a text that nothing is stored of: it is the answer, or memory ran out
+  finished : (s : S) (r : Result (String Global) KeyError) (bytes : Bytes) → plain_key w c ≡ Some bytes → NotErring w c F → F ⊎ NothingNew w c
+      → IfOk r (λ k. string_bytes k ≡ bytes) → IsOkUnless r key.Memory → Makes w st c F s (made_of r) s
+  finished s (Ok k) bytes plain quiet new is unless = gives (string_bytes k) (plain ∙ ap Some (sym is)) quiet refl (inr (refl, new))
+  finished s (Err e) bytes plain quiet new is unless = stop_memory s e unless
+
+  -- the input is read where no preprocessor is needed
+  pub from_input : (s : S) (r : Result (String Global) KeyError) (xs : List Bytes) (contents : Bytes) → is_preprocessed c.request ≡ false → extra_texts w c ≡ Some xs
+      → contents_at c.files (components (input_path c)) ≡ Ok contents → IfOk r (λ k. string_bytes k ≡ object_key w.hash (params w c.request xs contents))
+      → IsOkUnless r key.Memory → Makes w st c F s (made_of r) s
+  unfolding contents_at input_file file_at
+  from_input s r xs contents needs extra reads is unless =
+      let (n, file, same) = read_node (get c.files.nodes (components (input_path c))) contents reads in
+      let none = no_key needs in
+      finished s r (object_key w.hash (params w c.request xs contents)) (is_plain xs contents extra (no_preprocessor contents n needs (ap told file) same))
+      (quiet_without none) (inr (nothing_new none)) is unless
+
+  pub stop_input : (s : S) (e : FileError) → is_preprocessed c.request ≡ false → IsRefusalOrMemory (contents_at c.files (components (input_path c))) F e
+      → Makes w st c F s (made_of (Err (input_refusal e))) s
+  unfolding contents_at input_file file_at
+  stop_input s e needs h = stops (why_of (input_refusal e)) (why e h) refl refl
+    where
+      no_file : (e : FileError) → contents_at c.files (components (input_path c)) ≡ Err e → input_file w c ≡ None
+      no_file e is = no_node (get c.files.nodes (components (input_path c))) e is
+
+      why : (e : FileError) → IsRefusalOrMemory (contents_at c.files (components (input_path c))) F e → StopsMaking w c F (why_of (input_refusal e))
+      why file.NotFound h = (needs, no_file file.NotFound h)
+      why file.OtherKind h = (needs, no_file file.OtherKind h)
+      why file.Fault h = (needs, h)
+      why file.Memory h = tt
+
+  pub stop_text : (s : S) (e : PreprocessError) (prints : Option Bytes) → is_preprocessed c.request ≡ true → prints ≡ printed w c → IsPrinted prints F (Err e)
+      → Makes w st c F s (made_of (Err (text_refusal e))) s
+  stop_text s text.Fault prints needs same h = stops _ (needs, h) refl refl
+  stop_text s text.Failed prints needs same h = stops _ (needs, sym same ∙ h) refl refl
+  stop_text s text.Memory prints needs same h = stop_memory s key.Memory refl
+
+  -- a text is printed, and there is no key to ask under
+  pub without_key : (s : S) (r : Result (String Global) KeyError) (xs : List Bytes) (text : Bytes) → is_preprocessed c.request ≡ true → extra_texts w c ≡ Some xs → printed w c ≡ Some text
+      → preprocessor_key_of w c ≡ None → IfOk r (λ k. string_bytes k ≡ object_key w.hash (params w c.request xs text)) → IsOkUnless r key.Memory → Makes w st c F s (made_of r) s
+  without_key s r xs text needs extra prints none is unless =
+      finished s r (object_key w.hash (params w c.request xs text)) (is_plain xs text extra (prints_text text needs prints)) (quiet_without none) (inr (nothing_new none)) is unless
+
+  module _ (k : Bytes) (xs : List Bytes) (text : Bytes) (for : IsPrintedFor w c k xs text) where
+    abbrev plain : Bytes
+    plain = object_key w.hash (params w c.request xs text)
+
+    plain_here : plain_key w c ≡ Some plain
+    plain_here = is_plain xs text for.extra (prints_text text for.first for.prints)
+
+    same_text : (other : Bytes) → printed w c ≡ Some other → other ≡ text
+    same_text other is = same_some other text (sym is ∙ for.prints)
+
+    -- with this verdict on the text no malformed marker decides, and nothing is recorded unless it is accepted
+    quiet_by : (v : Verdict) → Walk w c text v → (v ≡ Errs → ⊥) → NotErring w c F
+    quiet_by v walk not other some prints errs = absurd (not (one_verdict w c text v Errs walk (subst (λ t. Walk w c t Errs) (same_text other prints) errs)))
+
+    nothing_by : (v : Verdict) → Walk w c text v → (v ≡ Accepted → ⊥) → NothingNew w c
+    nothing_by v walk not key includes some keeps =
+        not (one_verdict w c text v Accepted walk (subst (λ t. Walk w c t Accepted) (same_text keeps.text keeps.is_text) keeps.accepted))
+
+    not_errs : NotAccepted ≡ Errs → ⊥
+    not_errs e = cc
+
+    not_accepted : NotAccepted ≡ Accepted → ⊥
+    not_accepted e = cc
+
+    -- the text is refused
+    pub refused : (s : S) (r : Result (String Global) KeyError) → Walk w c text NotAccepted ⊎ F → IfOk r (λ k. string_bytes k ≡ plain) → IsOkUnless r key.Memory → Makes w st c F s (made_of r) s
+    refused s r (inl walk) is unless = finished s r plain plain_here (quiet_by NotAccepted walk not_errs) (inr (nothing_by NotAccepted walk not_accepted)) is unless
+    refused s r (inr fault) is unless = finished s r plain plain_here (λ other some prints errs. fault) (inl fault) is unless
+
+    -- the walk is refused
+    pub stop_walked : (s : S) (e : WalkError) → IsWalked w c text F (Err e) → Makes w st c F s (made_of (Err (walk_refusal e))) s
+    stop_walked s failed.Memory h = stops Memory tt refl refl
+    stop_walked s failed.Marker h = stops _ (some_none for.key, (text, for.prints, h)) refl refl
+
+    -- the text is accepted, and names no file that is recorded
+    pub nothing_named : (s : S) (answer : String Global) → string_bytes answer ≡ plain → Walk w c text Accepted → AreRecorded w c text [] → Makes w st c F s (made_of (Ok answer)) s
+    nothing_named s answer is walk none =
+        finished s (Ok answer) plain plain_here (quiet_by Accepted walk accepts_errs) (inr (λ key includes some keeps. by keeps keeps.digested refl)) is tt
+      where
+        by : {includes : List Include} (keeps : Keeps w c includes) (ds : List Digested) → ds ≡ keeps.digested → ⊥
+        by keeps [] same = keeps.some (sym same)
+        by keeps (d ∷ ds) same =
+            let r = keeps.recorded.each d (subst (λ l. Contains l d) same (first_in d ds)) in
+            let named = subst (λ t. IsNamed w c t r.path) (same_text keeps.text keeps.is_text) r.named in
+            let (digest, at) = none.all r.path r.node named r.file in
+            none_in (digest, path_text r.path) at
+
+    module _ (ds : List Digested) (are : AreRecorded w c text ds) where
+      gathered_all : gathered c.files c.moment ds ≢ None
+      unfolding gathered
+      gathered_all = all_there (include_at c.files c.moment) ds (λ d at. by d (are.each d at))
+        where
+          by : (d : Digested) → IsRecorded w c text d → include_at c.files c.moment d ≢ None
+          by d r = some_none (include_here c.files c.moment d r.path r.node (ap components r.written ∙ components-named w c text r.path r.named) r.file).0
+
+      -- the text is accepted, and the entry of its files is put
+      pub put_for : (s t : S) (answer : String Global) (u : Unit {0}) → string_bytes answer ≡ plain → Walk w c text Accepted → ds ≢ []
+          → IsPut st c.files c.moment ds k (string_bytes answer) F s (Ok u) t → Makes w st c F s (made_of (Ok answer)) t
+      put_for s t answer u is walk some put =
+          gives (string_bytes answer) (plain_here ∙ ap Some (sym is)) (quiet_by Accepted walk accepts_errs) refl (elim put [
+            | inl none ↦ inr (none.0, elim (none.1) [ inl fault ↦ inl fault | inr missing ↦ absurd (gathered_all missing) ])
+            | inr (includes, found, bytes, written, said, puts) ↦ inl (record {
+              k = k;
+              bytes = bytes;
+              own = record {
+                is_key = for.key;
+                is_plain = plain_here ∙ ap Some (sym is);
+                includes = includes;
+                keeps = record { text = text; is_text = for.prints; accepted = walk; digested = ds; recorded = are; some = some; includes_are = found };
+                is_text = written;
+              };
+              answer = said;
+              put = puts;
+            })
+          ])

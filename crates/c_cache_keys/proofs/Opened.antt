@@ -1,0 +1,206 @@
+-- How a call begins.
+use Rattle.std.proofs.Common.{◌≡◌, ℕ, zero, suc, ◌<◌, Bool, true, false, ◌&&◌, ◌||◌, cond, List, [], ◌∷◌, length, map, Option, Some, None, Result, Ok, Err, refl, sym, ap, ◌∙◌, arith}
+use Rattle.std.specs.Prelude.{IsOkAnd, is_none, is_some, slice_index_or, string_bytes}
+use Rattle.std.specs.FinMap.{get}
+use Rattle.std.specs.Global.{Vec}
+use Rattle.std.specs.List.{list_any}
+use Rattle.std.specs.Option.{option_map}
+use Rattle.cck_digest.specs.Digest.{digest_text}
+use Rattle.cck_digest.specs.declared.error.FileError.{FileError}
+use Rattle.cck_digest.specs.declared.error.FileError.TheVariants as file
+use Rattle.cck_digest.specs.declared.error.UtilError.{UtilError}
+use Rattle.cck_digest.specs.declared.error.UtilError.TheVariants as util
+use Rattle.cck_file_digest.specs.FileDigest.{IsFirstRefusal, paths_of, text_and, text_at, texts}
+use Rattle.cck_file_digest.specs.FolderText.{digest_material, is_other, is_too_deep, material, material_of, whole, whole_part}
+use Rattle.cck_file_digest.specs.Refusals.{IsDigestRefusal}
+use Rattle.cck_files.specs.FileMap.{FileMap, FileNode, file_at, stands_at}
+use Rattle.cck_include.specs.Recorded.{recorded}
+use Rattle.cck_include.specs.Refusal.{IsIoRefusal}
+use Rattle.cck_path.specs.Path.{Path, components}
+use Rattle.cck_preprocessor_key.specs.PreprocessorKey.{preprocessor_material}
+use Rattle.cck_time.specs.declared.error.Error.{Error}
+use Rattle.cck_time.specs.declared.error.Error.TheVariants as entry
+use Rattle.c_cache_keys.proofs.Includes.{none_is_some}
+use Rattle.c_cache_keys.specs.Arguments.{Bytes}
+use Rattle.c_cache_keys.specs.Call.{Call}
+use Rattle.c_cache_keys.specs.Hasher.{IsInputRefusal, IsKeyOfInput, IsOpening}
+use Rattle.c_cache_keys.specs.Keys.{extra_texts, input_file, input_recorded, is_direct, is_preprocessed, key_material, preprocessor_key_of, request_parts, told, uses_cache}
+use Rattle.c_cache_keys.specs.Refusals.{extra_refusal, key_refusal}
+use Rattle.c_cache_keys.specs.Seen.{lists_of, why_of}
+use Rattle.c_cache_keys.specs.Step.{StopsOpening}
+use Rattle.c_cache_keys.specs.Walk.{input_path}
+use Rattle.c_cache_keys.specs.World.{World, setting}
+use Rattle.c_cache_keys.specs.declared.error.KeyError.{KeyError}
+use Rattle.c_cache_keys.specs.declared.error.KeyError.TheVariants as key
+use Rattle.c_cache_keys.specs.declared.hasher.opening.Opening.{Opening}
+
+pub some_none : {A : Type 0} {x : A} {o : Option A} → o ≡ Some x → o ≡ None → ⊥
+some_none is none = none_is_some (sym none ∙ is)
+
+true_false : (b : Bool) → b ≡ true → b ≡ false → ⊥
+true_false b e f = cc
+
+-- a value that is seen otherwise is there or not
+pub is_none_map : {A B : Type 0} (f : A → B) (o : Option A) → is_none (option_map f o) ≡ is_none o
+is_none_map f None = refl
+is_none_map f (Some x) = refl
+
+-- the components of paths that are written so
+pub paths_as : (written : List (Vec ℕ)) → paths_of written ≡ map components (lists_of written)
+paths_as [] = refl
+paths_as (v ∷ vs) = ap (λ ps. components v.items ∷ ps) (paths_as vs)
+
+-- ---- digests of files
+
+nothing_of : (es : List (Path × FileNode)) → list_any is_other es ≡ true → material_of es ≡ None
+nothing_of [] e = refl
+nothing_of (x ∷ es) e = ap (λ b. cond (b || list_any (is_too_deep 1) (x ∷ es)) None (Some (material None (x ∷ es)))) e
+
+too_deep_of : (es : List (Path × FileNode)) → list_any (is_too_deep 1) es ≡ true → material_of es ≡ None
+too_deep_of [] e = refl
+too_deep_of (x ∷ es) e = by (list_any is_other (x ∷ es)) e
+  where
+    by : (b : Bool) {d : Bool} → d ≡ true → cond (b || d) None (Some (material None (x ∷ es))) ≡ None
+    by true e = refl
+    by false e = ap (λ b. cond b None (Some (material None (x ∷ es)))) e
+
+-- what is refused for another cause than a fault or want of memory has no digest text
+module _ (hash : Bytes → Bytes) (files : FileMap) (F : Type 0) where
+  no_text : (p : Path) → digest_material files p ≡ None → text_at hash files p ≡ None
+  unfolding text_at
+  no_text p e = ap (option_map (digest_text hash)) e
+
+  missing : (p : Path) → stands_at files p ≡ false → digest_material files p ≡ None
+  unfolding stands_at digest_material whole
+  missing p e = by (get files.nodes p) e
+    where
+      by : (o : Option FileNode) → is_some o ≡ false → material_of (whole_part files.nodes p o) ≡ None
+      by None e = refl
+      by (Some n) e = absurd (true_false true refl e)
+
+  of_other : (p : Path) → list_any is_other (whole files.nodes p) ≡ true → digest_material files p ≡ None
+  unfolding digest_material
+  of_other p e = nothing_of (whole files.nodes p) e
+
+  of_deep : (p : Path) → list_any (is_too_deep 1) (whole files.nodes p) ≡ true → digest_material files p ≡ None
+  unfolding digest_material
+  of_deep p e = too_deep_of (whole files.nodes p) e
+
+  texts_none : (ps : List Path) (i : ℕ) → i < length ps → text_at hash files (slice_index_or ps i []) ≡ None → texts hash files ps ≡ None
+  texts_none [] i h e = absurd (omega (h, arith))
+  texts_none (p ∷ ps) zero h e = ap (λ o. text_and o (texts hash files ps)) e
+  texts_none (p ∷ ps) (suc i) h e = ap (text_and (text_at hash files p)) (texts_none ps i (omega (h, arith)) e) ∙ by (text_at hash files p)
+    where
+      by : (o : Option Bytes) → text_and o None ≡ None
+      by None = refl
+      by (Some t) = refl
+
+module _ {V : Type 0} (w : World V) (c : Call V) (F : Type 0) where
+  stop_extra : (e : UtilError) (p : Path) → (text_at w.hash c.files p ≡ None → extra_texts w c ≡ None) → IsDigestRefusal c.files p F e → StopsOpening w c F (why_of (extra_refusal e))
+  stop_extra util.Memory p none h = tt
+  stop_extra util.Read p none h = absurd h
+  stop_extra (util.File file.NotFound) p none h = none (no_text w.hash c.files F p (missing w.hash c.files F p h))
+  stop_extra (util.File file.OtherKind) p none h = none (no_text w.hash c.files F p (of_other w.hash c.files F p h))
+  stop_extra (util.File file.Fault) p none h = h
+  stop_extra (util.File file.Memory) p none h = absurd h
+  stop_extra util.TooDeep p none h = none (no_text w.hash c.files F p (of_deep w.hash c.files F p h))
+  stop_extra util.TooLong p none h = absurd h
+  stop_extra util.Write p none h = absurd h
+  stop_extra util.IncompleteEscape p none h = absurd h
+  stop_extra util.InvalidEscape p none h = absurd h
+  stop_extra util.IncompleteHex p none h = absurd h
+  stop_extra util.InvalidHex p none h = absurd h
+
+  pub extra_refused : (e : UtilError) → IsFirstRefusal w.hash c.files (map components c.request.arguments.extra_hash_files) F e → StopsOpening w c F (why_of (extra_refusal e))
+  unfolding extra_texts
+  extra_refused e r =
+      stop_extra e (slice_index_or (map components c.request.arguments.extra_hash_files) r.at [])
+      (texts_none w.hash c.files F (map components c.request.arguments.extra_hash_files) r.at r.within) r.cause
+
+  -- the key of the input
+  pub key_of_input : (xs : List Bytes) (k : Option Bytes) (found : Result FileNode FileError) → found ≡ file_at c.files (components (input_path c))
+      → IsOkAnd found (λ n. k ≡ option_map (λ r. digest_text w.hash (preprocessor_material (request_parts w c.request (input_path c)) xs r)) (recorded (setting w c) n))
+      → IsKeyOfInput w c xs k
+  unfolding input_file
+  key_of_input xs k (Ok n) is h = (n, ap told (sym is), h)
+  key_of_input xs k (Err e) is h = absurd h
+
+  pub input_refused : (e : Error) → IsIoRefusal (file_at c.files (components (input_path c))) F e → IsInputRefusal w c F (key_refusal e)
+  unfolding input_file
+  input_refused entry.Memory h = tt
+  input_refused (entry.Io (util.File file.NotFound)) h = ap told h
+  input_refused (entry.Io (util.File file.OtherKind)) h = ap told h
+  input_refused (entry.Io (util.File file.Fault)) h = h
+  input_refused (entry.Io (util.File file.Memory)) h = absurd h
+  input_refused (entry.Io util.Memory) h = absurd h
+  input_refused (entry.Io util.Read) h = absurd h
+  input_refused (entry.Io util.TooDeep) h = absurd h
+  input_refused (entry.Io util.TooLong) h = absurd h
+  input_refused (entry.Io util.Write) h = absurd h
+  input_refused (entry.Io util.IncompleteEscape) h = absurd h
+  input_refused (entry.Io util.InvalidEscape) h = absurd h
+  input_refused (entry.Io util.IncompleteHex) h = absurd h
+  input_refused (entry.Io util.InvalidHex) h = absurd h
+  input_refused entry.Deserialization h = absurd h
+  input_refused (entry.UnknownFormat byte) h = absurd h
+
+  pub stop_input : (e : KeyError) (xs : List Bytes) → uses_cache w c.request ≡ true → extra_texts w c ≡ Some xs → IsInputRefusal w c F e → StopsOpening w c F (why_of e)
+  stop_input key.Memory xs used extra h = tt
+  stop_input (key.Extra e) xs used extra h = absurd h
+  stop_input (key.Input (util.File file.NotFound)) xs used extra h = (some_none extra, used, h)
+  stop_input (key.Input (util.File file.OtherKind)) xs used extra h = (some_none extra, used, h)
+  stop_input (key.Input (util.File file.Fault)) xs used extra h = (used, h)
+  stop_input (key.Input (util.File file.Memory)) xs used extra h = absurd h
+  stop_input (key.Input util.Memory) xs used extra h = absurd h
+  stop_input (key.Input util.Read) xs used extra h = absurd h
+  stop_input (key.Input util.TooDeep) xs used extra h = absurd h
+  stop_input (key.Input util.TooLong) xs used extra h = absurd h
+  stop_input (key.Input util.Write) xs used extra h = absurd h
+  stop_input (key.Input util.IncompleteEscape) xs used extra h = absurd h
+  stop_input (key.Input util.InvalidEscape) xs used extra h = absurd h
+  stop_input (key.Input util.IncompleteHex) xs used extra h = absurd h
+  stop_input (key.Input util.InvalidHex) xs used extra h = absurd h
+  stop_input key.Store xs used extra h = absurd h
+  stop_input (key.Entry e) xs used extra h = absurd h
+  stop_input (key.Preprocess e) xs used extra h = absurd h
+  stop_input key.Marker xs used extra h = absurd h
+
+module _ {V : Type 0} (w : World V) (c : Call V) where
+  pub texts_here : (xs : List Bytes) → texts w.hash c.files (map components c.request.arguments.extra_hash_files) ≡ Some xs → extra_texts w c ≡ Some xs
+  unfolding extra_texts
+  texts_here xs e = e
+
+  pub used : (is_preprocessed c.request && (w.config.use_preprocessor_cache_mode && (is_none c.request.arguments.too_hard_for_preprocessor_cache_mode && is_direct c.request.env_vars))) ≡ uses_cache w c.request
+  unfolding uses_cache
+  used = refl
+
+  key_unused : uses_cache w c.request ≡ false → preprocessor_key_of w c ≡ None
+  unfolding preprocessor_key_of key_material
+  key_unused off = rw off refl
+
+  key_used : (xs : List Bytes) (k : Option Bytes) → uses_cache w c.request ≡ true → extra_texts w c ≡ Some xs → IsKeyOfInput w c xs k → preprocessor_key_of w c ≡ k
+  unfolding preprocessor_key_of key_material input_recorded
+  key_used xs k used extra (n, is, made) =
+      rw (used, extra, is) (by (recorded (setting w c) n)) ∙ sym made
+    where
+      by : (o : Option Bytes) → option_map (digest_text w.hash) (option_map (preprocessor_material (request_parts w c.request (input_path c)) xs) o)
+          ≡ option_map (λ r. digest_text w.hash (preprocessor_material (request_parts w c.request (input_path c)) xs r)) o
+      by None = refl
+      by (Some r) = refl
+
+  -- the preprocessor cache isn't used
+  pub open_without : (o : Opening) → uses_cache w c.request ≡ false → extra_texts w c ≡ Some (map string_bytes o.extra_hashes.items) → o.key ≡ None → IsOpening w c o
+  open_without o off extra none = record {
+    opened = record { extra = some_none extra; input = λ on. absurd (true_false _ on off) };
+    extra = extra;
+    key = key_unused off ∙ ap (option_map string_bytes) (sym none);
+  }
+
+  -- it is used
+  pub open_with : (o : Opening) → uses_cache w c.request ≡ true → extra_texts w c ≡ Some (map string_bytes o.extra_hashes.items)
+      → IsKeyOfInput w c (map string_bytes o.extra_hashes.items) (option_map string_bytes o.key) → IsOpening w c o
+  open_with o used extra made = record {
+    opened = record { extra = some_none extra; input = λ on. some_none (made.1) };
+    extra = extra;
+    key = key_used (map string_bytes o.extra_hashes.items) (option_map string_bytes o.key) used extra made;
+  }

@@ -1,0 +1,101 @@
+-- Equal recorded digests are of files that a text can't tell apart.
+use Rattle.std.proofs.Common.{◌≡◌, ◌*◌, Bool, true, false, ◌||◌, [], ◌∷◌, ◌++◌, length, refl, sym, ap, ◌∙◌, arith, Option, Some, None, not, ◌&&◌}
+use Rattle.std.proofs.lemmas.List.{append-nil}
+use Rattle.std.specs.Option.{option_map}
+use Rattle.cck_digest.proofs.ReadsBack.{bytes_read_back}
+use Rattle.cck_digest.specs.Digest.{digest_text, hex_text}
+use Rattle.cck_files.specs.FileMap.{FileNode}
+use Rattle.cck_include.specs.Recorded.{file_time_part, has_date, has_time, has_timestamp, is_timed, recorded, recorded_by}
+use Rattle.cck_path.specs.Timestamp.{nanos_of}
+use Rattle.cck_time.specs.TimePart.{local_day, local_second, time_part}
+use Rattle.cck_time.proofs.PartLemmas.{days_told, seconds_told}
+use Rattle.c_cache_keys.specs.Arguments.{Bytes}
+use Rattle.c_cache_keys.specs.Call.{Call}
+use Rattle.c_cache_keys.specs.Premises.{IsSameFile}
+use Rattle.c_cache_keys.specs.World.{HasSize, World, setting}
+
+length-hex_text : (bytes : Bytes) → length (hex_text bytes) ≡ 2 * length bytes
+length-hex_text [] = refl
+length-hex_text (b ∷ bytes) = omega (arith, length-hex_text bytes)
+
+-- a digest text has 64 characters
+pub length-digest_text : (hash : Bytes → Bytes) → HasSize hash → (bytes : Bytes) → length (digest_text hash bytes) ≡ 64
+length-digest_text hash size bytes = length-hex_text (hash bytes) ∙ ap (λ n. 2 * n) (size bytes)
+
+or_true : (a b : Bool) → b ≡ true → (a || b) ≡ true
+or_true true b h = refl
+or_true false b h = h
+
+-- what a recorded digest is made of
+recorded_some : (hash : Bytes → Bytes) (time timed : Bool) (text : Bytes) (part : Option Bytes) (r : Bytes) → recorded_by hash time timed text part ≡ Some r
+    → (time ≡ false) × (rest : Bytes) × (r ≡ text ++ rest) × (timed ≡ true → (p : Bytes) × (part ≡ Some p) × (rest ≡ digest_text hash p))
+recorded_some hash true timed text part r e = absurd cc
+recorded_some hash false false text part r e = (refl, [], sym (append-nil text ∙ cc), λ h. absurd cc)
+recorded_some hash false true text None r e = absurd cc
+recorded_some hash false true text (Some p) r e = (refl, digest_text hash p, cc, λ h. (p, refl, refl))
+
+-- the local day of two calls, and the local second at which two files were modified, are the same
+abbrev SameDay : {V : Type 0} → World V → Call V → Call V → Type 0
+SameDay w c d = local_day w.zone (nanos_of c.moment) ≡ local_day w.zone (nanos_of d.moment)
+
+abbrev SameSecond : {V : Type 0} → World V → FileNode → FileNode → Type 0
+SameSecond w n o = option_map (λ t. local_second w.zone (nanos_of t)) n.modified ≡ option_map (λ t. local_second w.zone (nanos_of t)) o.modified
+
+abbrev IsTold : {V : Type 0} → World V → Call V → Call V → FileNode → FileNode → Bool → Bool → Type 0
+IsTold w c d n o date timestamp = (date ≡ true → SameDay w c d) × (timestamp ≡ true → SameSecond w n o)
+
+module _ {V : Type 0} (w : World V) (size : HasSize w.hash) where
+  -- the same of a call's file, where the macros of time count
+  made_of : w.config.ignore_time_macros ≡ false → (c : Call V) (n : FileNode) (r : Bytes) → recorded (setting w c) n ≡ Some r
+      → (has_time n.contents ≡ false) × (rest : Bytes) × (r ≡ digest_text w.hash n.contents ++ rest)
+      × (is_timed n.contents ≡ true → (p : Bytes) × (file_time_part (setting w c) n ≡ Some p) × (rest ≡ digest_text w.hash p))
+  unfolding recorded
+  made_of off c n r e =
+      recorded_some w.hash (has_time n.contents) (is_timed n.contents) (digest_text w.hash n.contents) (file_time_part (setting w c) n) r
+      (ap (λ b. recorded_by w.hash (not b && has_time n.contents) (not b && is_timed n.contents) (digest_text w.hash n.contents) (file_time_part (setting w c) n)) (sym off) ∙ e)
+
+  -- equal time parts tell the day and the second
+  time_told : (date timestamp : Bool) (c d : Call V) (n o : FileNode) (p : Bytes)
+      → time_part date timestamp n.modified c.moment w.zone c.request.env_vars ≡ Some p → time_part date timestamp o.modified d.moment w.zone d.request.env_vars ≡ Some p
+      → IsTold w c d n o date timestamp
+  time_told date timestamp c d n o p e f = (day date e f, second timestamp e f)
+    where
+      day : (b : Bool) → time_part b timestamp n.modified c.moment w.zone c.request.env_vars ≡ Some p → time_part b timestamp o.modified d.moment w.zone d.request.env_vars ≡ Some p
+          → b ≡ true → SameDay w c d
+      day true e f h = (days_told w.zone timestamp n.modified o.modified c.moment d.moment c.request.env_vars d.request.env_vars p e f).0
+      day false e f h = absurd cc
+
+      second : (b : Bool) → time_part date b n.modified c.moment w.zone c.request.env_vars ≡ Some p → time_part date b o.modified d.moment w.zone d.request.env_vars ≡ Some p
+          → b ≡ true → SameSecond w n o
+      second true e f h = seconds_told w.zone date n.modified o.modified c.moment d.moment c.request.env_vars d.request.env_vars p e f
+      second false e f h = absurd cc
+
+  -- equal recorded digests of two files, where no two of the bytes in hand share a digest
+  pub recorded_same : w.config.ignore_time_macros ≡ false → (c d : Call V) (n o : FileNode) (r : Bytes)
+      → recorded (setting w c) n ≡ Some r → recorded (setting w d) o ≡ Some r
+      → (digest_text w.hash n.contents ≡ digest_text w.hash o.contents → n.contents ≡ o.contents)
+      → ((p q : Bytes) → is_timed n.contents ≡ true → is_timed o.contents ≡ true → file_time_part (setting w c) n ≡ Some p → file_time_part (setting w d) o ≡ Some q
+      → digest_text w.hash p ≡ digest_text w.hash q → p ≡ q)
+      → IsSameFile w c d n o × (has_time n.contents ≡ false)
+  recorded_same off c d n o r e f one_file one_time =
+      let (clear, rest, is, part) = made_of off c n r e in
+      let (clear', rest', is', part') = made_of off d o r f in
+      let cut = bytes_read_back (digest_text w.hash n.contents) (digest_text w.hash o.contents) rest rest'
+      (length-digest_text w.hash size n.contents ∙ sym (length-digest_text w.hash size o.contents)) (sym is ∙ is') in
+      let contents : n.contents ≡ o.contents = one_file cut.0 in
+      let facts : is_timed n.contents ≡ true → IsTold w c d n o (has_date n.contents) (has_timestamp n.contents) =
+      λ timed.
+      let timed' : is_timed o.contents ≡ true = ap is_timed (sym contents) ∙ timed in
+      let (p, is-p, text-p) = part timed in
+      let (q, is-q, text-q) = part' timed' in
+      let same : p ≡ q = one_time p q timed timed' is-p is-q (sym text-p ∙ cut.1 ∙ text-q) in
+      time_told (has_date n.contents) (has_timestamp n.contents) c d n o p is-p
+      (ap (λ s. time_part (has_date s) (has_timestamp s) o.modified d.moment w.zone d.request.env_vars) contents ∙ is-q ∙ ap Some (sym same))
+      in (
+        record {
+          contents = contents;
+          day = λ h. (facts (ap (λ b. b || has_timestamp n.contents) h)).0 h;
+          second = λ h. (facts (or_true (has_date n.contents) (has_timestamp n.contents) h)).1 h;
+        },
+        clear,
+      )

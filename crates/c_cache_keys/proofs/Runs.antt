@@ -1,0 +1,193 @@
+-- The laws of runs.
+use Rattle.std.proofs.Common.{◌≡◌, ◌⊎◌, inl, inr, Bool, true, false, List, [], ◌∷◌, ◌++◌, refl, sym, ap, ◌∙◌, subst, append_assoc, Some, None, Ok, Err}
+use Rattle.std.specs.Prelude.{Contains}
+use Rattle.std.specs.FinMap.{entries}
+use Rattle.std.specs.List.{AllZip, list_all}
+use Rattle.std.proofs.lemmas.List.Elements.{Contains-append_left, Contains-append_right}
+use Rattle.cck_entry.specs.Entry.{Entry, EntryText}
+use Rattle.cck_include.specs.Include.{Include}
+use Rattle.c_cache_keys.proofs.Elements.{first_in}
+use Rattle.c_cache_keys.proofs.HitPlain.{hit_plain}
+use Rattle.c_cache_keys.specs.Arguments.{Bytes}
+use Rattle.c_cache_keys.specs.Call.{Answer, Call, Damaged, Done, Fault, Keyed, Refused, calls_of}
+use Rattle.c_cache_keys.specs.Keys.{plain_key}
+use Rattle.c_cache_keys.specs.Laws.{FreshIsPlain, HitIsPlain, IsTransparent, KeepsOldOrOwn, NothingDamaged, Runs, RunsJoin, RunsTransparent, StaysSound, Transparent, joined_lists}
+use Rattle.c_cache_keys.specs.Premises.{IsBefore, Premises}
+use Rattle.c_cache_keys.specs.Step.{Asked, Asks, Ends, Failed, Gives, Hit, Makes, Miss, OwnPair, Puts, Run, Sound, Step, StopsMaking, StopsOpening, asked, drops, gives, made, matching, stopped, stops}
+use Rattle.c_cache_keys.specs.Store.{Handed, Store, StoreLaws}
+use Rattle.c_cache_keys.specs.World.{HasSize, World}
+use Rattle.c_cache_keys.specs.declared.store.StoreError.TheVariants as store
+
+module _ {V S : Type 0} (w : World V) (st : Store S) where
+  pub run_joined : (s mid t : S) (first second : List (Done V)) (before after : List Answer) → Run w st s first before mid → Run w st mid second after t → Run w st s (first ++ second) (before ++ after) t
+  run_joined s mid t [] second [] after p q = subst (λ v. Run w st v second after t) p q
+  run_joined s mid t [] second (r ∷ before) after p q = absurd p
+  run_joined s mid t (c ∷ first) second [] after p q = absurd p
+  run_joined s mid t (c ∷ first) second (r ∷ before) after p q = (p.0, p.1, run_joined p.0 mid t first second before after p.2 q)
+
+  pub run_parted : (s t : S) (first second : List (Done V)) (answers : List Answer) → Run w st s (first ++ second) answers t
+      → (mid : S) × (before : List Answer) × (after : List Answer) × (answers ≡ before ++ after) × Run w st s first before mid × Run w st mid second after t
+  run_parted s t [] second answers p = (s, [], answers, refl, refl, p)
+  run_parted s t (c ∷ first) second [] p = absurd p
+  run_parted s t (c ∷ first) second (r ∷ answers) p =
+      let (mid, before, after, is, front, back) = run_parted p.0 t first second answers p.2 in
+      (mid, r ∷ before, after, ap (λ rs. r ∷ rs) is, (p.0, p.1, front), back)
+
+  pub runs_join : RunsJoin w st
+  runs_join s t first second answers = (
+    run_parted s t first second answers,
+    λ parts. let (mid, before, after, is, front, back) = parts in subst (λ rs. Run w st s (first ++ second) rs t) (sym is) (run_joined s mid t first second before after front back),
+  )
+
+module _ {V S : Type 0} (w : World V) (st : Store S) (size : HasSize w.hash) (laws : StoreLaws st) where
+  -- what is held after a step was held before it, or is the call's own pair
+  abbrev pub IsKept : Call V → S → S → Type 0
+  IsKept c s t = (k b : Bytes) → st.held t k b → st.held s k b ⊎ ((key : Bytes) × OwnPair w c key k b)
+
+  same_kept : (c : Call V) (s t : S) → t ≡ s → IsKept c s t
+  same_kept c s t is k b h = inl (subst (λ v. st.held v k b) is h)
+
+  puts_kept : (c : Call V) (key : Bytes) (s t : S) → Puts w st c key s t → IsKept c s t
+  puts_kept c key s t p k b h =
+      elim (laws.put_old s t p.k p.bytes p.answer p.put k b h) [
+        | inl old ↦ inl old
+        | inr is ↦ inr (key, subst (λ v. OwnPair w c key v b) (sym is.0) (subst (λ v. OwnPair w c key p.k v) (sym is.1) p.own))
+      ]
+
+  makes_kept : (c : Call V) (F : Type 0) (s t : S) (r : Answer) → Makes w st c F s r t → IsKept c s t
+  makes_kept c F s t r (stops why cause is same) = same_kept c s t same
+  makes_kept c F s t r (drops key puts is) = puts_kept c key s t puts
+  makes_kept c F s t r (gives key is-plain calm is stores) = elim stores [ inl puts ↦ puts_kept c key s t puts | inr not ↦ same_kept c s t not.0 ]
+
+  ends_kept : (c : Call V) (F : Type 0) (o : Asked) (s t : S) (r : Answer) → Ends w st c F o s r t → IsKept c s t
+  ends_kept c F (Hit key) s t r e = same_kept c s t e.1
+  ends_kept c F (Failed why) s t r e = same_kept c s t e.1
+  ends_kept c F Miss s t r e = makes_kept c F s t r e
+
+  pub step_kept : (c : Call V) (F : Type 0) (s t : S) (r : Answer) → Step w st c F s r t → IsKept c s t
+  step_kept c F s t r (stopped why cause is same) = same_kept c s t same
+  step_kept c F s t r (made opened not makes) = makes_kept c F s t r makes
+  step_kept c F s t r (asked opened k is-k control o mid asks ends) =
+      λ q b h. elim (ends_kept c F o mid t r ends q b h) [
+        | inl old ↦ inl (laws.got_old s mid k asks.answer asks.got q b old)
+        | inr own ↦ inr own
+      ]
+
+  first_any : (earlier : List (Call V)) (c : Call V) (F : Type 0) (s t : S) (r : Answer) → Sound w st s earlier → Step w st c F s r t → Sound w st t (earlier ++ c ∷ [])
+  first_any earlier c F s t r sound step k b h =
+      elim (step_kept c F s t r step k b h) [
+        | inl old ↦ (let (c', at, key, own) = sound k b old in (c', Contains-append_left earlier (c ∷ []) c' at, key, own))
+        | inr own ↦ (c, Contains-append_right earlier (c ∷ []) c (first_in c []), own.0, own.1)
+      ]
+
+  pub stays_sound : StaysSound w st
+  stays_sound earlier d s t r sound step = first_any earlier d.call (Fault d) s t r sound step
+
+  makes_plain : (c : Call V) (F : Type 0) (s t : S) (key : Bytes) (fresh : Bool) → Makes w st c F s (Keyed key fresh) t → (plain_key w c ≡ Some key) × (fresh ≡ true)
+  makes_plain c F s t key fresh (stops why cause is same) = cc
+  makes_plain c F s t key fresh (drops key' puts is) = cc
+  makes_plain c F s t key fresh (gives key' is-plain calm is stores) = let same : key ≡ key' = cc in (is-plain ∙ ap Some (sym same), cc)
+
+  ends_plain : (c : Call V) (F : Type 0) (o : Asked) (s t : S) (key : Bytes) → Ends w st c F o s (Keyed key true) t → plain_key w c ≡ Some key
+  ends_plain c F (Hit key') s t key e = let is = e.0 in cc
+  ends_plain c F (Failed why) s t key e = let is = e.0 in cc
+  ends_plain c F Miss s t key e = (makes_plain c F s t key true e).0
+
+  fresh_any : (c : Call V) (F : Type 0) (s t : S) (key : Bytes) → Step w st c F s (Keyed key true) t → plain_key w c ≡ Some key
+  fresh_any c F s t key (stopped why cause is same) = cc
+  fresh_any c F s t key (made opened not makes) = (makes_plain c F s t key true makes).0
+  fresh_any c F s t key (asked opened k is-k control o mid asks ends) = ends_plain c F o mid t key ends
+
+  pub fresh_is_plain : FreshIsPlain w st
+  fresh_is_plain d s t key step = fresh_any d.call (Fault d) s t key step
+
+  -- what a hit rests on: bytes that are held, and a result of their entry whose included files all are what they were
+  abbrev Known : Call V → S → Bytes → Bytes → Type 0
+  Known c s k key = (b : Bytes) × st.held s k b × (e : Entry) × EntryText e b × (list : List Include) × Contains (entries e) (key, list) × (list_all (matching w c) list ≡ true)
+
+  hit_known : (c : Call V) (F : Type 0) (k key : Bytes) (s mid : S) → Asks w st c F k s (Hit key) mid → Known c s k key
+  hit_known c F k key s mid asks = go asks.answer asks.got asks.gives
+    where
+      go : (a : Handed) → st.got s k a mid → Gives w c F a (Hit key) → Known c s k key
+      go (Err store.Fault) got given = cc
+      go (Err store.Memory) got given = cc
+      go (Ok None) got given = cc
+      go (Ok (Some b)) got given = (b, laws.got_some s mid k b got, given.0, given.1, given.2.0, given.2.1, given.2.2)
+
+  second_any : (earlier later : List (Call V)) (c : Call V) (F : Type 0) (s t : S) (key : Bytes) → Premises w (earlier ++ c ∷ later) → Sound w st s earlier → Step w st c F s (Keyed key false) t → plain_key w c ≡ Some key
+  second_any earlier later c F s t key premises sound (stopped why cause is same) = cc
+  second_any earlier later c F s t key premises sound (made opened not makes) = (makes_plain c F s t key false makes).0
+  second_any earlier later c F s t key premises sound (asked opened k is-k control o mid asks ends) = go o asks ends
+    where
+      before : (c' : Call V) → Contains earlier c' → IsBefore w (earlier ++ c ∷ later) c' c
+      before c' at = (earlier, c ∷ later, refl, at, Contains-append_left (c ∷ []) later c (first_in c []))
+
+      at_hit : (key' : Bytes) → key' ≡ key → Asks w st c F k s (Hit key') mid → plain_key w c ≡ Some key
+      at_hit key' is asks =
+          let (b, held, e, text, list, stands, all_match) = hit_known c F k key' s mid asks in
+          let (c', at, own-key, own) = sound k b held in
+          hit_plain w size (earlier ++ c ∷ later) premises c' c (before c' at) own-key k b own is-k e key' list text stands all_match ∙ ap Some is
+
+      go : (o : Asked) → Asks w st c F k s o mid → Ends w st c F o mid (Keyed key false) t → plain_key w c ≡ Some key
+      go (Hit key') asks ends = let is = ends.0 in at_hit key' (cc) asks
+      go (Failed why) asks ends = let is = ends.0 in cc
+      go Miss asks ends = (makes_plain c F mid t key false ends).0
+
+  pub hit_is_plain : HitIsPlain w st
+  hit_is_plain earlier later d s t key premises sound step = second_any earlier later d.call (Fault d) s t key premises sound step
+
+  not_made : (c : Call V) (F : Type 0) (s t : S) → Makes w st c F s (Refused Damaged) t → ⊥
+  not_made c F s t (stops why cause is same) = let e : why ≡ Damaged = cc in subst (StopsMaking w c F) e cause
+  not_made c F s t (drops key puts is) = cc
+  not_made c F s t (gives key is-plain calm is stores) = cc
+
+  entry_any : (earlier : List (Call V)) (c : Call V) (F : Type 0) (s t : S) → Sound w st s earlier → Step w st c F s (Refused Damaged) t → ⊥
+  entry_any earlier c F s t sound (stopped why cause is same) = let e : why ≡ Damaged = cc in subst (StopsOpening w c F) e cause
+  entry_any earlier c F s t sound (made opened not makes) = not_made c F s t makes
+  entry_any earlier c F s t sound (asked opened k is-k control o mid asks ends) = go o asks ends
+    where
+      at_bytes : (a : Handed) → st.got s k a mid → Gives w c F a (Failed Damaged) → ⊥
+      at_bytes (Err store.Fault) got given = cc
+      at_bytes (Err store.Memory) got given = cc
+      at_bytes (Ok None) got given = cc
+      at_bytes (Ok (Some b)) got given = let (c', at, key, own) = sound k b (laws.got_some s mid k b got) in given.1 _ own.is_text
+
+      go : (o : Asked) → Asks w st c F k s o mid → Ends w st c F o mid (Refused Damaged) t → ⊥
+      go (Hit key) asks ends = let is = ends.0 in cc
+      go (Failed why) asks ends = let is = ends.0 in let e : why ≡ Damaged = cc in (let moved = subst (λ v. Asks w st c F k s (Failed v) mid) e asks in at_bytes moved.answer moved.got moved.gives)
+      go Miss asks ends = not_made c F mid t ends
+
+  pub nothing_damaged : NothingDamaged w st
+  nothing_damaged earlier d s t sound step = entry_any earlier d.call (Fault d) s t sound step
+
+  -- one step of a run on a sound store
+  step_transparent : (earlier later : List (Call V)) (d : Done V) (s t : S) (r : Answer) → Premises w (earlier ++ d.call ∷ later) → Sound w st s earlier → Step w st d.call (Fault d) s r t → IsTransparent w d.call r
+  step_transparent earlier later d s t (Keyed key true) premises sound step = fresh_is_plain d s t key step
+  step_transparent earlier later d s t (Keyed key false) premises sound step = hit_is_plain earlier later d s t key premises sound step
+  step_transparent earlier later d s t (Refused why) premises sound step = λ is. nothing_damaged earlier d s t sound (subst (λ v. Step w st d.call (Fault d) s (Refused v) t) is step)
+
+  from_sound : (done : List (Done V)) (earlier : List (Call V)) (answers : List Answer) (s t : S) → Sound w st s earlier → Run w st s done answers t → Premises w (earlier ++ calls_of done)
+      → AllZip (IsTransparent w) (calls_of done) answers
+  from_sound [] earlier [] s t sound run premises = tt
+  from_sound [] earlier (r ∷ answers) s t sound run premises = absurd run
+  from_sound (d ∷ done) earlier [] s t sound run premises = absurd run
+  from_sound (d ∷ done) earlier (r ∷ answers) s t sound run premises = (
+    step_transparent earlier (calls_of done) d s run.0 r premises sound run.1,
+    from_sound done (earlier ++ d.call ∷ []) answers run.0 t (stays_sound earlier d s run.0 r sound run.1) run.2 (subst (Premises w) (sym (append_assoc earlier (d.call ∷ []) (calls_of done))) premises),
+  )
+
+  pub transparent : Transparent w st
+  transparent s t done answers none run premises = from_sound done [] answers s t (λ k b h. absurd (none k b h)) run premises
+
+  pub keeps_old_or_own : KeepsOldOrOwn w st
+  keeps_old_or_own d s t r step = step_kept d.call (Fault d) s t r step
+
+  -- runs in turn are one run over all their calls
+  joined_run : (s t : S) (runs : List (List (Done V))) (answers : List (List Answer)) → Runs w st s runs answers t → Run w st s (joined_lists runs) (joined_lists answers) t
+  joined_run s t [] [] p = p
+  joined_run s t [] (a ∷ answers) p = absurd p
+  joined_run s t (r ∷ runs) [] p = absurd p
+  joined_run s t (r ∷ runs) (a ∷ answers) p = run_joined w st s p.0 t r (joined_lists runs) a (joined_lists answers) p.1 (joined_run p.0 t runs answers p.2)
+
+  pub runs_transparent : RunsTransparent w st
+  runs_transparent s t runs answers none p premises = transparent s t (joined_lists runs) (joined_lists answers) none (joined_run s t runs answers p) premises

@@ -1,0 +1,310 @@
+-- The laws of stored results.
+use Rattle.std.proofs.Common.{◌≡◌, ◌≢◌, ℕ, ◌≤◌, ◌⊎◌, inl, inr, Bool, true, false, List, [], ◌∷◌, refl, sym, ap, ◌∙◌, cond, subst, arith, le_refl, le_trans, Option, Some, None, Ok, Err}
+use Rattle.std.specs.Prelude.{Contains}
+use Rattle.std.specs.FinMap.{empty, entries}
+use Rattle.std.specs.List.{AllZip, list_all}
+use Rattle.std.specs.Option.{option_and_then, option_map}
+use Rattle.cck_entry.proofs.LawLemmas.{one_text_one_entry}
+use Rattle.cck_entry.specs.Entry.{Entry, EntryText, added}
+use Rattle.cck_entry.specs.Find.{found_in}
+use Rattle.cck_entry.specs.Results.{KeyResult}
+use Rattle.cck_files.specs.Calls.{Rose}
+use Rattle.cck_files.specs.FileMap.{metadata_of}
+use Rattle.cck_include.specs.Gathered.{include_of}
+use Rattle.cck_include.specs.Include.{Include}
+use Rattle.cck_include.specs.Recorded.{recorded}
+use Rattle.cck_path.specs.Path.{components}
+use Rattle.c_cache_keys.proofs.Elements.{all_pass}
+use Rattle.c_cache_keys.proofs.HitPlain.{components-named}
+use Rattle.c_cache_keys.proofs.Includes.{entries-added, gathered_from, include_here, match_by_digest, none_is_some, same_some}
+use Rattle.c_cache_keys.proofs.KeySame.{key_known, material_known}
+use Rattle.c_cache_keys.specs.Arguments.{Bytes}
+use Rattle.c_cache_keys.specs.Call.{Answer, Call, Done, Fault, Keyed, Refused, calls_of, Why, Memory, Extra, ExtraFault, Input, InputFault, Store as StoreFails, Damaged, NoText, TextFault, Marker}
+use Rattle.c_cache_keys.specs.Hits.{FreshIsHeld, HeldIsAnswered, IsAside, SameRecords, StoredIsHit}
+use Rattle.c_cache_keys.specs.Keys.{input_file, input_recorded, preprocessor_key_of}
+use Rattle.c_cache_keys.specs.Laws.{HandedIsAnswered, RecacheIsFresh}
+use Rattle.c_cache_keys.specs.Step.{Asked, Ends, Failed, Gives, Hit, Keeps, Makes, Miss, Puts, Reads, Run, Step, Stores, StopsOpening, asked, drops, found, gives, made, matching, stopped, stops}
+use Rattle.c_cache_keys.specs.Store.{Handed, HoldsOnly, Setback, Store, StoreLaws}
+use Rattle.c_cache_keys.specs.Walk.{IsNamed}
+use Rattle.c_cache_keys.specs.World.{World, setting}
+use Rattle.c_cache_keys.specs.declared.call.CacheControl.{CacheControl}
+use Rattle.c_cache_keys.specs.declared.call.CacheControl.TheVariants.{Default, ForceRecache}
+
+-- a count that doesn't rise over a stretch rises in no part of it
+pub calm_part : (a b c d : ℕ) → a ≤ b → b ≤ c → c ≤ d → (Rose a d → ⊥) → Rose b c → ⊥
+calm_part a b c d ab bc cd calm (inl less) = calm (inl (omega arith))
+calm_part a b c d ab bc cd calm (inr top) = calm (inr (omega arith))
+
+pub not_refused : {key : Bytes} {fresh : Bool} {why : Why} → Keyed key fresh ≡ Refused why → ⊥
+not_refused e = cc
+
+not_fresh : {key other : Bytes} → Keyed key true ≡ Keyed other false → ⊥
+not_fresh e = cc
+
+pub same_key : {key other : Bytes} {a b : Bool} → Keyed key a ≡ Keyed other b → key ≡ other
+same_key e = cc
+
+none_some : {A : Type 0} {o : Option A} {x : A} → o ≡ None → o ≡ Some x → ⊥
+none_some e f = none_is_some (sym e ∙ f)
+
+pub not_both : ◌≡◌ {A = CacheControl} Default ForceRecache → ⊥
+not_both e = cc
+
+nothing_written : (x : ℕ) (bytes : Bytes) → [] ≡ x ∷ bytes → ⊥
+nothing_written x bytes e = cc
+
+-- the same bytes are of one entry
+same_entry : (e f : Entry) (bytes : Bytes) → EntryText e bytes → EntryText f bytes → e ≡ f
+same_entry e f bytes s t = (one_text_one_entry e f bytes bytes s t).0 refl
+
+module _ {V : Type 0} (w : World V) where
+  found_by : (c : Call V) (e : Entry) (o : Option KeyResult) → found_in (matching w c) (entries e) ≡ o → found w c e ≡ option_map (λ r. r.0) o
+  unfolding found
+  found_by c e o is = ap (option_map (λ (r : KeyResult). r.0)) is
+
+  no_input : (c : Call V) (r : Bytes) → input_recorded w c ≡ Some r → input_file w c ≡ None → ⊥
+  unfolding input_recorded
+  no_input c r is missing = none_is_some (ap (option_and_then (recorded (setting w c))) (sym missing) ∙ is)
+
+  -- a call with a key to ask under is stopped before it only for want of memory, where no fault came
+  not_stopped : (c : Call V) (F : Type 0) (k : Bytes) (why : Why) → preprocessor_key_of w c ≡ Some k → (F → ⊥) → StopsOpening w c F why → why ≡ Memory
+  not_stopped c F k Memory is-k no_fault cause = refl
+  not_stopped c F k Extra is-k no_fault cause =
+      let (m, is, same) = key_known w c k is-k in
+      let (used, xs, r, is-xs, is-r, made-of) = material_known w c m is in
+      absurd (none_some cause is-xs)
+  not_stopped c F k ExtraFault is-k no_fault cause = absurd (no_fault cause)
+  not_stopped c F k Input is-k no_fault cause =
+      let (m, is, same) = key_known w c k is-k in
+      let (used, xs, r, is-xs, is-r, made-of) = material_known w c m is in
+      absurd (no_input c r is-r cause.2)
+  not_stopped c F k InputFault is-k no_fault cause = absurd (no_fault cause.1)
+  not_stopped c F k StoreFails is-k no_fault cause = absurd cause
+  not_stopped c F k Damaged is-k no_fault cause = absurd cause
+  not_stopped c F k NoText is-k no_fault cause = absurd cause
+  not_stopped c F k TextFault is-k no_fault cause = absurd cause
+  not_stopped c F k Marker is-k no_fault cause = absurd cause
+
+  -- what bytes come to that are the text of an entry with a key to be found
+  reads_found : (c : Call V) (F : Type 0) (e : Entry) (bytes key : Bytes) (o : Asked) → (F → ⊥) → EntryText e bytes → found w c e ≡ Some key → Reads w c F bytes o
+      → (o ≡ Hit key) ⊎ (o ≡ Failed Memory)
+  reads_found c F e bytes key (Hit other) no_fault text is (f, text', (list, at, all, which)) =
+      elim which [
+        | inl exact ↦ inl (ap Hit (same_some other key (sym (found_by c f (Some (other, list)) exact) ∙ ap (found w c) (same_entry f e bytes text' text) ∙ is)))
+        | inr fault ↦ absurd (no_fault fault)
+      ]
+  reads_found c F e bytes key Miss no_fault text is (inl nothing) = absurd (nothing_written _ _ (sym nothing ∙ text.text))
+  reads_found c F e bytes key Miss no_fault text is (inr (f, text', inl none)) =
+      absurd (none_some (sym (ap (found w c) (same_entry f e bytes text' text)) ∙ found_by c f None none) is)
+  reads_found c F e bytes key Miss no_fault text is (inr (f, text', inr fault)) = absurd (no_fault fault)
+  reads_found c F e bytes key (Failed Memory) no_fault text is reads = inr refl
+  reads_found c F e bytes key (Failed Damaged) no_fault text is reads = absurd (reads.1 e text)
+  reads_found c F e bytes key (Failed Extra) no_fault text is reads = absurd reads
+  reads_found c F e bytes key (Failed ExtraFault) no_fault text is reads = absurd reads
+  reads_found c F e bytes key (Failed Input) no_fault text is reads = absurd reads
+  reads_found c F e bytes key (Failed InputFault) no_fault text is reads = absurd reads
+  reads_found c F e bytes key (Failed StoreFails) no_fault text is reads = absurd reads
+  reads_found c F e bytes key (Failed NoText) no_fault text is reads = absurd reads
+  reads_found c F e bytes key (Failed TextFault) no_fault text is reads = absurd reads
+  reads_found c F e bytes key (Failed Marker) no_fault text is reads = absurd reads
+
+module _ {V S : Type 0} (w : World V) (st : Store S) where
+  pub recache_is_fresh : RecacheIsFresh w st
+  recache_is_fresh d s t key again (stopped why cause is same) = absurd (not_refused is)
+  recache_is_fresh d s t key again (made opened not (stops why cause is same)) = absurd (not_refused is)
+  recache_is_fresh d s t key again (made opened not (drops other p is)) = absurd (not_refused is)
+  recache_is_fresh d s t key again (made opened not (gives other is-plain quiet is stores)) = absurd (not_fresh (sym is))
+  recache_is_fresh d s t key again (asked opened k is-k control o mid asks ends) = absurd (not_both (sym control ∙ again))
+
+  -- what a look into the store ends in
+  ends_found : (c : Call V) (F : Type 0) (mid t : S) (r : Answer) (key : Bytes) (o : Asked) → r ≢ Refused Memory → Ends w st c F o mid r t → (o ≡ Hit key) ⊎ (o ≡ Failed Memory) → r ≡ Keyed key false
+  ends_found c F mid t r key o enough ends (inl is) = (subst (λ v. Ends w st c F v mid r t) is ends).0
+  ends_found c F mid t r key o enough ends (inr is) = absurd (enough (subst (λ v. Ends w st c F v mid r t) is ends).0)
+
+  handed_found : (c : Call V) (F : Type 0) (mid t : S) (r : Answer) (o : Asked) (handed : Handed) (bytes key : Bytes) (e : Entry) → (F → ⊥) → r ≢ Refused Memory → Gives w c F handed o → Ends w st c F o mid r t
+      → handed ≡ Ok (Some bytes) → EntryText e bytes → found w c e ≡ Some key → r ≡ Keyed key false
+  handed_found c F mid t r o handed bytes key e no_fault enough given ends is text finds =
+      ends_found c F mid t r key o enough ends (reads_found w c F e bytes key o no_fault text finds (subst (λ v. Gives w c F v o) is given))
+
+  handed_any : (c : Call V) (F : Type 0) (s t : S) (k : Bytes) (r : Answer) → c.control ≡ Default → preprocessor_key_of w c ≡ Some k → (F → ⊥) → r ≢ Refused Memory → Step w st c F s r t
+      → (handed : Handed) × (mid : S) × st.got s k handed mid × (o : Asked) × Gives w c F handed o × Ends w st c F o mid r t
+  handed_any c F s t k r control is-k no_fault enough (stopped why cause is same) = absurd (enough (is ∙ ap Refused (not_stopped w c F k why is-k no_fault cause)))
+  handed_any c F s t k r control is-k no_fault enough (made opened not makes) =
+      absurd (elim not [ inl nothing ↦ none_some nothing is-k | inr again ↦ not_both (sym control ∙ again) ])
+  handed_any c F s t k r control is-k no_fault enough (asked opened k' is-k' control' o mid asks ends) =
+      (asks.answer, mid, subst (λ v. st.got s v asks.answer mid) (same_some k' k (sym is-k' ∙ is-k)) asks.got, o, asks.gives, ends)
+
+  pub handed_is_answered : HandedIsAnswered w st
+  handed_is_answered d s t k r can step =
+      let (handed, mid, got, o, given, ends) = handed_any d.call (Fault d) s t k r can.control can.key can.no_fault can.enough_memory step in
+      (handed, mid, got, λ bytes key e is text finds. handed_found d.call (Fault d) mid t r o handed bytes key e can.no_fault can.enough_memory given ends is text finds)
+
+module _ {V S : Type 0} (w : World V) (st : Store S) (laws : StoreLaws st) where
+  abbrev Calm : S → S → Type 0
+  Calm s t = Setback st s t → ⊥
+
+  -- ---- the count of setbacks falls at no time
+
+  stores_count : (c : Call V) (F : Type 0) (key : Bytes) (s t : S) → Stores w st c F key s t → st.setbacks s ≤ st.setbacks t
+  stores_count c F key s t (inl p) = laws.put_count s t p.k p.bytes p.answer p.put
+  stores_count c F key s t (inr same) = rw (same.0) (le_refl _)
+
+  makes_count : (c : Call V) (F : Type 0) (s t : S) (r : Answer) → Makes w st c F s r t → st.setbacks s ≤ st.setbacks t
+  makes_count c F s t r (stops why cause is same) = rw same (le_refl _)
+  makes_count c F s t r (drops key p is) = laws.put_count s t p.k p.bytes p.answer p.put
+  makes_count c F s t r (gives key is-plain calm is stores) = stores_count c F key s t stores
+
+  ends_count : (c : Call V) (F : Type 0) (o : Asked) (s t : S) (r : Answer) → Ends w st c F o s r t → st.setbacks s ≤ st.setbacks t
+  ends_count c F (Hit key) s t r e = rw (e.1) (le_refl _)
+  ends_count c F (Failed why) s t r e = rw (e.1) (le_refl _)
+  ends_count c F Miss s t r e = makes_count c F s t r e
+
+  step_count : (c : Call V) (F : Type 0) (s t : S) (r : Answer) → Step w st c F s r t → st.setbacks s ≤ st.setbacks t
+  step_count c F s t r (stopped why cause is same) = rw same (le_refl _)
+  step_count c F s t r (made opened not makes) = makes_count c F s t r makes
+  step_count c F s t r (asked opened k is-k control o mid asks ends) = le_trans (laws.got_count s mid k asks.answer asks.got) (ends_count c F o mid t r ends)
+
+  run_count : (calls : List (Done V)) (answers : List Answer) (s t : S) → Run w st s calls answers t → st.setbacks s ≤ st.setbacks t
+  run_count [] [] s t run = rw run (le_refl _)
+  run_count [] (r ∷ answers) s t run = absurd run
+  run_count (c ∷ calls) [] s t run = absurd run
+  run_count (c ∷ calls) (r ∷ answers) s t run = le_trans (step_count c.call (Fault c) s run.0 r run.1) (run_count calls answers run.0 t run.2)
+
+  -- ---- what a fresh answer leaves
+
+  abbrev HeldSo : Call V → S → Bytes → Bytes → Type 0
+  HeldSo c t k key = (own : List Include) × Keeps w c own × (bytes : Bytes) × EntryText (added empty key own) bytes × HoldsOnly st t k bytes
+
+  puts_held : (c : Call V) (s t : S) (k key : Bytes) → preprocessor_key_of w c ≡ Some k → Calm s t → Puts w st c key s t → HeldSo c t k key
+  puts_held c s t k key is-k calm p =
+      let same : p.k ≡ k = same_some p.k k (sym p.own.is_key ∙ is-k) in
+      (p.own.includes, p.own.keeps, p.bytes, p.own.is_text, subst (λ v. HoldsOnly st t v p.bytes) same (laws.put_new s t p.k p.bytes p.answer p.put calm))
+
+  makes_held : (c : Call V) (F : Type 0) (s t : S) (k key : Bytes) (includes : List Include) → preprocessor_key_of w c ≡ Some k → Keeps w c includes → (F → ⊥) → Calm s t
+      → Makes w st c F s (Keyed key true) t → HeldSo c t k key
+  makes_held c F s t k key includes is-k keeps no_fault calm (stops why cause is same) = absurd (not_refused is)
+  makes_held c F s t k key includes is-k keeps no_fault calm (drops other p is) = absurd (not_refused is)
+  makes_held c F s t k key includes is-k keeps no_fault calm (gives other is-plain quiet is stores) =
+      subst (λ v. HeldSo c t k v) (sym (same_key is)) (by stores)
+    where
+      by : Stores w st c F other s t → HeldSo c t k other
+      by (inl p) = puts_held c s t k other is-k calm p
+      by (inr not) = absurd (elim (not.1) [ inl fault ↦ no_fault fault | inr nothing ↦ nothing k includes is-k keeps ])
+
+  held_any : (c : Call V) (F : Type 0) (s t : S) (k key : Bytes) (includes : List Include) → preprocessor_key_of w c ≡ Some k → Keeps w c includes → (F → ⊥) → Calm s t → Step w st c F s (Keyed key true) t → HeldSo c t k key
+  held_any c F s t k key includes is-k keeps no_fault calm (stopped why cause is same) = absurd (not_refused is)
+  held_any c F s t k key includes is-k keeps no_fault calm (made opened not makes) = makes_held c F s t k key includes is-k keeps no_fault calm makes
+  held_any c F s t k key includes is-k keeps no_fault calm (asked opened k' is-k' control o mid asks ends) = go o ends
+    where
+      go : (o : Asked) → Ends w st c F o mid (Keyed key true) t → HeldSo c t k key
+      go (Hit other) e = absurd (not_fresh e.0)
+      go (Failed why) e = absurd (not_refused e.0)
+      go Miss e = makes_held c F mid t k key includes is-k keeps no_fault
+          (calm_part _ _ _ _ (laws.got_count s mid k' asks.answer asks.got) (makes_count c F mid t _ e) (le_refl _) calm) e
+
+  pub fresh_is_held : FreshIsHeld w st
+  fresh_is_held d s t k key includes is-k keeps no_fault calm step = held_any d.call (Fault d) s t k key includes is-k keeps no_fault calm step
+
+  -- ---- what is answered of what is held
+
+  handed_held : (c : Call V) (F : Type 0) (s mid t : S) (r : Answer) (k bytes : Bytes) (o : Asked) (handed : Handed) → (F → ⊥) → r ≢ Refused Memory → Calm s mid → st.held s k bytes
+      → ((x : Bytes) → st.held s k x → (e : Entry) × EntryText e x × (key : Bytes) × (found w c e ≡ Some key))
+      → st.got s k handed mid → Gives w c F handed o → Ends w st c F o mid r t
+      → (key : Bytes) × (x : Bytes) × (e : Entry) × st.held s k x × EntryText e x × (found w c e ≡ Some key) × (r ≡ Keyed key false)
+  handed_held c F s mid t r k bytes o (Err e) no_fault enough calm held each got given ends = absurd (calm (laws.got_error s mid k e got))
+  handed_held c F s mid t r k bytes o (Ok None) no_fault enough calm held each got given ends = absurd (laws.got_none s mid k got calm bytes held)
+  handed_held c F s mid t r k bytes o (Ok (Some x)) no_fault enough calm held each got given ends =
+      let now = laws.got_some s mid k x got in
+      let (e, text, key, finds) = each x now in
+      (key, x, e, now, text, finds, handed_found w st c F mid t r o (Ok (Some x)) x key e no_fault enough given ends refl text finds)
+
+  pub held_is_answered : HeldIsAnswered w st
+  held_is_answered d s t r k bytes can calm held each step =
+      let (handed, mid, got, o, given, ends) = handed_any w st d.call (Fault d) s t k r can.control can.key can.no_fault can.enough_memory step in
+      handed_held d.call (Fault d) s mid t r k bytes o handed can.no_fault can.enough_memory
+      (calm_part _ _ _ _ (le_refl _) (laws.got_count s mid k handed got) (ends_count d.call (Fault d) o mid t r ends) calm) held each got given ends
+
+  -- ---- what calls between leave of what is held
+
+  abbrev Kept : S → S → Bytes → Bytes → Type 0
+  Kept s t k b = HoldsOnly st s k b → HoldsOnly st t k b
+
+  same_only : (s t : S) (k b : Bytes) → t ≡ s → Kept s t k b
+  same_only s t k b is only = subst (λ v. HoldsOnly st v k b) (sym is) only
+
+  puts_only : (c : Call V) (key : Bytes) (s t : S) (k b : Bytes) → Calm s t → preprocessor_key_of w c ≢ Some k → Puts w st c key s t → Kept s t k b
+  puts_only c key s t k b calm other p only =
+      let apart : k ≡ p.k → ⊥ = λ e. other (p.own.is_key ∙ ap Some (sym e)) in (
+        laws.put_calm s t p.k p.bytes p.answer p.put calm k b apart only.0,
+        λ x h. elim (laws.put_old s t p.k p.bytes p.answer p.put k x h) [ inl old ↦ only.1 x old | inr is ↦ absurd (apart is.0) ],
+      )
+
+  makes_only : (c : Call V) (F : Type 0) (s t : S) (r : Answer) (k b : Bytes) → Calm s t → IsAside w k c r → Makes w st c F s r t → Kept s t k b
+  makes_only c F s t r k b calm aside (stops why cause is same) = same_only s t k b same
+  makes_only c F s t r k b calm aside (drops key p is) = absurd (aside.enough_memory is)
+  makes_only c F s t r k b calm aside (gives key is-plain quiet is stores) =
+      elim stores [ inl p ↦ puts_only c key s t k b calm (aside.not_fresh key is) p | inr not ↦ same_only s t k b not.0 ]
+
+  ends_only : (c : Call V) (F : Type 0) (o : Asked) (s t : S) (r : Answer) (k b : Bytes) → Calm s t → IsAside w k c r → Ends w st c F o s r t → Kept s t k b
+  ends_only c F (Hit key) s t r k b calm aside e = same_only s t k b e.1
+  ends_only c F (Failed why) s t r k b calm aside e = same_only s t k b e.1
+  ends_only c F Miss s t r k b calm aside e = makes_only c F s t r k b calm aside e
+
+  step_only : (c : Call V) (F : Type 0) (s t : S) (r : Answer) (k b : Bytes) → Calm s t → IsAside w k c r → Step w st c F s r t → Kept s t k b
+  step_only c F s t r k b calm aside (stopped why cause is same) = same_only s t k b same
+  step_only c F s t r k b calm aside (made opened not makes) = makes_only c F s t r k b calm aside makes
+  step_only c F s t r k b calm aside (asked opened k' is-k' control o mid asks ends) =
+      λ only.
+      let up = laws.got_count s mid k' asks.answer asks.got in
+      let on = ends_count c F o mid t r ends in
+      ends_only c F o mid t r k b (calm_part _ _ _ _ up on (le_refl _) calm) aside ends (
+        laws.got_calm s mid k' asks.answer asks.got (calm_part _ _ _ _ (le_refl _) up on calm) k b only.0,
+        λ x h. only.1 x (laws.got_old s mid k' asks.answer asks.got k x h),
+      )
+
+  run_only : (calls : List (Done V)) (answers : List Answer) (s t : S) (k b : Bytes) → Calm s t → AllZip (IsAside w k) (calls_of calls) answers → Run w st s calls answers t → Kept s t k b
+  run_only [] [] s t k b calm aside run = same_only s t k b run
+  run_only [] (r ∷ answers) s t k b calm aside run = absurd run
+  run_only (c ∷ calls) [] s t k b calm aside run = absurd run
+  run_only (c ∷ calls) (r ∷ answers) s t k b calm aside run =
+      λ only.
+      let up = step_count c.call (Fault c) s run.0 r run.1 in
+      let on = run_count calls answers run.0 t run.2 in
+      run_only calls answers run.0 t k b (calm_part _ _ _ _ up on (le_refl _) calm) aside.1 run.2
+      (step_only c.call (Fault c) s run.0 r k b (calm_part _ _ _ _ (le_refl _) up on calm) aside.0 run.1 only)
+
+  -- ---- the law of hits
+
+  -- what was recorded of the earlier call matches in the later one
+  record_matches : (c d : Call V) (includes : List Include) (keeps : Keeps w c includes) (text : Bytes) → keeps.text ≡ text → SameRecords w c d text → (x : Include) → Contains includes x → matching w d x ≡ true
+  record_matches c d includes keeps text is same x at =
+      let ((digest, path), at-d, recorded_so) = gathered_from c.files c.moment keeps.digested includes keeps.includes_are x at in
+      let of_path = keeps.recorded.each (digest, path) at-d in
+      let read : components path ≡ of_path.path = ap components of_path.written ∙ components-named w c keeps.text of_path.path of_path.named in
+      let (here, long) = include_here c.files c.moment (digest, path) of_path.path of_path.node read of_path.file in
+      let is-x : include_of c.moment (digest, path) (metadata_of of_path.node) ≡ x = same_some _ x (sym here ∙ recorded_so) in
+      let (o, file, size, digests) = same of_path.path of_path.node (subst (λ v. IsNamed w c v of_path.path) is of_path.named) of_path.file in
+      match_by_digest (setting w d) d.files x of_path.path o (ap (λ i. components i.path) (sym is-x) ∙ read) file (size ∙ sym long ∙ ap (λ i. i.size) is-x)
+      (digests ∙ of_path.digest ∙ ap (λ i. Some i.digest) is-x)
+
+  -- so the entry of that result alone has its key to be found
+  own_found : (c d : Call V) (key : Bytes) (includes : List Include) (keeps : Keeps w c includes) (text : Bytes) → keeps.text ≡ text → SameRecords w c d text → found w d (added empty key includes) ≡ Some key
+  own_found c d key includes keeps text is same =
+      let all : list_all (matching w d) includes ≡ true = all_pass (matching w d) includes (record_matches c d includes keeps text is same) in
+      found_by w d (added empty key includes) (Some (key, includes))
+      (ap (found_in (matching w d)) (entries-added key includes) ∙ ap (λ b. cond b (Some (key, includes)) None) all)
+
+  pub stored_is_hit : StoredIsHit w st
+  stored_is_hit c d between answers s after before t k key includes r is-k keeps no_fault first run aside can same last calm =
+      let up = step_count c.call (Fault c) s after (Keyed key true) first in
+      let mid = run_count between answers after before run in
+      let on = step_count d.call (Fault d) before t r last in
+      let (own, own-keeps, bytes, text, only) = fresh_is_held c s after k key includes is-k keeps no_fault (calm_part _ _ _ _ (le_refl _) up (le_trans mid on) calm) first in
+      let at = run_only between answers after before k bytes (calm_part _ _ _ _ up mid on calm) aside run only in
+      finish own bytes own-keeps text at (calm_part _ _ _ _ (le_trans up mid) on (le_refl _) calm)
+    where
+      finish : (own : List Include) (bytes : Bytes) → Keeps w c.call own → EntryText (added empty key own) bytes → HoldsOnly st before k bytes → Calm before t → r ≡ Keyed key false
+      finish own bytes own-keeps text at inner =
+          let finds = own_found c.call d.call key own own-keeps keeps.text (same_some own-keeps.text keeps.text (sym own-keeps.is_text ∙ keeps.is_text)) same in
+          let (key', x, e, held, text', finds', is) = held_is_answered d before t r k bytes can inner at.0 (λ x h. (added empty key own, subst (EntryText (added empty key own)) (sym (at.1 x h)) text, key, finds)) last in
+          is ∙ ap (λ v. Keyed v false) (same_some key' key (sym finds' ∙ ap (found w d.call) (same_entry e (added empty key own) bytes (subst (EntryText e) (at.1 x held) text') text) ∙ finds))

@@ -1,0 +1,130 @@
+-- What a walk answers, as the verdict on the text of a call and what is recorded.
+use Rattle.std.proofs.Common.{◌≡◌, inl, inr, ℕ, List, [], ◌∷◌, map, true, Some, Ok, Err, Result, String, refl, sym, ap, subst, ◌∙◌}
+use Rattle.std.specs.FinMap.{empty, entries, entries_sorted, get, get-empty}
+use Rattle.std.specs.Global.{Vec}
+use Rattle.std.specs.Prelude.{Contains, string_bytes}
+use Rattle.std.specs.declared.alloc.Global.{Global}
+use Rattle.cck_files.specs.FileMap.{FileMap}
+use Rattle.cck_include.specs.Gathered.{Digested}
+use Rattle.cck_markers.proofs.OneList.{one_list}
+use Rattle.cck_markers.specs.Marks.{Mark, Marks, Name}
+use Rattle.cck_path.specs.Path.{Path, components, path_cmp}
+use Rattle.cck_path.specs.Text.{path_text}
+use Rattle.cck_path.specs.Timestamp.{Moment}
+use Rattle.cck_walk.specs.Decided.{Accepts, Context, Digests, Errs, IsRefused, context_in, decided}
+use Rattle.cck_walk.specs.Decided as decision
+use Rattle.cck_walk.specs.Digests.{listed, written}
+use Rattle.cck_walk.specs.Walk.{IsWalk}
+use Rattle.cck_walk.specs.declared.error.WalkError.{WalkError}
+use Rattle.cck_walk.specs.declared.error.WalkError.TheVariants as error
+use Rattle.cck_walk.specs.declared.walk.Walk as walk
+use Rattle.cck_walk.specs.declared.walk.Walk.TheVariants as answer
+use Rattle.c_cache_keys.proofs.Decisions.{AreGathered, IsMeant, gathers, none_regular, one_verdict, told}
+use Rattle.c_cache_keys.proofs.Includes.{components-meant, none_is_some}
+use Rattle.c_cache_keys.proofs.PathEntries.{entry_of, made_from, made_in_order, made_of, of_entry}
+use Rattle.c_cache_keys.proofs.Standings.{IsRegular}
+use Rattle.c_cache_keys.specs.Arguments.{Bytes}
+use Rattle.c_cache_keys.specs.Call.{Call}
+use Rattle.c_cache_keys.specs.Seen.{variables_of}
+use Rattle.c_cache_keys.specs.Walk.{AreRecorded, Decides, IsNamed, Verdict, Walk, input_path}
+use Rattle.c_cache_keys.specs.Walked.{IsWalked, VerdictIsDecided, digested_by, digested_of, verdict_of, walk_context}
+use Rattle.c_cache_keys.specs.World.{World}
+
+-- a walk is handed the parts of a call
+pub same_context : {V : Type 0} (w : World V) (c : Call V) (files : FileMap) (moment : Moment) (variables : List (Vec ℕ × Vec ℕ)) (input cwd : Bytes)
+    → c.files ≡ files → c.moment ≡ moment → c.request.env_vars ≡ variables_of variables → input_path c ≡ input → c.request.cwd ≡ cwd
+    → context_in w.hash w.config moment w.zone variables files input cwd ≡ walk_context w c
+same_context w c files moment variables input cwd same-files same-moment same-variables same-input same-cwd =
+    λ i. record {
+      setting = record { hash = w.hash; config = w.config; moment = sym same-moment i; zone = w.zone; variables = sym same-variables i };
+      files = sym same-files i;
+      input = components (sym same-input i);
+      cwd = components (sym same-cwd i);
+    }
+
+-- an entry as it is handed on
+abbrev handed : Path × Bytes → Digested
+handed e = (e.1, path_text (e.0))
+
+module _ {V : Type 0} (w : World V) (c : Call V) (text : Bytes) where
+  verdict_told : (d : decision.Decided) → decision.Decides (walk_context w c) text d → Walk w c text (verdict_of d)
+  verdict_told d (marks, are, is) = (marks, are, subst (λ e. Decides w c marks (verdict_of e)) is (told w c marks empty (none_regular w c)))
+
+  verdict_decided : (verdict : Verdict) → Walk w c text verdict → (d : decision.Decided) × decision.Decides (walk_context w c) text d × (verdict_of d ≡ verdict)
+  verdict_decided verdict (marks, are, decides) =
+      let d = decided (walk_context w c) (Some empty) marks in
+      (d, (marks, are, refl), one_verdict w c marks (verdict_of d) verdict (told w c marks empty (none_regular w c)) decides)
+
+  module _ (digests : Digests) (marks : List Mark) (are : Marks true text marks) (gathered : AreGathered w c marks empty digests) where
+    -- a path with a digest is meant
+    meant : (p : Path) (digest : Bytes) → get digests p ≡ Some digest → IsMeant w c marks p × IsRegular w c p digest
+    meant p digest h = elim (gathered.from p digest h) [ inl old ↦ absurd (none_is_some (sym (get-empty path_cmp p) ∙ old)) | inr found ↦ found ]
+
+    named : (p : Path) → IsMeant w c marks p → IsNamed w c text p
+    named p (name, system, at, looked, is) = record { name = name; system = system; marks = marks; are = are; stands = at; looked = looked; is = is }
+
+    meant_again : (p : Path) → IsNamed w c text p → IsMeant w c marks p
+    meant_again p n = (n.name, n.system, subst (λ l. Contains l (Name n.name n.system)) (one_list true text n.marks marks n.are are) n.stands, n.looked, n.is)
+
+    -- it is read as it is written
+    read_back : (p : Path) → IsMeant w c marks p → components (path_text p) ≡ p
+    read_back p (name, system, at, looked, is) = ap (λ q. components (path_text q)) is ∙ components-meant c.request.cwd name ∙ sym is
+
+    of_digest : (e : Path × Bytes) → Contains (entries digests) e → IsMeant w c marks e.0 × IsRegular w c e.0 e.1
+    of_digest e at = meant e.0 e.1 (of_entry digests e at)
+
+    are_recorded : AreRecorded w c text (digested_by digests)
+    are_recorded = record {
+      ordered = made_in_order handed (λ (d : Digested). components (d.1)) (entries digests) (λ e at. read_back e.0 (of_digest e at).0) (entries_sorted digests);
+      each = λ d at.
+          let (e, from, is) = made_from handed (entries digests) d at in
+          let (here, (n, file, old, own)) = of_digest e from in
+          record {
+            path = e.0;
+            written = ap (λ (x : Digested). x.1) (sym is);
+            named = named e.0 here;
+            node = n;
+            file = file;
+            digest = own ∙ ap (λ (x : Digested). Some (x.0)) is;
+          };
+      all = λ p n is file.
+          let (digest, at) = gathered.all p n (meant_again p is) file in
+          (digest, made_of handed (entries digests) (p, digest) (entry_of digests p digest at));
+    }
+
+  all_recorded : (digests : Digests) → decision.Decides (walk_context w c) text (Accepts digests) → AreRecorded w c text (digested_by digests)
+  all_recorded digests (marks, are, is) = are_recorded digests marks are (gathers w c marks empty digests is)
+
+  handed_on : (files : List (Vec ℕ × String Global)) (es : List (Path × Bytes)) → map listed files ≡ map written es → digested_of files ≡ map handed es
+  handed_on files es h = turned_listed files ∙ ap (map turned) h ∙ turned_written es
+    where
+      turned : Bytes × Bytes → Digested
+      turned e = (e.1, e.0)
+
+      turned_listed : (files : List (Vec ℕ × String Global)) → digested_of files ≡ map turned (map listed files)
+      turned_listed [] = refl
+      turned_listed (f ∷ files) = ap (λ l. (string_bytes (f.1), f.0.items) ∷ l) (turned_listed files)
+
+      turned_written : (es : List (Path × Bytes)) → map turned (map written es) ≡ map handed es
+      turned_written [] = refl
+      turned_written (e ∷ es) = ap (λ l. handed e ∷ l) (turned_written es)
+
+  -- what a walk answers
+  pub walked : (F : Type 0) (r : Result walk.Walk WalkError) → IsWalk (walk_context w c) F text r → IsWalked w c text F r
+  walked F (Ok (answer.Accepted files)) (digests, decides, is) =
+      (verdict_told (Accepts digests) decides, subst (AreRecorded w c text) (sym (handed_on files.items (entries digests) is)) (all_recorded digests decides))
+  walked F (Ok answer.Refused) (inl decides) = inl (verdict_told IsRefused decides)
+  walked F (Ok answer.Refused) (inr fault) = inr fault
+  walked F (Err error.Marker) decides = verdict_told Errs decides
+  walked F (Err error.Memory) h = tt
+
+-- the same of a walk that was handed the parts of a call
+pub walked_over : {V : Type 0} (w : World V) (c : Call V) (text : Bytes) (files : FileMap) (moment : Moment) (variables : List (Vec ℕ × Vec ℕ)) (input cwd : Bytes)
+    → c.files ≡ files → c.moment ≡ moment → c.request.env_vars ≡ variables_of variables → input_path c ≡ input → c.request.cwd ≡ cwd
+    → (F : Type 0) (r : Result walk.Walk WalkError) → IsWalk (context_in w.hash w.config moment w.zone variables files input cwd) F text r → IsWalked w c text F r
+walked_over w c text files moment variables input cwd same-files same-moment same-variables same-input same-cwd F r is =
+    walked w c text F r (subst (λ (x : Context). IsWalk x F text r) (same_context w c files moment variables input cwd same-files same-moment same-variables same-input same-cwd) is)
+
+pub verdict_is_decided : {V : Type 0} (w : World V) → VerdictIsDecided w
+verdict_is_decided w c text =
+    (λ verdict. (verdict_decided w c text verdict, λ (d, decides, is). subst (Walk w c text) is (verdict_told w c text d decides)), all_recorded w c text)

@@ -1,0 +1,130 @@
+use Rattle.std.proofs.Common.{Some, None}
+use Rattle.cck_files.specs.Calls.{Rose}
+use Rattle.jiff.specs.Words.{plain_zone}
+use Rattle.c_cache_keys.proofs.Stepped.{found_as, step_failed, step_hit, step_made, step_starved, step_stopped}
+use Rattle.c_cache_keys.specs.Conditions.{Given, call_under, world_under}
+use Rattle.c_cache_keys.specs.Seen.{lists_of, variables_of, why_of}
+use Rattle.c_cache_keys.proofs.hasher.CCompilerHasher.generate_hash_key.Goals as goal
+
+pub returns-in-Err-clause-step : goal.returns-in-Err-clause-step
+returns-in-Err-clause-step g c =
+    let given : Given = record {
+      cwd = c.args.cwd.now;
+      env_vars = variables_of c.args.vars.now;
+      moment = c.args.moment;
+      zone = plain_zone c.args.zone.now;
+      config = c.args.config;
+      basedirs = lists_of c.args.basedirs.now;
+      control = c.args.control;
+    } in
+    let w = world_under g.H.HashState.hash g.I.CCompilerImpl.compiler given in
+    let call = call_under g.I.CCompilerImpl.value (g.F.Files.file_map c.args.files.now) c.args.self.now given in
+    let st = g.S.PreprocessorStore.store in
+    let first = g.F.Files.faults c.args.files.now in
+    step_starved w st call (Rose first first) c.args.store.now c.in-Err.error c.in-Err.ensures.refused
+
+pub returns-in-Err-open-clause-step : goal.returns-in-Err-open-clause-step
+returns-in-Err-open-clause-step g c =
+    let given : Given = record {
+      cwd = c.args.cwd.now;
+      env_vars = variables_of c.args.vars.now;
+      moment = c.args.moment;
+      zone = plain_zone c.args.zone.now;
+      config = c.args.config;
+      basedirs = lists_of c.args.basedirs.now;
+      control = c.args.control;
+    } in
+    let w = world_under g.H.HashState.hash g.I.CCompilerImpl.compiler given in
+    let call = call_under g.I.CCompilerImpl.value (g.F.Files.file_map c.args.files.now) c.args.self.now given in
+    let st = g.S.PreprocessorStore.store in
+    let first = g.F.Files.faults c.args.files.now in
+    step_stopped w st call (Rose first (g.F.Files.faults c.open.new.files)) c.args.store.now c.in-Err-open.error c.in-Err-open.ensures.answer
+
+pub returns-in-Err-find-clause-step : goal.returns-in-Err-find-clause-step
+returns-in-Err-find-clause-step g c =
+    let given : Given = record {
+      cwd = c.args.cwd.now;
+      env_vars = variables_of c.args.vars.now;
+      moment = c.args.moment;
+      zone = plain_zone c.args.zone.now;
+      config = c.args.config;
+      basedirs = lists_of c.args.basedirs.now;
+      control = c.args.control;
+    } in
+    let w = world_under g.H.HashState.hash g.I.CCompilerImpl.compiler given in
+    let call = call_under g.I.CCompilerImpl.value (g.F.Files.file_map c.args.files.now) c.args.self.now given in
+    let st = g.S.PreprocessorStore.store in
+    let first = g.F.Files.faults c.args.files.now in
+    let second = g.F.Files.faults c.open.new.files in
+    let last = g.F.Files.faults c.find.new.files in
+    step_failed w st call c.in-Ok-open.opening c.in-Ok-open.ensures.answer first second last c.in-Ok-open.ensures.keeps.not_lower c.args.store.now c.find.new.store (why_of c.in-Err-find.error)
+    (rw c.in-Ok-open.ensures.keeps.same_map at c.in-Err-find.ensures.found)
+
+pub returns-in-Some-clause-step : goal.returns-in-Some-clause-step
+returns-in-Some-clause-step g c =
+    let given : Given = record {
+      cwd = c.args.cwd.now;
+      env_vars = variables_of c.args.vars.now;
+      moment = c.args.moment;
+      zone = plain_zone c.args.zone.now;
+      config = c.args.config;
+      basedirs = lists_of c.args.basedirs.now;
+      control = c.args.control;
+    } in
+    let w = world_under g.H.HashState.hash g.I.CCompilerImpl.compiler given in
+    let call = call_under g.I.CCompilerImpl.value (g.F.Files.file_map c.args.files.now) c.args.self.now given in
+    let st = g.S.PreprocessorStore.store in
+    let first = g.F.Files.faults c.args.files.now in
+    let second = g.F.Files.faults c.open.new.files in
+    let last = g.F.Files.faults c.find.new.files in
+    step_hit w st call c.in-Ok-open.opening c.in-Ok-open.ensures.answer first second last c.in-Ok-open.ensures.keeps.not_lower c.args.store.now c.find.new.store _
+    (found_as w st call (Rose second last) c.args.store.now c.find.new.store c.in-Ok-find.found (Some c.in-Some.key) c.in-Some.is
+    (rw c.in-Ok-open.ensures.keeps.same_map at c.in-Ok-find.ensures.found))
+
+pub returns-in-Ok-make-clause-step : goal.returns-in-Ok-make-clause-step
+returns-in-Ok-make-clause-step g c =
+    let given : Given = record {
+      cwd = c.args.cwd.now;
+      env_vars = variables_of c.args.vars.now;
+      moment = c.args.moment;
+      zone = plain_zone c.args.zone.now;
+      config = c.args.config;
+      basedirs = lists_of c.args.basedirs.now;
+      control = c.args.control;
+    } in
+    let w = world_under g.H.HashState.hash g.I.CCompilerImpl.compiler given in
+    let call = call_under g.I.CCompilerImpl.value (g.F.Files.file_map c.args.files.now) c.args.self.now given in
+    let st = g.S.PreprocessorStore.store in
+    let first = g.F.Files.faults c.args.files.now in
+    let second = g.F.Files.faults c.open.new.files in
+    let third = g.F.Files.faults c.find.new.files in
+    let last = g.F.Files.faults c.make.new.files in
+    step_made w st call c.in-Ok-open.opening c.in-Ok-open.ensures.answer first second last c.in-Ok-open.ensures.keeps.not_lower third c.in-Ok-find.ensures.keeps.not_lower c.in-Ok-make.ensures.keeps.not_lower
+    c.args.store.now c.find.new.store c.make.new.store _
+    (found_as w st call (Rose second third) c.args.store.now c.find.new.store c.in-Ok-find.found None c.in-None.is
+    (rw c.in-Ok-open.ensures.keeps.same_map at c.in-Ok-find.ensures.found))
+    (rw (c.in-Ok-find.ensures.keeps.same_map, c.in-Ok-open.ensures.keeps.same_map) at c.in-Ok-make.ensures.makes)
+
+pub returns-in-Err-make-clause-step : goal.returns-in-Err-make-clause-step
+returns-in-Err-make-clause-step g c =
+    let given : Given = record {
+      cwd = c.args.cwd.now;
+      env_vars = variables_of c.args.vars.now;
+      moment = c.args.moment;
+      zone = plain_zone c.args.zone.now;
+      config = c.args.config;
+      basedirs = lists_of c.args.basedirs.now;
+      control = c.args.control;
+    } in
+    let w = world_under g.H.HashState.hash g.I.CCompilerImpl.compiler given in
+    let call = call_under g.I.CCompilerImpl.value (g.F.Files.file_map c.args.files.now) c.args.self.now given in
+    let st = g.S.PreprocessorStore.store in
+    let first = g.F.Files.faults c.args.files.now in
+    let second = g.F.Files.faults c.open.new.files in
+    let third = g.F.Files.faults c.find.new.files in
+    let last = g.F.Files.faults c.make.new.files in
+    step_made w st call c.in-Ok-open.opening c.in-Ok-open.ensures.answer first second last c.in-Ok-open.ensures.keeps.not_lower third c.in-Ok-find.ensures.keeps.not_lower c.in-Err-make.ensures.keeps.not_lower
+    c.args.store.now c.find.new.store c.make.new.store _
+    (found_as w st call (Rose second third) c.args.store.now c.find.new.store c.in-Ok-find.found None c.in-None.is
+    (rw c.in-Ok-open.ensures.keeps.same_map at c.in-Ok-find.ensures.found))
+    (rw (c.in-Ok-find.ensures.keeps.same_map, c.in-Ok-open.ensures.keeps.same_map) at c.in-Err-make.ensures.makes)

@@ -1,0 +1,42 @@
+use Rattle.std.proofs.Common.{refl, sym, ◌∙◌}
+use Rattle.cck_files.proofs.CallsLemmas.{rose_earlier}
+use Rattle.cck_files.specs.Calls.{Rose}
+use Rattle.c_cache_keys.proofs.Opened.{extra_refused, open_with, open_without, paths_as, stop_input, texts_here, used}
+use Rattle.c_cache_keys.proofs.Widen.{wide_opening}
+use Rattle.c_cache_keys.specs.Conditions.{call_under, given_of, world_under}
+use Rattle.c_cache_keys.proofs.hasher.CCompilerHasher.open.Goals as goal
+
+pub returns-in-Err-clause-answer : goal.returns-in-Err-clause-answer
+returns-in-Err-clause-answer g c =
+    let w = world_under g.H.HashState.hash g.I.CCompilerImpl.compiler (given_of c.args.conditions.now) in
+    let call = call_under g.I.CCompilerImpl.value (g.F.Files.file_map c.args.files.now) c.args.self.now (given_of c.args.conditions.now) in
+    let F = Rose (g.F.Files.faults c.args.files.now) (g.F.Files.faults c.hash_all.new.files) in
+    rw c.extra_refusal.ensures
+    (extra_refused w call F c.in-Err.error (rw (c.deref.ensures.value, paths_as c.args.self.now.parsed_args.extra_hash_files.items) at c.in-Err.ensures.answer))
+
+pub returns-then-not-uses_cache-clause-answer : goal.returns-then-not-uses_cache-clause-answer
+returns-then-not-uses_cache-clause-answer g c =
+    let w = world_under g.H.HashState.hash g.I.CCompilerImpl.compiler (given_of c.args.conditions.now) in
+    let call = call_under g.I.CCompilerImpl.value (g.F.Files.file_map c.args.files.now) c.args.self.now (given_of c.args.conditions.now) in
+    open_without w call _ (sym (c.uses_cache.ensures ∙ used w call) ∙ c.if-not-uses_cache.true)
+    (texts_here w call _ (rw (c.deref.ensures.value, paths_as c.args.self.now.parsed_args.extra_hash_files.items) at c.in-Ok.ensures.answer)) refl
+
+pub returns-in-Ok-preprocessor_key-clause-answer : goal.returns-in-Ok-preprocessor_key-clause-answer
+returns-in-Ok-preprocessor_key-clause-answer g c =
+    let w = world_under g.H.HashState.hash g.I.CCompilerImpl.compiler (given_of c.args.conditions.now) in
+    let call = call_under g.I.CCompilerImpl.value (g.F.Files.file_map c.args.files.now) c.args.self.now (given_of c.args.conditions.now) in
+    open_with w call _ (sym (c.uses_cache.ensures ∙ used w call) ∙ c.if-not-uses_cache.false)
+    (texts_here w call _ (rw (c.deref.ensures.value, paths_as c.args.self.now.parsed_args.extra_hash_files.items) at c.in-Ok.ensures.answer))
+    (rw (c.in-Ok.ensures.keeps.same_map, c.deref-2.ensures.value) at c.in-Ok-preprocessor_key.ensures.answer)
+
+pub returns-in-Err-preprocessor_key-clause-answer : goal.returns-in-Err-preprocessor_key-clause-answer
+returns-in-Err-preprocessor_key-clause-answer g c =
+    let w = world_under g.H.HashState.hash g.I.CCompilerImpl.compiler (given_of c.args.conditions.now) in
+    let call = call_under g.I.CCompilerImpl.value (g.F.Files.file_map c.args.files.now) c.args.self.now (given_of c.args.conditions.now) in
+    let before = g.F.Files.faults c.args.files.now in
+    let middle = g.F.Files.faults c.hash_all.new.files in
+    let after = g.F.Files.faults c.preprocessor_key.new.files in
+    wide_opening w call (Rose middle after) (Rose before after) (rose_earlier before middle after c.in-Ok.ensures.keeps.not_lower) _
+    (stop_input w call (Rose middle after) c.in-Err-preprocessor_key.error _ (sym (c.uses_cache.ensures ∙ used w call) ∙ c.if-not-uses_cache.false)
+    (texts_here w call _ (rw (c.deref.ensures.value, paths_as c.args.self.now.parsed_args.extra_hash_files.items) at c.in-Ok.ensures.answer))
+    (rw c.in-Ok.ensures.keeps.same_map at c.in-Err-preprocessor_key.ensures.answer))

@@ -1,0 +1,23 @@
+use Rattle.c_cache_keys.specs.Keys.{params}
+use Rattle.c_cache_keys.proofs.hasher.CCompilerHasher.plain_key.Goals as goal
+
+pub returns-in-Ok-clause-key : goal.returns-in-Ok-clause-key
+unfolding params
+returns-in-Ok-clause-key g c =
+    rw (
+      c.with_assembler_digest-params.ensures,
+      c.with_basedirs.ensures,
+      c.with_plusplus.ensures,
+      c.with_env_vars.ensures,
+      c.with_extra_hashes.ensures,
+      c.new.ensures,
+      c.as_str.ensures.value,
+      c.deref-3.ensures.value,
+      c.in_ok-push_copies-2.ensures,
+      c.in_ok-push_copies.ensures,
+      c.new-arguments.ensures.items,
+      c.deref.ensures.value,
+      c.deref-2.ensures.value,
+      c.plusplus.ensures,
+      c.assembler_digest.ensures,
+    ) at c.in-Ok.ensures.key

@@ -1,0 +1,63 @@
+-- what a call is made under, and the call and the world that a hasher makes of it
+use Rattle.std.specs.Prelude.{List, string_bytes}
+use Rattle.cck_files.specs.FileMap.{FileMap}
+use Rattle.cck_path.specs.Timestamp.{Moment}
+use Rattle.cck_path.specs.Variables.{Variable}
+use Rattle.cck_time.specs.declared.config.PreprocessorCacheModeConfig.{PreprocessorCacheModeConfig}
+use Rattle.jiff.specs.Types.{TimeZone}
+use Rattle.jiff.specs.Words.{plain_zone}
+use Rattle.c_cache_keys.specs.Arguments.{Bytes}
+use Rattle.c_cache_keys.specs.Call.{Call, Request}
+use Rattle.c_cache_keys.specs.Seen.{arguments_of, lists_of, variables_of}
+use Rattle.c_cache_keys.specs.World.{Compiler, World, world_of}
+use Rattle.c_cache_keys.specs.declared.call.CacheControl.{CacheControl}
+use Rattle.c_cache_keys.specs.declared.conditions.Conditions.{Conditions}
+use Rattle.c_cache_keys.specs.declared.hasher.CCompilerHasher.{CCompilerHasher}
+
+-- what a call is made under, beside its files
+pub record Given : Type 0 where
+  pub cwd : Bytes
+  pub env_vars : List Variable
+  pub moment : Moment
+  pub zone : TimeZone
+  pub config : PreprocessorCacheModeConfig
+  pub basedirs : List Bytes
+  pub control : CacheControl
+
+abbrev pub given_of : Conditions → Given
+given_of c = record {
+  cwd = c.cwd.now;
+  env_vars = variables_of c.vars.now;
+  moment = c.moment;
+  zone = plain_zone c.zone.now;
+  config = c.config;
+  basedirs = lists_of c.basedirs.now;
+  control = c.control;
+}
+
+-- the world of a call
+abbrev pub world_under : {V : Type 0} → (Bytes → Bytes) → Compiler V → Given → World V
+world_under hash compiler given = world_of hash compiler given.zone given.config given.basedirs
+
+-- what a hasher asks for in a directory under variables
+abbrev pub request_of : {I V : Type 0} → (I → V) → CCompilerHasher I → Bytes → List Variable → Request V
+request_of value hasher cwd env_vars = record {
+  compiler = value hasher.compiler;
+  executable = hasher.executable.items;
+  executable_digest = string_bytes hasher.executable_digest;
+  arguments = arguments_of hasher.parsed_args;
+  cwd = cwd;
+  env_vars = env_vars;
+}
+
+abbrev pub request_under : {I V : Type 0} → (I → V) → CCompilerHasher I → Given → Request V
+request_under value hasher given = request_of value hasher given.cwd given.env_vars
+
+-- the call of a hasher over files
+abbrev pub call_under : {I V : Type 0} → (I → V) → FileMap → CCompilerHasher I → Given → Call V
+call_under value files hasher given = record {
+  request = request_under value hasher given;
+  files = files;
+  moment = given.moment;
+  control = given.control;
+}

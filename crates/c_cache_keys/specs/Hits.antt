@@ -1,0 +1,74 @@
+-- what is said of stored results, and of refusals; none of it needs the premises
+use Rattle.std.specs.Prelude.{◌≡◌, ◌≢◌, ◌⊎◌, List, [], true, false, ⊤, length, Some, None, Ok}
+use Rattle.std.specs.FinMap.{empty}
+use Rattle.std.specs.List.{AllZip}
+use Rattle.cck_entry.specs.Entry.{Entry, EntryText, added}
+use Rattle.cck_files.specs.FileMap.{FileNode, file_at}
+use Rattle.cck_include.specs.Include.{Include}
+use Rattle.cck_include.specs.Recorded.{recorded}
+use Rattle.cck_path.specs.Path.{Path}
+use Rattle.c_cache_keys.specs.Arguments.{Bytes}
+use Rattle.c_cache_keys.specs.Call.{Answer, Call, Done, Fault, Keyed, Refused, calls_of, Why, Memory, Extra, ExtraFault, Input, InputFault, Store as StoreFails, Damaged, NoText, TextFault, Marker}
+use Rattle.c_cache_keys.specs.Keys.{extra_texts, input_file, is_preprocessed, preprocessor_key_of, printed, uses_cache}
+use Rattle.c_cache_keys.specs.Laws.{CanHit}
+use Rattle.c_cache_keys.specs.Step.{Keeps, Run, Step, found}
+use Rattle.c_cache_keys.specs.Store.{HoldsOnly, Setback, Store}
+use Rattle.c_cache_keys.specs.Walk.{Errs, IsNamed, Walk}
+use Rattle.c_cache_keys.specs.World.{World, setting}
+
+-- The regular files that the text of the earlier call names are regular for the later one, of the same sizes and recorded digests.
+abbrev pub SameRecords : {V : Type 0} → World V → Call V → Call V → Bytes → Type 0
+SameRecords w c d text =
+    (p : Path) (n : FileNode) → IsNamed w c text p → file_at c.files p ≡ Ok n
+    → (o : FileNode) × (file_at d.files p ≡ Ok o) × (length o.contents ≡ length n.contents) × (recorded (setting w d) o ≡ recorded (setting w c) n)
+
+-- a call isn't refused for want of memory, and isn't answered afresh with this key
+pub record IsAside {V : Type 0} (w : World V) (k : Bytes) (c : Call V) (r : Answer) : Type 0 where
+  pub enough_memory : r ≢ Refused Memory
+  pub not_fresh : (key : Bytes) → r ≡ Keyed key true → preprocessor_key_of w c ≢ Some k
+
+module _ {V S : Type 0} (w : World V) (st : Store S) where
+  -- After a fresh answer, where something can be recorded and no fault and no setback came, the store holds that one result under the
+  -- call's key, and nothing else.
+  abbrev pub FreshIsHeld : Type 0
+  FreshIsHeld =
+      (d : Done V) (s t : S) (k key : Bytes) (includes : List Include) → preprocessor_key_of w d.call ≡ Some k → Keeps w d.call includes
+      → (Fault d → ⊥) → (Setback st s t → ⊥) → Step w st d.call (Fault d) s (Keyed key true) t
+      → (own : List Include) × Keeps w d.call own × (bytes : Bytes) × EntryText (added empty key own) bytes × HoldsOnly st t k bytes
+
+  -- Where something is held under the key of a call that can hit, and all of it is entries with a key to be found, such a key is
+  -- answered.
+  abbrev pub HeldIsAnswered : Type 0
+  HeldIsAnswered =
+      (d : Done V) (s t : S) (r : Answer) (k bytes : Bytes) → CanHit w d k r → (Setback st s t → ⊥) → st.held s k bytes
+      → ((x : Bytes) → st.held s k x → (e : Entry) × EntryText e x × (key : Bytes) × (found w d.call e ≡ Some key))
+      → Step w st d.call (Fault d) s r t
+      → (key : Bytes) × (x : Bytes) × (e : Entry) × st.held s k x × EntryText e x × (found w d.call e ≡ Some key) × (r ≡ Keyed key false)
+
+  -- After a fresh answer a later call that can hit, with the same key and over the same recorded files, answers the same key from the
+  -- store, if no call between put another result there.
+  abbrev pub StoredIsHit : Type 0
+  StoredIsHit =
+      (c d : Done V) (between : List (Done V)) (answers : List Answer) (s after before t : S) (k key : Bytes) (includes : List Include) (r : Answer)
+      → preprocessor_key_of w c.call ≡ Some k → (keeps : Keeps w c.call includes) → (Fault c → ⊥) → Step w st c.call (Fault c) s (Keyed key true) after
+      → Run w st after between answers before → AllZip (IsAside w k) (calls_of between) answers
+      → CanHit w d k r → SameRecords w c.call d.call keeps.text → Step w st d.call (Fault d) before r t
+      → (Setback st s t → ⊥)
+      → r ≡ Keyed key false
+
+  -- what stands in a call that is refused, where no fault came
+  abbrev pub Cause : Call V → S → S → Why → Type 0
+  Cause c s t Memory = ⊤
+  Cause c s t Extra = extra_texts w c ≡ None
+  Cause c s t ExtraFault = ⊥
+  Cause c s t Input = (input_file w c ≡ None) × ((uses_cache w c.request ≡ true) ⊎ (is_preprocessed c.request ≡ false))
+  Cause c s t InputFault = ⊥
+  Cause c s t StoreFails = Setback st s t
+  Cause c s t Damaged = (k : Bytes) × (bytes : Bytes) × (preprocessor_key_of w c ≡ Some k) × st.held s k bytes × (bytes ≢ []) × ((e : Entry) → EntryText e bytes → ⊥)
+  Cause c s t NoText = (is_preprocessed c.request ≡ true) × (printed w c ≡ None)
+  Cause c s t TextFault = ⊥
+  Cause c s t Marker = (preprocessor_key_of w c ≢ None) × ((text : Bytes) × (printed w c ≡ Some text) × Walk w c text Errs)
+
+  -- each refusal has its cause
+  abbrev pub RefusalsHaveCauses : Type 0
+  RefusalsHaveCauses = (d : Done V) (s t : S) (why : Why) → (Fault d → ⊥) → Step w st d.call (Fault d) s (Refused why) t → Cause d.call s t why

@@ -1,0 +1,113 @@
+-- the two keys of a call: the one that a store is asked under, and the plain one, which knows of no store
+use Rattle.std.specs.Prelude.{List, ◌++◌, Bool, true, ◌&&◌, ◌||◌, not, is_none, if◌then◌else◌, Option, Some, None, Result, Ok, Err, codes, map}
+use Rattle.std.specs.Option.{option_map, option_map_or, option_and_then}
+use Rattle.std.specs.Str.{str_eq_ignore_ascii_case}
+use Rattle.cck_digest.specs.Digest.{digest_text}
+use Rattle.cck_digest.specs.declared.error.FileError.{FileError}
+use Rattle.cck_file_digest.specs.FileDigest.{texts}
+use Rattle.cck_files.specs.FileMap.{FileNode, file_at}
+use Rattle.cck_include.specs.Recorded.{recorded}
+use Rattle.cck_path.specs.Path.{components}
+use Rattle.cck_path.specs.Variables.{Variable, first_value}
+use Rattle.cck_preprocessor_key.specs.PreprocessorKey.{RequestParts, preprocessor_material}
+use Rattle.cck_util.specs.Key.{Params, object_key}
+use Rattle.cck_util.specs.Language.{is_preprocessed_first}
+use Rattle.c_cache_keys.specs.Arguments.{Bytes, is_multiarch}
+use Rattle.c_cache_keys.specs.Call.{Call, Request}
+use Rattle.c_cache_keys.specs.Walk.{input_path}
+use Rattle.c_cache_keys.specs.World.{World, setting}
+
+-- `false`, `off` or `0`, in any case
+abbrev pub is_off : Bytes → Bool
+is_off value = str_eq_ignore_ascii_case value (codes "false") || str_eq_ignore_ascii_case value (codes "off") || str_eq_ignore_ascii_case value (codes "0")
+
+-- the variables don't switch the preprocessor cache off
+unfoldable pub is_direct : List Variable → Bool
+is_direct env_vars = option_map_or (λ value. not (is_off value)) (first_value env_vars (codes "SCCACHE_DIRECT")) true
+
+-- what is told of a result, or nothing
+abbrev pub told : {X : Type 0} → Result X FileError → Option X
+told (Ok x) = Some x
+told (Err e) = None
+
+-- what a function gives for two things that are there
+abbrev pub of_both : {A B C : Type 0} → (A → B → C) → Option A → Option B → Option C
+of_both f None b = None
+of_both f (Some a) b = option_map (f a) b
+
+-- the input needs a preprocessor first
+abbrev pub is_preprocessed : {V : Type 0} → Request V → Bool
+is_preprocessed q = is_preprocessed_first q.arguments.language
+
+module _ {V : Type 0} (w : World V) where
+  -- the preprocessor cache is used
+  unfoldable pub uses_cache : Request V → Bool
+  uses_cache q =
+      is_preprocessed q && (w.config.use_preprocessor_cache_mode
+      && (is_none q.arguments.too_hard_for_preprocessor_cache_mode && is_direct q.env_vars))
+
+  -- the digest texts of the further files, if each has one
+  unfoldable pub extra_texts : Call V → Option (List Bytes)
+  extra_texts c = texts w.hash c.files (map components c.request.arguments.extra_hash_files)
+
+  -- the input, if it is a regular file
+  unfoldable pub input_file : Call V → Option FileNode
+  input_file c = told (file_at c.files (components (input_path c)))
+
+  -- the recorded digest of the input, if it has one
+  unfoldable pub input_recorded : Call V → Option Bytes
+  input_recorded c = option_and_then (recorded (setting w c)) (input_file c)
+
+  abbrev pub assembler_digest : Request V → Option Bytes
+  assembler_digest q = if q.arguments.uses_external_assembler then w.compiler.assembler_digest q.compiler else None
+
+  -- what a request says for the key that a store is asked under
+  unfoldable pub request_parts : Request V → Bytes → RequestParts
+  request_parts q input = record {
+    compiler_digest = q.executable_digest;
+    plusplus = w.compiler.plusplus q.compiler;
+    language = q.arguments.language;
+    multiarch = is_multiarch q.arguments;
+    arguments = (q.arguments.preprocessor_args ++ q.arguments.arch_args) ++ q.arguments.common_args;
+    assembler_digest = assembler_digest q;
+    env_vars = q.env_vars;
+    input_file = input;
+    basedirs = w.basedirs;
+  }
+
+  -- the material of that key, if there is one: the cache is used, all further files have digests, and the input has a recorded one
+  unfoldable pub key_material : Call V → Option Bytes
+  key_material c =
+      if uses_cache c.request
+      then of_both (preprocessor_material (request_parts c.request (input_path c))) (extra_texts c) (input_recorded c)
+      else None
+
+  -- the key that a store is asked under
+  unfoldable pub preprocessor_key_of : Call V → Option Bytes
+  preprocessor_key_of c = option_map (digest_text w.hash) (key_material c)
+
+  -- what the compiler's preprocessor prints
+  unfoldable pub printed : Call V → Option Bytes
+  printed c = w.compiler.prints c.request.compiler c.request.executable c.request.arguments c.request.cwd c.request.env_vars c.files c.moment
+
+  -- the text that the plain key is made over: what is printed, or the input itself where no preprocessor is needed
+  unfoldable pub text_of : Call V → Option Bytes
+  text_of c = if is_preprocessed c.request then printed c else option_map (λ n. n.contents) (input_file c)
+
+  -- what a request says for the plain key
+  unfoldable pub params : Request V → List Bytes → Bytes → Params
+  params q extra_hashes text = record {
+    compiler_digest = q.executable_digest;
+    language = q.arguments.language;
+    arguments = q.arguments.common_args ++ q.arguments.arch_args;
+    preprocessor_output = text;
+    extra_hashes = extra_hashes;
+    env_vars = q.env_vars;
+    plusplus = w.compiler.plusplus q.compiler;
+    basedirs = w.basedirs;
+    assembler_digest = assembler_digest q;
+  }
+
+  -- the plain key, if there is a text and all further files have digests
+  unfoldable pub plain_key : Call V → Option Bytes
+  plain_key c = of_both (λ extra_hashes text. object_key w.hash (params c.request extra_hashes text)) (extra_texts c) (text_of c)

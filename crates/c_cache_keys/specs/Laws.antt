@@ -1,0 +1,90 @@
+-- what is said of runs
+use Rattle.std.specs.Prelude.{◌≡◌, ◌≢◌, ◌⊎◌, ◌↔◌, List, [], ◌∷◌, ◌++◌, true, false, Some, Ok}
+use Rattle.std.specs.List.{AllZip}
+use Rattle.cck_entry.specs.Entry.{Entry, EntryText}
+use Rattle.c_cache_keys.specs.Arguments.{Bytes}
+use Rattle.c_cache_keys.specs.Call.{Answer, Call, Damaged, Done, Fault, Keyed, Memory, Refused, calls_of}
+use Rattle.c_cache_keys.specs.Keys.{plain_key, preprocessor_key_of}
+use Rattle.c_cache_keys.specs.Premises.{Premises}
+use Rattle.c_cache_keys.specs.Step.{IsEmpty, OwnPair, Run, Sound, Step, found}
+use Rattle.c_cache_keys.specs.Store.{Handed, Store}
+use Rattle.c_cache_keys.specs.World.{World}
+use Rattle.c_cache_keys.specs.declared.call.CacheControl.TheVariants.{Default, ForceRecache}
+
+-- an answered key is the plain key, and no call is refused for what the store handed out
+abbrev pub IsTransparent : {V : Type 0} → World V → Call V → Answer → Type 0
+IsTransparent w c (Keyed key fresh) = plain_key w c ≡ Some key
+IsTransparent w c (Refused why) = why ≢ Damaged
+
+-- a stored key may be answered: it isn't forbidden, the preprocessor cache is used, and no fault and no want of memory came
+pub record CanHit {V : Type 0} (w : World V) (d : Done V) (k : Bytes) (r : Answer) : Type 0 where
+  pub control : d.call.control ≡ Default
+  pub key : preprocessor_key_of w d.call ≡ Some k
+  pub no_fault : Fault d → ⊥
+  pub enough_memory : r ≢ Refused Memory
+
+-- these lists one behind the other
+abbrev pub joined_lists : {X : Type 0} → List (List X) → List X
+joined_lists [] = []
+joined_lists (xs ∷ others) = xs ++ joined_lists others
+
+module _ {V S : Type 0} (w : World V) (st : Store S) where
+  -- a run over lists in turn is a run over the list joined, and the other way round
+  abbrev pub RunsJoin : Type 0
+  RunsJoin =
+      (s t : S) (first second : List (Done V)) (answers : List Answer) → Run w st s (first ++ second) answers t
+      ↔ ((mid : S) × (before : List Answer) × (after : List Answer) × (answers ≡ before ++ after) × Run w st s first before mid × Run w st mid second after t)
+
+  -- a fresh key is the plain key, whatever the store holds
+  abbrev pub FreshIsPlain : Type 0
+  FreshIsPlain = (d : Done V) (s t : S) (key : Bytes) → Step w st d.call (Fault d) s (Keyed key true) t → plain_key w d.call ≡ Some key
+
+  -- a call on a sound store leaves a sound one
+  abbrev pub StaysSound : Type 0
+  StaysSound = (earlier : List (Call V)) (d : Done V) (s t : S) (r : Answer) → Sound w st s earlier → Step w st d.call (Fault d) s r t → Sound w st t (earlier ++ d.call ∷ [])
+
+  -- under the premises a stored key that a sound store leads to is the plain key
+  abbrev pub HitIsPlain : Type 0
+  HitIsPlain =
+      (earlier later : List (Call V)) (d : Done V) (s t : S) (key : Bytes) → Premises w (earlier ++ d.call ∷ later) → Sound w st s earlier
+      → Step w st d.call (Fault d) s (Keyed key false) t → plain_key w d.call ≡ Some key
+
+  -- a sound store hands out nothing that is no entry
+  abbrev pub NothingDamaged : Type 0
+  NothingDamaged = (earlier : List (Call V)) (d : Done V) (s t : S) → Sound w st s earlier → Step w st d.call (Fault d) s (Refused Damaged) t → ⊥
+
+  -- every answered key of a run from an empty store is its call's plain key
+  abbrev pub Transparent : Type 0
+  Transparent =
+      (s t : S) (done : List (Done V)) (answers : List Answer) → IsEmpty w st s → Run w st s done answers t → Premises w (calls_of done)
+      → AllZip (IsTransparent w) (calls_of done) answers
+
+  -- the same of several runs on one store, each starting where the one before ended
+  abbrev pub Runs : S → List (List (Done V)) → List (List Answer) → S → Type 0
+  Runs s [] [] t = t ≡ s
+  Runs s (run ∷ runs) (answers ∷ others) t = (mid : S) × Run w st s run answers mid × Runs mid runs others t
+  Runs s [] (answers ∷ others) t = ⊥
+  Runs s (run ∷ runs) [] t = ⊥
+
+  abbrev pub RunsTransparent : Type 0
+  RunsTransparent =
+      (s t : S) (runs : List (List (Done V))) (answers : List (List Answer)) → IsEmpty w st s → Runs s runs answers t → Premises w (calls_of (joined_lists runs))
+      → AllZip (IsTransparent w) (calls_of (joined_lists runs)) (joined_lists answers)
+
+  -- What a call that can hit is handed decides: where that is an entry with a key whose included files all are what they were, the
+  -- greatest such key is answered, whatever a preprocessor would print.
+  abbrev pub HandedIsAnswered : Type 0
+  HandedIsAnswered =
+      (d : Done V) (s t : S) (k : Bytes) (r : Answer) → CanHit w d k r → Step w st d.call (Fault d) s r t
+      → (handed : Handed) × (mid : S) × st.got s k handed mid
+      × ((bytes key : Bytes) (e : Entry) → handed ≡ Ok (Some bytes) → EntryText e bytes → found w d.call e ≡ Some key → r ≡ Keyed key false)
+
+  -- what is held after a call was held before it, or is the call's own pair
+  abbrev pub KeepsOldOrOwn : Type 0
+  KeepsOldOrOwn =
+      (d : Done V) (s t : S) (r : Answer) → Step w st d.call (Fault d) s r t → (k bytes : Bytes) → st.held t k bytes
+      → st.held s k bytes ⊎ ((key : Bytes) × OwnPair w d.call key k bytes)
+
+  -- where nothing stored may be answered, nothing is
+  abbrev pub RecacheIsFresh : Type 0
+  RecacheIsFresh = (d : Done V) (s t : S) (key : Bytes) → d.call.control ≡ ForceRecache → Step w st d.call (Fault d) s (Keyed key false) t → ⊥

@@ -1,0 +1,76 @@
+-- what is asked of the calls, so that a stored key is the plain key
+use Rattle.std.specs.Prelude.{◌≡◌, ◌⊎◌, List, ◌++◌, true, false, Some, Ok, Contains}
+use Rattle.std.specs.Option.{option_map}
+use Rattle.cck_digest.specs.Digest.{digest_text}
+use Rattle.cck_file_digest.specs.FolderText.{digest_material}
+use Rattle.cck_files.specs.FileMap.{FileNode, file_at, folder_at}
+use Rattle.cck_include.specs.Recorded.{file_time_part, has_date, has_time, has_timestamp, is_timed}
+use Rattle.cck_path.specs.Path.{Path, components}
+use Rattle.cck_path.specs.Timestamp.{nanos_of}
+use Rattle.cck_time.specs.TimePart.{local_day, local_second}
+use Rattle.c_cache_keys.specs.Arguments.{Bytes}
+use Rattle.c_cache_keys.specs.Call.{Call}
+use Rattle.c_cache_keys.specs.Keys.{extra_texts, key_material, preprocessor_key_of, printed}
+use Rattle.c_cache_keys.specs.Walk.{Accepted, IsNamed, Walk, input_path}
+use Rattle.c_cache_keys.specs.World.{World, setting}
+
+module _ {V : Type 0} (w : World V) where
+  -- bytes that may be hashed for a call
+  pub data IsHashed (c : Call V) (x : Bytes) : Type 0 where
+    of_file : (p : Path) (n : FileNode) → file_at c.files p ≡ Ok n → x ≡ n.contents → IsHashed c x
+    of_folder : (p : Path) → folder_at c.files p ≡ Ok tt → digest_material c.files p ≡ Some x → IsHashed c x
+    of_time : (p : Path) (n : FileNode) → file_at c.files p ≡ Ok n → is_timed n.contents ≡ true → file_time_part (setting w c) n ≡ Some x → IsHashed c x
+    of_key : key_material w c ≡ Some x → IsHashed c x
+
+  -- no two of these share a digest, but they are equal
+  abbrev pub NoSharedDigest : List (Call V) → Type 0
+  NoSharedDigest calls = (c d : Call V) (x y : Bytes) → Contains calls c → Contains calls d → IsHashed c x → IsHashed d y → digest_text w.hash x ≡ digest_text w.hash y → x ≡ y
+
+  -- calls that ask under one key ask for the same
+  abbrev pub OneRequest : List (Call V) → Type 0
+  OneRequest calls = (c d : Call V) (k : Bytes) → Contains calls c → Contains calls d → preprocessor_key_of w c ≡ Some k → preprocessor_key_of w d ≡ Some k → c.request ≡ d.request
+
+  -- the first call stands before the second
+  abbrev pub IsBefore : List (Call V) → Call V → Call V → Type 0
+  IsBefore calls c d = (xs : List (Call V)) × (ys : List (Call V)) × (calls ≡ xs ++ ys) × Contains xs c × Contains ys d
+
+  -- two calls agree in what a printed text and a key are made of, beside the input and what it includes
+  pub record Agree (c d : Call V) : Type 0 where
+    pub request : c.request ≡ d.request
+    pub extra : extra_texts w c ≡ extra_texts w d
+
+  -- The file of one call is as that of the other, as far as a text can show: by its contents, by the day of the calls where these hold
+  -- a date, and by the second of its modification where they hold a timestamp.
+  pub record IsSameFile (c d : Call V) (n o : FileNode) : Type 0 where
+    pub contents : n.contents ≡ o.contents
+    pub day : has_date n.contents ≡ true → local_day w.zone (nanos_of c.moment) ≡ local_day w.zone (nanos_of d.moment)
+    pub second : has_timestamp n.contents ≡ true → option_map (λ t. local_second w.zone (nanos_of t)) n.modified ≡ option_map (λ t. local_second w.zone (nanos_of t)) o.modified
+
+  -- of the input and what the text names, each regular file is as it was
+  abbrev pub SameFiles : Call V → Call V → Bytes → Type 0
+  SameFiles c d text =
+      (p : Path) (n : FileNode) → (p ≡ components (input_path c)) ⊎ IsNamed w c text p → file_at c.files p ≡ Ok n
+      → (o : FileNode) × (file_at d.files p ≡ Ok o) × IsSameFile c d n o
+
+  -- the input holds no `__TIME__`
+  abbrev pub NoTime : Call V → Type 0
+  NoTime c = (n : FileNode) → file_at c.files (components (input_path c)) ≡ Ok n → has_time n.contents ≡ false
+
+  -- a preprocessor prints the same text once more for a later call, where it is asked for the same over the same files
+  abbrev pub PrintsAgain : List (Call V) → Type 0
+  PrintsAgain calls =
+      (c d : Call V) (text : Bytes) → IsBefore calls c d → printed w c ≡ Some text → NoTime c → Walk w c text Accepted
+      → Agree c d → SameFiles c d text → printed w d ≡ Some text
+
+  -- the options under which a changed file may count as unchanged
+  pub record OptionsOff : Type 0 where
+    pub skip_system_headers : w.config.skip_system_headers ≡ false
+    pub ignore_time_macros : w.config.ignore_time_macros ≡ false
+    pub file_stat_matches : w.config.file_stat_matches ≡ false
+
+  -- all of these, over the calls of a run
+  pub record Premises (calls : List (Call V)) : Type 0 where
+    pub hash : NoSharedDigest calls
+    pub requests : OneRequest calls
+    pub compiler : PrintsAgain calls
+    pub options : OptionsOff

@@ -1,0 +1,42 @@
+-- why a call for a key is refused, by why a call below it is
+use Rattle.std.specs.Prelude.{◌≡◌}
+use Rattle.cck_digest.specs.declared.error.FileError.{FileError}
+use Rattle.cck_digest.specs.declared.error.FileError.TheVariants as file
+use Rattle.cck_digest.specs.declared.error.UtilError.{UtilError}
+use Rattle.cck_digest.specs.declared.error.UtilError.TheVariants as util
+use Rattle.cck_time.specs.declared.error.Error.{Error}
+use Rattle.cck_time.specs.declared.error.Error.TheVariants as entry
+use Rattle.cck_walk.specs.declared.error.WalkError.{WalkError}
+use Rattle.cck_walk.specs.declared.error.WalkError.TheVariants as walk
+use Rattle.c_cache_keys.specs.declared.error.KeyError.{KeyError}
+use Rattle.c_cache_keys.specs.declared.error.KeyError.TheVariants.{Memory, Extra, Input, Entry, Preprocess, Marker}
+use Rattle.c_cache_keys.specs.declared.error.PreprocessError.{PreprocessError}
+use Rattle.c_cache_keys.specs.declared.error.PreprocessError.TheVariants as text
+
+abbrev pub extra_refusal : UtilError → KeyError
+extra_refusal util.Memory = Memory
+extra_refusal other = Extra other
+
+abbrev pub input_refusal : FileError → KeyError
+input_refusal file.Memory = Memory
+input_refusal other = Input (util.File other)
+
+abbrev pub key_refusal : Error → KeyError
+key_refusal (entry.Io cause) = Input cause
+key_refusal other = Memory
+
+abbrev pub text_refusal : PreprocessError → KeyError
+text_refusal text.Memory = Memory
+text_refusal other = Preprocess other
+
+abbrev pub entry_refusal : Error → KeyError
+entry_refusal entry.Memory = Memory
+entry_refusal other = Entry other
+
+abbrev pub walk_refusal : WalkError → KeyError
+walk_refusal walk.Memory = Memory
+walk_refusal walk.Marker = Marker
+
+-- the refusal is that of a fault at a further file
+abbrev pub IsFileFault : KeyError → Type 0 → Type 0
+IsFileFault e HasFault = (e ≡ Extra (util.File file.Fault)) × HasFault

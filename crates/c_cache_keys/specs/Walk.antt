@@ -1,0 +1,84 @@
+-- which files a preprocessed text names, and whether they are recorded
+use Rattle.std.specs.Prelude.{◌≡◌, ◌≢◌, ◌⊎◌, List, [], ◌∷◌, ◌++◌, Bool, true, false, Some, None, Ok, IfSome, Contains, AllPairs}
+use Rattle.std.specs.declared.cmp.Ordering.TheVariants.{Less}
+use Rattle.cck_files.specs.FileMap.{FileNode, file_at, folder_at}
+use Rattle.cck_include.specs.Gathered.{Digested, is_before}
+use Rattle.cck_include.specs.Recorded.{recorded}
+use Rattle.cck_markers.specs.Marks.{Mark, Name, Refusal, Malformed, Marks}
+use Rattle.cck_path.specs.Path.{Path, components, joined, normal, path_cmp}
+use Rattle.cck_path.specs.Text.{join_path, path_text}
+use Rattle.c_cache_keys.specs.Arguments.{Bytes}
+use Rattle.c_cache_keys.specs.Call.{Call}
+use Rattle.c_cache_keys.specs.World.{World, setting}
+
+-- `<` and `>` with nothing or something between
+abbrev pub IsAngled : Bytes → Type 0
+IsAngled name = (inner : Bytes) × (name ≡ 60 ∷ inner ++ 62 ∷ [])
+
+-- a text is recorded, or not, or has a malformed marker
+pub data Verdict : Type 0 where
+  Accepted : Verdict
+  NotAccepted : Verdict
+  Errs : Verdict
+
+-- the input as it is written, seen from the working directory
+abbrev pub input_path : {V : Type 0} → Call V → Bytes
+input_path c = join_path c.request.cwd c.request.arguments.input
+
+-- the path that a name means
+abbrev pub path_of : {V : Type 0} → Call V → Bytes → Path
+path_of c name = normal (joined (components c.request.cwd) (components name))
+
+module _ {V : Type 0} (w : World V) where
+  -- what a name means is looked at: the name is something, and no `<..>`, nor a system header's where these are skipped, nor the input
+  pub record IsLooked (c : Call V) (name : Bytes) (system : Bool) : Type 0 where
+    pub some : name ≢ []
+    pub not_angled : IsAngled name → ⊥
+    pub wanted : w.config.skip_system_headers ≡ true → system ≡ false
+    pub other : path_of c name ≢ components (input_path c)
+
+  -- the text names this path
+  pub record IsNamed (c : Call V) (text : Bytes) (p : Path) : Type 0 where
+    pub name : Bytes
+    pub system : Bool
+    pub marks : List Mark
+    pub are : Marks true text marks
+    pub stands : Contains marks (Name name system)
+    pub looked : IsLooked c name system
+    pub is : p ≡ path_of c name
+
+  -- neither time of the file is the moment or later
+  abbrev pub IsOld : Call V → FileNode → Type 0
+  IsOld c n = IfSome n.modified (λ t. is_before t c.moment ≡ true) × IfSome n.changed (λ t. is_before t c.moment ≡ true)
+
+  -- a folder, or an old regular file that has a recorded digest
+  abbrev pub IsGood : Call V → Path → Type 0
+  IsGood c p = (folder_at c.files p ≡ Ok tt) ⊎ ((n : FileNode) × (file_at c.files p ≡ Ok n) × IsOld c n × (recorded (setting w c) n ≢ None))
+
+  -- the first refusal, malformed marker or path that isn't good decides
+  abbrev pub Decides : Call V → List Mark → Verdict → Type 0
+  Decides c [] v = v ≡ Accepted
+  Decides c (Refusal ∷ marks) v = v ≡ NotAccepted
+  Decides c (Malformed ∷ marks) v = v ≡ Errs
+  Decides c (Name name system ∷ marks) v =
+      ((IsLooked c name system → IsGood c (path_of c name)) × Decides c marks v)
+      ⊎ (IsLooked c name system × (IsGood c (path_of c name) → ⊥) × (v ≡ NotAccepted))
+
+  -- the verdict on a text
+  abbrev pub Walk : Call V → Bytes → Verdict → Type 0
+  Walk c text v = (marks : List Mark) × Marks true text marks × Decides c marks v
+
+  -- a recorded digest and a path as it is written: of a regular file that the text names
+  pub record IsRecorded (c : Call V) (text : Bytes) (d : Digested) : Type 0 where
+    pub path : Path
+    pub written : d.1 ≡ path_text path
+    pub named : IsNamed c text path
+    pub node : FileNode
+    pub file : file_at c.files path ≡ Ok node
+    pub digest : recorded (setting w c) node ≡ Some (d.0)
+
+  -- all regular files that the text names, each once, in path order
+  pub record AreRecorded (c : Call V) (text : Bytes) (ds : List Digested) : Type 0 where
+    pub ordered : AllPairs (λ d e. path_cmp (components (d.1)) (components (e.1)) ≡ Less) ds
+    pub each : (d : Digested) → Contains ds d → IsRecorded c text d
+    pub all : (p : Path) (n : FileNode) → IsNamed c text p → file_at c.files p ≡ Ok n → (digest : Bytes) × Contains ds (digest, path_text p)

@@ -1,0 +1,58 @@
+-- what a walk is handed of a call, and what is made of its answer
+use Rattle.std.specs.Prelude.{◌≡◌, ◌⊎◌, ◌↔◌, ℕ, List, map, Result, Ok, Err, String}
+use Rattle.std.specs.Global.{Vec}
+use Rattle.std.specs.FinMap.{entries}
+use Rattle.std.specs.String.{string_bytes}
+use Rattle.std.specs.declared.alloc.Global.{Global}
+use Rattle.cck_include.specs.Gathered.{Digested}
+use Rattle.cck_path.specs.Path.{components}
+use Rattle.cck_path.specs.Text.{path_text}
+use Rattle.cck_walk.specs.Decided.{Accepts, Context, Decided, Digests, IsRefused}
+use Rattle.cck_walk.specs.Decided as decision
+use Rattle.cck_walk.specs.declared.error.WalkError.{WalkError}
+use Rattle.cck_walk.specs.declared.error.WalkError.TheVariants.{Memory, Marker}
+use Rattle.cck_walk.specs.declared.walk.Walk as walk
+use Rattle.cck_walk.specs.declared.walk.Walk.TheVariants as answer
+use Rattle.c_cache_keys.specs.Arguments.{Bytes}
+use Rattle.c_cache_keys.specs.Call.{Call}
+use Rattle.c_cache_keys.specs.Walk.{Accepted, AreRecorded, Errs, NotAccepted, Verdict, Walk, input_path}
+use Rattle.c_cache_keys.specs.World.{World, setting}
+
+-- how a call's files are judged, which there are, its input, and where names begin
+abbrev pub walk_context : {V : Type 0} → World V → Call V → Context
+walk_context w c = record {
+  setting = setting w c;
+  files = c.files;
+  input = components (input_path c);
+  cwd = components c.request.cwd;
+}
+
+-- the verdict that marks decide
+abbrev pub verdict_of : Decided → Verdict
+verdict_of (Accepts digests) = Accepted
+verdict_of IsRefused = NotAccepted
+verdict_of decision.Errs = Errs
+
+-- digests with the paths that they are of, in the order of the paths
+abbrev pub digested_by : Digests → List Digested
+digested_by digests = map (λ e. (e.1, path_text (e.0))) (entries digests)
+
+-- The verdict on a text is what its marks decide, name by name, and the digests of an accepted text are those of all regular files
+-- that it names.
+abbrev pub VerdictIsDecided : {V : Type 0} → World V → Type 0
+VerdictIsDecided {V} w =
+    (c : Call V) (text : Bytes)
+    → ((verdict : Verdict) → Walk w c text verdict ↔ ((d : Decided) × decision.Decides (walk_context w c) text d × (verdict_of d ≡ verdict)))
+    × ((digests : Digests) → decision.Decides (walk_context w c) text (Accepts digests) → AreRecorded w c text (digested_by digests))
+
+-- the digests and the paths that a walk recorded
+abbrev pub digested_of : List (Vec ℕ × String Global) → List Digested
+digested_of files = map (λ f. (string_bytes (f.1), f.0.items)) files
+
+-- A walk over a call's text answered: its verdict, and with an accepted text what is recorded; with a fault the text may be refused
+-- whatever its verdict.
+abbrev pub IsWalked : {V : Type 0} → World V → Call V → Bytes → Type 0 → Result walk.Walk WalkError → Type 0
+IsWalked w c text HasFault (Ok (answer.Accepted files)) = Walk w c text Accepted × AreRecorded w c text (digested_of files.items)
+IsWalked w c text HasFault (Ok answer.Refused) = Walk w c text NotAccepted ⊎ HasFault
+IsWalked w c text HasFault (Err Marker) = Walk w c text Errs
+IsWalked w c text HasFault (Err Memory) = Unit {0}

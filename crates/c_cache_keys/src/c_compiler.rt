@@ -1,0 +1,180 @@
+//! Compilers with their executables.
+ghost use Rattle.std.specs.Prelude.{◌≡◌, ◌⊎◌, ◌++◌, Some, IfErr, IfOk, IsOkUnless, string_bytes};
+ghost use Rattle.cck_digest.specs.Digest.{digest_text};
+ghost use Rattle.cck_file_digest.specs.Refusals.{IsDigestRefusal};
+ghost use Rattle.cck_files.specs.Calls.{Keeps, Rose};
+ghost use Rattle.cck_path.specs.Path.{components};
+ghost use Rattle.c_cache_keys.specs.CCompiler.{IsHip, IsOf, IsOfCompiler, executable_text, found_of};
+ghost use Rattle.c_cache_keys.specs.ExtraFiles.{completed};
+ghost use Rattle.c_cache_keys.specs.Refusals.{IsFileFault};
+ghost use Rattle.c_cache_keys.specs.Seen.{lists_of, variables_of};
+
+use crate::arguments::ParsedArguments;
+use crate::compiler::{CCompilerImpl, CCompilerKind, CompilerArguments};
+use crate::error::KeyError;
+use crate::extra_files::add_extra_files;
+use crate::hasher::CCompilerHasher;
+use cck_digest::{Digest, HashState, UtilError};
+use cck_file_digest::DigestFiles;
+use cck_files::Files;
+use std::alloc::Global;
+
+/// A compiler and the executable that it is.
+///
+/// Upstream's `compiler::c::CCompiler`.
+#[derive(Drop)]
+pub struct CCompiler<I> {
+    /// The compiler.
+    pub compiler: I,
+    /// The path of its executable.
+    pub executable: Vec<u8>,
+    /// The digest text of its executable.
+    pub executable_digest: String,
+}
+
+impl<I: CCompilerImpl> CCompiler<I> {
+    /// A compiler with its executable, which is read for its digest text: that of what stands at the
+    /// path, or, where the compiler has a version, that of this text and the version behind it.
+    ///
+    /// Upstream's `CCompiler::new`. It is refused as [`DigestFiles::file`] is at the path.
+    pub fn new<H: HashState, F: Files>(
+        alloc: Global,
+        compiler: I,
+        executable: Vec<u8>,
+        files: &mut F,
+    ) -> Result<CCompiler<I>, UtilError>
+    where
+        I: Drop,
+        ensures keeps { Keeps F.file_map F.faults F.is_quiet files.old files.new }
+        ensures compiler { IfOk result (λ made. made.compiler ≡ compiler) }
+        ensures executable { IfOk result (λ made. made.executable ≡ executable) }
+        ensures digest { IfOk result (λ made.
+            executable_text H.hash (I.compiler.version (I.value compiler)) (F.file_map files.old) (components executable.items)
+            ≡ Some (string_bytes made.executable_digest)) }
+        ensures refused { IfErr result (λ e. IsDigestRefusal (F.file_map files.old) (components executable.items)
+            (Rose (F.faults files.old) (F.faults files.new)) e) }
+    {
+        let text = Digest::<H>::file(alloc, files, &executable)?;
+        let executable_digest = match compiler.version() {
+            Some(version) => text_with_version::<H>(alloc, &text, version)?,
+            None => text,
+        };
+        Ok(CCompiler {
+            compiler,
+            executable,
+            executable_digest,
+        })
+    }
+
+    /// The family of the compiler. It takes no memory.
+    pub fn kind(&self) -> CCompilerKind
+        ensures { result ≡ I.compiler.kind (I.value self.now.compiler) }
+    {
+        self.compiler.kind()
+    }
+
+    /// What a command line comes to, in a directory and under variables.
+    ///
+    /// A compilation is what the compiler says of it, with more files whose digests stand in the
+    /// keys. Behind those that the compiler tells come
+    ///
+    /// - what stands between the colons of each variable `SCCACHE_EXTRAFILES`, where an empty value
+    ///   tells one empty path,
+    /// - for HIP the device libraries, in path order: the direct children with the extension `bc` of
+    ///   one folder. That is the first that is told of: by the argument `--hip-device-lib-path=`, by
+    ///   the variable `HIP_DEVICE_LIB_PATH`, by the argument `--rocm-path=` or the variable
+    ///   `ROCM_PATH`, each with `amdgcn/bitcode` behind it; or it is `/opt/rocm/amdgcn/bitcode`. Of
+    ///   arguments and variables those that are no UTF-8 don't count. Where no folder stands, there
+    ///   are no libraries.
+    ///
+    /// It is refused as
+    ///
+    /// - [`KeyError::Extra`] of a fault only where the count of faults rose, for HIP,
+    /// - [`KeyError::Memory`].
+    ///
+    /// Upstream's `CCompiler::parse_arguments`.
+    pub fn parse_arguments<F: Files>(
+        &self,
+        alloc: Global,
+        files: &mut F,
+        arguments: &[Vec<u8>],
+        cwd: &[u8],
+        vars: &[(Vec<u8>, Vec<u8>)],
+    ) -> Result<CompilerArguments<CCompilerHasher<I>>, KeyError>
+        ensures keeps { Keeps F.file_map F.faults F.is_quiet files.old files.new }
+        ensures found { IfOk result (λ found. found_of found
+            ≡ completed (F.file_map files.old) (variables_of vars.now)
+            (I.compiler.parsed (I.value self.now.compiler) (lists_of arguments.now) cwd.now (variables_of vars.now))) }
+        ensures compiler { IfOk result (IsOfCompiler I.value self.now) }
+        ensures refused { IfErr result (λ e. (e ≡ KeyError.Memory)
+            ⊎ (IsHip (I.compiler.parsed (I.value self.now.compiler) (lists_of arguments.now) cwd.now (variables_of vars.now))
+            × IsFileFault e (Rose (F.faults files.old) (F.faults files.new)))) }
+    {
+        match self.compiler.parse_arguments(alloc, arguments, cwd, vars) {
+            Ok(CompilerArguments::Ok(mut parsed_args)) => {
+                match add_extra_files(alloc, files, &mut parsed_args, vars) {
+                    Ok(()) => Ok(CompilerArguments::Ok(self.hasher(alloc, parsed_args)?)),
+                    Err(error) => Err(error),
+                }
+            }
+            Ok(CompilerArguments::CannotCache(reason, detail)) => {
+                Ok(CompilerArguments::CannotCache(reason, detail))
+            }
+            Ok(CompilerArguments::NotCompilation) => Ok(CompilerArguments::NotCompilation),
+            Err(error) => Err(error),
+        }
+    }
+
+    /// The same compiler once more.
+    ///
+    /// It is refused only for want of memory, as [`KeyError::Memory`].
+    pub fn copy(&self, alloc: Global) -> Result<CCompiler<I>, KeyError>
+        ensures compiler { IfOk result (λ copy. I.value copy.compiler ≡ I.value self.now.compiler) }
+        ensures executable { IfOk result (λ copy. copy.executable.items ≡ self.now.executable.items) }
+        ensures digest { IfOk result (λ copy.
+            string_bytes copy.executable_digest ≡ string_bytes self.now.executable_digest) }
+        ensures refused { IsOkUnless result KeyError.Memory }
+    {
+        let executable = self.executable.to_vec(alloc)?;
+        let executable_digest = self.executable_digest.clone()?;
+        Ok(CCompiler {
+            compiler: self.compiler.copy(alloc)?,
+            executable,
+            executable_digest,
+        })
+    }
+
+    // A compilation by this compiler.
+    fn hasher(
+        &self,
+        alloc: Global,
+        parsed_args: ParsedArguments,
+    ) -> Result<CCompilerHasher<I>, KeyError>
+        ensures compiler { IfOk result (IsOf I.value self.now) }
+        ensures arguments { IfOk result (λ hasher. hasher.parsed_args ≡ parsed_args) }
+        ensures refused { IsOkUnless result KeyError.Memory }
+    {
+        let copy = self.copy(alloc)?;
+        Ok(CCompilerHasher {
+            compiler: copy.compiler,
+            executable: copy.executable,
+            executable_digest: copy.executable_digest,
+            parsed_args,
+        })
+    }
+}
+
+// The digest text of a digest text and a version behind it.
+fn text_with_version<H: HashState>(
+    alloc: Global,
+    text: &str,
+    version: &str,
+) -> Result<String, UtilError>
+    ensures text { IfOk result (λ both. string_bytes both ≡ digest_text H.hash (text.now ++ version.now)) }
+    ensures refused { IsOkUnless result UtilError.Memory }
+{
+    let mut digest = Digest::<H>::new();
+    digest.update(text.as_bytes());
+    digest.update(version.as_bytes());
+    digest.finish(alloc)
+}

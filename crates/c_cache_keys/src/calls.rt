@@ -1,0 +1,93 @@
+//! Calls for keys, one after another on one store.
+ghost use Rattle.std.specs.Prelude.{◌≡◌, IfOk, IsOkUnless, OnErr, length, map};
+ghost use Rattle.std.specs.List.{AllZip};
+ghost use Rattle.c_cache_keys.specs.Call.{calls_of};
+ghost use Rattle.c_cache_keys.specs.Calls.{IsAfter, done_all};
+ghost use Rattle.c_cache_keys.specs.Laws.{IsTransparent};
+ghost use Rattle.c_cache_keys.specs.Premises.{Premises};
+ghost use Rattle.c_cache_keys.specs.Seen.{answer_of, lists_of};
+ghost use Rattle.c_cache_keys.specs.Step.{IsEmpty, Run};
+ghost use Rattle.c_cache_keys.specs.World.{world_of};
+ghost use Rattle.jiff.specs.Words.{plain_zone};
+
+use crate::call::{CacheControl, HashResult};
+use crate::compiler::CCompilerImpl;
+use crate::error::KeyError;
+use crate::hasher::CCompilerHasher;
+use crate::store::PreprocessorStore;
+use cck_digest::{HashState, UtilError};
+use cck_files::Files;
+use cck_path::Timestamp;
+use cck_time::PreprocessorCacheModeConfig;
+use jiff::tz::TimeZone;
+use std::alloc::Global;
+
+/// A call for the key of a compilation.
+#[derive(Drop)]
+pub struct Call<I, F> {
+    /// The compilation.
+    pub hasher: CCompilerHasher<I>,
+    /// The files that it is made over.
+    pub files: F,
+    /// The working directory.
+    pub cwd: Vec<u8>,
+    /// The variables of the environment, as pairs of a name and a value.
+    pub vars: Vec<(Vec<u8>, Vec<u8>)>,
+    /// When it begins.
+    pub moment: Timestamp,
+    /// Whether a stored result may be answered.
+    pub control: CacheControl,
+}
+
+/// The keys of these calls in their order, one result a call.
+///
+/// Over a store that is empty at first each key that is answered, stored or fresh, is the plain key of
+/// its call, and no call is refused for what the store handed out, if the calls meet the premises:
+///
+/// - no two of the hashed texts share a digest, but they are equal;
+/// - calls that ask the store under one key ask for the same;
+/// - a preprocessor prints the same text again over the same input and the same included files;
+/// - the options that let a changed file count as unchanged are off.
+///
+/// This needs nothing of the store but its interface: it may forget, fail and run out of memory at any
+/// time. Of a call only the state of its files changes. Each result is as
+/// [`generate_hash_key`](CCompilerHasher::generate_hash_key) gives it. The whole is refused only as
+/// [`UtilError::Memory`], and then no call was made.
+pub fn run_calls<H: HashState, I: CCompilerImpl, F: Files, S: PreprocessorStore>(
+    alloc: Global,
+    store: &mut S,
+    zone: &TimeZone<'_>,
+    config: PreprocessorCacheModeConfig,
+    basedirs: &[Vec<u8>],
+    calls: &mut [Call<I, F>],
+) -> Result<Vec<Result<HashResult, KeyError>>, UtilError>
+    ensures run { IfOk result (λ answers.
+        let w = world_of H.hash I.compiler (plain_zone zone.now) config (lists_of basedirs.now) in
+        Run w S.store store.old (done_all I.value F.file_map F.faults calls.old calls.new) (map answer_of answers.items) store.new) }
+    ensures transparent { IfOk result (λ answers.
+        let w = world_of H.hash I.compiler (plain_zone zone.now) config (lists_of basedirs.now) in
+        let made = calls_of (done_all I.value F.file_map F.faults calls.old calls.new) in
+        IsEmpty w S.store store.old → Premises w made → AllZip (IsTransparent w) made (map answer_of answers.items)) }
+    ensures each { IfOk result (λ answers. length answers.items ≡ length calls.old) }
+    ensures keeps { AllZip (IsAfter F.file_map F.faults F.is_quiet) calls.old calls.new }
+    ensures refused { IsOkUnless result UtilError.Memory }
+    ensures untouched { OnErr result ((calls.new ≡ calls.old) × (store.new ≡ store.old)) }
+{
+    let mut answers = Vec::with_capacity(alloc, calls.len())?;
+    for call in calls.iter_mut() {
+        let answer = call.hasher.generate_hash_key::<H, F, S>(
+            alloc,
+            &mut call.files,
+            store,
+            &call.cwd,
+            &call.vars,
+            call.moment,
+            zone,
+            config,
+            basedirs,
+            call.control,
+        );
+        answers.push(answer)?;
+    }
+    Ok(answers)
+}

@@ -1,0 +1,180 @@
+//! The key of one compilation.
+ghost use Rattle.std.specs.Prelude.{◌≡◌, ◌++◌, ◌∷◌, IfOk, IsOkUnless, string_bytes};
+ghost use Rattle.cck_files.specs.Calls.{Keeps, Rose};
+ghost use Rattle.c_cache_keys.specs.Arguments.{output_name};
+ghost use Rattle.c_cache_keys.specs.Conditions.{Given, call_under, world_under};
+ghost use Rattle.c_cache_keys.specs.Hasher.{toolchain_key};
+ghost use Rattle.c_cache_keys.specs.Seen.{answer_of, arguments_of, lists_of, variables_of};
+ghost use Rattle.c_cache_keys.specs.Step.{Step};
+ghost use Rattle.jiff.specs.Words.{plain_zone};
+
+mod asking;
+mod making;
+mod opening;
+mod storing;
+
+use crate::arguments::{ColorMode, ParsedArguments};
+use crate::call::{CacheControl, HashResult};
+use crate::compiler::CCompilerImpl;
+use crate::conditions::Conditions;
+use crate::error::KeyError;
+use crate::store::PreprocessorStore;
+use bstr::ByteSlice;
+use cck_digest::HashState;
+use cck_files::Files;
+use cck_path::Timestamp;
+use cck_time::PreprocessorCacheModeConfig;
+use cck_util::Language;
+use jiff::tz::TimeZone;
+use std::alloc::Global;
+
+/// A compilation that keys are asked for: a compiler and a command line for it.
+///
+/// Upstream's `compiler::c::CCompilerHasher`.
+#[derive(Drop)]
+pub struct CCompilerHasher<I> {
+    /// The compiler.
+    pub compiler: I,
+    /// The path of its executable.
+    pub executable: Vec<u8>,
+    /// The digest text of its executable.
+    pub executable_digest: String,
+    /// The command line.
+    pub parsed_args: ParsedArguments,
+}
+
+impl<I: CCompilerImpl> CCompilerHasher<I> {
+    /// The key of the compilation, stored or fresh.
+    ///
+    /// First the digests of further files are taken, and the key under which a store may be asked, if
+    /// there is one: the language is preprocessed, the options and the variable `SCCACHE_DIRECT` allow
+    /// it, and the arguments don't forbid it. Under that key the store is asked once, unless `control`
+    /// forbids it, and the greatest key of an entry whose included files all are what they were is the
+    /// answer. Else the input is preprocessed, and its text with the compiler and its arguments gives
+    /// the key. Where the text could be walked over and names files, an entry of this one result is
+    /// put; whether that went well doesn't change the answer.
+    ///
+    /// It is refused as
+    ///
+    /// - [`KeyError::Extra`] where a further file has no digest,
+    /// - [`KeyError::Input`] where the input is no regular file, and the store could be asked, or no
+    ///   preprocessor is needed,
+    /// - [`KeyError::Store`] where the store failed, and [`KeyError::Entry`] where what it handed out
+    ///   is no entry,
+    /// - [`KeyError::Preprocess`] where there is no preprocessed text,
+    /// - [`KeyError::Marker`] where a line marker of the text is malformed,
+    /// - [`KeyError::Memory`].
+    ///
+    /// A fault of the files can bring about the refusals of a further file, of the input and of the
+    /// preprocessor too, and can keep an entry from being used or put. After a refusal the store holds
+    /// what it held, or that call's own pair of key and entry.
+    ///
+    /// Upstream's `CCompilerHasher::generate_hash_key`.
+    pub fn generate_hash_key<H: HashState, F: Files, S: PreprocessorStore>(
+        &self,
+        alloc: Global,
+        files: &mut F,
+        store: &mut S,
+        cwd: &[u8],
+        vars: &[(Vec<u8>, Vec<u8>)],
+        moment: Timestamp,
+        zone: &TimeZone<'_>,
+        config: PreprocessorCacheModeConfig,
+        basedirs: &[Vec<u8>],
+        control: CacheControl,
+    ) -> Result<HashResult, KeyError>
+        ensures keeps { Keeps F.file_map F.faults F.is_quiet files.old files.new }
+        ensures step { let given : Given = record {
+          cwd = cwd.now;
+          env_vars = variables_of vars.now;
+          moment = moment;
+          zone = plain_zone zone.now;
+          config = config;
+          basedirs = lists_of basedirs.now;
+          control = control;
+        } in
+            Step (world_under H.hash I.compiler given) S.store (call_under I.value (F.file_map files.old) self.now given)
+            (Rose (F.faults files.old) (F.faults files.new)) store.old (answer_of result) store.new }
+        ensures toolchain { IfOk result (λ r. string_bytes r.weak_toolchain_key
+            ≡ toolchain_key self.now.executable.items (string_bytes self.now.executable_digest)) }
+    {
+        let weak_toolchain_key = match self.weak_toolchain_key(alloc) {
+            Ok(weak_toolchain_key) => weak_toolchain_key,
+            Err(error) => return Err(error),
+        };
+        let conditions = Conditions {
+            cwd,
+            vars,
+            moment,
+            zone,
+            config,
+            basedirs,
+            control,
+        };
+        let opening = match self.open::<H, F>(alloc, files, &conditions) {
+            Ok(opening) => opening,
+            Err(error) => return Err(error),
+        };
+        let found = match self.find::<H, F, S>(alloc, files, store, &opening, &conditions) {
+            Ok(found) => found,
+            Err(error) => return Err(error),
+        };
+        match found {
+            Some(key) => {
+                return Ok(HashResult {
+                    key,
+                    weak_toolchain_key,
+                    is_locally_preprocessed: false,
+                });
+            }
+            None => {}
+        }
+        match self.make::<H, F, S>(alloc, files, store, &opening, &conditions) {
+            Ok(key) => Ok(HashResult {
+                key,
+                weak_toolchain_key,
+                is_locally_preprocessed: true,
+            }),
+            Err(error) => Err(error),
+        }
+    }
+
+    /// The language of the input. It takes no memory.
+    pub fn language(&self) -> Language
+        ensures { result ≡ self.now.parsed_args.language }
+    {
+        self.parsed_args.language
+    }
+
+    /// Whether diagnostics are coloured. It takes no memory.
+    pub fn color_mode(&self) -> ColorMode
+        ensures { result ≡ self.now.parsed_args.color_mode }
+    {
+        self.parsed_args.color_mode
+    }
+
+    /// The file name of the output `obj`, to be shown, or `Unknown filename`, as
+    /// [`ParsedArguments::output_pretty`] says.
+    ///
+    /// Upstream's `CCompilerHasher::output_pretty`. It is refused only for want of memory, as
+    /// [`KeyError::Memory`].
+    pub fn output_pretty(&self, alloc: Global) -> Result<String, KeyError>
+        ensures name { IfOk result (λ name.
+            string_bytes name ≡ output_name (arguments_of self.now.parsed_args)) }
+        ensures refused { IsOkUnless result KeyError.Memory }
+    {
+        self.parsed_args.output_pretty(alloc)
+    }
+
+    // The path of the executable, with U+FFFD for what is no UTF-8, a `-` and the executable's digest.
+    #[tactic(auto, unfolding(crate::specs::Hasher::toolchain_key))]
+    fn weak_toolchain_key(&self, alloc: Global) -> Result<String, KeyError>
+        ensures key { IfOk result (λ key. string_bytes key
+            ≡ toolchain_key self.now.executable.items (string_bytes self.now.executable_digest)) }
+        ensures refused { IsOkUnless result KeyError.Memory }
+    {
+        let executable = self.executable.as_slice().to_str_lossy(alloc)?;
+        let digest = self.executable_digest.as_str();
+        Ok(format!(in alloc; "{executable}-{digest}")?)
+    }
+}

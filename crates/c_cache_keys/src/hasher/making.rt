@@ -1,0 +1,184 @@
+//! How a key is made afresh.
+ghost use Rattle.std.specs.Prelude.{◌≡◌, IfOk, IsOkUnless, map, option_map, string_bytes};
+ghost use Rattle.cck_files.specs.Calls.{Keeps, Rose};
+ghost use Rattle.cck_path.specs.Text.{join_path};
+ghost use Rattle.cck_util.specs.Key.{object_key};
+ghost use Rattle.c_cache_keys.specs.Conditions.{call_under, given_of, request_under, world_under};
+ghost use Rattle.c_cache_keys.specs.Hasher.{IsOpening, IsPrintedFor, made_of};
+ghost use Rattle.c_cache_keys.specs.Keys.{params};
+ghost use Rattle.c_cache_keys.specs.Step.{Makes};
+
+use super::CCompilerHasher;
+use super::opening::Opening;
+use super::storing::put_result;
+use crate::compiler::CCompilerImpl;
+use crate::conditions::Conditions;
+use crate::error::KeyError;
+use crate::included::included_of;
+use crate::lists::push_copies;
+use crate::refusals::{input_refusal, text_refusal, walk_refusal};
+use crate::store::PreprocessorStore;
+use cck_digest::HashState;
+use cck_file_digest::read_contents;
+use cck_files::Files;
+use cck_path::join_path;
+use cck_util::HashKeyParams;
+use cck_walk::{Walk, process_preprocessed_file};
+use std::alloc::Global;
+
+impl<I: CCompilerImpl> CCompilerHasher<I> {
+    /// Makes the key afresh, and puts an entry of it where it has one.
+    pub(crate) fn make<H: HashState, F: Files, S: PreprocessorStore>(
+        &self,
+        alloc: Global,
+        files: &mut F,
+        store: &mut S,
+        opening: &Opening,
+        conditions: &Conditions<'_>,
+    ) -> Result<String, KeyError>
+        requires { let given = given_of conditions.now in
+            IsOpening (world_under H.hash I.compiler given) (call_under I.value (F.file_map files.old) self.now given) opening.now }
+        ensures keeps { Keeps F.file_map F.faults F.is_quiet files.old files.new }
+        ensures makes { let given = given_of conditions.now in
+            Makes (world_under H.hash I.compiler given) S.store (call_under I.value (F.file_map files.old) self.now given)
+            (Rose (F.faults files.old) (F.faults files.new)) store.old (made_of result) store.new }
+    {
+        let input = match join_path(alloc, conditions.cwd, &self.parsed_args.input) {
+            Ok(input) => input,
+            Err(_) => return Err(KeyError::Memory),
+        };
+        if !self.parsed_args.language.needs_c_preprocessing() {
+            let text = match read_contents(alloc, files, &input) {
+                Ok(text) => text,
+                Err(error) => return Err(input_refusal(error)),
+            };
+            return self.plain_key::<H>(alloc, &opening.extra_hashes, conditions, &text);
+        }
+        let text = match self.compiler.preprocess(
+            alloc,
+            files,
+            &self.executable,
+            &self.parsed_args,
+            conditions.cwd,
+            conditions.vars,
+            conditions.moment,
+        ) {
+            Ok(text) => text,
+            Err(error) => return Err(text_refusal(error)),
+        };
+        match &opening.key {
+            None => self.plain_key::<H>(alloc, &opening.extra_hashes, conditions, &text),
+            Some(at) => self.walk_and_put::<H, F, S>(
+                alloc,
+                files,
+                store,
+                at.as_str(),
+                &opening.extra_hashes,
+                conditions,
+                &input,
+                &text,
+            ),
+        }
+    }
+
+    // The key of a text.
+    fn plain_key<H: HashState>(
+        &self,
+        alloc: Global,
+        extra_hashes: &[String],
+        conditions: &Conditions<'_>,
+        text: &[u8],
+    ) -> Result<String, KeyError>
+        ensures key { let given = given_of conditions.now in
+            let w = world_under H.hash I.compiler given in
+            IfOk result (λ key. string_bytes key
+            ≡ object_key H.hash (params w (request_under I.value self.now given) (map string_bytes extra_hashes.now) text.now)) }
+        ensures refused { IsOkUnless result KeyError.Memory }
+    {
+        let args = &self.parsed_args;
+        let mut arguments = Vec::new(alloc);
+        push_copies(alloc, &mut arguments, &args.common_args)?;
+        push_copies(alloc, &mut arguments, &args.arch_args)?;
+        let params = HashKeyParams::new(
+            self.executable_digest.as_str(),
+            args.language,
+            &arguments,
+            text,
+        )
+        .with_extra_hashes(extra_hashes)
+        .with_env_vars(conditions.vars)
+        .with_plusplus(self.compiler.plusplus())
+        .with_basedirs(conditions.basedirs)
+        .with_assembler_digest(self.assembler_digest());
+        match params.compute::<H>(alloc) {
+            Ok(key) => Ok(key),
+            Err(_) => Err(KeyError::Memory),
+        }
+    }
+
+    // The key of a printed text, where a store may be asked: the text is walked over, and where it
+    // names files that can be recorded, the entry of the key is put.
+    fn walk_and_put<H: HashState, F: Files, S: PreprocessorStore>(
+        &self,
+        alloc: Global,
+        files: &mut F,
+        store: &mut S,
+        at: &str,
+        extra_hashes: &[String],
+        conditions: &Conditions<'_>,
+        input: &[u8],
+        text: &[u8],
+    ) -> Result<String, KeyError>
+        requires input { input.now ≡ join_path conditions.now.cwd.now self.now.parsed_args.input.items }
+        requires printed { let given = given_of conditions.now in
+            IsPrintedFor (world_under H.hash I.compiler given) (call_under I.value (F.file_map files.old) self.now given)
+            at.now (map string_bytes extra_hashes.now) text.now }
+        ensures keeps { Keeps F.file_map F.faults F.is_quiet files.old files.new }
+        ensures makes { let given = given_of conditions.now in
+            Makes (world_under H.hash I.compiler given) S.store (call_under I.value (F.file_map files.old) self.now given)
+            (Rose (F.faults files.old) (F.faults files.new)) store.old (made_of result) store.new }
+    {
+        let walk = match process_preprocessed_file::<H, F>(
+            alloc,
+            files,
+            input,
+            conditions.cwd,
+            text,
+            conditions.config,
+            conditions.moment,
+            conditions.zone,
+            conditions.vars,
+        ) {
+            Ok(walk) => walk,
+            Err(error) => return Err(walk_refusal(error)),
+        };
+        let records = match walk {
+            Walk::Accepted(records) => records,
+            Walk::Refused => return self.plain_key::<H>(alloc, extra_hashes, conditions, text),
+        };
+        let key = match self.plain_key::<H>(alloc, extra_hashes, conditions, text) {
+            Ok(key) => key,
+            Err(error) => return Err(error),
+        };
+        let included = match included_of(alloc, records) {
+            Ok(included) => included,
+            Err(error) => return Err(error),
+        };
+        let included: &[(String, Vec<u8>)] = &included;
+        if included.is_empty() {
+            return Ok(key);
+        }
+        match put_result(
+            alloc,
+            files,
+            store,
+            at,
+            key.as_str(),
+            included,
+            conditions.moment,
+        ) {
+            Ok(()) => Ok(key),
+            Err(error) => Err(error),
+        }
+    }
+}
