@@ -1,0 +1,7 @@
+pub mod CallLemmas
+pub mod FileLemmas
+pub mod OptionLemmas
+pub mod ScriptLemmas
+pub mod SurroundingsLemmas
+pub mod VariableLemmas
+pub mod WordLemmas

@@ -1,0 +1,102 @@
+-- Files and variables, as one line more is followed.
+use Rattle.std.proofs.Common.{ℕ, Option, ◌≡◌, List, [], ◌∷◌, refl, ◌∙◌, ap, Result, Ok, Err, OnOk, false, Some, None}
+use Rattle.cck_files.specs.FileMap.{FileNode}
+use Rattle.cck_files.specs.FileState.{with_place, without_place}
+use Rattle.cck_path.specs.Path.{components, normal}
+use Rattle.cck_path.specs.Timestamp.{Moment}
+use Rattle.std.specs.Global.{Vec}
+use Rattle.cck_script.specs.Surroundings.{AreAfter, is_clear, place_said, variable_said, variables, with_variable}
+use Rattle.cck_script.specs.Lines.{Line}
+use Rattle.cck_script.specs.Lines as line
+use Rattle.cck_script.specs.Seen.{line_of, variables_of}
+use Rattle.cck_script.specs.Words.{Bytes}
+use Rattle.cck_script.specs.declared.command.Command.{Command}
+use Rattle.cck_script.specs.declared.command.Command.TheVariants as command
+use Rattle.cck_script.specs.declared.surroundings.Surroundings.{Surroundings}
+use Rattle.cck_script.proofs.FileLemmas.{files_gone, files_put, files_stay}
+use Rattle.cck_script.proofs.VariableLemmas.{variable_set, variables_stay}
+
+-- a line that puts a file or a folder
+after_put : (lines : List Line) (line : Line) (old new : Surroundings) (named : Bytes) (n : FileNode)
+    → place_said line ≡ Some (named, Some n) → variable_said line ≡ None → is_clear line ≡ false → AreAfter lines old
+    → new.files ≡ record old.files { files = with_place old.files.files (components named) n (normal (components named)) } → new.variables ≡ old.variables
+    → AreAfter (line ∷ lines) new
+after_put lines line old new named n place no_variable go_on are set same = record {
+  files = rw set (files_put lines line old.files.files named n place are.files);
+  no_faults = rw set are.no_faults;
+  unarmed = rw set are.unarmed;
+  variables_are = rw same are.variables_are ∙ variables_stay lines line no_variable go_on;
+}
+
+-- a line that takes a path away
+pub after_gone : (lines : List Line) (line : Line) (old new : Surroundings) (named : Bytes)
+    → place_said line ≡ Some (named, None) → variable_said line ≡ None → is_clear line ≡ false → AreAfter lines old
+    → new.files ≡ record old.files { files = without_place old.files.files (components named) } → new.variables ≡ old.variables
+    → AreAfter (line ∷ lines) new
+after_gone lines line old new named place no_variable go_on are set same = record {
+  files = rw set (files_gone lines line old.files.files named place are.files);
+  no_faults = rw set are.no_faults;
+  unarmed = rw set are.unarmed;
+  variables_are = rw same are.variables_are ∙ variables_stay lines line no_variable go_on;
+}
+
+-- a line that sets a variable
+after_set : (lines : List Line) (name value : Bytes) (old new : Surroundings) → AreAfter lines old → new.files ≡ old.files
+    → variables_of new.variables.items ≡ with_variable name value (variables_of old.variables.items) → AreAfter (line.Variable name value ∷ lines) new
+after_set lines name value old new are same set = record {
+  files = rw same (files_stay lines (line.Variable name value) old.files.files refl are.files);
+  no_faults = rw same are.no_faults;
+  unarmed = rw same are.unarmed;
+  variables_are = set ∙ ap (with_variable name value) are.variables_are ∙ variable_set lines name value;
+}
+
+-- the line that clears the variables
+pub after_clear : (lines : List Line) (old new : Surroundings) → AreAfter lines old → new.files ≡ old.files → new.variables.items ≡ [] → AreAfter (line.Clear ∷ lines) new
+unfolding variables
+after_clear lines old new are same none = record {
+  files = rw same (files_stay lines line.Clear old.files.files refl are.files);
+  no_faults = rw same are.no_faults;
+  unarmed = rw same are.unarmed;
+  variables_are = ap variables_of none;
+}
+
+-- a line that says nothing of files and variables
+after_other : (lines : List Line) (line : Line) (old : Surroundings) → place_said line ≡ None → variable_said line ≡ None → is_clear line ≡ false → AreAfter lines old → AreAfter (line ∷ lines) old
+after_other lines line old no_place no_variable go_on are = record {
+  files = files_stay lines line old.files.files no_place are.files;
+  no_faults = are.no_faults;
+  unarmed = are.unarmed;
+  variables_are = are.variables_are ∙ variables_stay lines line no_variable go_on;
+}
+
+-- the same of a call that may have been refused
+pub put_ok : {X E : Type 0} (r : Result X E) (line : Line) (old new : Surroundings) (named : Bytes) (n : FileNode)
+    → place_said line ≡ Some (named, Some n) → variable_said line ≡ None → is_clear line ≡ false
+    → OnOk r (new.files ≡ record old.files { files = with_place old.files.files (components named) n (normal (components named)) }) → new.variables ≡ old.variables
+    → OnOk r ((lines : List Line) → AreAfter lines old → AreAfter (line ∷ lines) new)
+put_ok (Ok x) line old new named n place no_variable go_on set same = λ lines are. after_put lines line old new named n place no_variable go_on are set same
+put_ok (Err e) line old new named n place no_variable go_on set same = tt
+
+pub set_ok : {X E : Type 0} (r : Result X E) (name value : Bytes) (old new : Surroundings) → new.files ≡ old.files
+    → OnOk r (variables_of new.variables.items ≡ with_variable name value (variables_of old.variables.items))
+    → OnOk r ((lines : List Line) → AreAfter lines old → AreAfter (line.Variable name value ∷ lines) new)
+set_ok (Ok x) name value old new same set = λ lines are. after_set lines name value old new are same set
+set_ok (Err e) name value old new same set = tt
+
+-- a command that is none of those that say something of files and variables
+pub after_rest : (c : Command) (lines : List Line) (old : Surroundings)
+    → ((path : Vec ℕ) (modified changed : Option Moment) (contents : Vec ℕ) → c ≡ command.File path modified changed contents → ⊥)
+    → ((path : Vec ℕ) → c ≡ command.Folder path → ⊥) → ((path : Vec ℕ) → c ≡ command.Gone path → ⊥)
+    → ((name value : Vec ℕ) → c ≡ command.Variable name value → ⊥) → (c ≡ command.Clear → ⊥)
+    → AreAfter lines old → AreAfter (line_of c ∷ lines) old
+after_rest (command.Zone offset) lines old f d g v r are = after_other lines _ old refl refl refl are
+after_rest (command.Basedir text) lines old f d g v r are = after_other lines _ old refl refl refl are
+after_rest (command.StoreForget n) lines old f d g v r are = after_other lines _ old refl refl refl are
+after_rest (command.StoreFail n) lines old f d g v r are = after_other lines _ old refl refl refl are
+after_rest (command.File path modified changed contents) lines old f d g v r are = absurd (f path modified changed contents refl)
+after_rest (command.Folder path) lines old f d g v r are = absurd (d path refl)
+after_rest (command.Gone path) lines old f d g v r are = absurd (g path refl)
+after_rest (command.Variable name value) lines old f d g v r are = absurd (v name value refl)
+after_rest command.Clear lines old f d g v r are = absurd (r refl)
+after_rest (command.Compile moment arguments) lines old f d g v r are = after_other lines _ old refl refl refl are
+after_rest (command.Recache moment arguments) lines old f d g v r are = after_other lines _ old refl refl refl are

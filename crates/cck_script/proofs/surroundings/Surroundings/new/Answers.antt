@@ -1,0 +1,13 @@
+use Rattle.std.proofs.Common.{ap}
+use Rattle.cck_script.specs.Surroundings.{variables}
+use Rattle.cck_script.specs.Seen.{variables_of}
+use Rattle.cck_script.proofs.surroundings.Surroundings.new.Goals as goal
+
+pub returns-clause-first : goal.returns-clause-first
+unfolding variables
+returns-clause-first c = record {
+  files = c.in_ok-first_files.ensures.files;
+  no_faults = c.in_ok-first_files.ensures.quiet.0;
+  unarmed = c.in_ok-first_files.ensures.quiet.1;
+  variables_are = ap variables_of c.new.ensures.items;
+}

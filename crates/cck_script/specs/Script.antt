@@ -1,0 +1,78 @@
+-- a script: its lines, and what holds for the whole run
+use Rattle.std.specs.Prelude.{◌≡◌, ℕ, ◌+◌, ◌==◌, ℤ, pos, List, [], ◌∷◌, map, reverse, Option, Some, None, unwrap_or}
+use Rattle.std.specs.List.{filter_map, slice_split}
+use Rattle.cck_script.specs.Lines.{Line, Zone, Basedir, StoreForget, StoreFail, Reading, Wrong, Skipped, Says, read}
+use Rattle.cck_script.specs.Words.{Bytes}
+use Rattle.cck_script.specs.declared.error.ScriptError.{ScriptError}
+use Rattle.cck_script.specs.declared.error.ScriptError.TheVariants as error
+
+-- what the lines of a text are. Each ends with an LF, or with the text; so a text that ends with an LF has an empty line behind it, which is
+-- skipped as each empty line is
+abbrev pub readings : Bytes → List Reading
+readings text = map read (slice_split (λ b. b == 10) text)
+
+-- the number of the first wrong line, counted from a number on
+abbrev pub wrong_from : ℕ → List Reading → Option ℕ
+wrong_from n [] = None
+wrong_from n (Wrong ∷ rest) = Some n
+wrong_from n (Skipped ∷ rest) = wrong_from (n + 1) rest
+wrong_from n (Says line ∷ rest) = wrong_from (n + 1) rest
+
+-- the number of the first wrong line, where the first line has the number 1
+unfoldable pub wrong_line : Bytes → Option ℕ
+wrong_line text = wrong_from 1 (readings text)
+
+abbrev pub line_in : Reading → Option Line
+line_in Wrong = None
+line_in Skipped = None
+line_in (Says line) = Some line
+
+-- the lines that say something
+unfoldable pub lines_said : Bytes → List Line
+lines_said text = filter_map line_in (readings text)
+
+-- a refusal: a wrong line, before which none is wrong, or want of memory
+abbrev pub IsScriptRefusal : Bytes → ScriptError → Type 0
+IsScriptRefusal text error.Memory = Unit {0}
+IsScriptRefusal text (error.Line n) = wrong_line text ≡ Some n
+
+-- what the first of these lines says that speaks, and else what is given
+abbrev pub first_or : {A : Type 0} → A → (Line → Option A) → List Line → A
+first_or other says [] = other
+first_or other says (line ∷ lines) = unwrap_or (says line) (first_or other says lines)
+
+-- what the last of these lines says that speaks, and else what is given
+abbrev pub last_or : {A : Type 0} → A → (Line → Option A) → List Line → A
+last_or other says lines = first_or other says (reverse lines)
+
+abbrev pub zone_said : Line → Option ℤ
+zone_said (Zone offset) = Some offset
+zone_said _ = None
+
+abbrev pub forget_said : Line → Option (Option ℕ)
+forget_said (StoreForget n) = Some (Some n)
+forget_said _ = None
+
+abbrev pub fail_said : Line → Option (Option ℕ)
+fail_said (StoreFail n) = Some (Some n)
+fail_said _ = None
+
+abbrev pub basedir_said : Line → Option Bytes
+basedir_said (Basedir text) = Some text
+basedir_said _ = None
+
+-- the offset of the run's zone: that of the last line `zone`, and 0 without one
+abbrev pub zone_of : List Line → ℤ
+zone_of lines = last_or (pos 0) zone_said lines
+
+-- the run's base directories
+abbrev pub basedirs_of : List Line → List Bytes
+basedirs_of lines = filter_map basedir_said lines
+
+-- the number of the store call that forgets: that of the last line that says one
+abbrev pub forget_of : List Line → Option ℕ
+forget_of lines = last_or None forget_said lines
+
+-- the number of the store call that fails: that of the last line that says one
+abbrev pub fail_of : List Line → Option ℕ
+fail_of lines = last_or None fail_said lines

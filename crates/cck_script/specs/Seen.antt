@@ -1,0 +1,41 @@
+-- what the program's values are seen as
+use Rattle.std.specs.Prelude.{ℕ, List, map}
+use Rattle.std.specs.Global.{Vec}
+use Rattle.cck_path.specs.Variables.{Variable}
+use Rattle.cck_script.specs.Lines.{Line, Reading}
+use Rattle.cck_script.specs.Lines as line
+use Rattle.cck_script.specs.Words.{Bytes}
+use Rattle.cck_script.specs.declared.command.Command.{Command}
+use Rattle.cck_script.specs.declared.command.Command.TheVariants as command
+use Rattle.cck_script.specs.declared.line.Reading as reading
+use Rattle.cck_script.specs.declared.line.Reading.TheVariants as read
+use Rattle.cck_script.specs.declared.script.Script.{Script}
+
+abbrev pub lists_of : List (Vec ℕ) → List Bytes
+lists_of vs = map (λ v. v.items) vs
+
+abbrev pub variables_of : List (Vec ℕ × Vec ℕ) → List Variable
+variables_of vs = map (λ v. (v.0.items, v.1.items)) vs
+
+-- what a command says
+abbrev pub line_of : Command → Line
+line_of (command.Zone offset) = line.Zone offset
+line_of (command.Basedir text) = line.Basedir text.items
+line_of (command.StoreForget n) = line.StoreForget n
+line_of (command.StoreFail n) = line.StoreFail n
+line_of (command.File path modified changed contents) = line.File path.items modified changed contents.items
+line_of (command.Folder path) = line.Folder path.items
+line_of (command.Gone path) = line.Gone path.items
+line_of (command.Variable name value) = line.Variable name.items value.items
+line_of command.Clear = line.Clear
+line_of (command.Compile moment arguments) = line.Compile moment (lists_of arguments.items)
+line_of (command.Recache moment arguments) = line.Recache moment (lists_of arguments.items)
+
+abbrev pub reading_of : reading.Reading → Reading
+reading_of read.Wrong = line.Wrong
+reading_of read.Skipped = line.Skipped
+reading_of (read.Says c) = line.Says (line_of c)
+
+-- the lines of a script that say something
+abbrev pub lines_of : Script → List Line
+lines_of script = map line_of script.commands.items

@@ -1,0 +1,124 @@
+-- what stands and holds after the first lines of a script: files and variables
+use Rattle.std.specs.Prelude.{◌≡◌, ℕ, ◌+◌, ◌<◌, pos, List, [], ◌∷◌, ◌++◌, map, codes, is_some, drop, length, slice_index_or, take, Bool, true, false, if◌then◌else◌, Option, Some, None}
+use Rattle.std.specs.FinMap as finite
+use Rattle.std.specs.Global.{Vec}
+use Rattle.std.specs.List.{list_any}
+use Rattle.std.specs.Option.{option_map}
+use Rattle.std.specs.Ordering.{eq_by_cmp}
+use Rattle.std.specs.Str.{bytes_eq}
+use Rattle.cck_files.specs.FileMap.{FileMap, FileNode}
+use Rattle.cck_path.specs.Path.{Path, components, normal, path_cmp}
+use Rattle.cck_path.specs.Timestamp.{Moment}
+use Rattle.cck_path.specs.Variables.{Variable as NamedValue}
+use Rattle.cck_path.specs.declared.metadata.FileKind.TheVariants as kind
+use Rattle.cck_script.specs.Lines.{Line, File, Folder, Gone, Variable, Clear}
+use Rattle.cck_script.specs.Script.{first_or}
+use Rattle.cck_script.specs.Seen.{variables_of}
+use Rattle.cck_script.specs.Words.{Bytes}
+use Rattle.cck_script.specs.declared.surroundings.Surroundings.{Surroundings}
+
+-- ---- what stands at a path. Lines are given from the last to the first
+
+-- a regular file with these contents and times
+abbrev pub file_node : Bytes → Option Moment → Option Moment → FileNode
+file_node contents modified changed = record { kind = kind.File; contents = contents; modified = modified; changed = changed }
+
+-- the first moment of 1970
+abbrev pub epoch : Moment
+epoch = record { seconds = pos 0; nanoseconds = 0 }
+
+-- the executable, before any line
+abbrev pub executable : FileNode
+executable = file_node (codes "cc") (Some epoch) (Some epoch)
+
+-- what stands at a path before any line
+abbrev pub stands_first : Path → Option FileNode
+stands_first p = if eq_by_cmp path_cmp p (components (codes "/usr/bin/cc")) then Some executable else None
+
+-- the path that a line names, and what stands there after it
+abbrev pub place_said : Line → Option (Bytes × Option FileNode)
+place_said (File path modified changed contents) = Some (path, Some (file_node contents modified changed))
+place_said (Folder path) = Some (path, Some (record { kind = kind.Folder; contents = []; modified = None; changed = None }))
+place_said (Gone path) = Some (path, None)
+place_said _ = None
+
+abbrev pub if_names : Path → Option (Bytes × Option FileNode) → Option (Option FileNode)
+if_names p None = None
+if_names p (Some place) = if eq_by_cmp path_cmp p (components place.0) then Some place.1 else None
+
+-- what stands at a path after these lines: what the last one says that names it, and else what stood there before any line
+unfoldable pub stands : List Line → Path → Option FileNode
+stands lines p = first_or (stands_first p) (λ line. if_names p (place_said line)) lines
+
+-- these are the files after these lines, each of which is its own canonical path, without its `.` and `..`
+pub record AreFiles (lines : List Line) (files : FileMap) : Type 0 where
+  pub nodes : (p : Path) → finite.get files.nodes p ≡ stands lines p
+  pub canonicals : (p : Path) → finite.get files.canonicals p ≡ option_map (λ _. normal p) (stands lines p)
+
+-- ---- variables. Lines are given from the last to the first
+
+abbrev pub is_clear : Line → Bool
+is_clear Clear = true
+is_clear _ = false
+
+-- the lines since the last `clear`
+abbrev pub since_clear : List Line → List Line
+since_clear [] = []
+since_clear (line ∷ lines) = if is_clear line then [] else line ∷ since_clear lines
+
+-- the variable that a line sets
+abbrev pub variable_said : Line → Option NamedValue
+variable_said (Variable name value) = Some (name, value)
+variable_said _ = None
+
+abbrev pub if_same : Bytes → Option NamedValue → Option Bytes
+if_same name None = None
+if_same name (Some set) = if bytes_eq set.0 name then Some set.1 else None
+
+-- a line sets a variable of this name
+abbrev pub sets : Bytes → Line → Bool
+sets name line = is_some (if_same name (variable_said line))
+
+-- the name that a line brings in behind others, if no earlier line has it
+abbrev pub new_name : Option NamedValue → List Line → List Bytes
+new_name None earlier = []
+new_name (Some set) earlier = if list_any (sets set.0) earlier then [] else set.0 ∷ []
+
+-- the names that these lines set, each where it was set first
+abbrev pub names : List Line → List Bytes
+names [] = []
+names (line ∷ earlier) = names earlier ++ new_name (variable_said line) earlier
+
+-- the value of a variable: that of the last line that sets it
+abbrev pub value_of : List Line → Bytes → Bytes
+value_of lines name = first_or [] (λ line. if_same name (variable_said line)) lines
+
+abbrev pub set_by : List Line → List NamedValue
+set_by lines = map (λ name. (name, value_of lines name)) (names lines)
+
+-- the variables after these lines: what was set since the last `clear`
+unfoldable pub variables : List Line → List NamedValue
+variables lines = set_by (since_clear lines)
+
+-- ---- what the program has of them
+
+-- the files and variables are those after these lines, and no call on the files is armed to fail
+pub record AreAfter (lines : List Line) (after : Surroundings) : Type 0 where
+  pub files : AreFiles lines after.files.files
+  pub no_faults : after.files.faults ≡ 0
+  pub unarmed : after.files.armed ≡ 0
+  pub variables_are : variables_of after.variables.items ≡ variables lines
+
+-- variables with one that is set: in the place of the first of its name, and else behind them
+abbrev pub with_variable : Bytes → Bytes → List NamedValue → List NamedValue
+with_variable name value [] = (name, value) ∷ []
+with_variable name value (v ∷ vs) = if bytes_eq v.0 name then (v.0, value) ∷ vs else v ∷ with_variable name value vs
+
+-- no variable has the name: one that is set comes last
+abbrev pub IsNew : Bytes → List (Vec ℕ × Vec ℕ) → Type 0
+IsNew name vs = (value : Bytes) → with_variable name value (variables_of vs) ≡ variables_of vs ++ (name, value) ∷ []
+
+-- the first variable of the name stands at this place
+abbrev pub IsPlaceOf : Bytes → List (Vec ℕ × Vec ℕ) → ℕ → Type 0
+IsPlaceOf name vs at =
+    (at < length vs) × ((new : Vec ℕ) (d : Vec ℕ × Vec ℕ) → with_variable name new.items (variables_of vs) ≡ variables_of (take at vs ++ ((slice_index_or vs at d).0, new) ∷ drop (at + 1) vs))

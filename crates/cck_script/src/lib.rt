@@ -1,0 +1,47 @@
+//! Scripts: what is to be compiled, over which files and variables, line by line.
+//!
+//! A script is a text of lines. Some lines put files or set variables, and a line `compile` or
+//! `recache` asks for a call over the files and variables as they then are. [`Script::parse`] reads a
+//! text once, and tells the number of the first wrong line; [`Script::calls`] gives the calls, each
+//! with its own files and variables.
+//!
+//! | line | meaning |
+//! |---|---|
+//! | `zone S` | the run's zone is S seconds east of UTC, from -86399 to 86399 |
+//! | `basedir TEXT` | one base directory more for the run |
+//! | `store forget N`, `store fail N` | the Nth call of the store forgets, or fails |
+//! | `file PATH MODIFIED CHANGED TEXT` | a regular file with this text and these times, or `-` for no time |
+//! | `dir PATH` | a folder without times |
+//! | `gone PATH` | nothing stands at this path alone |
+//! | `var NAME TEXT` | a variable: a new name comes last, a known one keeps its place |
+//! | `clear` | no variables |
+//! | `compile MOMENT INPUT ARG..` | a call |
+//! | `recache MOMENT INPUT ARG..` | a call that may not be answered from the store |
+//!
+//! Words stand behind one space each. TEXT is all that follows its space, and empty where the line
+//! ends before. Words and TEXT are undone by [`cck_path::ascii_unescape_default`]. Times are whole
+//! nanoseconds that fit an `i64`. Empty lines and those that begin with `#` are skipped.
+//!
+//! ```rust
+//! let text = b"file /w/a.c 1 1 int x;\\n\nvar HOME /h\ncompile 5000000000 a.c -O2\n";
+//! let script = Script::parse(alloc, text)?;
+//! script.calls(alloc)?; // one, of `a.c` and `-O2`, over `/w/a.c` and `/usr/bin/cc`
+//! Script::parse(alloc, b"#c\n\ncompile - a.c"); // `Err(ScriptError::Line(3))`
+//! ```
+#![tactic(auto)]
+
+mod call;
+mod command;
+mod error;
+mod line;
+mod number;
+mod script;
+mod surroundings;
+#[cfg(test)]
+mod tests;
+mod word;
+
+pub use call::ScriptCall;
+pub use error::ScriptError;
+pub use script::{RunOptions, Script};
+pub use surroundings::{EXECUTABLE, WORKING_DIRECTORY, first_files};

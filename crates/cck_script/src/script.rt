@@ -1,0 +1,113 @@
+//! A script, read.
+ghost use Rattle.std.specs.Prelude.{◌≡◌, ◌++◌, None, IfOk, IsOkUnless, MatchResult, OnOk};
+ghost use Rattle.std.specs.Option.{option_to_list, unwrap_or};
+ghost use Rattle.cck_script.specs.Script.{IsScriptRefusal, basedir_said, basedirs_of, fail_of, fail_said, forget_of, forget_said, lines_said, wrong_line, zone_of, zone_said};
+ghost use Rattle.cck_script.specs.Seen.{line_of, lines_of, lists_of};
+
+use crate::command::Command;
+use crate::error::ScriptError;
+use crate::line::{Reading, read_line};
+use crate::word::cut;
+use cck_digest::UtilError;
+use std::alloc::Global;
+
+/// A script, read.
+#[derive(Debug, Drop)]
+pub struct Script {
+    pub(crate) commands: Vec<Command>,
+}
+
+/// What holds for the whole run of a script, wherever its line stands.
+#[derive(Debug, Drop)]
+pub struct RunOptions {
+    /// The offset of the zone, in seconds east of UTC: less than a day. It is 0 where no line says
+    /// one.
+    pub zone_offset: i32,
+    /// The base directories, in the order of their lines.
+    pub basedirs: Vec<Vec<u8>>,
+    /// Which call of the store forgets, counted from 1.
+    pub forget_at: Option<u64>,
+    /// Which call of the store fails, counted from 1.
+    pub fail_at: Option<u64>,
+}
+
+impl Script {
+    /// Reads a script.
+    ///
+    /// It is refused as [`ScriptError::Line`] exactly where a line is wrong, with the number of the
+    /// first wrong one, and as [`ScriptError::Memory`].
+    pub fn parse(alloc: Global, text: &[u8]) -> Result<Script, ScriptError>
+        ensures { MatchResult result
+            (λ script. (wrong_line text.now ≡ None) × (lines_of script ≡ lines_said text.now))
+            (IsScriptRefusal text.now) }
+    {
+        let mut commands = Vec::new(alloc);
+        let mut number: u64 = 0;
+        let mut left = Some(text);
+        while let Some(lines) = left {
+            let part = cut(b'\n', lines);
+            number += 1;
+            match read_line(alloc, part.front)? {
+                Reading::Wrong => return Err(ScriptError::Line(number)),
+                Reading::Skipped => {}
+                Reading::Says(command) => commands.push(command)?,
+            }
+            left = part.rest;
+        }
+        Ok(Script { commands })
+    }
+
+    /// What holds for the whole run. Of several lines `zone`, `store forget` or `store fail` the
+    /// last one counts.
+    ///
+    /// It is refused only for want of memory, as [`UtilError::Memory`].
+    pub fn options(&self, alloc: Global) -> Result<RunOptions, UtilError>
+        ensures zone { IfOk result (λ o. o.zone_offset ≡ zone_of (lines_of self.now)) }
+        ensures basedirs { IfOk result (λ o.
+            lists_of o.basedirs.items ≡ basedirs_of (lines_of self.now)) }
+        ensures forget { IfOk result (λ o. o.forget_at ≡ forget_of (lines_of self.now)) }
+        ensures fail { IfOk result (λ o. o.fail_at ≡ fail_of (lines_of self.now)) }
+        ensures refused { IsOkUnless result UtilError.Memory }
+    {
+        let mut options = RunOptions {
+            zone_offset: 0,
+            basedirs: Vec::new(alloc),
+            forget_at: None,
+            fail_at: None,
+        };
+        for command in &self.commands {
+            options.take_in(alloc, command)?;
+        }
+        Ok(options)
+    }
+}
+
+impl RunOptions {
+    // Takes in what one line more says.
+    fn take_in(&mut self, alloc: Global, command: &Command) -> Result<(), UtilError>
+        ensures zone { OnOk result (self.new.zone_offset
+            ≡ unwrap_or (zone_said (line_of command.now)) self.old.zone_offset) }
+        ensures basedirs { OnOk result (lists_of self.new.basedirs.items
+            ≡ lists_of self.old.basedirs.items ++ option_to_list (basedir_said (line_of command.now))) }
+        ensures forget { OnOk result (self.new.forget_at
+            ≡ unwrap_or (forget_said (line_of command.now)) self.old.forget_at) }
+        ensures fail { OnOk result (self.new.fail_at
+            ≡ unwrap_or (fail_said (line_of command.now)) self.old.fail_at) }
+        ensures refused { IsOkUnless result UtilError.Memory }
+    {
+        match command {
+            Command::Zone { offset } => self.zone_offset = *offset,
+            Command::Basedir { text } => self.basedirs.push(text.to_vec(alloc)?)?,
+            Command::StoreForget { call } => self.forget_at = Some(*call),
+            Command::StoreFail { call } => self.fail_at = Some(*call),
+            Command::File { .. }
+            | Command::Folder { .. }
+            | Command::Gone { .. }
+            | Command::Variable { .. }
+            | Command::Clear
+            | Command::Compile { .. }
+            | Command::Recache { .. } => {}
+        }
+        Ok(())
+    }
+}

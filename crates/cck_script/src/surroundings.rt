@@ -1,0 +1,184 @@
+//! What stands and holds where a call is made: files and variables.
+ghost use Rattle.std.specs.Prelude.{◌≡◌, ◌∷◌, [], List, IfOk, IsOkUnless, MatchOption, OnOk};
+ghost use Rattle.cck_files.specs.FileState.{with_place};
+ghost use Rattle.cck_path.specs.Path.{components, normal};
+ghost use Rattle.cck_script.specs.Surroundings.{AreAfter, AreFiles, IsNew, IsPlaceOf, file_node, with_variable};
+ghost use Rattle.cck_script.specs.Lines.{Line};
+ghost use Rattle.cck_script.specs.Seen.{line_of, variables_of};
+
+use crate::command::Command;
+use cck_digest::UtilError;
+use cck_files::{MapFiles, Node};
+use cck_path::{FileKind, Timestamp};
+use std::alloc::Global;
+
+/// The path of the compiler's executable, which stands there before any line.
+pub const EXECUTABLE: &[u8] = b"/usr/bin/cc";
+
+/// The working directory of every call.
+pub const WORKING_DIRECTORY: &[u8] = b"/w";
+
+// What stands at the executable's path before any line.
+const EXECUTABLE_CONTENTS: &[u8] = b"cc";
+
+/// The files before any line: [`EXECUTABLE`] alone, with the contents `cc` and both times at
+/// 1970-01-01T00:00:00Z. No call on them is armed to fail.
+///
+/// It is refused only for want of memory, as [`UtilError::Memory`].
+pub fn first_files(alloc: Global) -> Result<MapFiles, UtilError>
+    ensures files { IfOk result (λ files. AreFiles [] files.files) }
+    ensures quiet { IfOk result (λ files. (files.faults ≡ 0) × (files.armed ≡ 0)) }
+    ensures refused { IsOkUnless result UtilError.Memory }
+{
+    let mut files = MapFiles::new(alloc);
+    let start = Timestamp::new(0, 0);
+    put_file(
+        alloc,
+        &mut files,
+        EXECUTABLE,
+        Some(start),
+        Some(start),
+        EXECUTABLE_CONTENTS,
+    )?;
+    Ok(files)
+}
+
+/// The files and variables after the first lines of a script.
+#[derive(Debug, Drop)]
+pub(crate) struct Surroundings {
+    /// The files, on which no call is armed to fail.
+    pub(crate) files: MapFiles,
+    /// The variables.
+    pub(crate) variables: Vec<(Vec<u8>, Vec<u8>)>,
+}
+
+impl Surroundings {
+    /// The files and variables before any line.
+    pub(crate) fn new(alloc: Global) -> Result<Surroundings, UtilError>
+        ensures first { IfOk result (AreAfter []) }
+        ensures refused { IsOkUnless result UtilError.Memory }
+    {
+        Ok(Surroundings {
+            files: first_files(alloc)?,
+            variables: Vec::new(alloc),
+        })
+    }
+
+    /// Does what one line more says.
+    ///
+    /// It is refused only for want of memory, as [`UtilError::Memory`]; what it has done then is
+    /// open.
+    pub(crate) fn follow(&mut self, alloc: Global, command: &Command) -> Result<(), UtilError>
+        ensures after { OnOk result ((lines : List Line) → AreAfter lines self.old
+            → AreAfter (line_of command.now ∷ lines) self.new) }
+        ensures refused { IsOkUnless result UtilError.Memory }
+    {
+        match command {
+            Command::File {
+                path,
+                modified,
+                changed,
+                contents,
+            } => put_file(alloc, &mut self.files, path, *modified, *changed, contents),
+            Command::Folder { path } => self.files.put(
+                path,
+                Node {
+                    kind: FileKind::Folder,
+                    contents: Vec::new(alloc),
+                    modified: None,
+                    changed: None,
+                },
+            ),
+            Command::Gone { path } => {
+                self.files.remove(path);
+                Ok(())
+            }
+            Command::Variable { name, value } => {
+                set_variable(alloc, &mut self.variables, name, value)
+            }
+            Command::Clear => {
+                self.variables.clear();
+                Ok(())
+            }
+            _ => Ok(()),
+        }
+    }
+
+    /// The same files and variables once more.
+    ///
+    /// It is refused only for want of memory, as [`UtilError::Memory`].
+    pub(crate) fn copy(&self, alloc: Global) -> Result<Surroundings, UtilError>
+        ensures same { IfOk result (λ copy. (lines : List Line) → AreAfter lines self.now
+            → AreAfter lines copy) }
+        ensures refused { IsOkUnless result UtilError.Memory }
+    {
+        let mut variables = Vec::new(alloc);
+        for (name, value) in &self.variables {
+            variables.push((name.to_vec(alloc)?, value.to_vec(alloc)?))?;
+        }
+        Ok(Surroundings {
+            files: self.files.copy(alloc)?,
+            variables,
+        })
+    }
+}
+
+// Sets the regular file at a path, in place of what stands there.
+fn put_file(
+    alloc: Global,
+    files: &mut MapFiles,
+    path: &[u8],
+    modified: Option<Timestamp>,
+    changed: Option<Timestamp>,
+    contents: &[u8],
+) -> Result<(), UtilError>
+    ensures set { OnOk result (files.new ≡ record files.old {
+      files =
+          with_place files.old.files (components path.now)
+          (file_node contents.now modified changed)
+          (normal (components path.now));
+    }) }
+    ensures refused { IsOkUnless result UtilError.Memory }
+{
+    let contents = contents.to_vec(alloc)?;
+    files.put(
+        path,
+        Node {
+            kind: FileKind::File,
+            contents,
+            modified,
+            changed,
+        },
+    )
+}
+
+// Gives a variable a value: a new name comes last, a known one keeps its place.
+fn set_variable(
+    alloc: Global,
+    variables: &mut Vec<(Vec<u8>, Vec<u8>)>,
+    name: &[u8],
+    value: &[u8],
+) -> Result<(), UtilError>
+    ensures set { OnOk result (variables_of variables.new.items
+        ≡ with_variable name.now value.now (variables_of variables.old.items)) }
+    ensures refused { IsOkUnless result UtilError.Memory }
+{
+    let value = value.to_vec(alloc)?;
+    match place_of(variables, name) {
+        Some(at) => variables[at].1 = value,
+        None => variables.push((name.to_vec(alloc)?, value))?,
+    }
+    Ok(())
+}
+
+// The place of the first variable of a name, if there is one.
+fn place_of(variables: &[(Vec<u8>, Vec<u8>)], name: &[u8]) -> Option<usize>
+    ensures { MatchOption result (IsNew name.now variables.now) (IsPlaceOf name.now variables.now) }
+{
+    for (at, (known, _)) in variables.iter().enumerate() {
+        if known.as_slice() == name {
+            return Some(at);
+        }
+    }
+    None
+}

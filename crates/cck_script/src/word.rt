@@ -1,0 +1,143 @@
+//! The words of a line, and the parts of a text.
+ghost use Rattle.std.specs.Prelude.{◌≡◌, ◌==◌, ◌∷◌, ◌++◌, Option, Some, None, IfOk, length, position};
+ghost use Rattle.std.specs.Option.{option_map};
+ghost use Rattle.cck_path.specs.Escape.{unescaped};
+ghost use Rattle.cck_script.specs.Seen.{lists_of};
+ghost use Rattle.cck_script.specs.Words.{cut, last_text, next_word, text_of, word, words};
+
+use cck_digest::UtilError;
+use cck_path::ascii_unescape_default;
+use std::alloc::{AllocError, Global};
+
+/// A word, and what is left of its line where a space stands behind it.
+#[derive(Drop)]
+pub(crate) struct Taken<'a> {
+    /// The word, undone.
+    pub(crate) word: Vec<u8>,
+    /// What stands behind the space.
+    pub(crate) rest: Option<&'a [u8]>,
+}
+
+/// The first part of a text, and what stands behind the separator that ends it.
+#[derive(Clone, Copy)]
+pub(crate) struct Part<'a> {
+    /// The part.
+    pub(crate) front: &'a [u8],
+    /// What stands behind the separator, where there is one.
+    pub(crate) rest: Option<&'a [u8]>,
+}
+
+/// What stands before the first separator of a text, and what stands behind it.
+#[tactic(auto, unfolding(crate::specs::Words::cut))]
+pub(crate) fn cut(separator: u8, text: &[u8]) -> Part<'_>
+    ensures { (result.front.now, option_map (λ r. r.now) result.rest) ≡ cut separator text.now }
+{
+    match find(separator, text) {
+        None => Part {
+            front: text,
+            rest: None,
+        },
+        Some(end) => Part {
+            front: &text[..end],
+            rest: Some(&text[end + 1..]),
+        },
+    }
+}
+
+// The place of the first separator.
+fn find(separator: u8, text: &[u8]) -> Option<usize>
+    ensures { result ≡ position (λ b. b == separator) text.now }
+{
+    text.iter().position(|byte| *byte == separator)
+}
+
+// What an escaped text stands for, if it stands for one.
+fn undone(alloc: Global, text: &[u8]) -> Result<Option<Vec<u8>>, AllocError>
+    ensures { IfOk result (λ found. option_map (λ v. v.items) found
+        ≡ text_of (unescaped text.now)) }
+{
+    match ascii_unescape_default(alloc, text) {
+        Ok(bytes) => Ok(Some(bytes)),
+        Err(UtilError::Memory) => Err(AllocError),
+        Err(_) => Ok(None),
+    }
+}
+
+// The word that a part stands for, if it stands for one.
+#[tactic(auto, unfolding(crate::specs::Words::word))]
+fn word(alloc: Global, part: &[u8]) -> Result<Option<Vec<u8>>, AllocError>
+    ensures { IfOk result (λ found. option_map (λ v. v.items) found ≡ word part.now) }
+{
+    if part.is_empty() {
+        return Ok(None);
+    }
+    undone(alloc, part)
+}
+
+/// The next word of what is left of a line. There is none where nothing is left, and where it is
+/// empty or an escape in it is wrong.
+#[tactic(auto, unfolding(crate::specs::Words::next_word))]
+pub(crate) fn next_word<'a>(
+    alloc: Global,
+    rest: Option<&'a [u8]>,
+) -> Result<Option<Taken<'a>>, AllocError>
+    ensures { IfOk result (λ found.
+        option_map (λ t. (t.word.items, option_map (λ r. r.now) t.rest)) found
+        ≡ next_word (option_map (λ r. r.now) rest.entry)) }
+{
+    let Some(line) = rest else {
+        return Ok(None);
+    };
+    let part = cut(b' ', line);
+    match word(alloc, part.front)? {
+        None => Ok(None),
+        Some(word) => Ok(Some(Taken {
+            word,
+            rest: part.rest,
+        })),
+    }
+}
+
+/// The text that is left of a line, which is empty where nothing is left. There is none where an
+/// escape in it is wrong.
+#[tactic(auto, unfolding(crate::specs::Words::last_text))]
+pub(crate) fn last_text(alloc: Global, rest: Option<&[u8]>) -> Result<Option<Vec<u8>>, AllocError>
+    ensures { IfOk result (λ found. option_map (λ v. v.items) found
+        ≡ last_text (option_map (λ r. r.now) rest.entry)) }
+{
+    match rest {
+        None => Ok(Some(Vec::new(alloc))),
+        Some(text) => undone(alloc, text),
+    }
+}
+
+/// All words that are left of a line. There are none where nothing is left, and where one of them
+/// is empty or an escape in it is wrong.
+#[tactic(auto, unfolding(crate::specs::Words::words))]
+pub(crate) fn words(alloc: Global, rest: Option<&[u8]>) -> Result<Option<Vec<Vec<u8>>>, AllocError>
+    ensures { IfOk result (λ found. option_map (λ ws. lists_of ws.items) found
+        ≡ words (option_map (λ r. r.now) rest.entry)) }
+{
+    match rest {
+        None => Ok(None),
+        Some(line) => words_in(alloc, line),
+    }
+}
+
+// All words of a line.
+#[tactic(auto, unfolding(crate::specs::Words::words))]
+fn words_in(alloc: Global, line: &[u8]) -> Result<Option<Vec<Vec<u8>>>, AllocError>
+    ensures { IfOk result (λ found. option_map (λ ws. lists_of ws.items) found
+        ≡ words (Some line.now)) }
+{
+    let mut words = Vec::new(alloc);
+    let mut left = Some(line);
+    while let Some(line) = left {
+        let Some(taken) = next_word(alloc, Some(line))? else {
+            return Ok(None);
+        };
+        words.push(taken.word)?;
+        left = taken.rest;
+    }
+    Ok(Some(words))
+}
