@@ -1,0 +1,79 @@
+-- Expanding piece by piece, and lines one by one.
+use Rattle.std.proofs.Common.{◌≡◌, ℕ, zero, suc, ◌+◌, ◌-◌, ◌<◌, ◌≤◌, [], ◌∷◌, ◌++◌, length, refl, ap, sym, ◌∙◌, append_assoc, drop, take, Option, Some, None, Bool, true, false, nat_lt, arith, cond, length-drop}
+use Rattle.std.specs.List.{position, position_or_len}
+use Rattle.std.proofs.lemmas.Bool.Decides.{nat_tests}
+use Rattle.std.proofs.lemmas.List.{append-nil, take_all}
+use Rattle.cck_mini.specs.Printed.{Bytes, Macros, macro_at, piece_or, expanded, expanded_behind, lines_in, onto_line, is_lf}
+
+pub tail_range : (text : Bytes) (k : ℕ) → drop k text ≡ take (length text - k) (drop k text)
+tail_range text k = let h : length (drop k text) ≤ length text - k = simp length-drop (omega arith) in sym (take_all (length text - k) (drop k text) h)
+
+-- bytes inside a macro are dropped
+skipped : (m : Macros) (k : ℕ) (text : Bytes) → expanded_behind m k text ≡ expanded_behind m 0 (drop k text)
+skipped m zero text = refl
+skipped m (suc k) [] = refl
+skipped m (suc k) (b ∷ bs) = skipped m k bs
+
+skipped_one : (m : Macros) (n : ℕ) (b : ℕ) (bs : Bytes) → 0 < n → expanded_behind m (n - 1) bs ≡ expanded_behind m 0 (drop n (b ∷ bs))
+skipped_one m zero b bs h = absurd (omega arith)
+skipped_one m (suc k) b bs h = let e : suc k - 1 ≡ k = omega arith in rw e (skipped m k bs)
+
+pub piece_found : (m : Macros) (text value : Bytes) (n : ℕ) → macro_at m text ≡ Some (value, n) → 0 < n → 0 < length text → expanded m text ≡ value ++ expanded m (take (length text - n) (drop n text))
+unfolding expanded
+piece_found m [] value n e p h = absurd (omega arith)
+piece_found m (b ∷ bs) value n e p h = ap (λ found. piece_or found (b ∷ expanded_behind m 0 bs) (λ k. expanded_behind m k bs)) e ∙ ap (λ t. value ++ t) (skipped_one m n b bs p ∙ ap (λ t. expanded_behind m 0 t) (tail_range (b ∷ bs) n))
+
+pub piece_plain : (m : Macros) (text : Bytes) → macro_at m text ≡ None → 0 < length text → expanded m text ≡ take 1 text ++ expanded m (take (length text - 1) (drop 1 text))
+unfolding expanded
+piece_plain m [] e h = absurd (omega arith)
+piece_plain m (b ∷ bs) e h = ap (λ found. piece_or found (b ∷ expanded_behind m 0 bs) (λ k. expanded_behind m k bs)) e ∙ ap (λ t. b ∷ expanded_behind m 0 t) (tail_range (b ∷ bs) 1)
+
+pub expand_more : (m : Macros) (before text left piece rest : Bytes) (out : Bytes) → out ++ expanded m left ≡ before ++ expanded m text → expanded m left ≡ piece ++ expanded m rest → (out ++ piece) ++ expanded m rest ≡ before ++ expanded m text
+expand_more m before text left piece rest out h e = append_assoc out piece (expanded m rest) ∙ ap (λ t. out ++ t) (sym e) ∙ h
+
+pub expand_end : (m : Macros) (left out whole : Bytes) → length left ≡ 0 → out ++ expanded m left ≡ whole → out ≡ whole
+unfolding expanded
+expand_end m [] out whole z h = sym (append-nil out) ∙ h
+expand_end m (b ∷ bs) out whole z h = absurd (omega arith)
+
+-- lines, one by one
+line_none_step : (x : ℕ) (xs : Bytes) (b : Bool) → is_lf x ≡ b → length (x ∷ xs) ≤ position_or_len is_lf (x ∷ xs) → ((length xs ≤ position_or_len is_lf xs) → 0 < length xs → lines_in xs ≡ (xs, []) ∷ []) → lines_in (x ∷ xs) ≡ (x ∷ xs, []) ∷ []
+line_none_step x xs true e h next = let h2 = rw e at h in absurd (omega arith)
+line_none_step x [] false e h next = rw e refl
+line_none_step x (y ∷ ys) false e h next = let h2 = rw e at h in rw e (ap (onto_line x) (next (omega arith) (omega arith)))
+
+pub line_none : (s : Bytes) → length s ≤ position_or_len is_lf s → 0 < length s → lines_in s ≡ (s, []) ∷ []
+line_none [] h p = absurd (omega arith)
+line_none (x ∷ xs) h p = line_none_step x xs (is_lf x) refl h (line_none xs)
+
+is_not_under : (a b : ℕ) → nat_lt a b ≡ false → b ≤ a
+is_not_under a b e = grind (arith, nat_tests)
+
+is_under : (a b : ℕ) → nat_lt a b ≡ true → a < b
+is_under a b e = grind (arith, nat_tests)
+
+none_if : (s : Bytes) (b : Bool) → nat_lt (position_or_len is_lf s) (length s) ≡ b → ◌≡◌ {A = Option ℕ} None (cond b (Some (position_or_len is_lf s)) None) → 0 < length s → lines_in s ≡ (s, []) ∷ []
+none_if s true e h p = cc
+none_if s false e h p = line_none s (is_not_under _ _ e) p
+
+pub line_none_at : (s : Bytes) → ◌≡◌ {A = Option ℕ} None (position is_lf s) → 0 < length s → lines_in s ≡ (s, []) ∷ []
+line_none_at s h p = none_if s (nat_lt (position_or_len is_lf s) (length s)) refl h p
+
+is_ten : (x : ℕ) → is_lf x ≡ true → x ≡ 10
+is_ten x e = grind (arith, nat_tests)
+
+line_some_step : (x : ℕ) (xs : Bytes) (b : Bool) (q : ℕ) → is_lf x ≡ b → q ≡ position_or_len is_lf xs → ((q < length xs) → lines_in xs ≡ (take q xs, take 1 (drop q xs)) ∷ lines_in (drop (suc q) xs))
+    → (p : ℕ) → p ≡ position_or_len is_lf (x ∷ xs) → p < length (x ∷ xs) → lines_in (x ∷ xs) ≡ (take p (x ∷ xs), take 1 (drop p (x ∷ xs))) ∷ lines_in (drop (suc p) (x ∷ xs))
+line_some_step x xs true q e qe next p h lt = let z : p ≡ 0 = rw e at h in let t = is_ten x e in rw z (rw e (ap (λ y. ([], y ∷ []) ∷ lines_in xs) (sym t)))
+line_some_step x xs false q e qe next p h lt = let h2 = rw e at h in let z : p ≡ suc q = omega arith in let r : q < length xs = omega arith in rw z (rw e (ap (onto_line x) (next r)))
+
+pub line_some : (s : Bytes) (p : ℕ) → p ≡ position_or_len is_lf s → p < length s → lines_in s ≡ (take p s, take 1 (drop p s)) ∷ lines_in (drop (suc p) s)
+line_some [] p h lt = absurd (omega arith)
+line_some (x ∷ xs) p h lt = line_some_step x xs (is_lf x) (position_or_len is_lf xs) refl refl (line_some xs (position_or_len is_lf xs) refl) p h lt
+
+some_if : (s : Bytes) (p : ℕ) (b : Bool) → nat_lt (position_or_len is_lf s) (length s) ≡ b → Some p ≡ cond b (Some (position_or_len is_lf s)) None → lines_in s ≡ (take p s, take 1 (drop p s)) ∷ lines_in (drop (suc p) s)
+some_if s p true e h = let q : p ≡ position_or_len is_lf s = cc in let u = is_under _ _ e in line_some s p q (omega arith)
+some_if s p false e h = cc
+
+pub line_some_at : (s : Bytes) (p : ℕ) → Some p ≡ position is_lf s → lines_in s ≡ (take p s, take (p + 1 - p) (drop p s)) ∷ lines_in (take (length s - (p + 1)) (drop (p + 1) s))
+line_some_at s p h = let a : 1 ≡ p + 1 - p = omega arith in let b : suc p ≡ p + 1 = omega arith in some_if s p (nat_lt (position_or_len is_lf s) (length s)) refl h ∙ ap (λ n. (take p s, take n (drop p s)) ∷ lines_in (drop (suc p) s)) a ∙ ap (λ n. (take p s, take (p + 1 - p) (drop p s)) ∷ lines_in (drop n s)) b ∙ ap (λ t. (take p s, take (p + 1 - p) (drop p s)) ∷ lines_in t) (tail_range s (p + 1))

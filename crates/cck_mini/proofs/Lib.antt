@@ -1,0 +1,4 @@
+pub mod ExpandLemmas
+pub mod FileLemmas
+pub mod InputLemmas
+pub mod LineLemmas

@@ -1,0 +1,3 @@
+pub mod Printed
+pub mod Refusal
+pub mod Seen

@@ -1,0 +1,19 @@
+-- why no text is printed
+use Rattle.std.specs.Prelude.{◌≡◌, Option, None}
+use Rattle.cck_digest.specs.declared.error.FileError.{FileError}
+use Rattle.cck_digest.specs.declared.error.FileError.TheVariants as file
+use Rattle.cck_mini.specs.declared.error.PrintError.{PrintError}
+use Rattle.cck_mini.specs.declared.error.PrintError.TheVariants.{Fault, Failed, Memory}
+
+-- there is no text, a fault came, or memory ran out
+abbrev pub IsPrintRefusal : {X : Type 0} → Option X → Type 0 → PrintError → Type 0
+IsPrintRefusal text HasFault Fault = HasFault
+IsPrintRefusal text HasFault Failed = text ≡ None
+IsPrintRefusal text HasFault Memory = Unit {0}
+
+-- a want of memory and a fault stay what they are
+abbrev pub print_error : FileError → PrintError
+print_error file.NotFound = Failed
+print_error file.OtherKind = Failed
+print_error file.Fault = Fault
+print_error file.Memory = Memory

@@ -1,0 +1,49 @@
+//! Why no text is printed.
+ghost use Rattle.std.specs.Prelude.{◌≡◌};
+ghost use Rattle.cck_mini.specs.Refusal.{print_error};
+ghost use Rattle.cck_mini.specs.declared.error.PrintError.TheVariants.{Memory};
+
+use cck_digest::FileError;
+use std::alloc::{AllocError, AllocFailed};
+use thiserror::Error;
+
+/// Why no text was printed.
+#[derive(Debug, Clone, Copy, PartialEq, Eq, Error)]
+pub enum PrintError {
+    /// A call on files failed.
+    #[error("a call on a file failed")]
+    Fault,
+    /// The input, or a file that it includes, is no regular file.
+    #[error("the input or what it includes is no regular file")]
+    Failed,
+    /// A growth of memory was refused.
+    #[error("out of memory")]
+    Memory,
+}
+
+impl From<AllocError> for PrintError {
+    ghost from_gives = { λ _ e. e ≡ Memory };
+
+    fn from(_: AllocError) -> PrintError {
+        PrintError::Memory
+    }
+}
+
+impl<T: Drop> From<AllocFailed<T>> for PrintError {
+    ghost from_gives = { λ _ e. e ≡ Memory };
+
+    fn from(_: AllocFailed<T>) -> PrintError {
+        PrintError::Memory
+    }
+}
+
+// A want of memory and a fault stay what they are, and else there is no regular file.
+pub(crate) fn print_error(error: FileError) -> PrintError
+    ensures { result ≡ print_error error }
+{
+    match error {
+        FileError::NotFound | FileError::OtherKind => PrintError::Failed,
+        FileError::Fault => PrintError::Fault,
+        FileError::Memory => PrintError::Memory,
+    }
+}

@@ -1,0 +1,97 @@
+//! Macros replaced.
+ghost use Rattle.std.specs.Prelude.{◌≡◌, ◌++◌, ◌<◌, ◌≤◌, IfSome, IsOkUnless, OnOk, length};
+ghost use Rattle.std.specs.Option.{option_map};
+ghost use Rattle.cck_mini.specs.Printed.{expanded, macro_at};
+ghost use Rattle.cck_mini.specs.Seen.{macros_seen};
+
+use crate::error::PrintError;
+
+/// What the three macros stand for in one file.
+#[derive(Debug, Drop)]
+pub(crate) struct Macros {
+    /// What `__DATE__` stands for.
+    pub(crate) date: String,
+    /// What `__TIME__` stands for.
+    pub(crate) time: String,
+    /// What `__TIMESTAMP__` stands for.
+    pub(crate) timestamp: String,
+}
+
+// Printed bytes, and the text that is left to expand.
+#[derive(Clone, Copy)]
+struct Piece<'a> {
+    text: &'a [u8],
+    rest: &'a [u8],
+}
+
+// What a macro stands for, and how long its name is.
+#[derive(Clone, Copy)]
+struct Found<'a> {
+    text: &'a [u8],
+    length: usize,
+}
+
+/// Prints a text behind `out`, with its macros replaced from left to right.
+///
+/// It is refused only for want of memory, as [`PrintError::Memory`].
+pub(crate) fn expand(out: &mut Vec<u8>, macros: &Macros, text: &[u8]) -> Result<(), PrintError>
+    ensures text { OnOk result
+        (out.new.items ≡ out.old.items ++ expanded (macros_seen macros.now) text.now) }
+    ensures refused { IsOkUnless result PrintError.Memory }
+{
+    let mut left = text;
+    while left.len() > 0 {
+        let piece = next_piece(macros, left);
+        out.extend_from_slice(piece.text)?;
+        left = piece.rest;
+    }
+    Ok(())
+}
+
+// What is printed for the front of a text: a macro's text, or one byte.
+fn next_piece<'a>(macros: &'a Macros, left: &'a [u8]) -> Piece<'a>
+    requires { 0 < length left.now }
+    ensures text { expanded (macros_seen macros.now) left.now
+        ≡ result.text.now ++ expanded (macros_seen macros.now) result.rest.now }
+    ensures less { length result.rest.now < length left.now }
+{
+    match macro_at(macros, left) {
+        Some(found) => Piece {
+            text: found.text,
+            rest: &left[found.length..],
+        },
+        None => Piece {
+            text: &left[..1],
+            rest: &left[1..],
+        },
+    }
+}
+
+// The macro that stands at the front.
+#[tactic(auto, unfolding(crate::specs::Printed::macro_at))]
+fn macro_at<'a>(macros: &'a Macros, left: &[u8]) -> Option<Found<'a>>
+    ensures value { option_map (λ r. (r.text.now, r.length)) result
+        ≡ macro_at (macros_seen macros.now) left.now }
+    ensures bound { IfSome result (λ r. r.length ≤ length left.now) }
+    ensures some { IfSome result (λ r. 0 < r.length) }
+{
+    if left.starts_with(b"__DATE__") {
+        return Some(Found {
+            text: macros.date.as_bytes(),
+            length: 8,
+        });
+    }
+    if left.starts_with(b"__TIME__") {
+        return Some(Found {
+            text: macros.time.as_bytes(),
+            length: 8,
+        });
+    }
+    if left.starts_with(b"__TIMESTAMP__") {
+        return Some(Found {
+            text: macros.timestamp.as_bytes(),
+            length: 13,
+        });
+    }
+    None
+}

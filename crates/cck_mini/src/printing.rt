@@ -1,0 +1,174 @@
+//! The whole text.
+ghost use Rattle.std.specs.Prelude.{◌≡◌, ◌++◌, Some, IfOk, IsOkUnless, IsSomeAnd, MatchResult, OnOk};
+ghost use Rattle.cck_files.specs.Calls.{Keeps, Rose};
+ghost use Rattle.cck_path.specs.Text.{join_path};
+ghost use Rattle.cck_mini.specs.Printed.{include_name, included_text, line_text, lines_in, lines_text, marker, printed};
+ghost use Rattle.cck_mini.specs.Refusal.{IsPrintRefusal};
+ghost use Rattle.cck_mini.specs.Seen.{macros_seen};
+
+use crate::error::PrintError;
+use crate::expand::{Macros, expand};
+use crate::file::read_file;
+use crate::line::{Line, cut_line, include_name, last_is_lf};
+use crate::macros::macros_for;
+use cck_files::Files;
+use cck_path::{Timestamp, join_path};
+use itoa::Buffer;
+use std::alloc::Global;
+
+/// The text that is printed at a moment for an input in a folder, in a zone of so many seconds east
+/// of UTC.
+///
+/// It begins with the marker `# 1 "IN"`, where IN is the input as seen from the folder. A line
+/// `#include "NAME"` is printed as the file of that name, as seen from the folder, between markers; an
+/// inclusion within an included file stays as it stands. In all other lines, and in what is
+/// included, the macros are replaced.
+///
+/// It is refused as
+///
+/// - [`PrintError::Failed`] exactly where the input or a file that it includes is no regular file,
+/// - [`PrintError::Fault`] only where the count of faults rose,
+/// - [`PrintError::Memory`].
+pub fn print_input<F: Files>(
+    alloc: Global,
+    files: &mut F,
+    zone: i32,
+    moment: Timestamp,
+    folder: &[u8],
+    input: &[u8],
+) -> Result<Vec<u8>, PrintError>
+    ensures keeps { Keeps F.file_map F.faults F.is_quiet files.old files.new }
+    ensures answer { let text = printed zone moment (F.file_map files.old) folder.now input.now in
+        MatchResult result (λ out. text ≡ Some out.items)
+        (IsPrintRefusal text (Rose (F.faults files.old) (F.faults files.new))) }
+{
+    let path = joined(alloc, folder, input)?;
+    let file = read_file(alloc, files, &path)?;
+    let macros = macros_for(alloc, zone, moment, file.modified)?;
+    let mut out = Vec::new(alloc);
+    print_marker(&mut out, 1, &path, b"")?;
+    let job = Job {
+        zone,
+        moment,
+        folder,
+        path: &path,
+    };
+    print_lines(alloc, files, &mut out, &job, &macros, &file.contents)?;
+    Ok(out)
+}
+
+// What is asked for: a zone and a moment, the folder from which names are seen, and the input's path.
+#[derive(Debug, Clone, Copy)]
+struct Job<'a> {
+    zone: i32,
+    moment: Timestamp,
+    folder: &'a [u8],
+    path: &'a [u8],
+}
+
+// Prints the lines of an input behind what is printed so far.
+fn print_lines<F: Files>(
+    alloc: Global,
+    files: &mut F,
+    out: &mut Vec<u8>,
+    job: &Job<'_>,
+    macros: &Macros,
+    contents: &[u8],
+) -> Result<(), PrintError>
+    ensures keeps { Keeps F.file_map F.faults F.is_quiet files.old files.new }
+    ensures answer { let map = F.file_map files.old in
+        let text = lines_text job.now.zone job.now.moment map job.now.folder.now job.now.path.now
+        (macros_seen macros.now) 2 (lines_in contents.now) in
+        MatchResult result (λ _. IsSomeAnd text (λ text. out.new.items ≡ out.old.items ++ text))
+        (IsPrintRefusal text (Rose (F.faults files.old) (F.faults files.new))) }
+{
+    let mut number: u64 = 2;
+    let mut left = contents;
+    while left.len() > 0 {
+        let line = cut_line(left);
+        print_line(alloc, files, out, job, macros, line, number)?;
+        number += 1;
+        left = line.rest;
+    }
+    Ok(())
+}
+
+// Prints one line, where the line behind it has this number.
+fn print_line<F: Files>(
+    alloc: Global,
+    files: &mut F,
+    out: &mut Vec<u8>,
+    job: &Job<'_>,
+    macros: &Macros,
+    line: Line<'_>,
+    number: u64,
+) -> Result<(), PrintError>
+    ensures keeps { Keeps F.file_map F.faults F.is_quiet files.old files.new }
+    ensures answer { let map = F.file_map files.old in
+        let front = line.entry.front.now in
+        let text = line_text job.now.zone job.now.moment map job.now.folder.now job.now.path.now
+        (macros_seen macros.now) (include_name front) (front, line.entry.ending.now) number in
+        MatchResult result (λ _. IsSomeAnd text (λ text. out.new.items ≡ out.old.items ++ text))
+        (IsPrintRefusal text (Rose (F.faults files.old) (F.faults files.new))) }
+{
+    let Some(name) = include_name(line.front) else {
+        expand(out, macros, line.front)?;
+        out.extend_from_slice(line.ending)?;
+        return Ok(());
+    };
+    let named = joined(alloc, job.folder, name)?;
+    let file = read_file(alloc, files, &named)?;
+    let inside = macros_for(alloc, job.zone, job.moment, file.modified)?;
+    print_included(out, &inside, &named, &file.contents, number, job.path)
+}
+
+// Prints an included file between its markers.
+#[tactic(auto, unfolding(crate::specs::Printed::included_text))]
+fn print_included(
+    out: &mut Vec<u8>,
+    macros: &Macros,
+    name: &[u8],
+    contents: &[u8],
+    number: u64,
+    path: &[u8],
+) -> Result<(), PrintError>
+    ensures text { OnOk result (out.new.items ≡ out.old.items
+        ++ included_text (macros_seen macros.now) contents.now name.now number path.now) }
+    ensures refused { IsOkUnless result PrintError.Memory }
+{
+    print_marker(out, 1, name, b" 1")?;
+    expand(out, macros, contents)?;
+    if !last_is_lf(contents) {
+        out.push(b'\n')?;
+    }
+    print_marker(out, number, path, b" 2")
+}
+
+// Prints a line marker.
+#[tactic(auto, unfolding(crate::specs::Printed::marker))]
+fn print_marker(out: &mut Vec<u8>, number: u64, path: &[u8], flag: &[u8]) -> Result<(), PrintError>
+    ensures text { OnOk result
+        (out.new.items ≡ out.old.items ++ marker number path.now flag.now) }
+    ensures refused { IsOkUnless result PrintError.Memory }
+{
+    let mut buffer = Buffer::new();
+    out.extend_from_slice(b"# ")?;
+    out.extend_from_slice(buffer.format(number).as_bytes())?;
+    out.extend_from_slice(b" \"")?;
+    out.extend_from_slice(path)?;
+    out.extend_from_slice(b"\"")?;
+    out.extend_from_slice(flag)?;
+    out.push(b'\n')?;
+    Ok(())
+}
+
+// A path as seen from a folder.
+fn joined(alloc: Global, folder: &[u8], path: &[u8]) -> Result<Vec<u8>, PrintError>
+    ensures bytes { IfOk result (λ whole. whole.items ≡ join_path folder.now path.now) }
+    ensures refused { IsOkUnless result PrintError.Memory }
+{
+    match join_path(alloc, folder, path) {
+        Ok(whole) => Ok(whole),
+        Err(_) => Err(PrintError::Memory),
+    }
+}
