@@ -1,0 +1,3 @@
+pub mod CopyLemmas
+pub mod ExecutableLemmas
+pub mod ReadyLemmas

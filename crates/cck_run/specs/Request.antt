@@ -1,5 +1,5 @@
 -- what the words of a command line ask for
-use Rattle.std.specs.Prelude.{◌≢◌, ℕ, List, ◌∷◌, codes}
+use Rattle.std.specs.Prelude.{◌≢◌, ℕ, List, [], ◌∷◌, codes}
 use Rattle.cck_util.specs.Language.{language_name}
 use Rattle.cck_util.specs.declared.language.Language.{Language}
 
@@ -13,6 +13,14 @@ pub record Request : Type 0 where
 abbrev pub words_of : Request → List (List ℕ)
 words_of request = codes "key" ∷ request.compiler_digest ∷ language_name request.language ∷ request.arguments
 
+-- these words ask for no key
+abbrev pub AskNoKey : List (List ℕ) → Type 0
+AskNoKey words = (request : Request) → words ≢ words_of request
+
+-- the words that ask for a run of the script that is read
+abbrev pub run_words : List (List ℕ)
+run_words = codes "run" ∷ []
+
 -- these words ask for nothing
 abbrev pub AskNothing : List (List ℕ) → Type 0
-AskNothing words = (request : Request) → words ≢ words_of request
+AskNothing words = AskNoKey words × (words ≢ run_words)

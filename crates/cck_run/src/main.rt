@@ -1,13 +1,19 @@
 //! The program `cck`: the keys of sccache's C compiler cache, from the command line.
 //!
 //! `cck key DIGEST LANGUAGE [ARG..]` reads a preprocessed text from standard input and prints the
-//! key of the object that a compiler with this digest makes of it. All that is printed, errors too,
+//! key of the object that a compiler with this digest makes of it. `cck run` reads a script of calls
+//! from standard input ([`cck_script`]), makes them in their order over files and a store in memory,
+//! and prints the answer of each on a line of its own. All that is printed, errors too,
 //! goes to standard output. `main` only hands the words and the standard streams to
 //! [`engine`](engine::engine), which is what the theorems speak of.
 #![tactic(auto)]
 
+mod answers;
 mod engine;
+mod failed;
+mod mini_compiler;
 mod request;
+mod run;
 mod status;
 #[cfg(test)]
 mod tests;

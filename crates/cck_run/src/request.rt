@@ -1,6 +1,6 @@
 //! What the words of a command line ask for.
-ghost use Rattle.std.specs.Prelude.{◌≡◌, IfNone, IfOk, IfSome, IsOkUnless, map, string_bytes};
-ghost use Rattle.cck_run.specs.Request.{AskNothing, words_of};
+ghost use Rattle.std.specs.Prelude.{◌≡◌, ◌≢◌, IfNone, MatchBool, IfOk, IfSome, IsOkUnless, map, string_bytes};
+ghost use Rattle.cck_run.specs.Request.{AskNoKey, run_words, words_of};
 
 use cck_util::{Language, UtilError};
 use std::alloc::Global;
@@ -29,7 +29,7 @@ impl<'a> KeyRequest<'a> {
     /// exactly if they are no such words.
     pub fn from_words(words: &'a [String]) -> Option<KeyRequest<'a>>
         ensures some { IfSome result (λ request. map string_bytes words.now ≡ words_of request) }
-        ensures none { IfNone result (AskNothing (map string_bytes words.now)) }
+        ensures none { IfNone result (AskNoKey (map string_bytes words.now)) }
     {
         let [command, compiler_digest, name, arguments @ ..] = words else {
             return None;
@@ -44,6 +44,16 @@ impl<'a> KeyRequest<'a> {
             arguments,
         })
     }
+}
+
+/// Whether these words ask for a run of the script that is read: `run` alone.
+pub fn asks_to_run(words: &[String]) -> bool
+    ensures { MatchBool result (map string_bytes words.now ≡ run_words) (map string_bytes words.now ≢ run_words) }
+{
+    let [command] = words else {
+        return false;
+    };
+    command.as_str() == "run"
 }
 
 /// The words as bytes. It is refused only for want of memory, as [`UtilError::Memory`].

@@ -9,7 +9,7 @@ pub enum Status {
     Done,
     /// Input, output or memory failed.
     Refused,
-    /// The words ask for nothing.
+    /// The words ask for nothing, or a line of the script is wrong.
     Usage,
 }
 

@@ -1,4 +1,7 @@
 //! The program over memory, and over readers and writers that fail.
+mod compiler;
+mod run;
+
 use crate::engine::engine;
 use crate::status::Status;
 use cck_util::Sha256State;
@@ -47,7 +50,6 @@ fn shows_its_usage(rt: HostRuntime) -> Result<(), AllocError> {
         "key abcd C",
         "keys",
         "keys abcd c",
-        "run",
         "run abcd c",
     ] {
         let words = words_of(alloc, line)?;

@@ -1,0 +1,28 @@
+-- The digest of the executable as it is before any line.
+use Rattle.std.proofs.Common.{◌≡◌, [], ap, refl, ◌∙◌, Some, None, codes}
+use Rattle.std.specs.FinMap as finite
+use Rattle.std.specs.Option.{option_map}
+use Rattle.cck_digest.specs.Digest.{digest_text}
+use Rattle.cck_file_digest.specs.FileDigest.{text_at}
+use Rattle.cck_file_digest.specs.FolderText.{digest_material, material_of, opening, whole, whole_part}
+use Rattle.cck_files.specs.FileMap.{FileMap}
+use Rattle.cck_path.specs.Path.{Path, components}
+use Rattle.cck_script.specs.Surroundings.{AreFiles, executable, stands}
+use Rattle.cck_script.specs.Words.{Bytes}
+use Rattle.c_cache_keys.specs.CCompiler.{executable_text}
+
+stands_there : stands [] (components (codes "/usr/bin/cc")) ≡ Some executable
+unfolding stands components
+stands_there = refl
+
+text_there : (hash : Bytes → Bytes) (files : FileMap) (p : Path) → finite.get files.nodes p ≡ Some executable → executable_text hash None files p ≡ Some (digest_text hash (codes "cc"))
+unfolding executable_text text_at digest_material whole opening
+text_there hash files p here =
+    ap (λ node. option_map (λ text. text) (option_map (digest_text hash) (material_of (whole_part files.nodes p node)))) here
+
+-- the digest text is that of the executable's two bytes
+pub first_digest : (hash : Bytes → Bytes) (files : FileMap) (digest : Bytes) → AreFiles [] files
+    → executable_text hash None files (components (codes "/usr/bin/cc")) ≡ Some digest → digest ≡ digest_text hash (codes "cc")
+first_digest hash files digest are e =
+    let there = text_there hash files (components (codes "/usr/bin/cc")) (are.nodes (components (codes "/usr/bin/cc")) ∙ stands_there) in
+    cc

@@ -1,0 +1,12 @@
+use Rattle.std.proofs.Common.{◌≡◌, ◌∙◌, ap, codes, rules}
+use Rattle.cck_run.proofs.ExecutableLemmas.{first_digest}
+use Rattle.cck_run.proofs.run.compiler_of.Goals as goal
+
+pub returns : goal.returns
+returns g c =
+    let path : c.in_ok-executable.executable.items ≡ codes "/usr/bin/cc" = search rules in
+    record {
+      zone_is = search rules;
+      executable = ap (λ e. e.items) c.in_ok-new.ensures.executable ∙ path;
+      executable_digest = first_digest g.H.HashState.hash _ _ c.in_ok-files.ensures.files (rw path at c.in_ok-new.ensures.digest);
+    }

@@ -1,0 +1,59 @@
+-- the small compiler
+use Rattle.std.specs.Prelude.{ℤ, List, [], ◌∷◌, false, nat_eq, None, codes, if◌then◌else◌}
+use Rattle.std.specs.List.{ends_with}
+use Rattle.cck_mini.specs.Printed.{Bytes, printed}
+use Rattle.cck_util.specs.declared.language.Language.{Language}
+use Rattle.cck_util.specs.declared.language.Language.TheVariants as language
+use Rattle.c_cache_keys.specs.Arguments.{Arguments, Output}
+use Rattle.c_cache_keys.specs.World.{Compilation, Compiler, NotCompilation, Parsed}
+use Rattle.c_cache_keys.specs.declared.arguments.ColorMode.TheVariants.{Auto}
+use Rattle.c_cache_keys.specs.declared.compiler.CCompilerKind.TheVariants.{Gcc}
+
+-- the language of an input: preprocessed C if it ends in `.i`, and else C
+abbrev pub language_of : Bytes → Language
+language_of input = if ends_with nat_eq input (codes ".i") then language.CPreprocessed else language.C
+
+-- the one output of every command line
+abbrev pub outputs : List Output
+outputs = record { name = codes "obj"; path = codes "out.o"; optional = false } ∷ []
+
+-- a command line that says no more than an input and arguments
+abbrev pub compilation_of : Bytes → List Bytes → Arguments
+compilation_of input arguments = record {
+  input = input;
+  double_dash_input = false;
+  language = language_of input;
+  compilation_flag = [];
+  depfile = None;
+  outputs = outputs;
+  dependency_args = [];
+  preprocessor_args = [];
+  common_args = arguments;
+  arch_args = [];
+  unhashed_args = [];
+  extra_dist_files = [];
+  extra_hash_files = [];
+  uses_external_assembler = false;
+  msvc_show_includes = false;
+  msvc_explicit_language = false;
+  profile_generate = false;
+  color_mode = Auto;
+  suppress_rewrite_includes_only = false;
+  too_hard_for_preprocessor_cache_mode = None;
+}
+
+-- what a command line comes to: its first argument is the input
+abbrev pub parsed : List Bytes → Parsed
+parsed [] = NotCompilation
+parsed (input ∷ arguments) = Compilation (compilation_of input arguments)
+
+-- the compiler, seen as the offset of its zone
+abbrev pub mini_compiler : Compiler ℤ
+mini_compiler = record {
+  kind = λ zone. Gcc;
+  plusplus = λ zone. false;
+  version = λ zone. None;
+  assembler_digest = λ zone. None;
+  parsed = λ zone arguments cwd variables. parsed arguments;
+  prints = λ zone executable arguments cwd variables files moment. printed zone moment files cwd arguments.input;
+}
