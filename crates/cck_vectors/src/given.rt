@@ -1,0 +1,97 @@
+//! Words, variables and files in memory, as the tests of several subjects are given them.
+use cck_util::{FileKind, MapFiles, Node, Timestamp, UtilError};
+use std::alloc::{AllocError, Global};
+
+pub(crate) fn words(alloc: Global, words: &[&[u8]]) -> Result<Vec<Vec<u8>>, AllocError> {
+    let mut all = Vec::new(alloc);
+    for word in words {
+        all.push(word.to_vec(alloc)?)?;
+    }
+    Ok(all)
+}
+
+pub(crate) fn texts(alloc: Global, texts: &[&str]) -> Result<Vec<String>, AllocError> {
+    let mut all = Vec::new(alloc);
+    for text in texts {
+        all.push(String::from_str(alloc, text)?)?;
+    }
+    Ok(all)
+}
+
+pub(crate) fn variables(
+    alloc: Global,
+    pairs: &[(&str, &str)],
+) -> Result<Vec<(Vec<u8>, Vec<u8>)>, AllocError> {
+    let mut all = Vec::new(alloc);
+    for (name, value) in pairs {
+        all.push((
+            name.as_bytes().to_vec(alloc)?,
+            value.as_bytes().to_vec(alloc)?,
+        ))?;
+    }
+    Ok(all)
+}
+
+// Puts a file with these times of its contents and of its status.
+pub(crate) fn put_dated(
+    alloc: Global,
+    files: &mut MapFiles,
+    path: &[u8],
+    contents: &[u8],
+    modified: Option<Timestamp>,
+    changed: Option<Timestamp>,
+) -> Result<(), UtilError> {
+    let node = Node {
+        kind: FileKind::File,
+        contents: contents.to_vec(alloc)?,
+        modified,
+        changed,
+    };
+    files.put(path, node)
+}
+
+pub(crate) fn put_file(
+    alloc: Global,
+    files: &mut MapFiles,
+    path: &[u8],
+    contents: &[u8],
+) -> Result<(), UtilError> {
+    put_dated(alloc, files, path, contents, None, None)
+}
+
+// What has no contents, a folder or something else.
+fn put_empty(
+    alloc: Global,
+    files: &mut MapFiles,
+    path: &[u8],
+    kind: FileKind,
+) -> Result<(), UtilError> {
+    let node = Node {
+        kind,
+        contents: Vec::new(alloc),
+        modified: None,
+        changed: None,
+    };
+    files.put(path, node)
+}
+
+pub(crate) fn put_folder(
+    alloc: Global,
+    files: &mut MapFiles,
+    path: &[u8],
+) -> Result<(), UtilError> {
+    put_empty(alloc, files, path, FileKind::Folder)
+}
+
+pub(crate) fn put_other(alloc: Global, files: &mut MapFiles, path: &[u8]) -> Result<(), UtilError> {
+    put_empty(alloc, files, path, FileKind::Other)
+}
+
+// Files with these contents at these paths.
+pub(crate) fn files_of(alloc: Global, files: &[(&[u8], &[u8])]) -> Result<MapFiles, UtilError> {
+    let mut map = MapFiles::new(alloc);
+    for (path, contents) in files {
+        put_file(alloc, &mut map, path, contents)?;
+    }
+    Ok(map)
+}

@@ -1,0 +1,70 @@
+//! Prefixes of texts, and what is written of lengths and durations.
+use cck_util::{OsStrExt, UtilError, fmt_duration_as_secs, write_length_prefixed};
+use std::io;
+use std::io::Write;
+use std::time::Duration;
+
+// Fails at every write.
+#[derive(Drop)]
+pub(crate) struct Failing;
+
+impl Write for Failing {
+    fn write(&mut self, _: &[u8]) -> io::Result<usize> {
+        Err(io::Error::from(io::ErrorKind::WriteZero))
+    }
+
+    fn flush(&mut self) -> io::Result<()> {
+        Ok(())
+    }
+}
+
+#[test]
+fn simple_starts_with(rt: HostRuntime) -> Result<(), UtilError> {
+    let text = b"foo".to_vec(rt.alloc())?;
+    assert!(rt; OsStrExt::starts_with(&text, "fo"));
+    assert!(rt; OsStrExt::starts_with(&text, "foo"));
+    assert!(rt; OsStrExt::starts_with(&text, ""));
+    assert!(rt; !OsStrExt::starts_with(&text, "foo2"));
+    assert!(rt; !OsStrExt::starts_with(&text, "b"));
+    Ok(())
+}
+
+#[test]
+fn simple_strip_prefix(rt: HostRuntime) -> Result<(), UtilError> {
+    let alloc = rt.alloc();
+    let text = b"foo".to_vec(alloc)?;
+    assert_eq!(rt; text.split_prefix(alloc, "fo")?, Some(b"o".to_vec(alloc)?));
+    assert_eq!(rt; text.split_prefix(alloc, "foo")?, Some(Vec::new(alloc)));
+    assert_eq!(rt; text.split_prefix(alloc, "foo2")?, None);
+    assert_eq!(rt; text.split_prefix(alloc, "b")?, None);
+    Ok(())
+}
+
+#[test]
+fn durations(rt: HostRuntime) -> Result<(), UtilError> {
+    let alloc = rt.alloc();
+    for (millis, text) in [
+        (1005, "1.005 s"),
+        (0, "0.000 s"),
+        (60_250, "60.250 s"),
+        (999, "0.999 s"),
+    ] {
+        let duration = Duration::from_millis(millis);
+        assert_eq!(rt; fmt_duration_as_secs(alloc, &duration)?.as_str(), text);
+    }
+    let short = Duration::from_nanos(1_999_999);
+    assert_eq!(rt; fmt_duration_as_secs(alloc, &short)?.as_str(), "0.001 s");
+    Ok(())
+}
+
+#[test]
+fn length_prefixes(rt: HostRuntime) -> Result<(), UtilError> {
+    let mut bytes: Vec<u8> = Vec::new(rt.alloc());
+    write_length_prefixed(&mut bytes, b"abc")?;
+    assert_eq!(rt; bytes.as_slice(), b"\0\0\0\x03abc".as_slice());
+    assert_eq!(rt;
+        write_length_prefixed(&mut Failing, b""),
+        Err(UtilError::Write)
+    );
+    Ok(())
+}
