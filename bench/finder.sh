@@ -11,20 +11,8 @@ set -e
 here=$(cd "$(dirname "$0")" && pwd)
 top=$(cd "$here/.." && pwd)
 folder=${1:-$(mktemp -d)}
-size=67108864
-mkdir -p "$folder"
+. "$here/headers.sh"
 
-if [ ! -s "$folder/headers.i" ]; then
-    for header in /usr/include/*.h /usr/include/linux/*.h; do
-        gcc -E -D_GNU_SOURCE "$header" 2>/dev/null || true
-    done > "$folder/once.i"
-    : > "$folder/all.i"
-    while [ "$(wc -c < "$folder/all.i")" -lt $size ]; do
-        cat "$folder/once.i" >> "$folder/all.i"
-    done
-    head -c $size "$folder/all.i" > "$folder/headers.i"
-    rm "$folder/once.i" "$folder/all.i"
-fi
 if [ ! -s "$folder/underscores.i" ]; then
     yes '__attribute__ ((__nothrow__, __leaf__)) ________ __TIME_ __DATE_ __TIMEOUT__ _T_I_M_E_' |
         head -c $size > "$folder/underscores.i"

@@ -12,8 +12,11 @@ while [ "$n" -lt "$runs" ]; do
     said=$(rt try --test --fail-alloc "$n" 2>/dev/null) || true
     tests=$(echo "$said" | sed -n 's/^tests: //p')
     failed=$(echo "$said" | grep -c 'FAILED$' || true)
-    # The last two: the program said that it was refused, or had no memory left to say it.
-    memory=$(echo "$said" | grep -c -e '^    Error: Memory$' -e '^    Error: AllocError$' \
+    # The third: a writer that keeps what is written had no memory for it. The others: a test saw
+    # the refusal in place of what it compares, or the program said that it was refused, or had no
+    # memory left to say it.
+    memory=$(echo "$said" | grep -c -e '^    [Ee]rror: Memory$' -e '^    [Ee]rror: AllocError$' \
+        -e '^    Error: Io(Write)$' -e '^      left: Err(Memory)$' \
         -e '^      left: Refused$' -e '^      left: \[\]$' || true)
     echo "$1: allocation $n refused: $tests tests, $failed of them ended, $memory in want of memory"
     [ -n "$tests" ] && [ "$failed" -eq "$memory" ] || { echo "$said"; exit 1; }

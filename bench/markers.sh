@@ -1,0 +1,43 @@
+#!/bin/sh
+# Times Markers over two texts of 64 MB, beside one search of the kit's memchr for each line's end
+# in the same bytes, and prints a table. The texts are system headers as gcc -E leaves them, and one
+# with a marker at every other line.
+#
+#     bench/markers.sh [FOLDER]
+#
+# All is made in FOLDER, by default a new one below /tmp: the texts, a copy of the crate and the
+# program. Compare times within one run.
+set -e
+here=$(cd "$(dirname "$0")" && pwd)
+top=$(cd "$here/.." && pwd)
+folder=${1:-$(mktemp -d)}
+. "$here/headers.sh"
+
+if [ ! -s "$folder/dense.i" ]; then
+    yes '# 33 "/usr/include/x86_64-linux-gnu/bits/types.h" 3 4
+int total(int a, int b) { return (a + b) / 2 - a * b; }' |
+        head -c $size > "$folder/dense.i"
+fi
+
+rm -rf "$folder/work"
+mkdir -p "$folder/work/crates/markers_bench/src"
+cp -r "$top/crates/cck_markers" "$folder/work/crates/"
+cp "$here/markers/main.rt.in" "$folder/work/crates/markers_bench/src/main.rt"
+cp "$top/HANDLES" "$folder/work/"
+{
+    grep '^cck_markers:' "$top/crates.txt"
+    echo 'markers_bench: cck_markers memchr'
+} > "$folder/work/crates.txt"
+if ! (cd "$folder/work/crates/markers_bench" && rt run < /dev/null > "$folder/build.log" 2>&1); then
+    tail -20 "$folder/build.log" >&2
+    exit 1
+fi
+
+echo 'text         markers  line ends  ratio   (milliseconds, best of 11)'
+for text in headers dense; do
+    "$folder/work/crates/markers_bench/out/markers_bench" < "$folder/$text.i" |
+        awk -v text="$text" '{
+            printf "%-12s %7.1f  %9.1f  %5.2f   (%d bytes, %d names, %d other marks, %d lines)\n",
+                text, $2 / 1000, $3 / 1000, $2 / $3, $1, $4, $5, $6
+        }'
+done
