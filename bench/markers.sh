@@ -12,12 +12,7 @@ here=$(cd "$(dirname "$0")" && pwd)
 top=$(cd "$here/.." && pwd)
 folder=${1:-$(mktemp -d)}
 . "$here/headers.sh"
-
-if [ ! -s "$folder/dense.i" ]; then
-    yes '# 33 "/usr/include/x86_64-linux-gnu/bits/types.h" 3 4
-int total(int a, int b) { return (a + b) / 2 - a * b; }' |
-        head -c $size > "$folder/dense.i"
-fi
+. "$here/dense.sh"
 
 rm -rf "$folder/work"
 mkdir -p "$folder/work/crates/markers_bench/src"

@@ -15,12 +15,7 @@ folder=${1:-$(mktemp -d)}
 crates='cck_digest cck_path cck_path_map cck_files cck_file_digest cck_time cck_include cck_markers
     cck_walk'
 . "$here/headers.sh"
-
-if [ ! -s "$folder/dense.i" ]; then
-    yes '# 33 "/usr/include/x86_64-linux-gnu/bits/types.h" 3 4
-int total(int a, int b) { return (a + b) / 2 - a * b; }' |
-        head -c $size > "$folder/dense.i"
-fi
+. "$here/dense.sh"
 
 rm -rf "$folder/work"
 mkdir -p "$folder/work/crates/walk_bench/src"

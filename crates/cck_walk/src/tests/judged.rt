@@ -16,7 +16,7 @@ fn judged(alloc: Global, file: Node, config: PreprocessorCacheModeConfig) -> Res
 }
 
 #[test]
-fn times(rt: HostRuntime) -> Result<(), Fail> {
+fn times_before_the_moment(rt: HostRuntime) -> Result<(), Fail> {
     let alloc = rt.alloc();
     let accepted = [
         file(alloc, b"contents", None, None)?,
@@ -39,6 +39,12 @@ fn times(rt: HostRuntime) -> Result<(), Fail> {
         let found = judged(alloc, node, activated())?;
         assert_eq!(rt; found.as_slice(), b"[/w/x]".as_slice());
     }
+    Ok(())
+}
+
+#[test]
+fn times_at_the_moment_or_later(rt: HostRuntime) -> Result<(), Fail> {
+    let alloc = rt.alloc();
     let refused = [
         file(alloc, b"contents", Some(Timestamp::new(100_000, 0)), None)?,
         file(alloc, b"contents", None, Some(Timestamp::new(100_000, 0)))?,
