@@ -20,9 +20,6 @@ left_behind stream piece (Some left) consumed = (left, refl, consumed)
 concatenation-push : (pieces : List (List ℕ)) (piece : List ℕ) → concatenation pieces ++ piece ≡ concatenation (pieces ++ piece ∷ [])
 concatenation-push pieces piece = flat_map_more (λ p. p) [] pieces piece
 
-pub HasRead-start : {S : Type 0} (takes : S → List ℕ → S → Type 0) (first : S) (old : Option (List ℕ)) → HasRead takes first first old old
-HasRead-start takes first old = record { pieces = []; taken = refl; rest = λ stream e. (stream, e, refl) }
-
 -- one more piece
 pub HasRead-push : {S : Type 0} (takes : S → List ℕ → S → Type 0) (first now later : S) (old new newer : Option (List ℕ)) (piece : List ℕ)
     → HasRead takes first now old new → takes now piece later → Consumes new newer piece → HasRead takes first later old newer

@@ -1,7 +1,8 @@
 //! Digests of what a reader gives: upstream's `Digest::reader_sync` and its kin, with the allocator
 //! handed in.
-ghost use Rattle.std.specs.Prelude.{◌≡◌, ◌++◌, ◌⊎◌, ℕ, List, [], IfOk, IfSome, IfErr, IsOkUnless, string_bytes};
+ghost use Rattle.std.specs.Prelude.{◌≡◌, ◌++◌, ◌⊎◌, ℕ, List, [], IfOk, IfSome, IfErr, IsOkUnless, OnOk, string_bytes};
 ghost use Rattle.std.specs.Fn.{CalledAt};
+ghost use Rattle.std.specs.Io.KnownBytes.{IsAtEnd};
 ghost use Rattle.std.specs.List.{FoldsTo};
 ghost use Rattle.cck_digest.specs.Digest.{digest_text};
 ghost use Rattle.cck_digest.specs.Stream.{concatenation};
@@ -97,6 +98,7 @@ impl<H: HashState> Digest<H> {
     pub fn reader_sync<R: Read>(alloc: Global, reader: &mut R) -> Result<String, UtilError>
         ensures text { IfOk result (λ text. IfSome (R.remaining reader.old) (λ stream.
             string_bytes text ≡ digest_text H.hash stream)) }
+        ensures end { OnOk result (IsAtEnd (R.remaining reader.new)) }
         ensures refused { IfErr result (λ e. (e ≡ UtilError.Memory) ⊎ (e ≡ UtilError.Read)) }
     {
         let mut digest = Digest::<H>::new();
@@ -116,6 +118,7 @@ impl<H: HashState> Digest<H> {
             × FoldsTo (λ before piece after. CalledAt F.FnMut before piece tt after) each pieces last
             × H.holds digest (concatenation pieces)
             × IfSome (R.remaining reader.old) (λ stream. stream ≡ concatenation pieces)) }
+        ensures end { OnOk result (IsAtEnd (R.remaining reader.new)) }
         ensures refused { IfErr result (λ e. (e ≡ UtilError.Memory) ⊎ (e ≡ UtilError.Read)) }
     {
         let mut shown = Each {
@@ -135,6 +138,7 @@ impl<H: HashState> Digest<H> {
         ensures text { IfOk result (λ pair. IfSome (R.remaining reader.old) (λ stream.
             string_bytes pair.0 ≡ digest_text H.hash stream)) }
         ensures macros { IfOk result (λ pair. IfSome (R.remaining reader.old) (λ stream. Follows pair.1 stream)) }
+        ensures end { OnOk result (IsAtEnd (R.remaining reader.new)) }
         ensures refused { IfErr result (λ e. (e ≡ UtilError.Memory) ⊎ (e ≡ UtilError.Read)) }
     {
         let mut watched = WatchedDigest::<H>::new();
