@@ -17,14 +17,6 @@ abbrev pub before_all : List ℕ → Meaning → Meaning
 before_all bytes (Ok more) = Ok (bytes ++ more)
 before_all bytes (Err e) = Err e
 
-pub before_all-none : (m : Meaning) → m ≡ before_all [] m
-before_all-none (Ok s) = refl
-before_all-none (Err e) = refl
-
-pub before_all-push : (bytes : List ℕ) (b : ℕ) (m : Meaning) → before_all bytes (before b m) ≡ before_all (bytes ++ b ∷ []) m
-before_all-push bytes b (Ok s) = ap Ok (sym (append_assoc bytes (b ∷ []) s))
-before_all-push bytes b (Err e) = refl
-
 -- the letter by which a byte is written stands for that byte
 letter_back : (b c : ℕ) → escape_letter b ≡ Some c → (letter_value c ≡ Some b) × (nat_eq c 120 ≡ false)
 unfolding escape_letter letter_value

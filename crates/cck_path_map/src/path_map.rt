@@ -13,7 +13,8 @@ use std::marker::Model;
 /// A path of a [`PathMap`] and its value.
 #[derive(Debug, Drop)]
 pub struct Entry<V> {
-    /// The path, as it was written when it came into the map.
+    /// The path, as it was written when it came into the map. Contracts tell its components alone, and
+    /// a test shows the spelling.
     pub path: Vec<u8>,
     /// Its value.
     pub value: V,

@@ -65,6 +65,21 @@ fn values_in_place_of_others(rt: HostRuntime) -> Result<(), UtilError> {
     Ok(())
 }
 
+#[test]
+fn paths_as_they_were_written_first(rt: HostRuntime) -> Result<(), UtilError> {
+    let alloc = rt.alloc();
+    let mut map = PathMap::new(alloc);
+    map.insert(b"/a//x/.", 1)?;
+    map.insert(b"/a/x", 2)?;
+    assert_eq!(rt; map.entries().len(), 1);
+    assert_eq!(rt; map.entries()[0].path.as_slice(), b"/a//x/.".as_slice());
+    map.remove(b"/a/x/");
+    map.insert(b"/a/x/", 3)?;
+    assert_eq!(rt; map.entries().len(), 1);
+    assert_eq!(rt; map.entries()[0].path.as_slice(), b"/a/x/".as_slice());
+    Ok(())
+}
+
 // The path and the value of a step among 300, in scrambled order; 75 paths come four times.
 fn scrambled(alloc: Global, step: u16) -> Result<(Vec<u8>, u32), UtilError> {
     let number = step as u32 * 97 % 300;
