@@ -27,9 +27,6 @@ or_left false b e = cc
 -- ---- one part after another
 
 module _ {S : Type 0} (holds : S → List ℕ → Type 0) (level : ℕ) (name : Option (List ℕ)) where
-  pub fed_nothing : (a : S) → IsFedNodes holds level name [] a a
-  fed_nothing a = record { none_other = refl; none_too_deep = refl; fed = λ fed h. subst (holds a) (sym (append-nil fed)) h }
-
   pub fed_both : (xs ys : List (Path × FileNode)) (a b c : S) → IsFedNodes holds level name xs a b → IsFedNodes holds level name ys b c → IsFedNodes holds level name (xs ++ ys) a c
   fed_both xs ys a b c f g = record {
     none_other = list_any-append is_other xs ys ∙ or_false _ _ f.none_other g.none_other;

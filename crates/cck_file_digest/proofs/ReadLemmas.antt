@@ -20,10 +20,6 @@ take_in_two xs a b =
     ∙ ap (λ p. take a xs ++ p) (drop-take a b xs)
 
 module _ {S : Type 0} (takes : S → List ℕ → S → Type 0) where
-  pub fed_at_first : (first : S) (found : Result (List ℕ) FileError) → IfOk found (IsFed takes first first 0)
-  fed_at_first first (Ok contents) = record { within = omega arith; taken = ([], refl, refl) }
-  fed_at_first first (Err e) = tt
-
   pub fed_more : (first now next : S) (offset n : ℕ) (buffer : List ℕ) (found : Result (List ℕ) FileError)
       → IfOk found (IsFed takes first now offset) → IsOkAnd found (λ contents. IsRead contents offset n buffer)
       → takes now (take n buffer) next → IfOk found (IsFed takes first next (offset + n))
@@ -41,14 +37,6 @@ module _ {S : Type 0} (takes : S → List ℕ → S → Type 0) where
         );
       }
   fed_more first now next offset n buffer (Err e) fed read taking = tt
-
-  pub fed_whole : (first now : S) (offset n : ℕ) (buffer : List ℕ) (found : Result (List ℕ) FileError)
-      → IfOk found (IsFed takes first now offset) → IsOkAnd found (λ contents. IsRead contents offset n buffer)
-      → n ≡ 0 → 0 < length buffer → IsOkAnd found (λ contents. TakesAll takes first contents now)
-  fed_whole first now offset n buffer (Ok contents) fed read none room =
-      let (pieces, folds, whole) = fed.taken in
-      (pieces, folds, sym (take_all offset contents (read.at_end none room)) ∙ whole)
-  fed_whole first now offset n buffer (Err e) fed read none room = read
 
   -- what holds piece by piece, holds of the whole contents
   pub holds_of_contents : (holds : S → List ℕ → Type 0)

@@ -32,14 +32,3 @@ refusal_by x P Q NotFound f r = r
 refusal_by x P Q OtherKind f r = r
 refusal_by x P Q Fault f r = f r
 refusal_by x P Q Memory f r = r
-
-pub refusal_or_memory_by : {X : Type 0} (x : Result X FileError) (P Q : Type 0) (e : FileError) → (P → Q) → IsRefusalOrMemory x P e → IsRefusalOrMemory x Q e
-refusal_or_memory_by x P Q NotFound f r = r
-refusal_or_memory_by x P Q OtherKind f r = r
-refusal_or_memory_by x P Q Fault f r = f r
-refusal_or_memory_by x P Q Memory f r = r
-
--- quiet files meet no fault
-pub not_rose : {F : Type 0} {file_map : F → FileMap} {faults : F → ℕ} {is_quiet : F → Type 0} (a b : F) → Keeps file_map faults is_quiet a b → is_quiet a → faults a + 1 < 2 ^ 64 → Rose (faults a) (faults b) → ⊥
-not_rose a b k q low (inl r) = omega (arith, r, k.stays_calm q)
-not_rose a b k q low (inr r) = omega (arith, r, low, k.stays_calm q)

@@ -1,5 +1,5 @@
 -- The names of children, gathered from entries in order.
-use Rattle.std.proofs.Common.{Global, ◌≡◌, ◌≢◌, ◌||◌, ℕ, ◌+◌, ◌<◌, List, [], ◌∷◌, ◌++◌, length, map, take, get_or, Bool, true, false, cond, Option, Some, None, is_some, refl, sym, ap, subst, ◌∙◌, arith}
+use Rattle.std.proofs.Common.{Global, ◌≡◌, ◌≢◌, ◌||◌, ℕ, ◌+◌, ◌<◌, List, [], ◌∷◌, ◌++◌, length, map, take, get_or, Bool, true, false, cond, Some, None, is_some, refl, sym, ap, subst, ◌∙◌, arith}
 use Rattle.std.proofs.lemmas.Bool.{false≢true, true≢false}
 use Rattle.std.proofs.lemmas.Cmp.{tied_itself}
 use Rattle.std.proofs.lemmas.List.{map-append, take_all, take_more}
@@ -7,13 +7,12 @@ use Rattle.std.proofs.lemmas.List.Sums.{sum_by-append}
 use Rattle.std.specs.Cmp.Lexicographic.{nat_list_cmp_total, slice_cmp}
 use Rattle.std.specs.FinMap.{FinMap, entries, find, get, get-entries, nat_cmp-IsAntisymmetric, slice_cmp-IsAntisymmetric}
 use Rattle.std.specs.List.{AllByRecursion}
-use Rattle.std.specs.Option.{option_map}
 use Rattle.std.specs.Ordering.{eq_by_cmp, is_eq, nat_cmp}
 use Rattle.std.specs.Prelude.{Vec, count_by, vec_items}
 use Rattle.cck_path.specs.Path.{IsName, Name, Path, path_cmp, path_cmp_total}
 use Rattle.cck_path.specs.declared.metadata.FileKind.TheVariants.{Folder}
 use Rattle.cck_path_map.proofs.PlaceLemmas.{find_before, in_order_of, is_equal, tied}
-use Rattle.cck_path_map.proofs.ValueLemmas.{get-map_values}
+use Rattle.cck_path_map.proofs.ValueLemmas.{contains-map_values}
 use Rattle.cck_path_map.specs.PathMap.{pair_of, path_of}
 use Rattle.cck_path_map.specs.declared.path_map.Entry.{Entry}
 use Rattle.cck_files.proofs.ChildLemmas.{same_last}
@@ -69,9 +68,6 @@ module _ {V : Type 0} where
     pub names_only : AllByRecursion IsName names
     pub each_once : (n : List ℕ) → count_by (is_same_name n) names ≡ one_if (found es i (p ++ Name n ∷ []))
 
-  pub listed_none : (p : Path) (es : List (Entry V)) (names : List (List ℕ)) → names ≡ [] → IsListed p es 0 names
-  listed_none p es names none = subst (IsListed p es 0) (sym none) (record { names_only = tt; each_once = λ n. refl })
-
   pub listed_all : (p : Path) (es : List (Entry V)) (m : FinMap path_cmp V) → map pair_of es ≡ entries m → (names : List (List ℕ)) → IsListed p es (length es) names → HasChildNames m p names
   listed_all p es m is names l = record {
     names_only = l.names_only;
@@ -116,15 +112,11 @@ module _ {V : Type 0} where
         by n true same = let is = same_name_is n name same in sums _ _ _ _ (l.each_once n) (same ∙ sym (tie n is)) (λ t. before n is)
         by n false other = sums _ _ _ _ (l.each_once n) (other ∙ sym (no_tie n other)) (λ t. absurd (false≢true (sym (no_tie n other) ∙ t)))
 
-is_some-option_map : {X Y : Type 0} (f : X → Y) (x : Option X) → is_some (option_map f x) ≡ is_some x
-is_some-option_map f None = refl
-is_some-option_map f (Some x) = refl
-
 -- the names of a folder's children are its listing
 pub listing : (m : FinMap path_cmp Place) (p : Path) (node : FileNode) (names : List (List ℕ)) → get (files_of m).nodes p ≡ Some node → node.kind ≡ Folder → HasChildNames m p names → IsListing (files_of m) p names
 unfolding folder_at
 listing m p node names at kind children = record {
   folder = ap folder_in at ∙ ap folder_if kind;
   names_only = children.names_only;
-  each_once = λ n. children.each_once n ∙ ap one_if (sym (ap is_some (get-map_values node_at m (p ++ Name n ∷ [])) ∙ is_some-option_map node_at (get m (p ++ Name n ∷ []))));
+  each_once = λ n. children.each_once n ∙ ap one_if (sym (contains-map_values node_at m (p ++ Name n ∷ [])));
 }

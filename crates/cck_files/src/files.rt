@@ -16,10 +16,12 @@ use std::alloc::Global;
 ///
 /// Paths are compared by components. Every call is refused as
 ///
-/// - [`FileError::NotFound`] exactly where nothing stands at the path,
-/// - [`FileError::OtherKind`] exactly where what stands there isn't what the call asks for,
+/// - [`FileError::NotFound`] only where nothing stands at the path,
+/// - [`FileError::OtherKind`] only where what stands there isn't what the call asks for,
 /// - [`FileError::Fault`] only where the count of faults rose,
 /// - [`FileError::Memory`] where it takes memory, and never where it doesn't.
+///
+/// Where one of the first two causes stands, the call is refused: for it, or for one of the last two.
 pub trait Files {
     ghost use Rattle.cck_files.specs.FileMap.{FileMap, metadata_at, contents_at, folder_at, stands_at, canonical_at, IsListing};
     ghost use Rattle.cck_files.specs.Calls.{Keeps, IsRefusal, IsRefusalOrMemory, IsRead, Rose};
@@ -66,7 +68,8 @@ pub trait Files {
             MatchBool result (stands ≡ true)
             ((stands ≡ false) ⊎ Rose (faults self.old) (faults self.new)) };
 
-    /// The path that leads to the same place without links.
+    /// The path that leads to the same place without links. It is refused as
+    /// [`FileError::NotFound`] only where the path has no canonical one.
     fn canonical(&mut self, alloc: Global, path: &[u8]) -> Result<Vec<u8>, FileError>
         ensures keeps { Keeps file_map faults is_quiet self.old self.new }
         ensures answer { let found = canonical_at (file_map self.old) (components path.now) in
