@@ -1,9 +1,10 @@
 //! Compilers that stand behind wrappers.
-ghost use Rattle.std.specs.Prelude.{◌≡◌, ◌∷◌, map, IfOk, IsOkUnless, IfSome, Contains, ◌⊎◌};
+ghost use Rattle.std.specs.Prelude.{◌≡◌, ◌∷◌, map, IfOk, IsOkUnless, IfSome, Contains, ◌⊎◌, true};
 ghost use Rattle.std.specs.List.{find};
 ghost use Rattle.std.specs.Option.{option_map};
 ghost use Rattle.std.specs.Str.{str_eq_ignore_ascii_case};
 ghost use Rattle.cck_files.specs.Calls.{Keeps, Rose};
+ghost use Rattle.cck_files.specs.FileMap.{stands_at};
 ghost use Rattle.cck_path.specs.Components.{component_of};
 ghost use Rattle.cck_path.specs.Path.{components};
 ghost use Rattle.cck_path.specs.Text.{join_path as joined_text};
@@ -25,7 +26,7 @@ use std::alloc::Global;
 /// those that have a component `ccache` or `sccache`. The answer is the first of these paths at
 /// which something stands and that doesn't lead to a wrapper. Where there is none, or no file name,
 /// or no variable `PATH`, it is `executable` too. Where the count of faults rose the answer may be
-/// another of these paths, or `executable`.
+/// another of these paths at which something stands, or `executable`.
 ///
 /// Upstream's `util::resolve_compiler_avoiding_wrapper`. It is refused only for want of memory, as
 /// [`UtilError::Memory`].
@@ -43,6 +44,8 @@ pub fn resolve_compiler_avoiding_wrapper<F: Files>(
     ensures place { IfOk result (λ path. Contains
         (executable.now ∷ candidates executable.now (map (λ v. (v.0.items, v.1.items)) vars.now))
         path.items) }
+    ensures standing { IfOk result (λ path. (path.items ≡ executable.now)
+        ⊎ (stands_at (F.file_map files.old) (components path.items) ≡ true)) }
     ensures refused { IsOkUnless result UtilError.Memory }
 {
     match find_compiler(alloc, files, executable, vars)? {
@@ -66,6 +69,8 @@ fn find_compiler<F: Files>(
     ensures place { IfOk result (λ compiler. IfSome compiler (λ path. Contains
         (candidates executable.now (map (λ v. (v.0.items, v.1.items)) vars.now))
         path.items)) }
+    ensures standing { IfOk result (λ compiler. IfSome compiler (λ path.
+        stands_at (F.file_map files.old) (components path.items) ≡ true)) }
     ensures refused { IsOkUnless result UtilError.Memory }
 {
     if is_settled(alloc, files, executable)? {
@@ -141,6 +146,8 @@ fn first_compiler<F: Files>(
         ⊎ Rose (F.faults files.old) (F.faults files.new)) }
     ensures place { IfOk result (λ compiler. IfSome compiler (λ path. Contains
         (map (λ part. joined_text part.now name.now) parts.now) path.items)) }
+    ensures standing { IfOk result (λ compiler. IfSome compiler (λ path.
+        stands_at (F.file_map files.old) (components path.items) ≡ true)) }
     ensures refused { IsOkUnless result UtilError.Memory }
 {
     for part in parts {
@@ -158,6 +165,8 @@ fn is_compiler<F: Files>(alloc: Global, files: &mut F, path: &[u8]) -> Result<bo
     ensures answer { IfOk result (λ compiler.
         (compiler ≡ is_compiler (F.file_map files.old) (components path.now))
         ⊎ Rose (F.faults files.old) (F.faults files.new)) }
+    ensures standing { IfOk result (λ compiler. compiler ≡ true
+        → stands_at (F.file_map files.old) (components path.now) ≡ true) }
     ensures refused { IsOkUnless result UtilError.Memory }
 {
     if !files.exists(path) {

@@ -1,4 +1,6 @@
-use Rattle.std.proofs.Common.{inl, inr, sym, map, ap, ◌∙◌, subst, Contains, IfSome}
+use Rattle.std.proofs.Common.{◌≡◌, true, inl, inr, sym, map, ap, ◌∙◌, subst, Contains, IfSome}
+use Rattle.cck_files.specs.FileMap.{stands_at}
+use Rattle.cck_path.specs.Path.{components}
 use Rattle.cck_path.specs.Text.{join_path}
 use Rattle.cck_util.proofs.WrapperLemmas.{in_turn, nothing_found, no_name, no_path, candidates_by, first_found, if_ok}
 use Rattle.cck_util.proofs.wrapper.find_compiler.Goals as goal
@@ -38,3 +40,8 @@ returns-clause-place g c =
     c.in-Some.ensures c.in-Some-first_value.ensures (ap (map (λ part. part.now)) c.deref.ensures.value ∙ c.in_ok-parts.ensures.parts) in
     if_ok c.first_compiler.result c.first_compiler.ensures.place
     (λ compiler place. subst (λ ps. IfSome compiler (λ path. Contains ps path.items)) paths place)
+
+pub returns-clause-standing : goal.returns-clause-standing
+returns-clause-standing g c =
+    if_ok c.first_compiler.result c.first_compiler.ensures.standing
+    (λ compiler standing. subst (λ m. IfSome compiler (λ path. stands_at m (components path.items) ≡ true)) c.in_ok-is_settled.ensures.keeps.same_map standing)

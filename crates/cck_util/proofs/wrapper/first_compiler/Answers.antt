@@ -1,5 +1,6 @@
 use Rattle.std.proofs.Common.{inl, refl, sym, ap, ◌∙◌}
 use Rattle.cck_files.proofs.CallsLemmas.{keeps_itself, keeps_all}
+use Rattle.cck_files.specs.FileMap.{stands_at}
 use Rattle.cck_path.specs.Path.{components}
 use Rattle.cck_util.specs.Wrapper.{is_compiler}
 use Rattle.cck_util.proofs.WrapperLemmas.{in_turn, stands_here, stands_later}
@@ -29,3 +30,9 @@ returns-then-branch-clause-answer g c = let F = g.F.Files in let kept = c.loop-p
     (sym c.if-branch.true ∙ answer ∙ ap (λ s. is_compiler (F.file_map c.loop-part.files) (components s)) c.deref.ensures.value
     ∙ ap (λ m. is_compiler m (components c.in_ok-path.path.items)) kept.same_map))
     ∙ left)
+
+pub returns-then-branch-clause-standing : goal.returns-then-branch-clause-standing
+returns-then-branch-clause-standing g c = let F = g.F.Files in
+    sym (ap (λ s. stands_at (F.file_map c.loop-part.files) (components s)) c.deref.ensures.value
+    ∙ ap (λ m. stands_at m (components c.in_ok-path.path.items)) c.loop-part.invariant.kept.same_map)
+    ∙ c.in_ok-is_compiler.ensures.standing c.if-branch.true
