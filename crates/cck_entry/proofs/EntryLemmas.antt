@@ -180,21 +180,6 @@ read_error Deserialization rest h = no_text rest h
 read_error (Io u) rest h = h
 read_error (UnknownFormat x) rest h = h
 
--- behind the version
-pub reads_from : (rest : List ℕ) (r : Result Entry Error) → IsReadFrom rest r → Reads r (1 ∷ rest)
-reads_from rest (Ok e) h = inl h.0
-reads_from rest (Err Memory) h = tt
-reads_from rest (Err Deserialization) h = (rest, refl, h)
-reads_from rest (Err (Io u)) h = h
-reads_from rest (Err (UnknownFormat x)) h = absurd h
-
-pub only_from : (rest : List ℕ) (r : Result Entry Error) → IsReadFrom rest r → (e : Entry) → EntryText e (1 ∷ rest) → IsEntryOrMemory e r
-only_from rest (Ok f) h e t = h.1 e t
-only_from rest (Err Memory) h e t = tt
-only_from rest (Err Deserialization) h e t = h e t
-only_from rest (Err (Io u)) h e t = h
-only_from rest (Err (UnknownFormat x)) h e t = h
-
 pub entries_of_empty : entries (empty {K = List ℕ} {X = List Include} {R = text_cmp}) ≡ []
 entries_of_empty = nil_from_length _ (sym (len-entries empty) ∙ len-empty text_cmp (List Include))
 

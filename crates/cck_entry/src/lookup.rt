@@ -24,8 +24,9 @@ impl PreprocessorCacheEntry {
     /// The key of the result whose included files all still are what they were, the greatest by its
     /// bytes where there are several, if there is one. A result that included nothing always stands.
     ///
-    /// No file is read twice. A file that can't be read, for whatever cause, isn't what it was; so
-    /// where a fault came, the answer may be none, or another key whose files all are what they were.
+    /// No file that could be read is read twice. A file that can't be read, for whatever cause, isn't
+    /// what it was; so where a fault came, the answer may be none, or another key whose files all are
+    /// what they were.
     ///
     /// It is refused only as [`Error::Memory`].
     ///

@@ -19,6 +19,23 @@ const ONE_RESULT: [u8; 67] = [
     0, // no time of its status
 ];
 
+// The key `a` without includes, and `b` with two: `/a` with both times, the first of them before 1970,
+// and `/c` of no bytes, with an empty digest and no times.
+const TWO_RESULTS: [u8; 124] = [
+    1, 2, 0, 0, 0, 0, 0, 0, 0, // the format, and 2 results
+    1, 0, 0, 0, 0, 0, 0, 0, b'a', 0, 0, 0, 0, 0, 0, 0, 0, // a key, no includes
+    1, 0, 0, 0, 0, 0, 0, 0, b'b', 2, 0, 0, 0, 0, 0, 0, 0, // a key, 2 includes
+    2, 0, 0, 0, 0, 0, 0, 0, b'/', b'a', // a path
+    1, 0, 0, 0, 0, 0, 0, 0, b'd', // its digest
+    3, 0, 0, 0, 0, 0, 0, 0, // its size
+    1, 255, 255, 255, 255, 255, 255, 255, 255, 0xff, 0xc9, 0x9a, 0x3b, // a time of its contents
+    1, 5, 0, 0, 0, 0, 0, 0, 0, 7, 0, 0, 0, // a time of its status
+    2, 0, 0, 0, 0, 0, 0, 0, b'/', b'c', // a path
+    0, 0, 0, 0, 0, 0, 0, 0, // its digest
+    0, 0, 0, 0, 0, 0, 0, 0, // its size
+    0, 0, // no times
+];
+
 const NO_RESULTS: [u8; 9] = [1, 0, 0, 0, 0, 0, 0, 0, 0];
 
 // Fails at every write.
@@ -120,6 +137,29 @@ fn one_result(rt: HostRuntime) -> Result<(), Error> {
     assert!(rt; entry.results().get(&key) == Some(&list));
     let mut made = PreprocessorCacheEntry::new(alloc);
     made.insert_result(key, list)?;
+    assert_eq!(rt; made, entry);
+    Ok(())
+}
+
+#[test]
+fn two_results(rt: HostRuntime) -> Result<(), Error> {
+    let alloc = rt.alloc();
+    let entry = read_back(&rt, alloc, &TWO_RESULTS)?;
+    assert_eq!(rt; entry.result_count(), 2);
+    assert_eq!(rt; entry.number_of_entries(), 2);
+    let modified = Some(Timestamp::new(-1, 999_999_999));
+    let changed = Some(Timestamp::new(5, 7));
+    let mut list = vec![in alloc; include(alloc, b"/a", modified, changed)?]?;
+    list.push(IncludeEntry {
+        path: Vec::from_slice(alloc, b"/c")?,
+        digest: String::new(alloc),
+        file_size: 0,
+        mtime: None,
+        ctime: None,
+    })?;
+    let mut made = PreprocessorCacheEntry::new(alloc);
+    made.insert_result(String::from_str(alloc, "b")?, list)?;
+    made.insert_result(String::from_str(alloc, "a")?, Vec::new(alloc))?;
     assert_eq!(rt; made, entry);
     Ok(())
 }
