@@ -2,8 +2,8 @@
 use Rattle.std.proofs.Common.{◌≡◌, ◌≢◌, ◌⊎◌, inl, inr, ℕ, ◌+◌, Bool, true, false, List, [], ◌∷◌, length, Ok, Err, refl, sym, ap, arith, ◌∙◌}
 use Rattle.cck_markers.specs.Lines.{IsNamedAt, IsUnnamedTo}
 use Rattle.cck_markers.specs.Marks.{Named, Unnamed, is_system}
-use Rattle.cck_walk.specs.Decided.{Context, Digests, Refuses, after, outcome}
-use Rattle.cck_walk.specs.Line.{IsLineAnswer, IsNameAnswer}
+use Rattle.cck_walk.specs.Decided.{Context, Digests, Refuses, after, is_looked_for, outcome}
+use Rattle.cck_walk.specs.Line.{IsLineAnswer, IsNameAnswer, NamesNone}
 use Rattle.cck_walk.specs.declared.error.WalkError.{WalkError}
 use Rattle.cck_walk.specs.declared.error.WalkError.TheVariants as error
 use Rattle.cck_walk.specs.declared.line.LineAction.TheVariants.{Continue, Break}
@@ -29,16 +29,18 @@ module _ (c : Context) (HasFault : Type 0) (text : List ℕ) (start hash : ℕ) 
     pub goes_on : (new : Digests) → name ≢ [] → IsNameAnswer c HasFault old new name is_system_in (Ok true) → IsLineAnswer c HasFault text start hash old new (Ok (Continue (start + end, start + end)))
     goes_on new some does = (begin, end, refl, refl, (r.0, r.1, λ e. some (sym r.2 ∙ e), ap (after old) same_outcome ∙ does))
 
+    same_look : is_looked_for c old r.0.name (is_system r.0.rest) ≡ is_looked_for c old name is_system_in
+    same_look i = is_looked_for c old (r.2 i) (r.3 i)
+
+    pub looks_for_none : NamesNone c old text → is_looked_for c old name is_system_in ≡ false
+    looks_for_none none = sym same_look ∙ none r.0
+
     stopped : (outcome c old name is_system_in ≡ Refuses) ⊎ HasFault → (outcome c old r.0.name (is_system r.0.rest) ≡ Refuses) ⊎ HasFault
     stopped (inl e) = inl (same_outcome ∙ e)
     stopped (inr f) = inr f
 
     pub stops : (new : Digests) → name ≢ [] → IsNameAnswer c HasFault old new name is_system_in (Ok false) → IsLineAnswer c HasFault text start hash old new (Ok (Break (start + end, start + begin, false)))
     stops new some does = (begin, end, refl, refl, does.0, (r.0, r.1, λ e. some (sym r.2 ∙ e), stopped does.1))
-
-pub wants_memory : (c : Context) (HasFault : Type 0) (text : List ℕ) (start hash : ℕ) (old new : Digests) (name : List ℕ) (is_system_in : Bool) (e : WalkError) → IsNameAnswer c HasFault old new name is_system_in (Err e) → IsLineAnswer c HasFault text start hash old new (Err e)
-wants_memory c HasFault text start hash old new name is_system_in error.Memory h = h
-wants_memory c HasFault text start hash old new name is_system_in error.Marker h = absurd h
 
 pub empty_of : (name : List ℕ) → length name ≡ 0 → name ≡ []
 empty_of [] e = refl

@@ -1,5 +1,5 @@
 -- what the marks of a text decide
-use Rattle.std.specs.Prelude.{◌≡◌, ◌&&◌, ◌||◌, ◌==◌, ◌-◌, if◌then◌else◌, ℕ, nat_le, Bool, true, List, [], ◌∷◌, length, slice_index, is_some, Option, Some, None}
+use Rattle.std.specs.Prelude.{◌≡◌, ◌&&◌, ◌||◌, ◌==◌, ◌-◌, if◌then◌else◌, ℕ, nat_le, Bool, true, List, [], ◌∷◌, length, slice_index, is_some, not, false, Option, Some, None}
 use Rattle.std.specs.FinMap.{FinMap, empty, get, insert}
 use Rattle.std.specs.Ordering.{eq_by_cmp}
 use Rattle.cck_files.specs.FileMap.{FileMap}
@@ -50,6 +50,10 @@ path_named c name = normal (joined c.cwd (components name))
 unfoldable pub is_known : Context → Digests → Path → Bool
 is_known c held p = is_some (get held p) || eq_by_cmp path_cmp p c.input
 
+-- a file is looked for by this name: it isn't passed over, and its path is neither the input nor has a digest
+unfoldable pub is_looked_for : Context → Digests → List ℕ → Bool → Bool
+is_looked_for c held name is_system = not (is_passed c.setting.config.skip_system_headers name is_system || is_known c held (path_named c name))
+
 -- what comes of a name: nothing, the digest of a path, or that the text is refused
 pub data Outcome : Type 0 where
   Passes : Outcome
@@ -87,6 +91,18 @@ decided c (Some held) (Refusal ∷ marks) = IsRefused
 decided c (Some held) (Malformed ∷ marks) = Errs
 decided c (Some held) (Name name is_system ∷ marks) = decided c (after held (outcome c held name is_system)) marks
 
--- the marks of the text decide this
+-- a file is looked for by a name of these marks, up to the one that decides
+unfoldable pub looks_for : Context → Option Digests → List Mark → Bool
+looks_for c None marks = false
+looks_for c (Some held) [] = false
+looks_for c (Some held) (Refusal ∷ marks) = false
+looks_for c (Some held) (Malformed ∷ marks) = false
+looks_for c (Some held) (Name name is_system ∷ marks) = is_looked_for c held name is_system || looks_for c (after held (outcome c held name is_system)) marks
+
+-- no file is looked for by a name of the text
+abbrev pub LooksForNone : Context → List ℕ → Type 0
+LooksForNone c text = (marks : List Mark) → Marks true text marks → looks_for c (Some empty) marks ≡ false
+
+-- the marks of the text decide this: each text has one list of marks, by the law `HasOneList` of `cck_markers`
 abbrev pub Decides : Context → List ℕ → Decided → Type 0
 Decides c text d = (marks : List Mark) × Marks true text marks × (decided c (Some empty) marks ≡ d)

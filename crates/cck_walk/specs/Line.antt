@@ -2,7 +2,7 @@
 use Rattle.std.specs.Prelude.{◌≡◌, ◌≢◌, ◌⊎◌, ◌+◌, ℕ, Bool, true, false, List, [], Some, Result, Ok, Err}
 use Rattle.cck_markers.specs.Lines.{IsNamedAt, IsUnnamedTo}
 use Rattle.cck_markers.specs.Marks.{Named, Unnamed, is_system}
-use Rattle.cck_walk.specs.Decided.{Context, Digests, Refuses, after, outcome}
+use Rattle.cck_walk.specs.Decided.{Context, Digests, Refuses, after, is_looked_for, outcome}
 use Rattle.cck_walk.specs.declared.error.WalkError.{WalkError}
 use Rattle.cck_walk.specs.declared.error.WalkError.TheVariants.{Memory, Marker}
 use Rattle.cck_walk.specs.declared.line.LineAction.{LineAction}
@@ -18,6 +18,10 @@ IsNameAnswer c HasFault old new name is_system_in (Err Marker) = ⊥
 -- a marker with a name that has bytes, and where they stand
 abbrev pub IsLongNamed : List ℕ → ℕ → ℕ → (List ℕ → Bool → Type 0) → Type 0
 IsLongNamed text begin end Does = (marker : Named text) × IsNamedAt text begin end marker × (marker.name ≢ []) × Does marker.name (is_system marker.rest)
+
+-- no file is looked for by the name of the marker with which this text begins
+abbrev pub NamesNone : Context → Digests → List ℕ → Type 0
+NamesNone c held text = (marker : Named text) → is_looked_for c held marker.name (is_system marker.rest) ≡ false
 
 -- the answer for the marker with which this text begins, where the text begins at a place of a longer one
 abbrev pub IsLineAnswer : Context → Type 0 → List ℕ → ℕ → ℕ → Digests → Digests → Result LineAction WalkError → Type 0

@@ -1,8 +1,8 @@
 //! One line marker.
-ghost use Rattle.std.specs.Prelude.{◌≤◌, ◌<◌, drop, length};
+ghost use Rattle.std.specs.Prelude.{◌≡◌, ◌≤◌, ◌<◌, drop, length};
 ghost use Rattle.cck_files.specs.Calls.{Keeps, Rose};
 ghost use Rattle.cck_walk.specs.Decided.{context_in};
-ghost use Rattle.cck_walk.specs.Line.{IsLineAnswer};
+ghost use Rattle.cck_walk.specs.Line.{IsLineAnswer, NamesNone};
 ghost use Rattle.jiff.specs.Words.{plain_zone};
 
 use crate::name::take_name;
@@ -43,7 +43,8 @@ pub enum LineAction {
 ///
 /// It is refused as [`WalkError::Marker`] exactly where neither a quote nor a line feed comes, or a
 /// quote first, as the text's last byte; and as [`WalkError::Memory`]. Records change by a `Continue`
-/// alone.
+/// alone. No file is asked for a marker without a name, for a name that is passed over by itself, nor
+/// for the path of the input or of a record.
 ///
 /// Upstream's `compiler::c::process_preprocessor_line`.
 pub fn process_preprocessor_line<H: HashState, F: Files>(
@@ -66,6 +67,9 @@ pub fn process_preprocessor_line<H: HashState, F: Files>(
     ensures answer { IsLineAnswer (context_in H.hash config moment (plain_zone zone.now) vars.now
         (F.file_map files.old) input_file.now cwd.now) (Rose (F.faults files.old) (F.faults files.new))
         (drop start text.now) start hash_start records.old records.new result }
+    ensures untouched { NamesNone (context_in H.hash config moment (plain_zone zone.now) vars.now
+        (F.file_map files.old) input_file.now cwd.now) records.old (drop start text.now)
+        → files.new ≡ files.old }
 {
     match read_line(&text[start..]) {
         Line::Unnamed { end } => Ok(LineAction::Break((start + end, hash_start, true))),

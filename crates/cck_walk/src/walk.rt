@@ -1,6 +1,7 @@
 //! The walk over a text.
+ghost use Rattle.std.specs.Prelude.{◌≡◌};
 ghost use Rattle.cck_files.specs.Calls.{Keeps, Rose};
-ghost use Rattle.cck_walk.specs.Decided.{context_in};
+ghost use Rattle.cck_walk.specs.Decided.{LooksForNone, context_in};
 ghost use Rattle.cck_walk.specs.Walk.{IsWalk};
 ghost use Rattle.jiff.specs.Words.{plain_zone};
 
@@ -29,10 +30,12 @@ pub enum Walk {
 /// The first mark of the text decides that is an inclusion by the assembler, a name that is neither a
 /// folder nor a regular file with a recorded digest and with no time at the moment or later, or a
 /// malformed marker. The text is refused for the first two. Where no mark decides, it is accepted.
-/// Names are joined to the working directory. Empty names, names in angles, the input, and the
+/// Names are joined to the working directory and normalised; `input_file` is neither, so it has to be
+/// given as a name of it would be read to be passed over. Empty names, names in angles, the input, and the
 /// names of system headers where the options skip these are passed over.
 ///
-/// Where a fault came the text may be refused. What is accepted, and which marker is malformed, is
+/// No file is asked for a name that is passed over by itself, nor twice for one path, nor for the
+/// input. Where a fault came the text may be refused. What is accepted, and which marker is malformed, is
 /// exact then too. It is refused as [`WalkError::Marker`] exactly where a malformed marker decides,
 /// and as [`WalkError::Memory`].
 ///
@@ -52,6 +55,8 @@ pub fn process_preprocessed_file<H: HashState, F: Files>(
     ensures answer { IsWalk (context_in H.hash config moment (plain_zone zone.now) vars.now
         (F.file_map files.old) input_file.now cwd.now) (Rose (F.faults files.old) (F.faults files.new))
         text.now result }
+    ensures untouched { LooksForNone (context_in H.hash config moment (plain_zone zone.now) vars.now
+        (F.file_map files.old) input_file.now cwd.now) text.now → files.new ≡ files.old }
 {
     let mut records = Records::new(alloc);
     for mark in Markers::new(text) {

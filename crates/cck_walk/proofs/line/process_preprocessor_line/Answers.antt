@@ -4,7 +4,7 @@ use Rattle.cck_files.specs.Calls.{Rose}
 use Rattle.cck_markers.proofs.Cuts.{slice_from}
 use Rattle.cck_markers.specs.Lines.{IsUnnamedTo}
 use Rattle.cck_walk.specs.Decided.{context_in}
-use Rattle.cck_walk.proofs.LineLemmas.{IsReadAt, empty_of, goes_on, stops, unnamed, unwritten}
+use Rattle.cck_walk.proofs.LineLemmas.{IsReadAt, empty_of, goes_on, looks_for_none, stops, unnamed, unwritten}
 use Rattle.jiff.specs.Words.{plain_zone}
 use Rattle.cck_walk.proofs.line.process_preprocessor_line.Goals as goal
 
@@ -40,3 +40,27 @@ returns-in-Ok-false-clause-answer g c =
     stops x (Rose (F.faults c.args.files.now) (F.faults c.take_name.new.files)) (drop c.args.start c.args.text.now) c.args.start c.args.hash_start c.args.records.now n.begin n.end n.name.now n.is_system
     (subst (λ t. IsReadAt t n.begin n.end n.name.now n.is_system) (slice_from c.args.text.now c.args.start) n.ensures) c.take_name.new.records
     (λ none. eqb-false _ 0 (sym c.if-is_empty.ensures) (ap length none)) (rw c.in-Ok-false.field-0-test at c.in-Ok-false.ensures.answer)
+
+pub returns-in-Ok-true-clause-untouched : goal.returns-in-Ok-true-clause-untouched
+returns-in-Ok-true-clause-untouched g c =
+    let F = g.F.Files in
+    let x = context_in g.H.HashState.hash c.args.config c.args.moment (plain_zone c.args.zone.now) c.args.vars.now (F.file_map c.args.files.now) c.args.input_file.now c.args.cwd.now in
+    let n = c.in-Named in
+    λ none. c.take_name.ensures.untouched (looks_for_none x (Rose (F.faults c.args.files.now) (F.faults c.take_name.new.files)) (drop c.args.start c.args.text.now) c.args.start c.args.hash_start c.args.records.now n.begin n.end n.name.now n.is_system
+    (subst (λ t. IsReadAt t n.begin n.end n.name.now n.is_system) (slice_from c.args.text.now c.args.start) n.ensures) none)
+
+pub returns-in-Ok-false-clause-untouched : goal.returns-in-Ok-false-clause-untouched
+returns-in-Ok-false-clause-untouched g c =
+    let F = g.F.Files in
+    let x = context_in g.H.HashState.hash c.args.config c.args.moment (plain_zone c.args.zone.now) c.args.vars.now (F.file_map c.args.files.now) c.args.input_file.now c.args.cwd.now in
+    let n = c.in-Named in
+    λ none. c.take_name.ensures.untouched (looks_for_none x (Rose (F.faults c.args.files.now) (F.faults c.take_name.new.files)) (drop c.args.start c.args.text.now) c.args.start c.args.hash_start c.args.records.now n.begin n.end n.name.now n.is_system
+    (subst (λ t. IsReadAt t n.begin n.end n.name.now n.is_system) (slice_from c.args.text.now c.args.start) n.ensures) none)
+
+pub returns-in-Err-clause-untouched : goal.returns-in-Err-clause-untouched
+returns-in-Err-clause-untouched g c =
+    let F = g.F.Files in
+    let x = context_in g.H.HashState.hash c.args.config c.args.moment (plain_zone c.args.zone.now) c.args.vars.now (F.file_map c.args.files.now) c.args.input_file.now c.args.cwd.now in
+    let n = c.in-Named in
+    λ none. c.take_name.ensures.untouched (looks_for_none x (Rose (F.faults c.args.files.now) (F.faults c.take_name.new.files)) (drop c.args.start c.args.text.now) c.args.start c.args.hash_start c.args.records.now n.begin n.end n.name.now n.is_system
+    (subst (λ t. IsReadAt t n.begin n.end n.name.now n.is_system) (slice_from c.args.text.now c.args.start) n.ensures) none)

@@ -1,10 +1,10 @@
-use Rattle.std.proofs.Common.{◌≡◌, ◌⊎◌, ◌∷◌, [], Some, inl}
+use Rattle.std.proofs.Common.{◌≡◌, ◌⊎◌, ◌∷◌, ◌∙◌, [], Some, false, inl}
 use Rattle.cck_files.proofs.CallsLemmas.{keeps_all, rose_earlier}
 use Rattle.cck_files.specs.Calls.{Rose}
 use Rattle.cck_markers.specs.Markers.{Gives}
 use Rattle.cck_markers.specs.Marks.{Malformed, Name, Refusal}
-use Rattle.cck_walk.proofs.WalkLemmas.{accepted, leads_on, malformed, refused, refused_by}
-use Rattle.cck_walk.specs.Decided.{Refuses, after, context_in, outcome}
+use Rattle.cck_walk.proofs.WalkLemmas.{accepted, leads_on, malformed, none_behind, none_here, refused, refused_by}
+use Rattle.cck_walk.specs.Decided.{Refuses, after, context_in, is_looked_for, outcome}
 use Rattle.jiff.specs.Words.{plain_zone}
 use Rattle.cck_walk.proofs.walk.process_preprocessed_file.Goals as goal
 
@@ -33,6 +33,11 @@ loop-mark-preserved g c =
     rw (← c.loop-mark.invariant.keeps.same_map) (rw c.in-Ok-true.field-0-test at c.in-Ok-true.ensures.answer) in
     record {
       keeps = keeps_all c.args.files.now c.loop-mark.files c.take_name.new.files c.loop-mark.invariant.keeps c.in-Ok-true.ensures.keeps;
+      untouched = λ none.
+          let q = c.loop-mark.invariant.untouched none in
+          let here : is_looked_for (context_in g.H.HashState.hash c.args.config c.args.moment (plain_zone c.args.zone.now) c.args.vars.now (F.file_map c.loop-mark.files) c.args.input_file.now c.args.cwd.now) held name c.in-Name.is_system ≡ false =
+          rw c.loop-mark.invariant.keeps.same_map (none_here x c.loop-mark.mark-iterator c.next.new.self held name c.in-Name.is_system q.1 gives) in
+          (c.take_name.ensures.untouched here ∙ q.0, none_behind x c.loop-mark.mark-iterator c.next.new.self held name c.in-Name.is_system q.1 gives c.take_name.new.records does);
       leads = leads_on x c.args.text.now c.loop-mark.mark-iterator c.next.new.self held c.take_name.new.records name c.in-Name.is_system c.loop-mark.invariant.leads gives does;
     }
 
@@ -55,3 +60,29 @@ returns-in-Ok-clause-answer g c =
     let F = g.F.Files in
     let x = context_in g.H.HashState.hash c.args.config c.args.moment (plain_zone c.args.zone.now) c.args.vars.now (F.file_map c.args.files.now) c.args.input_file.now c.args.cwd.now in
     (c.loop-mark.records, accepted x c.args.text.now c.loop-mark.mark-iterator c.loop-mark.records c.loop-mark.invariant.leads c.in-None.ensures.steps.0, c.in-Ok.ensures.all)
+
+pub returns-in-Ok-false-clause-untouched : goal.returns-in-Ok-false-clause-untouched
+returns-in-Ok-false-clause-untouched g c =
+    let F = g.F.Files in
+    let x = context_in g.H.HashState.hash c.args.config c.args.moment (plain_zone c.args.zone.now) c.args.vars.now (F.file_map c.args.files.now) c.args.input_file.now c.args.cwd.now in
+    let name = c.in-Name.name.now in
+    let held = c.loop-mark.records in
+    let gives : Gives c.loop-mark.mark-iterator (Name name c.in-Name.is_system ∷ []) c.next.new.self = rw c.in-Name.is at c.in-Some.ensures.steps in
+    λ none.
+    let q = c.loop-mark.invariant.untouched none in
+    let here : is_looked_for (context_in g.H.HashState.hash c.args.config c.args.moment (plain_zone c.args.zone.now) c.args.vars.now (F.file_map c.loop-mark.files) c.args.input_file.now c.args.cwd.now) held name c.in-Name.is_system ≡ false =
+    rw c.loop-mark.invariant.keeps.same_map (none_here x c.loop-mark.mark-iterator c.next.new.self held name c.in-Name.is_system q.1 gives) in
+    c.take_name.ensures.untouched here ∙ q.0
+
+pub returns-in-Err-clause-untouched : goal.returns-in-Err-clause-untouched
+returns-in-Err-clause-untouched g c =
+    let F = g.F.Files in
+    let x = context_in g.H.HashState.hash c.args.config c.args.moment (plain_zone c.args.zone.now) c.args.vars.now (F.file_map c.args.files.now) c.args.input_file.now c.args.cwd.now in
+    let name = c.in-Name.name.now in
+    let held = c.loop-mark.records in
+    let gives : Gives c.loop-mark.mark-iterator (Name name c.in-Name.is_system ∷ []) c.next.new.self = rw c.in-Name.is at c.in-Some.ensures.steps in
+    λ none.
+    let q = c.loop-mark.invariant.untouched none in
+    let here : is_looked_for (context_in g.H.HashState.hash c.args.config c.args.moment (plain_zone c.args.zone.now) c.args.vars.now (F.file_map c.loop-mark.files) c.args.input_file.now c.args.cwd.now) held name c.in-Name.is_system ≡ false =
+    rw c.loop-mark.invariant.keeps.same_map (none_here x c.loop-mark.mark-iterator c.next.new.self held name c.in-Name.is_system q.1 gives) in
+    c.take_name.ensures.untouched here ∙ q.0
