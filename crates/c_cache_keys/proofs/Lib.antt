@@ -21,6 +21,7 @@ pub mod Opened
 pub mod Outputs
 pub mod PathEntries
 pub mod Ran
+pub mod Reasons
 pub mod RecordedSame
 pub mod Runs
 pub mod Standings

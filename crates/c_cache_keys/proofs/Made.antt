@@ -54,13 +54,14 @@ read_node : (o : Option FileNode) (contents : Bytes) → contents_in o ≡ Ok co
 read_node None contents e = absurd cc
 read_node (Some n) contents e = let r = read_kind n n.kind contents e in (n, r.0, r.1)
 
-no_kind : (n : FileNode) (k : FileKind) (e : FileError) → contents_if k n.contents ≡ Err e → told (file_if n k) ≡ None
+no_kind : (n : FileNode) (k : FileKind) (e : FileError) → contents_if k n.contents ≡ Err e → file_if n k ≡ Err e
 no_kind n File e is = absurd cc
-no_kind n Folder e is = refl
-no_kind n Other e is = refl
+no_kind n Folder e is = cc
+no_kind n Other e is = cc
 
-no_node : (o : Option FileNode) (e : FileError) → contents_in o ≡ Err e → told (file_in o) ≡ None
-no_node None e is = refl
+-- why there are no contents is why there is no file
+pub no_node : (o : Option FileNode) (e : FileError) → contents_in o ≡ Err e → file_in o ≡ Err e
+no_node None e is = cc
 no_node (Some n) e is = no_kind n n.kind e is
 
 -- ---- what is recorded
@@ -192,7 +193,7 @@ module _ {V S : Type 0} (w : World V) (st : Store S) (c : Call V) (F : Type 0) w
   stop_input s e needs h = stops (why_of (input_refusal e)) (why e h) refl refl
     where
       no_file : (e : FileError) → contents_at c.files (components (input_path c)) ≡ Err e → input_file w c ≡ None
-      no_file e is = no_node (get c.files.nodes (components (input_path c))) e is
+      no_file e is = ap told (no_node (get c.files.nodes (components (input_path c))) e is)
 
       why : (e : FileError) → IsRefusalOrMemory (contents_at c.files (components (input_path c))) F e → StopsMaking w c F (why_of (input_refusal e))
       why file.NotFound h = (needs, no_file file.NotFound h)

@@ -126,12 +126,8 @@ module _ {V : Type 0} (w : World V) (c : Call V) (F : Type 0) where
   key_of_input xs k (Err e) is h = absurd h
 
   pub input_refused : (e : Error) → IsIoRefusal (file_at c.files (components (input_path c))) F e → IsInputRefusal w c F (key_refusal e)
-  unfolding input_file
   input_refused entry.Memory h = tt
-  input_refused (entry.Io (util.File file.NotFound)) h = ap told h
-  input_refused (entry.Io (util.File file.OtherKind)) h = ap told h
-  input_refused (entry.Io (util.File file.Fault)) h = h
-  input_refused (entry.Io (util.File file.Memory)) h = absurd h
+  input_refused (entry.Io (util.File e)) h = h
   input_refused (entry.Io util.Memory) h = absurd h
   input_refused (entry.Io util.Read) h = absurd h
   input_refused (entry.Io util.TooDeep) h = absurd h
@@ -144,11 +140,15 @@ module _ {V : Type 0} (w : World V) (c : Call V) (F : Type 0) where
   input_refused entry.Deserialization h = absurd h
   input_refused (entry.UnknownFormat byte) h = absurd h
 
+  no_input : (e : FileError) → file_at c.files (components (input_path c)) ≡ Err e → input_file w c ≡ None
+  unfolding input_file
+  no_input e is = ap told is
+
   pub stop_input : (e : KeyError) (xs : List Bytes) → uses_cache w c.request ≡ true → extra_texts w c ≡ Some xs → IsInputRefusal w c F e → StopsOpening w c F (why_of e)
   stop_input key.Memory xs used extra h = tt
   stop_input (key.Extra e) xs used extra h = absurd h
-  stop_input (key.Input (util.File file.NotFound)) xs used extra h = (some_none extra, used, h)
-  stop_input (key.Input (util.File file.OtherKind)) xs used extra h = (some_none extra, used, h)
+  stop_input (key.Input (util.File file.NotFound)) xs used extra h = (some_none extra, used, no_input file.NotFound h)
+  stop_input (key.Input (util.File file.OtherKind)) xs used extra h = (some_none extra, used, no_input file.OtherKind h)
   stop_input (key.Input (util.File file.Fault)) xs used extra h = (used, h)
   stop_input (key.Input (util.File file.Memory)) xs used extra h = absurd h
   stop_input (key.Input util.Memory) xs used extra h = absurd h

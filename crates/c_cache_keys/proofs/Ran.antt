@@ -1,35 +1,47 @@
--- A run goes on by one call.
-use Rattle.std.proofs.Common.{◌≡◌, ℕ, zero, suc, ◌<◌, List, [], ◌∷◌, ◌++◌, length, take, drop, get_or, refl, ap, subst, arith}
+-- Calls are made one after another.
+use Rattle.std.proofs.Common.{◌≡◌, ℕ, zero, suc, ◌<◌, List, [], ◌∷◌, ◌++◌, length, map, take, drop, get_or, Result, refl, ap, subst, arith}
 use Rattle.std.proofs.Math.ListN.{set}
 use Rattle.std.specs.List.{AllZip}
 use Rattle.cck_files.specs.Calls.{Keeps}
 use Rattle.cck_files.specs.FileMap.{FileMap}
 use Rattle.cck_files.proofs.CallsLemmas.{keeps_itself}
-use Rattle.c_cache_keys.proofs.Runs.{run_joined}
-use Rattle.c_cache_keys.specs.Call as seen
-use Rattle.c_cache_keys.specs.Calls.{IsAfter, done_all, done_in}
-use Rattle.c_cache_keys.specs.Step.{Run, Step}
+use Rattle.c_cache_keys.specs.Calls.{AreAnswered, IsAfter, IsAnswered, done_all}
+use Rattle.c_cache_keys.specs.Seen.{answer_of}
+use Rattle.c_cache_keys.specs.Step.{Run}
 use Rattle.c_cache_keys.specs.Store.{Store}
 use Rattle.c_cache_keys.specs.World.{World}
+use Rattle.c_cache_keys.specs.declared.call.HashResult.{HashResult}
 use Rattle.c_cache_keys.specs.declared.calls.Call.{Call}
+use Rattle.c_cache_keys.specs.declared.error.KeyError.{KeyError}
 
 module _ {I F V : Type 0} (value : I → V) (file_map : F → FileMap) (faults : F → ℕ) where
-  none_left : (i : ℕ) (xs : List (Call I F)) → i < length xs → [] ≡ drop i xs → ⊥
-  none_left zero [] l e = absurd (omega (l, arith))
-  none_left zero (x ∷ xs) l e = absurd cc
-  none_left (suc i) [] l e = absurd (omega (l, arith))
-  none_left (suc i) (x ∷ xs) l e = none_left i xs (omega (l, arith)) e
+  module _ {S : Type 0} (w : World V) (st : Store S) where
+    -- one more call was answered
+    pub answered_more : (i : ℕ) (olds news : List (Call I F)) (rs : List (Result HashResult KeyError)) (v : Call I F) (f : F) (r : Result HashResult KeyError) (s mid t : S)
+        → i < length olds → drop i news ≡ drop i olds → AreAnswered value file_map faults w st s (take i olds) (take i news) rs mid
+        → IsAnswered value file_map faults w st mid (get_or news i v) (record (get_or news i v) { files = f }) r t
+        → AreAnswered value file_map faults w st s (take (suc i) olds) (take (suc i) (set news i (record (get_or news i v) { files = f }))) (rs ++ r ∷ []) t
+    answered_more zero [] news rs v f r s mid t l same made next = absurd (omega (l, arith))
+    answered_more zero (o ∷ olds) [] rs v f r s mid t l same made next = absurd cc
+    answered_more zero (o ∷ olds) (n ∷ news) (x ∷ rs) v f r s mid t l same made next = absurd made
+    answered_more zero (o ∷ olds) (n ∷ news) [] v f r s mid t l same made next =
+        let first : n ≡ o = cc in
+        (t, subst (λ b. IsAnswered value file_map faults w st s b (record n { files = f }) r t) first (subst (λ m. IsAnswered value file_map faults w st m n (record n { files = f }) r t) made next), refl)
+    answered_more (suc i) [] news rs v f r s mid t l same made next = absurd (omega (l, arith))
+    answered_more (suc i) (o ∷ olds) [] rs v f r s mid t l same made next = absurd made
+    answered_more (suc i) (o ∷ olds) (n ∷ news) [] v f r s mid t l same made next = absurd made
+    answered_more (suc i) (o ∷ olds) (n ∷ news) (x ∷ rs) v f r s mid t l same (m, first, rest) next =
+        (m, first, answered_more i olds news rs v f r m mid t (omega (l, arith)) same rest next)
 
-  -- one more call that was made
-  pub done_more : (i : ℕ) (olds news : List (Call I F)) (r : Call I F) (f : F) → i < length olds → drop i news ≡ drop i olds
-      → done_all value file_map faults (take (suc i) olds) (take (suc i) (set news i (record (get_or news i r) { files = f })))
-      ≡ done_all value file_map faults (take i olds) (take i news) ++ done_in value file_map faults (get_or news i r) f ∷ []
-  done_more zero [] news r f l same = absurd (omega (l, arith))
-  done_more zero (o ∷ olds) [] r f l same = absurd cc
-  done_more zero (o ∷ olds) (n ∷ news) r f l same = let first : o ≡ n = cc in ap (λ v. done_in value file_map faults v f ∷ []) first
-  done_more (suc i) [] news r f l same = absurd (omega (l, arith))
-  done_more (suc i) (o ∷ olds) [] r f l same = absurd (none_left i olds (omega (l, arith)) same)
-  done_more (suc i) (o ∷ olds) (n ∷ news) r f l same = ap (λ v. done_in value file_map faults o n.files ∷ v) (done_more i olds news r f (omega (l, arith)) same)
+    -- calls that were answered are a run
+    pub run_answered : (olds news : List (Call I F)) (rs : List (Result HashResult KeyError)) (s t : S)
+        → AreAnswered value file_map faults w st s olds news rs t → Run w st s (done_all value file_map faults olds news) (map answer_of rs) t
+    run_answered [] [] [] s t made = made
+    run_answered [] [] (r ∷ rs) s t made = absurd made
+    run_answered [] (n ∷ news) rs s t made = absurd made
+    run_answered (o ∷ olds) [] rs s t made = absurd made
+    run_answered (o ∷ olds) (n ∷ news) [] s t made = absurd made
+    run_answered (o ∷ olds) (n ∷ news) (r ∷ rs) s t (mid, first, rest) = (mid, first.step, run_answered olds news rs mid t rest)
 
 -- what is left stays
 pub rest_more : {A : Type 0} (i : ℕ) (olds news : List A) (v : A) → length news ≡ length olds → drop i news ≡ drop i olds → drop (suc i) (set news i v) ≡ drop (suc i) olds
@@ -38,10 +50,6 @@ rest_more i [] (n ∷ news) v long same = absurd (omega (long, arith))
 rest_more i (o ∷ olds) [] v long same = absurd (omega (long, arith))
 rest_more zero (o ∷ olds) (n ∷ news) v long same = cc
 rest_more (suc i) (o ∷ olds) (n ∷ news) v long same = rest_more i olds news v (omega (long, arith)) same
-
-pub run_more : {V S : Type 0} (w : World V) (st : Store S) (s mid t : S) (done : List (seen.Done V)) (answers : List seen.Answer) (d : seen.Done V) (a : seen.Answer)
-    → Run w st s done answers mid → Step w st d.call (seen.Fault d) mid a t → Run w st s (done ++ d ∷ []) (answers ++ a ∷ []) t
-run_more w st s mid t done answers d a run step = run_joined w st s mid t done (d ∷ []) answers (a ∷ []) run (t, step, refl)
 
 module _ {I F : Type 0} (file_map : F → FileMap) (faults : F → ℕ) (is_quiet : F → Type 0) where
   -- calls that weren't made are what they were

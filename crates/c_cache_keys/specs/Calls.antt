@@ -1,11 +1,18 @@
 -- lists of calls, before and after they are made
-use Rattle.std.specs.Prelude.{◌≡◌, ℕ, List, [], ◌∷◌}
+use Rattle.std.specs.Prelude.{◌≡◌, ℕ, List, [], ◌∷◌, IfErr, IfOk, Result, string_bytes}
 use Rattle.cck_files.specs.Calls.{Keeps}
 use Rattle.cck_files.specs.FileMap.{FileMap}
 use Rattle.c_cache_keys.specs.Call as seen
 use Rattle.c_cache_keys.specs.Conditions.{request_of}
-use Rattle.c_cache_keys.specs.Seen.{variables_of}
+use Rattle.c_cache_keys.specs.Hasher.{toolchain_key}
+use Rattle.c_cache_keys.specs.Reasons.{IsReason}
+use Rattle.c_cache_keys.specs.Seen.{answer_of, variables_of}
+use Rattle.c_cache_keys.specs.Step.{Step}
+use Rattle.c_cache_keys.specs.Store.{Store}
+use Rattle.c_cache_keys.specs.World.{World}
+use Rattle.c_cache_keys.specs.declared.call.HashResult.{HashResult}
 use Rattle.c_cache_keys.specs.declared.calls.Call.{Call}
+use Rattle.c_cache_keys.specs.declared.error.KeyError.{KeyError}
 
 -- of a call only the state of its files changes, as by calls on files
 pub record IsAfter {I F : Type 0} (file_map : F → FileMap) (faults : F → ℕ) (is_quiet : F → Type 0) (before after : Call I F) : Type 0 where
@@ -31,3 +38,19 @@ module _ {I F V : Type 0} (value : I → V) (file_map : F → FileMap) (faults :
   done_all [] after = []
   done_all (c ∷ cs) [] = []
   done_all (c ∷ cs) (d ∷ ds) = done_in c d.files ∷ done_all cs ds
+
+  module _ {S : Type 0} (w : World V) (st : Store S) where
+    -- this call was answered so, from one store to another: it is a step, a refusal gives its reason, and an answer names the toolchain
+    pub record IsAnswered (s : S) (before after : Call I F) (r : Result HashResult KeyError) (t : S) : Type 0 where
+      pub step : Step w st (call_in before) (seen.Fault (done_in before after.files)) s (answer_of r) t
+      pub reason : IfErr r (IsReason w st (call_in before) (seen.Fault (done_in before after.files)) s t)
+      pub toolchain : IfOk r (λ found. string_bytes found.weak_toolchain_key ≡ toolchain_key before.hasher.executable.items (string_bytes before.hasher.executable_digest))
+
+    -- these calls were answered so, one after another
+    abbrev pub AreAnswered : S → List (Call I F) → List (Call I F) → List (Result HashResult KeyError) → S → Type 0
+    AreAnswered s [] [] [] t = t ≡ s
+    AreAnswered s (o ∷ olds) (n ∷ news) (r ∷ rs) t = (mid : S) × IsAnswered s o n r mid × AreAnswered mid olds news rs t
+    AreAnswered s [] [] (r ∷ rs) t = ⊥
+    AreAnswered s [] (n ∷ news) rs t = ⊥
+    AreAnswered s (o ∷ olds) [] rs t = ⊥
+    AreAnswered s (o ∷ olds) (n ∷ news) [] t = ⊥

@@ -24,16 +24,19 @@ pub record Given : Type 0 where
   pub basedirs : List Bytes
   pub control : CacheControl
 
-abbrev pub given_of : Conditions → Given
-given_of c = record {
-  cwd = c.cwd.now;
-  env_vars = variables_of c.vars.now;
-  moment = c.moment;
-  zone = plain_zone c.zone.now;
-  config = c.config;
-  basedirs = lists_of c.basedirs.now;
-  control = c.control;
+abbrev pub given_by : Bytes → List Variable → Moment → TimeZone → PreprocessorCacheModeConfig → List Bytes → CacheControl → Given
+given_by cwd env_vars moment zone config basedirs control = record {
+  cwd = cwd;
+  env_vars = env_vars;
+  moment = moment;
+  zone = zone;
+  config = config;
+  basedirs = basedirs;
+  control = control;
 }
+
+abbrev pub given_of : Conditions → Given
+given_of c = given_by c.cwd.now (variables_of c.vars.now) c.moment (plain_zone c.zone.now) c.config (lists_of c.basedirs.now) c.control
 
 -- the world of a call
 abbrev pub world_under : {V : Type 0} → (Bytes → Bytes) → Compiler V → Given → World V

@@ -4,8 +4,6 @@ use Rattle.std.specs.FinMap.{empty}
 use Rattle.std.specs.Option.{option_map}
 use Rattle.std.specs.declared.alloc.Global.{Global}
 use Rattle.cck_digest.specs.Digest.{digest_text}
-use Rattle.cck_digest.specs.declared.error.FileError.TheVariants as file
-use Rattle.cck_digest.specs.declared.error.UtilError.TheVariants as util
 use Rattle.cck_entry.specs.Entry.{EntryText, added}
 use Rattle.cck_file_digest.specs.FolderText.{lossy}
 use Rattle.cck_files.specs.FileMap.{FileMap, FileNode}
@@ -17,6 +15,7 @@ use Rattle.cck_preprocessor_key.specs.PreprocessorKey.{preprocessor_material}
 use Rattle.c_cache_keys.specs.Arguments.{Bytes}
 use Rattle.c_cache_keys.specs.Call.{Answer, Call, Keyed, Refused}
 use Rattle.c_cache_keys.specs.Keys.{extra_texts, input_file, is_preprocessed, preprocessor_key_of, printed, request_parts}
+use Rattle.c_cache_keys.specs.Reasons.{IsInputReason}
 use Rattle.c_cache_keys.specs.Seen.{why_of}
 use Rattle.c_cache_keys.specs.Step.{Asked, Asks, Failed, Hit, Miss, Opened}
 use Rattle.c_cache_keys.specs.Store.{Store, Stored}
@@ -65,9 +64,7 @@ IsKeyOfInput w c extra_hashes key =
 -- why there is none: the input is no regular file, a fault came, or want of memory
 abbrev pub IsInputRefusal : {V : Type 0} → World V → Call V → Type 0 → KeyError → Type 0
 IsInputRefusal w c HasFault refusal.Memory = Unit {0}
-IsInputRefusal w c HasFault (refusal.Input (util.File file.NotFound)) = input_file w c ≡ None
-IsInputRefusal w c HasFault (refusal.Input (util.File file.OtherKind)) = input_file w c ≡ None
-IsInputRefusal w c HasFault (refusal.Input (util.File file.Fault)) = HasFault
+IsInputRefusal w c HasFault (refusal.Input e) = IsInputReason w c HasFault e
 IsInputRefusal w c HasFault _ = ⊥
 
 -- A text that is printed for this call, the key that a store is asked under, and the digest texts of the further files.

@@ -14,6 +14,7 @@ pub mod Laws
 pub mod MapLemmas
 pub mod MapStore
 pub mod Premises
+pub mod Reasons
 pub mod Refusals
 pub mod Seen
 pub mod Step

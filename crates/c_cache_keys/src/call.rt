@@ -5,7 +5,8 @@
 pub enum CacheControl {
     /// It may.
     Default,
-    /// It may not: the key is made afresh, and what is stored is replaced.
+    /// It may not: the key is made afresh, and where an entry can be made of it, that replaces what is
+    /// stored.
     ForceRecache,
 }
 

@@ -2,7 +2,7 @@
 ghost use Rattle.std.specs.Prelude.{◌≡◌, IfOk, IsOkUnless, OnErr, length, map};
 ghost use Rattle.std.specs.List.{AllZip};
 ghost use Rattle.c_cache_keys.specs.Call.{calls_of};
-ghost use Rattle.c_cache_keys.specs.Calls.{IsAfter, done_all};
+ghost use Rattle.c_cache_keys.specs.Calls.{AreAnswered, IsAfter, done_all};
 ghost use Rattle.c_cache_keys.specs.Laws.{IsTransparent};
 ghost use Rattle.c_cache_keys.specs.Premises.{Premises};
 ghost use Rattle.c_cache_keys.specs.Seen.{answer_of, lists_of};
@@ -51,8 +51,8 @@ pub struct Call<I, F> {
 ///
 /// This needs nothing of the store but its interface: it may forget, fail and run out of memory at any
 /// time. Of a call only the state of its files changes. Each result is as
-/// [`generate_hash_key`](CCompilerHasher::generate_hash_key) gives it. The whole is refused only as
-/// [`UtilError::Memory`], and then no call was made.
+/// [`generate_hash_key`](CCompilerHasher::generate_hash_key) gives it, of the store as the calls
+/// before leave it. The whole is refused only as [`UtilError::Memory`], and then no call was made.
 pub fn run_calls<H: HashState, I: CCompilerImpl, F: Files, S: PreprocessorStore>(
     alloc: Global,
     store: &mut S,
@@ -61,6 +61,9 @@ pub fn run_calls<H: HashState, I: CCompilerImpl, F: Files, S: PreprocessorStore>
     basedirs: &[Vec<u8>],
     calls: &mut [Call<I, F>],
 ) -> Result<Vec<Result<HashResult, KeyError>>, UtilError>
+    ensures answered { IfOk result (λ answers.
+        let w = world_of H.hash I.compiler (plain_zone zone.now) config (lists_of basedirs.now) in
+        AreAnswered I.value F.file_map F.faults w S.store store.old calls.old calls.new answers.items store.new) }
     ensures run { IfOk result (λ answers.
         let w = world_of H.hash I.compiler (plain_zone zone.now) config (lists_of basedirs.now) in
         Run w S.store store.old (done_all I.value F.file_map F.faults calls.old calls.new) (map answer_of answers.items) store.new) }

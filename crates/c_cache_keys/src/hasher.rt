@@ -1,9 +1,10 @@
 //! The key of one compilation.
-ghost use Rattle.std.specs.Prelude.{◌≡◌, ◌++◌, ◌∷◌, IfOk, IsOkUnless, string_bytes};
+ghost use Rattle.std.specs.Prelude.{◌≡◌, ◌++◌, ◌∷◌, IfErr, IfOk, IsOkUnless, string_bytes};
 ghost use Rattle.cck_files.specs.Calls.{Keeps, Rose};
 ghost use Rattle.c_cache_keys.specs.Arguments.{output_name};
-ghost use Rattle.c_cache_keys.specs.Conditions.{Given, call_under, world_under};
+ghost use Rattle.c_cache_keys.specs.Conditions.{call_under, given_by, world_under};
 ghost use Rattle.c_cache_keys.specs.Hasher.{toolchain_key};
+ghost use Rattle.c_cache_keys.specs.Reasons.{IsReason};
 ghost use Rattle.c_cache_keys.specs.Seen.{answer_of, arguments_of, lists_of, variables_of};
 ghost use Rattle.c_cache_keys.specs.Step.{Step};
 ghost use Rattle.jiff.specs.Words.{plain_zone};
@@ -84,17 +85,12 @@ impl<I: CCompilerImpl> CCompilerHasher<I> {
         control: CacheControl,
     ) -> Result<HashResult, KeyError>
         ensures keeps { Keeps F.file_map F.faults F.is_quiet files.old files.new }
-        ensures step { let given : Given = record {
-          cwd = cwd.now;
-          env_vars = variables_of vars.now;
-          moment = moment;
-          zone = plain_zone zone.now;
-          config = config;
-          basedirs = lists_of basedirs.now;
-          control = control;
-        } in
+        ensures step { let given = given_by cwd.now (variables_of vars.now) moment (plain_zone zone.now) config (lists_of basedirs.now) control in
             Step (world_under H.hash I.compiler given) S.store (call_under I.value (F.file_map files.old) self.now given)
             (Rose (F.faults files.old) (F.faults files.new)) store.old (answer_of result) store.new }
+        ensures reason { let given = given_by cwd.now (variables_of vars.now) moment (plain_zone zone.now) config (lists_of basedirs.now) control in
+            IfErr result (IsReason (world_under H.hash I.compiler given) S.store (call_under I.value (F.file_map files.old) self.now given)
+            (Rose (F.faults files.old) (F.faults files.new)) store.old store.new) }
         ensures toolchain { IfOk result (λ r. string_bytes r.weak_toolchain_key
             ≡ toolchain_key self.now.executable.items (string_bytes self.now.executable_digest)) }
     {

@@ -23,18 +23,40 @@
 //!
 //! Two stores stand here: [`MapStore`] in memory, and [`EmptyStore`], which keeps nothing.
 //!
+//! One call, from a command line to a key:
+//!
 //! ```rust
-//! let compiler = CCompiler::new::<Sha256State, _>(alloc, compiler, executable, &mut files)?;
-//! match compiler.parse_arguments(alloc, &mut files, &arguments, b"/w", &vars)? {
-//!     CompilerArguments::Ok(hasher) => {
-//!         let found = hasher.generate_hash_key::<Sha256State, _, _>(
-//!             alloc, &mut files, &mut store, b"/w", &vars, moment, &zone, config, &basedirs,
-//!             CacheControl::Default,
-//!         )?;
-//!         // found.key, and whether the input was preprocessed for it
-//!     }
-//!     _ => {} // no key: not a compilation, or one whose result can't be cached
+//! use c_cache_keys::{CCompiler, CCompilerImpl, CacheControl, CompilerArguments, KeyError, PreprocessorStore};
+//! use cck_files::Files;
+//! use cck_path::Timestamp;
+//! use cck_time::PreprocessorCacheModeConfig;
+//! use cck_util::Sha256State;
+//! use jiff::tz::TimeZone;
+//! use std::alloc::Global;
+//!
+//! // `compiler` is made once for an executable, by `CCompiler::new::<Sha256State, F>`.
+//! fn key_of<I: CCompilerImpl + Drop, F: Files, S: PreprocessorStore>(
+//!     alloc: Global, compiler: &CCompiler<I>, arguments: &[Vec<u8>], files: &mut F, store: &mut S,
+//! ) -> Result<Option<String>, KeyError> {
+//!     let moment = Timestamp::new(1_700_000_000, 0); // when the call begins, in UTC
+//!     let zone = TimeZone::UTC;
+//!     let config = PreprocessorCacheModeConfig::activated();
+//!     let parsed = compiler.parse_arguments(alloc, files, arguments, b"/w", &[])?;
+//!     let CompilerArguments::Ok(hasher) = parsed else {
+//!         return Ok(None); // not a compilation, or one whose result can't be cached
+//!     };
+//!     let found = hasher.generate_hash_key::<Sha256State, F, S>(
+//!         alloc, files, store, b"/w", &[], moment, &zone, config, &[], CacheControl::Default,
+//!     )?;
+//!     Ok(Some(found.key)) // and `found.is_locally_preprocessed`: whether it was made afresh
 //! }
+//! ```
+//!
+//! And a list of calls, each a [`Call`] with its hasher, files, directory, variables and moment; the
+//! result of the first call stands first:
+//!
+//! ```rust
+//! let answers = run_calls::<Sha256State, I, F, S>(alloc, &mut store, &zone, config, &[], &mut calls)?;
 //! ```
 #![tactic(auto)]
 

@@ -1,8 +1,9 @@
 //! What a store says of a call.
-ghost use Rattle.std.specs.Prelude.{◌≡◌};
+ghost use Rattle.std.specs.Prelude.{◌≡◌, IfErr};
 ghost use Rattle.cck_files.specs.Calls.{Keeps, Rose};
 ghost use Rattle.c_cache_keys.specs.Conditions.{call_under, given_of, world_under};
 ghost use Rattle.c_cache_keys.specs.Hasher.{IsFound, IsOpening, asked_of};
+ghost use Rattle.c_cache_keys.specs.Reasons.{IsReason, IsStoreReason};
 ghost use Rattle.c_cache_keys.specs.Step.{Asks};
 
 use super::CCompilerHasher;
@@ -35,6 +36,9 @@ impl<I: CCompilerImpl> CCompilerHasher<I> {
         ensures found { let given = given_of conditions.now in
             IsFound (world_under H.hash I.compiler given) S.store (call_under I.value (F.file_map files.old) self.now given)
             (Rose (F.faults files.old) (F.faults files.new)) store.old (asked_of result) store.new }
+        ensures reason { let given = given_of conditions.now in
+            IfErr result (IsReason (world_under H.hash I.compiler given) S.store (call_under I.value (F.file_map files.old) self.now given)
+            (Rose (F.faults files.old) (F.faults files.new)) store.old store.new) }
     {
         let Some(at) = &opening.key else {
             return Ok(None);
@@ -65,6 +69,7 @@ impl<I: CCompilerImpl> CCompilerHasher<I> {
         ensures asks { let given = given_of conditions.now in
             Asks (world_under H.hash I.compiler given) S.store (call_under I.value (F.file_map files.old) self.now given)
             (Rose (F.faults files.old) (F.faults files.new)) at.now store.old (asked_of result) store.new }
+        ensures reason { IfErr result (IsStoreReason S.store at.now store.old store.new) }
     {
         let bytes = match store.get_preprocessor_cache_entry(alloc, at) {
             Ok(Some(bytes)) => bytes,

@@ -1,11 +1,12 @@
 //! How a key is made afresh.
-ghost use Rattle.std.specs.Prelude.{◌≡◌, IfOk, IsOkUnless, map, option_map, string_bytes};
+ghost use Rattle.std.specs.Prelude.{◌≡◌, IfErr, IfOk, IsOkUnless, map, option_map, string_bytes};
 ghost use Rattle.cck_files.specs.Calls.{Keeps, Rose};
 ghost use Rattle.cck_path.specs.Text.{join_path};
 ghost use Rattle.cck_util.specs.Key.{object_key};
 ghost use Rattle.c_cache_keys.specs.Conditions.{call_under, given_of, request_under, world_under};
 ghost use Rattle.c_cache_keys.specs.Hasher.{IsOpening, IsPrintedFor, made_of};
 ghost use Rattle.c_cache_keys.specs.Keys.{params};
+ghost use Rattle.c_cache_keys.specs.Reasons.{IsFileReason};
 ghost use Rattle.c_cache_keys.specs.Step.{Makes};
 
 use super::CCompilerHasher;
@@ -42,6 +43,9 @@ impl<I: CCompilerImpl> CCompilerHasher<I> {
         ensures makes { let given = given_of conditions.now in
             Makes (world_under H.hash I.compiler given) S.store (call_under I.value (F.file_map files.old) self.now given)
             (Rose (F.faults files.old) (F.faults files.new)) store.old (made_of result) store.new }
+        ensures reason { let given = given_of conditions.now in
+            IfErr result (IsFileReason (world_under H.hash I.compiler given) (call_under I.value (F.file_map files.old) self.now given)
+            (Rose (F.faults files.old) (F.faults files.new))) }
     {
         let input = match join_path(alloc, conditions.cwd, &self.parsed_args.input) {
             Ok(input) => input,
@@ -137,6 +141,9 @@ impl<I: CCompilerImpl> CCompilerHasher<I> {
         ensures makes { let given = given_of conditions.now in
             Makes (world_under H.hash I.compiler given) S.store (call_under I.value (F.file_map files.old) self.now given)
             (Rose (F.faults files.old) (F.faults files.new)) store.old (made_of result) store.new }
+        ensures reason { let given = given_of conditions.now in
+            IfErr result (IsFileReason (world_under H.hash I.compiler given) (call_under I.value (F.file_map files.old) self.now given)
+            (Rose (F.faults files.old) (F.faults files.new))) }
     {
         let walk = match process_preprocessed_file::<H, F>(
             alloc,

@@ -1,7 +1,7 @@
 use Rattle.std.proofs.Common.{◌+◌, add-one, arith, ap, refl, ◌∙◌}
-use Rattle.std.proofs.lemmas.List.{map-append, take_all}
+use Rattle.std.proofs.lemmas.List.{take_all}
 use Rattle.jiff.specs.Words.{plain_zone}
-use Rattle.c_cache_keys.proofs.Ran.{after_more, done_more, rest_more, run_more, untouched}
+use Rattle.c_cache_keys.proofs.Ran.{after_more, answered_more, rest_more, run_answered, untouched}
 use Rattle.c_cache_keys.proofs.Runs.{transparent}
 use Rattle.c_cache_keys.specs.Seen.{lists_of}
 use Rattle.c_cache_keys.specs.World.{world_of}
@@ -12,7 +12,7 @@ returns-in_err-answers-clause-keeps g c = untouched g.F.Files.file_map g.F.Files
 
 pub loop-call-init : goal.loop-call-init
 loop-call-init g c = record {
-  run = rw c.in_ok-answers.ensures.items refl;
+  answered = rw c.in_ok-answers.ensures.items refl;
   rest = refl;
   after = untouched g.F.Files.file_map g.F.Files.faults g.F.Files.is_quiet c.args.calls.now;
   count = c.in_ok-answers.ensures.len;
@@ -23,10 +23,14 @@ pub loop-call-preserved : goal.loop-call-preserved
 loop-call-preserved g c =
     let F = g.F.Files in
     let w = world_of g.H.HashState.hash g.I.CCompilerImpl.compiler (plain_zone c.args.zone.now) c.args.config (lists_of c.args.basedirs.now) in
-    let more = done_more g.I.CCompilerImpl.value F.file_map F.faults c.loop-call.call-index c.args.calls.now c.loop-call.calls c.call-item.result c.generate_hash_key-answer.new.files c.loop-call-test.true c.loop-call.invariant.rest in
-    let step = rw (c.deref.ensures.value, c.deref-in-loop-call.ensures.value) at c.generate_hash_key-answer.ensures.step in
     record {
-      run = rw (add-one, more, c.in_ok-push.ensures.items, map-append) (run_more w g.S.PreprocessorStore.store _ _ _ _ _ _ _ c.loop-call.invariant.run step);
+      answered = rw (add-one, c.in_ok-push.ensures.items)
+          (answered_more g.I.CCompilerImpl.value F.file_map F.faults w g.S.PreprocessorStore.store c.loop-call.call-index c.args.calls.now c.loop-call.calls _ c.call-item.result _ _ _ _ _
+          c.loop-call-test.true c.loop-call.invariant.rest c.loop-call.invariant.answered (record {
+            step = rw (c.deref.ensures.value, c.deref-in-loop-call.ensures.value) at c.generate_hash_key-answer.ensures.step;
+            reason = rw (c.deref.ensures.value, c.deref-in-loop-call.ensures.value) at c.generate_hash_key-answer.ensures.reason;
+            toolchain = c.generate_hash_key-answer.ensures.toolchain;
+          }));
       rest = rw add-one (rest_more c.loop-call.call-index c.args.calls.now c.loop-call.calls _ c.loop-call.auto.calls c.loop-call.invariant.rest);
       after = after_more F.file_map F.faults F.is_quiet c.loop-call.call-index c.args.calls.now c.loop-call.calls c.call-item.result c.generate_hash_key-answer.new.files c.loop-call-test.true
           c.loop-call.invariant.rest c.generate_hash_key-answer.ensures.keeps c.loop-call.invariant.after;
@@ -34,9 +38,25 @@ loop-call-preserved g c =
       room = omega (c.in_ok-push.ensures.capacity, c.loop-call.invariant.room, arith);
     }
 
-pub returns-clause-transparent : goal.returns-clause-transparent
-returns-clause-transparent g c =
+pub returns-clause-answered : goal.returns-clause-answered
+returns-clause-answered g c =
+    let all = take_all c.loop-call.call-index c.args.calls.now c.loop-call-test.false in
+    let now = take_all c.loop-call.call-index c.loop-call.calls (omega (arith, c.loop-call.auto.calls, c.loop-call-test.false)) in
+    rw (all, now) at c.loop-call.invariant.answered
+
+pub returns-clause-run : goal.returns-clause-run
+returns-clause-run g c =
+    let F = g.F.Files in
     let w = world_of g.H.HashState.hash g.I.CCompilerImpl.compiler (plain_zone c.args.zone.now) c.args.config (lists_of c.args.basedirs.now) in
     let all = take_all c.loop-call.call-index c.args.calls.now c.loop-call-test.false in
     let now = take_all c.loop-call.call-index c.loop-call.calls (omega (arith, c.loop-call.auto.calls, c.loop-call-test.false)) in
-    λ none premises. transparent w g.S.PreprocessorStore.store g.met.H.HashState.length_hash g.met.S.PreprocessorStore.laws _ _ _ _ none (rw (all, now) at c.loop-call.invariant.run) premises
+    run_answered g.I.CCompilerImpl.value F.file_map F.faults w g.S.PreprocessorStore.store _ _ _ _ _ (rw (all, now) at c.loop-call.invariant.answered)
+
+pub returns-clause-transparent : goal.returns-clause-transparent
+returns-clause-transparent g c =
+    let F = g.F.Files in
+    let w = world_of g.H.HashState.hash g.I.CCompilerImpl.compiler (plain_zone c.args.zone.now) c.args.config (lists_of c.args.basedirs.now) in
+    let all = take_all c.loop-call.call-index c.args.calls.now c.loop-call-test.false in
+    let now = take_all c.loop-call.call-index c.loop-call.calls (omega (arith, c.loop-call.auto.calls, c.loop-call-test.false)) in
+    let run = run_answered g.I.CCompilerImpl.value F.file_map F.faults w g.S.PreprocessorStore.store _ _ _ _ _ (rw (all, now) at c.loop-call.invariant.answered) in
+    λ none premises. transparent w g.S.PreprocessorStore.store g.met.H.HashState.length_hash g.met.S.PreprocessorStore.laws _ _ _ _ none run premises

@@ -1,18 +1,18 @@
-use Rattle.std.proofs.Common.{◌≡◌, ◌≤◌, map, take, drop, length}
+use Rattle.std.proofs.Common.{◌≡◌, ◌≤◌, take, drop, length}
 use Rattle.std.specs.Prelude.{vec_capacity, vec_len}
 use Rattle.std.specs.List.{AllZip}
 use Rattle.jiff.specs.Words.{plain_zone}
-use Rattle.c_cache_keys.specs.Calls.{IsAfter, done_all}
-use Rattle.c_cache_keys.specs.Seen.{answer_of, lists_of}
-use Rattle.c_cache_keys.specs.Step.{Run}
+use Rattle.c_cache_keys.specs.Calls.{AreAnswered, IsAfter}
+use Rattle.c_cache_keys.specs.Seen.{lists_of}
 use Rattle.c_cache_keys.specs.World.{world_of}
 use Rattle.c_cache_keys.proofs.calls.run_calls.Given as goal
 
--- the run so far, the calls that are left, and the room for their answers
+-- the calls made so far, those that are left, and the room for their answers
 abbrev pub invariant-loop-call : goal.invariant-loop-call
 invariant-loop-call g l = let F = g.F.Files in record {
-  run : Run (world_of g.H.HashState.hash g.I.CCompilerImpl.compiler (plain_zone l.fn.zone) l.fn.config (lists_of l.fn.basedirs)) g.S.PreprocessorStore.store l.fn.store
-      (done_all g.I.CCompilerImpl.value F.file_map F.faults (take l.call-index l.fn.calls) (take l.call-index l.calls)) (map answer_of l.answers.items) l.store;
+  answered : AreAnswered g.I.CCompilerImpl.value F.file_map F.faults
+      (world_of g.H.HashState.hash g.I.CCompilerImpl.compiler (plain_zone l.fn.zone) l.fn.config (lists_of l.fn.basedirs)) g.S.PreprocessorStore.store l.fn.store
+      (take l.call-index l.fn.calls) (take l.call-index l.calls) l.answers.items l.store;
   rest : drop l.call-index l.calls ≡ drop l.call-index l.fn.calls;
   after : AllZip (IsAfter F.file_map F.faults F.is_quiet) l.fn.calls l.calls;
   count : vec_len l.answers ≡ l.call-index;

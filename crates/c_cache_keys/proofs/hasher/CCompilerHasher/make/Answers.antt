@@ -4,6 +4,7 @@ use Rattle.cck_files.proofs.CallsLemmas.{rose_earlier}
 use Rattle.cck_files.specs.Calls.{Rose}
 use Rattle.c_cache_keys.proofs.Made.{from_input, stop_input, stop_memory, stop_text, without_key}
 use Rattle.c_cache_keys.proofs.Widen.{wide_makes}
+use Rattle.c_cache_keys.proofs.Reasons.{input_reason, text_reason, unless_reason, wide_if}
 use Rattle.c_cache_keys.specs.Conditions.{call_under, given_of, world_under}
 use Rattle.c_cache_keys.specs.Keys.{printed}
 use Rattle.c_cache_keys.proofs.hasher.CCompilerHasher.make.Goals as goal
@@ -73,3 +74,43 @@ returns-clause-makes g c =
     let after = g.F.Files.faults c.walk_and_put.new.files in
     wide_makes w call (Rose middle after) (Rose before after) (rose_earlier before middle after c.in-Ok-preprocess.ensures.keeps.not_lower) g.S.PreprocessorStore.store c.args.store.now _
     c.walk_and_put.new.store (rw c.in-Ok-preprocess.ensures.keeps.same_map at c.walk_and_put.ensures.makes)
+
+pub returns-in-Err-read_contents-clause-reason : goal.returns-in-Err-read_contents-clause-reason
+returns-in-Err-read_contents-clause-reason g c =
+    let w = world_under g.H.HashState.hash g.I.CCompilerImpl.compiler (given_of c.args.conditions.now) in
+    let call = call_under g.I.CCompilerImpl.value (g.F.Files.file_map c.args.files.now) c.args.self.now (given_of c.args.conditions.now) in
+    let F = Rose (g.F.Files.faults c.args.files.now) (g.F.Files.faults c.read_contents.new.files) in
+    rw c.input_refusal.ensures
+    (input_reason w call F c.in-Err-read_contents.error
+    (rw (c.deref-then-not-needs_c_preprocessing.ensures.value, c.in-Ok.ensures.bytes, c.deref.ensures.value) at c.in-Err-read_contents.ensures.answer))
+
+pub returns-then-not-needs_c_preprocessing-clause-reason : goal.returns-then-not-needs_c_preprocessing-clause-reason
+returns-then-not-needs_c_preprocessing-clause-reason g c =
+    let w = world_under g.H.HashState.hash g.I.CCompilerImpl.compiler (given_of c.args.conditions.now) in
+    let call = call_under g.I.CCompilerImpl.value (g.F.Files.file_map c.args.files.now) c.args.self.now (given_of c.args.conditions.now) in
+    let F = Rose (g.F.Files.faults c.args.files.now) (g.F.Files.faults c.read_contents.new.files) in
+    unless_reason w call F c.plain_key.result c.plain_key.ensures.refused
+
+pub returns-in-Err-preprocess-clause-reason : goal.returns-in-Err-preprocess-clause-reason
+returns-in-Err-preprocess-clause-reason g c =
+    let w = world_under g.H.HashState.hash g.I.CCompilerImpl.compiler (given_of c.args.conditions.now) in
+    let call = call_under g.I.CCompilerImpl.value (g.F.Files.file_map c.args.files.now) c.args.self.now (given_of c.args.conditions.now) in
+    let F = Rose (g.F.Files.faults c.args.files.now) (g.F.Files.faults c.preprocess.new.files) in
+    rw c.text_refusal.ensures (text_reason w call F c.in-Err-preprocess.error)
+
+pub returns-in-None-clause-reason : goal.returns-in-None-clause-reason
+returns-in-None-clause-reason g c =
+    let w = world_under g.H.HashState.hash g.I.CCompilerImpl.compiler (given_of c.args.conditions.now) in
+    let call = call_under g.I.CCompilerImpl.value (g.F.Files.file_map c.args.files.now) c.args.self.now (given_of c.args.conditions.now) in
+    let F = Rose (g.F.Files.faults c.args.files.now) (g.F.Files.faults c.preprocess.new.files) in
+    unless_reason w call F c.plain_key-in-None.result c.plain_key-in-None.ensures.refused
+
+pub returns-clause-reason : goal.returns-clause-reason
+returns-clause-reason g c =
+    let w = world_under g.H.HashState.hash g.I.CCompilerImpl.compiler (given_of c.args.conditions.now) in
+    let call = call_under g.I.CCompilerImpl.value (g.F.Files.file_map c.args.files.now) c.args.self.now (given_of c.args.conditions.now) in
+    let before = g.F.Files.faults c.args.files.now in
+    let middle = g.F.Files.faults c.preprocess.new.files in
+    let after = g.F.Files.faults c.walk_and_put.new.files in
+    wide_if (Rose middle after) (Rose before after) (rose_earlier before middle after c.in-Ok-preprocess.ensures.keeps.not_lower) w call _
+    (rw c.in-Ok-preprocess.ensures.keeps.same_map at c.walk_and_put.ensures.reason)

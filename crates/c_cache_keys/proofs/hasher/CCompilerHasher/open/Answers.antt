@@ -3,6 +3,7 @@ use Rattle.cck_files.proofs.CallsLemmas.{rose_earlier}
 use Rattle.cck_files.specs.Calls.{Rose}
 use Rattle.c_cache_keys.proofs.Opened.{extra_refused, open_with, open_without, paths_as, stop_input, texts_here, used}
 use Rattle.c_cache_keys.proofs.Widen.{wide_opening}
+use Rattle.c_cache_keys.proofs.Reasons.{extra_reason, key_reason, wide_reason}
 use Rattle.c_cache_keys.specs.Conditions.{call_under, given_of, world_under}
 use Rattle.c_cache_keys.proofs.hasher.CCompilerHasher.open.Goals as goal
 
@@ -40,3 +41,21 @@ returns-in-Err-preprocessor_key-clause-answer g c =
     (stop_input w call (Rose middle after) c.in-Err-preprocessor_key.error _ (sym (c.uses_cache.ensures ∙ used w call) ∙ c.if-not-uses_cache.false)
     (texts_here w call _ (rw (c.deref.ensures.value, paths_as c.args.self.now.parsed_args.extra_hash_files.items) at c.in-Ok.ensures.answer))
     (rw c.in-Ok.ensures.keeps.same_map at c.in-Err-preprocessor_key.ensures.answer))
+
+pub returns-in-Err-clause-reason : goal.returns-in-Err-clause-reason
+returns-in-Err-clause-reason g c =
+    let w = world_under g.H.HashState.hash g.I.CCompilerImpl.compiler (given_of c.args.conditions.now) in
+    let call = call_under g.I.CCompilerImpl.value (g.F.Files.file_map c.args.files.now) c.args.self.now (given_of c.args.conditions.now) in
+    let F = Rose (g.F.Files.faults c.args.files.now) (g.F.Files.faults c.hash_all.new.files) in
+    rw c.extra_refusal.ensures
+    (extra_reason w call F c.in-Err.error (rw (c.deref.ensures.value, paths_as c.args.self.now.parsed_args.extra_hash_files.items) at c.in-Err.ensures.answer))
+
+pub returns-in-Err-preprocessor_key-clause-reason : goal.returns-in-Err-preprocessor_key-clause-reason
+returns-in-Err-preprocessor_key-clause-reason g c =
+    let w = world_under g.H.HashState.hash g.I.CCompilerImpl.compiler (given_of c.args.conditions.now) in
+    let call = call_under g.I.CCompilerImpl.value (g.F.Files.file_map c.args.files.now) c.args.self.now (given_of c.args.conditions.now) in
+    let before = g.F.Files.faults c.args.files.now in
+    let middle = g.F.Files.faults c.hash_all.new.files in
+    let after = g.F.Files.faults c.preprocessor_key.new.files in
+    wide_reason (Rose middle after) (Rose before after) (rose_earlier before middle after c.in-Ok.ensures.keeps.not_lower) w call _
+    (key_reason w call (Rose middle after) c.in-Err-preprocessor_key.error (rw c.in-Ok.ensures.keeps.same_map at c.in-Err-preprocessor_key.ensures.answer))

@@ -6,6 +6,7 @@ use Rattle.cck_include.specs.Gathered.{digested_in}
 use Rattle.c_cache_keys.proofs.Made.{accepted_walk, empty_list, nothing_mapped, nothing_named, put_for, refused, refused_walk, some_list, stop_memory, stop_put, stop_walked}
 use Rattle.c_cache_keys.proofs.Walked.{walked_over}
 use Rattle.c_cache_keys.proofs.Widen.{wide_makes}
+use Rattle.c_cache_keys.proofs.Reasons.{memory_reason, unless_reason, walk_reason}
 use Rattle.c_cache_keys.specs.Conditions.{call_under, given_of, world_under}
 use Rattle.c_cache_keys.specs.Walk.{AreRecorded}
 use Rattle.c_cache_keys.specs.Walked.{digested_of}
@@ -82,3 +83,38 @@ returns-in-Err-put_result-clause-makes g c =
     let call = call_under g.I.CCompilerImpl.value (g.F.Files.file_map c.args.files.now) c.args.self.now (given_of c.args.conditions.now) in
     let F = Rose (g.F.Files.faults c.args.files.now) (g.F.Files.faults c.put_result.new.files) in
     stop_put w g.S.PreprocessorStore.store call F c.args.store.now c.put_result.new.store c.in-Err-put_result.error c.in-Err-put_result.ensures.put.0 c.in-Err-put_result.ensures.put.1
+
+pub returns-in-Err-clause-reason : goal.returns-in-Err-clause-reason
+returns-in-Err-clause-reason g c =
+    let w = world_under g.H.HashState.hash g.I.CCompilerImpl.compiler (given_of c.args.conditions.now) in
+    let call = call_under g.I.CCompilerImpl.value (g.F.Files.file_map c.args.files.now) c.args.self.now (given_of c.args.conditions.now) in
+    let F = Rose (g.F.Files.faults c.args.files.now) (g.F.Files.faults c.process_preprocessed_file.new.files) in
+    rw c.walk_refusal.ensures (walk_reason w call F c.in-Err.error)
+
+pub returns-in-Refused-clause-reason : goal.returns-in-Refused-clause-reason
+returns-in-Refused-clause-reason g c =
+    let w = world_under g.H.HashState.hash g.I.CCompilerImpl.compiler (given_of c.args.conditions.now) in
+    let call = call_under g.I.CCompilerImpl.value (g.F.Files.file_map c.args.files.now) c.args.self.now (given_of c.args.conditions.now) in
+    let F = Rose (g.F.Files.faults c.args.files.now) (g.F.Files.faults c.process_preprocessed_file.new.files) in
+    unless_reason w call F c.plain_key.result c.plain_key.ensures.refused
+
+pub returns-in-Err-plain_key-clause-reason : goal.returns-in-Err-plain_key-clause-reason
+returns-in-Err-plain_key-clause-reason g c =
+    let w = world_under g.H.HashState.hash g.I.CCompilerImpl.compiler (given_of c.args.conditions.now) in
+    let call = call_under g.I.CCompilerImpl.value (g.F.Files.file_map c.args.files.now) c.args.self.now (given_of c.args.conditions.now) in
+    let F = Rose (g.F.Files.faults c.args.files.now) (g.F.Files.faults c.process_preprocessed_file.new.files) in
+    memory_reason w call F c.in-Err-plain_key.error c.in-Err-plain_key.ensures.refused
+
+pub returns-in-Err-included_of-clause-reason : goal.returns-in-Err-included_of-clause-reason
+returns-in-Err-included_of-clause-reason g c =
+    let w = world_under g.H.HashState.hash g.I.CCompilerImpl.compiler (given_of c.args.conditions.now) in
+    let call = call_under g.I.CCompilerImpl.value (g.F.Files.file_map c.args.files.now) c.args.self.now (given_of c.args.conditions.now) in
+    let F = Rose (g.F.Files.faults c.args.files.now) (g.F.Files.faults c.process_preprocessed_file.new.files) in
+    memory_reason w call F c.in-Err-included_of.error c.in-Err-included_of.ensures.refused
+
+pub returns-in-Err-put_result-clause-reason : goal.returns-in-Err-put_result-clause-reason
+returns-in-Err-put_result-clause-reason g c =
+    let w = world_under g.H.HashState.hash g.I.CCompilerImpl.compiler (given_of c.args.conditions.now) in
+    let call = call_under g.I.CCompilerImpl.value (g.F.Files.file_map c.args.files.now) c.args.self.now (given_of c.args.conditions.now) in
+    let F = Rose (g.F.Files.faults c.args.files.now) (g.F.Files.faults c.put_result.new.files) in
+    memory_reason w call F c.in-Err-put_result.error c.in-Err-put_result.ensures.put.0

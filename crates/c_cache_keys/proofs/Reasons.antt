@@ -1,0 +1,167 @@
+-- Each refusal gives its reason.
+use Rattle.std.proofs.Common.{◌≡◌, Some, Ok, Err, map, subst, sym, List, Result}
+use Rattle.std.specs.Prelude.{IfErr, IsOkUnless}
+use Rattle.std.specs.FinMap.{get}
+use Rattle.cck_digest.specs.declared.error.FileError.{FileError}
+use Rattle.cck_digest.specs.declared.error.FileError.TheVariants as file
+use Rattle.cck_digest.specs.declared.error.UtilError.{UtilError}
+use Rattle.cck_digest.specs.declared.error.UtilError.TheVariants as util
+use Rattle.cck_entry.specs.Entry.{Reads}
+use Rattle.cck_file_digest.specs.FileDigest.{IsFirstRefusal}
+use Rattle.cck_file_digest.specs.Refusals.{IsDigestRefusal, IsFileRefusalAt}
+use Rattle.cck_files.proofs.CallsLemmas.{refusal_by}
+use Rattle.cck_files.specs.Calls.{IsRefusalOrMemory}
+use Rattle.cck_files.specs.FileMap.{FileMap, contents_at, file_at}
+use Rattle.cck_path.specs.Path.{Path, components}
+use Rattle.cck_time.specs.declared.error.Error.{Error}
+use Rattle.cck_time.specs.declared.error.Error.TheVariants as entry
+use Rattle.cck_walk.specs.declared.error.WalkError.{WalkError}
+use Rattle.cck_walk.specs.declared.error.WalkError.TheVariants as walk
+use Rattle.c_cache_keys.proofs.Made.{no_node}
+use Rattle.c_cache_keys.specs.Arguments.{Bytes}
+use Rattle.c_cache_keys.specs.Call.{Call}
+use Rattle.c_cache_keys.specs.Hasher.{IsInputRefusal}
+use Rattle.c_cache_keys.specs.Keys.{preprocessor_key_of}
+use Rattle.c_cache_keys.specs.Reasons.{IsFileReason, IsReason, IsStoreReason}
+use Rattle.c_cache_keys.specs.Refusals.{entry_refusal, extra_refusal, input_refusal, text_refusal, walk_refusal}
+use Rattle.c_cache_keys.specs.Store.{Store}
+use Rattle.c_cache_keys.specs.Walk.{input_path}
+use Rattle.c_cache_keys.specs.World.{World}
+use Rattle.c_cache_keys.specs.declared.error.KeyError.{KeyError}
+use Rattle.c_cache_keys.specs.declared.error.KeyError.TheVariants as key
+use Rattle.c_cache_keys.specs.declared.error.PreprocessError.{PreprocessError}
+use Rattle.c_cache_keys.specs.declared.error.PreprocessError.TheVariants as text
+
+-- ---- a fault of a part is one of the whole
+
+module _ (F G : Type 0) (more : F → G) where
+  wide_file : (fm : FileMap) (p : Path) (e : FileError) → IsFileRefusalAt fm p F e → IsFileRefusalAt fm p G e
+  wide_file fm p file.NotFound h = h
+  wide_file fm p file.OtherKind h = h
+  wide_file fm p file.Fault h = more h
+  wide_file fm p file.Memory h = h
+
+  wide_digest : (fm : FileMap) (p : Path) (e : UtilError) → IsDigestRefusal fm p F e → IsDigestRefusal fm p G e
+  wide_digest fm p util.Memory h = h
+  wide_digest fm p util.Read h = h
+  wide_digest fm p (util.File e) h = wide_file fm p e h
+  wide_digest fm p util.TooDeep h = h
+  wide_digest fm p util.TooLong h = h
+  wide_digest fm p util.Write h = h
+  wide_digest fm p util.IncompleteEscape h = h
+  wide_digest fm p util.InvalidEscape h = h
+  wide_digest fm p util.IncompleteHex h = h
+  wide_digest fm p util.InvalidHex h = h
+
+  wide_first : (hash : Bytes → Bytes) (fm : FileMap) (paths : List Path) (e : UtilError) → IsFirstRefusal hash fm paths F e → IsFirstRefusal hash fm paths G e
+  wide_first hash fm paths e r = record { at = r.at; within = r.within; earlier = r.earlier; cause = wide_digest fm _ e r.cause }
+
+  module _ {V : Type 0} (w : World V) (c : Call V) where
+    pub wide_reason : (e : KeyError) → IsFileReason w c F e → IsFileReason w c G e
+    wide_reason key.Memory h = h
+    wide_reason (key.Extra e) h = (h.0, wide_first w.hash c.files _ e h.1)
+    wide_reason (key.Input (util.File e)) h = refusal_by _ F G e more h
+    wide_reason (key.Input util.Memory) h = h
+    wide_reason (key.Input util.Read) h = h
+    wide_reason (key.Input util.TooDeep) h = h
+    wide_reason (key.Input util.TooLong) h = h
+    wide_reason (key.Input util.Write) h = h
+    wide_reason (key.Input util.IncompleteEscape) h = h
+    wide_reason (key.Input util.InvalidEscape) h = h
+    wide_reason (key.Input util.IncompleteHex) h = h
+    wide_reason (key.Input util.InvalidHex) h = h
+    wide_reason key.Store h = h
+    wide_reason (key.Entry e) h = h
+    wide_reason (key.Preprocess e) h = h
+    wide_reason key.Marker h = h
+
+    pub wide_if : {X : Type 0} (r : Result X KeyError) → IfErr r (IsFileReason w c F) → IfErr r (IsFileReason w c G)
+    wide_if (Ok x) h = tt
+    wide_if (Err e) h = wide_reason e h
+
+-- ---- reasons of files
+
+module _ {V : Type 0} (w : World V) (c : Call V) (F : Type 0) where
+  pub memory_reason : (e : KeyError) → e ≡ key.Memory → IsFileReason w c F e
+  memory_reason e is = subst (IsFileReason w c F) (sym is) tt
+
+  pub unless_reason : {X : Type 0} (r : Result X KeyError) → IsOkUnless r key.Memory → IfErr r (IsFileReason w c F)
+  unless_reason (Ok x) is = tt
+  unless_reason (Err e) is = memory_reason e is
+
+  -- a further file has no digest
+  pub extra_reason : (e : UtilError) → IsFirstRefusal w.hash c.files (map components c.request.arguments.extra_hash_files) F e → IsFileReason w c F (extra_refusal e)
+  extra_reason util.Memory r = tt
+  extra_reason util.Read r = ((λ e. cc), r)
+  extra_reason (util.File e) r = ((λ e. cc), r)
+  extra_reason util.TooDeep r = ((λ e. cc), r)
+  extra_reason util.TooLong r = ((λ e. cc), r)
+  extra_reason util.Write r = ((λ e. cc), r)
+  extra_reason util.IncompleteEscape r = ((λ e. cc), r)
+  extra_reason util.InvalidEscape r = ((λ e. cc), r)
+  extra_reason util.IncompleteHex r = ((λ e. cc), r)
+  extra_reason util.InvalidHex r = ((λ e. cc), r)
+
+  -- there is no key to ask under
+  pub key_reason : (e : KeyError) → IsInputRefusal w c F e → IsFileReason w c F e
+  key_reason key.Memory h = tt
+  key_reason (key.Extra e) h = absurd h
+  key_reason (key.Input e) h = h
+  key_reason key.Store h = absurd h
+  key_reason (key.Entry e) h = absurd h
+  key_reason (key.Preprocess e) h = absurd h
+  key_reason key.Marker h = absurd h
+
+  -- the input can't be read where no preprocessor is needed
+  pub input_reason : (e : FileError) → IsRefusalOrMemory (contents_at c.files (components (input_path c))) F e → IsFileReason w c F (input_refusal e)
+  unfolding contents_at file_at
+  input_reason file.NotFound h = no_node (get c.files.nodes (components (input_path c))) file.NotFound h
+  input_reason file.OtherKind h = no_node (get c.files.nodes (components (input_path c))) file.OtherKind h
+  input_reason file.Fault h = h
+  input_reason file.Memory h = tt
+
+  pub text_reason : (e : PreprocessError) → IsFileReason w c F (text_refusal e)
+  text_reason text.Fault = λ e. cc
+  text_reason text.Failed = λ e. cc
+  text_reason text.Memory = tt
+
+  pub walk_reason : (e : WalkError) → IsFileReason w c F (walk_refusal e)
+  walk_reason walk.Memory = tt
+  walk_reason walk.Marker = tt
+
+-- ---- reasons of the store, and of both
+
+module _ {V S : Type 0} (w : World V) (st : Store S) (c : Call V) (s t : S) where
+  pub entry_reason : (k bytes : Bytes) (e : Error) → st.got s k (Ok (Some bytes)) t → Reads (Err e) bytes → IsStoreReason st k s t (entry_refusal e)
+  entry_reason k bytes entry.Memory got reads = tt
+  entry_reason k bytes entry.Deserialization got reads = record { other = λ e. cc; bytes = bytes; got = got; reads = reads }
+  entry_reason k bytes (entry.UnknownFormat byte) got reads = record { other = λ e. cc; bytes = bytes; got = got; reads = reads }
+  entry_reason k bytes (entry.Io cause) got reads = absurd reads
+
+  module _ (F : Type 0) where
+    pub store_reason : (k : Bytes) (e : KeyError) → preprocessor_key_of w c ≡ Some k → IsStoreReason st k s t e → IsReason w st c F s t e
+    store_reason k key.Memory is h = tt
+    store_reason k key.Store is h = tt
+    store_reason k (key.Entry e) is h = (k, is, h)
+    store_reason k (key.Extra e) is h = absurd h
+    store_reason k (key.Input e) is h = absurd h
+    store_reason k (key.Preprocess e) is h = absurd h
+    store_reason k key.Marker is h = absurd h
+
+    pub file_reason : (e : KeyError) → IsFileReason w c F e → IsReason w st c F s t e
+    file_reason key.Memory h = h
+    file_reason key.Store h = absurd h
+    file_reason (key.Entry e) h = absurd h
+    file_reason (key.Extra e) h = h
+    file_reason (key.Input e) h = h
+    file_reason (key.Preprocess e) h = h
+    file_reason key.Marker h = h
+
+  pub wide_any : (F G : Type 0) → (F → G) → (e : KeyError) → IsReason w st c F s t e → IsReason w st c G s t e
+  wide_any F G more key.Memory h = h
+  wide_any F G more key.Store h = h
+  wide_any F G more (key.Entry e) h = h
+  wide_any F G more (key.Extra e) h = wide_reason F G more w c (key.Extra e) h
+  wide_any F G more (key.Input e) h = wide_reason F G more w c (key.Input e) h
+  wide_any F G more (key.Preprocess e) h = h
+  wide_any F G more key.Marker h = h
