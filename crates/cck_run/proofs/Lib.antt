@@ -1,3 +1,3 @@
 pub mod CopyLemmas
 pub mod ExecutableLemmas
-pub mod ReadyLemmas
+pub mod MadeLemmas

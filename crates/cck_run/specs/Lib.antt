@@ -1,7 +1,7 @@
 pub mod Engine
 pub mod KeyRequest
+pub mod Made
 pub mod MiniCompiler
-pub mod Ready
 pub mod Request
 pub mod Run
 pub mod Status

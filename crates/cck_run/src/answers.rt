@@ -9,23 +9,23 @@ use crate::failed::Failed;
 use c_cache_keys::{HashResult, KeyError};
 use std::alloc::Global;
 
-/// The lines of answers, in their order: `hit KEY` for a stored key, `miss KEY` for a fresh one, and
-/// `error N` for a refusal of the number N.
-pub fn answer_lines(
+/// Puts the lines of answers behind the others, in their order: `hit KEY` for a stored key,
+/// `miss KEY` for a fresh one, and `error N` for a refusal of the number N.
+pub fn add_answer_lines(
     alloc: Global,
+    lines: &mut Vec<u8>,
     answers: &[Result<HashResult, KeyError>],
-) -> Result<Vec<u8>, Failed>
-    ensures { IfOk result (λ lines.
-        lines.items ≡ flat_map answer_line (map answer_of answers.now)) }
+) -> Result<(), Failed>
+    ensures { OnOk result (lines.new.items
+        ≡ lines.old.items ++ flat_map answer_line (map answer_of answers.now)) }
 {
-    let mut lines = Vec::new(alloc);
     for answer in answers {
         match answer {
-            Ok(found) => push_key(&mut lines, found)?,
-            Err(error) => push_error(alloc, &mut lines, *error)?,
+            Ok(found) => push_key(lines, found)?,
+            Err(error) => push_error(alloc, lines, *error)?,
         }
     }
-    Ok(lines)
+    Ok(())
 }
 
 // Puts the line of a key behind the others.

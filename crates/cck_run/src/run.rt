@@ -1,19 +1,26 @@
 //! The calls of a script, made one after another.
-ghost use Rattle.std.specs.Prelude.{◌≡◌, [], IfOk};
-ghost use Rattle.std.specs.List.{AllZip};
-ghost use Rattle.std.specs.Option.{unwrap_or};
+ghost use Rattle.std.specs.Prelude.{◌≡◌, ◌∷◌, [], List, ℤ, IfOk};
+ghost use Rattle.std.specs.Option.{option_to_list, unwrap_or};
 ghost use Rattle.jiff.specs.Words.{fixed_zone, plain_zone};
 ghost use Rattle.jiff.specs.Types.{Offset as PlainOffset};
-ghost use Rattle.cck_script.specs.Seen.{lines_of};
-ghost use Rattle.cck_run.specs.Run.{Ran, control_of};
-ghost use Rattle.cck_run.specs.Ready.{IsReady, IsRunCompiler};
+ghost use Rattle.cck_script.specs.Calls.{call_behind, call_said};
+ghost use Rattle.cck_script.specs.Lines.{Line};
+ghost use Rattle.cck_script.specs.Seen.{line_of, lines_of};
+ghost use Rattle.cck_script.specs.Surroundings.{AreAfter};
+ghost use Rattle.c_cache_keys.specs.Seen.{lists_of};
+ghost use Rattle.c_cache_keys.specs.World.{world_of};
+ghost use Rattle.cck_run.specs.MiniCompiler.{mini_compiler};
+ghost use Rattle.cck_run.specs.Run.{Ran, control_of, options as run_options};
+ghost use Rattle.cck_run.specs.Made.{AreMade, IsReady, IsRunCompiler};
 
-use crate::answers::answer_lines;
+use crate::answers::add_answer_lines;
 use crate::failed::Failed;
 use crate::mini_compiler::MiniCompiler;
 use c_cache_keys::{CCompiler, CacheControl, Call, CompilerArguments, MapStore, run_calls};
 use cck_files::MapFiles;
-use cck_script::{EXECUTABLE, Script, ScriptCall, WORKING_DIRECTORY, first_files};
+use cck_script::{
+    Command, EXECUTABLE, Script, ScriptCall, Surroundings, WORKING_DIRECTORY, first_files,
+};
 use cck_time::PreprocessorCacheModeConfig;
 use cck_util::HashState;
 use jiff::tz::{Offset, TimeZone};
@@ -21,25 +28,140 @@ use std::alloc::Global;
 
 /// Makes the calls of a script in their order, on a store that holds nothing at first, and answers
 /// the lines of their answers.
+///
+/// There is one map of files and one list of variables, which follow the script line by line, and
+/// each call is made over them as they are at its line.
 pub fn run_script<H: HashState>(alloc: Global, script: &Script) -> Result<Vec<u8>, Failed>
     ensures { IfOk result (λ printed. Ran H.hash (lines_of script.now) printed.items) }
 {
     let options = script.options(alloc)?;
-    let zone = zone_at(options.zone_offset)?;
-    let compiler = compiler_of::<H>(alloc, options.zone_offset)?;
-    let asked = script.calls(alloc)?;
-    let mut calls = prepared(alloc, &compiler, asked)?;
     let mut store = store_of(alloc, options.forget_at, options.fail_at);
+    let compiler = compiler_of::<H>(alloc, options.zone_offset)?;
+    let zone = zone_at(options.zone_offset)?;
+    let setting = Setting {
+        compiler,
+        zone,
+        basedirs: options.basedirs,
+    };
+    let mut surroundings = Surroundings::new(alloc)?;
+    let mut printed = Vec::new(alloc);
+    for command in script.commands() {
+        surroundings = follow_line::<H>(
+            alloc,
+            &setting,
+            &mut store,
+            surroundings,
+            command,
+            &mut printed,
+        )?;
+    }
+    Ok(printed)
+}
+
+// What all calls of a run are made under.
+#[derive(Drop)]
+struct Setting {
+    compiler: CCompiler<MiniCompiler>,
+    zone: TimeZone<'static>,
+    basedirs: Vec<Vec<u8>>,
+}
+
+// Makes the call that a line asks for, if it asks for one, and then does what the line says.
+fn follow_line<H: HashState>(
+    alloc: Global,
+    setting: &Setting,
+    store: &mut MapStore,
+    surroundings: Surroundings,
+    command: &Command,
+    printed: &mut Vec<u8>,
+) -> Result<Surroundings, Failed>
+    ensures after { IfOk result (λ after. (earlier : List Line) → AreAfter earlier surroundings
+        → AreAfter (line_of command.now ∷ earlier) after) }
+    ensures made { IfOk result (λ after. (zone : ℤ) (earlier : List Line) → IsRunCompiler H.hash zone setting.now.compiler
+        → AreAfter earlier surroundings
+        → AreMade H.hash zone (world_of H.hash mini_compiler (plain_zone setting.now.zone) run_options (lists_of setting.now.basedirs.items))
+        (option_to_list (call_said earlier (line_of command.now))) store.old store.new printed.old.items printed.new.items) }
+{
+    let mut after = match command.call() {
+        Some(asked) => make_call::<H>(alloc, setting, store, surroundings, &asked, printed)?,
+        None => surroundings,
+    };
+    after.follow(alloc, command)?;
+    Ok(after)
+}
+
+// Makes a call over these files and variables, prints its answer behind the others, and gives the
+// files and variables back.
+fn make_call<H: HashState>(
+    alloc: Global,
+    setting: &Setting,
+    store: &mut MapStore,
+    surroundings: Surroundings,
+    asked: &ScriptCall<'_>,
+    printed: &mut Vec<u8>,
+) -> Result<Surroundings, Failed>
+    ensures after { IfOk result (λ after. (earlier : List Line) → AreAfter earlier surroundings → AreAfter earlier after) }
+    ensures made { IfOk result (λ after. (zone : ℤ) (earlier : List Line) → IsRunCompiler H.hash zone setting.now.compiler
+        → AreAfter earlier surroundings
+        → AreMade H.hash zone (world_of H.hash mini_compiler (plain_zone setting.now.zone) run_options (lists_of setting.now.basedirs.items))
+        (call_behind earlier asked.now ∷ []) store.old store.new printed.old.items printed.new.items) }
+{
+    let mut calls = Vec::new(alloc);
+    calls.push(ready_call(alloc, &setting.compiler, surroundings, asked)?)?;
     let config = PreprocessorCacheModeConfig::activated();
     let answers = run_calls::<H, MiniCompiler, MapFiles, MapStore>(
         alloc,
-        &mut store,
-        &zone,
+        store,
+        &setting.zone,
         config,
-        &options.basedirs,
+        &setting.basedirs,
         &mut calls,
     )?;
-    answer_lines(alloc, &answers)
+    add_answer_lines(alloc, printed, &answers)?;
+    // There is the one call that was put.
+    let Some(made) = calls.pop() else {
+        return Err(Failed);
+    };
+    let Call { files, vars, .. } = made;
+    Ok(Surroundings {
+        files,
+        variables: vars,
+    })
+}
+
+// The call that a script asks for, over these files and variables, ready to be made.
+fn ready_call(
+    alloc: Global,
+    compiler: &CCompiler<MiniCompiler>,
+    surroundings: Surroundings,
+    asked: &ScriptCall<'_>,
+) -> Result<Call<MiniCompiler, MapFiles>, Failed>
+    ensures { IfOk result (λ made. (earlier : List Line) → AreAfter earlier surroundings
+        → IsReady compiler.now (call_behind earlier asked.now) made) }
+{
+    let Surroundings {
+        mut files,
+        variables,
+    } = surroundings;
+    let parsed = compiler.parse_arguments(
+        alloc,
+        &mut files,
+        asked.arguments,
+        WORKING_DIRECTORY,
+        &variables,
+    )?;
+    // The first argument is the input, so it is a compilation.
+    let CompilerArguments::Ok(hasher) = parsed else {
+        return Err(Failed);
+    };
+    Ok(Call {
+        hasher,
+        files,
+        cwd: WORKING_DIRECTORY.to_vec(alloc)?,
+        vars: variables,
+        moment: asked.moment,
+        control: control_of(asked.is_recache),
+    })
 }
 
 // The zone of an offset of so many seconds.
@@ -78,57 +200,6 @@ fn compiler_of<H: HashState>(
     let executable = EXECUTABLE.to_vec(alloc)?;
     let compiler = MiniCompiler { zone_offset };
     Ok(CCompiler::new::<H, MapFiles>(alloc, compiler, executable, &mut files)?)
-}
-
-// The calls that a script asks for, ready to be made.
-fn prepared(
-    alloc: Global,
-    compiler: &CCompiler<MiniCompiler>,
-    asked: Vec<ScriptCall>,
-) -> Result<Vec<Call<MiniCompiler, MapFiles>>, Failed>
-    ensures { IfOk result (λ calls. AllZip (IsReady compiler.now) asked.items calls.items) }
-{
-    let mut calls = Vec::new(alloc);
-    for call in asked {
-        calls.push(prepared_call(alloc, compiler, call)?)?;
-    }
-    Ok(calls)
-}
-
-// One call that a script asks for, ready to be made.
-fn prepared_call(
-    alloc: Global,
-    compiler: &CCompiler<MiniCompiler>,
-    call: ScriptCall,
-) -> Result<Call<MiniCompiler, MapFiles>, Failed>
-    ensures { IfOk result (IsReady compiler.now call) }
-{
-    let ScriptCall {
-        mut files,
-        variables,
-        moment,
-        arguments,
-        is_recache,
-    } = call;
-    let parsed = compiler.parse_arguments(
-        alloc,
-        &mut files,
-        &arguments,
-        WORKING_DIRECTORY,
-        &variables,
-    )?;
-    // The first argument is the input, so it is a compilation.
-    let CompilerArguments::Ok(hasher) = parsed else {
-        return Err(Failed);
-    };
-    Ok(Call {
-        hasher,
-        files,
-        cwd: WORKING_DIRECTORY.to_vec(alloc)?,
-        vars: variables,
-        moment,
-        control: control_of(is_recache),
-    })
 }
 
 // Whether a stored result may be answered.

@@ -1,6 +1,7 @@
 //! The program over memory, and over readers and writers that fail.
 mod compiler;
 mod run;
+mod scripts;
 
 use crate::engine::engine;
 use crate::status::Status;

@@ -1,4 +1,3 @@
-pub mod CallLemmas
 pub mod FileLemmas
 pub mod OptionLemmas
 pub mod ScriptLemmas

@@ -1,10 +1,9 @@
 -- the calls of a script
-use Rattle.std.specs.Prelude.{◌≡◌, List, [], ◌∷◌, ◌++◌, Bool, true, false, Option, Some, None}
+use Rattle.std.specs.Prelude.{List, [], ◌∷◌, ◌++◌, Bool, true, false, Option, Some, None}
 use Rattle.std.specs.Option.{option_to_list}
 use Rattle.cck_path.specs.Timestamp.{Moment}
 use Rattle.cck_script.specs.Lines.{Line, Compile, Recache}
-use Rattle.cck_script.specs.Seen.{lists_of, variables_of}
-use Rattle.cck_script.specs.Surroundings.{AreFiles, variables}
+use Rattle.cck_script.specs.Seen.{lists_of}
 use Rattle.cck_script.specs.Words.{Bytes}
 use Rattle.cck_script.specs.declared.call.ScriptCall.{ScriptCall}
 
@@ -30,19 +29,6 @@ calls_behind earlier (line ∷ lines) = option_to_list (call_said earlier line) 
 abbrev pub calls_of : List Line → List Call
 calls_of lines = calls_behind [] lines
 
--- a call of the program is the one that is asked for
-pub record IsCall (asked : Call) (made : ScriptCall) : Type 0 where
-  pub moment : made.moment ≡ asked.moment
-  pub arguments : lists_of made.arguments.items ≡ asked.arguments
-  pub is_recache : made.is_recache ≡ asked.is_recache
-  pub files : AreFiles asked.earlier made.files.files
-  pub no_faults : made.files.faults ≡ 0
-  pub unarmed : made.files.armed ≡ 0
-  pub variables_are : variables_of made.variables.items ≡ variables asked.earlier
-
--- a call was made where one is asked for, and it is that one
-abbrev pub IsMade : Option Call → Option ScriptCall → Type 0
-IsMade None None = Unit {0}
-IsMade None (Some made) = ⊥
-IsMade (Some asked) None = ⊥
-IsMade (Some asked) (Some made) = IsCall asked made
+-- what the program has of a call, behind these lines
+abbrev pub call_behind : List Line → ScriptCall → Call
+call_behind earlier c = record { moment = c.moment; arguments = lists_of c.arguments.now; is_recache = c.is_recache; earlier = earlier }

@@ -1,9 +1,9 @@
 //! What the lines of a script say.
 use cck_path::Timestamp;
 
-/// What a line says. Words and texts are undone.
+/// What a line of a script says. Words and texts are undone.
 #[derive(Debug, PartialEq, Eq, Drop)]
-pub(crate) enum Command {
+pub enum Command {
     /// The run's zone is so many seconds east of UTC.
     Zone {
         offset: i32,

@@ -2,8 +2,9 @@
 //!
 //! A script is a text of lines. Some lines put files or set variables, and a line `compile` or
 //! `recache` asks for a call over the files and variables as they then are. [`Script::parse`] reads a
-//! text once, and tells the number of the first wrong line; [`Script::calls`] gives the calls, each
-//! with its own files and variables.
+//! text once, and tells the number of the first wrong line. [`Surroundings`] are files and variables
+//! that follow a script line by line: a call ([`Command::call`]) is made over them as they are at its
+//! line, so that one map of files does for all calls.
 //!
 //! | line | meaning |
 //! |---|---|
@@ -25,7 +26,11 @@
 //! ```rust
 //! let text = b"file /w/a.c 1 1 int x;\\n\nvar HOME /h\ncompile 5000000000 a.c -O2\n";
 //! let script = Script::parse(alloc, text)?;
-//! script.calls(alloc)?; // one, of `a.c` and `-O2`, over `/w/a.c` and `/usr/bin/cc`
+//! let mut surroundings = Surroundings::new(alloc)?;
+//! for command in script.commands() {
+//!     command.call(); // at the third line one, of `a.c` and `-O2`, over `/w/a.c` and `/usr/bin/cc`
+//!     surroundings.follow(alloc, command)?;
+//! }
 //! Script::parse(alloc, b"#c\n\ncompile - a.c"); // `Err(ScriptError::Line(3))`
 //! ```
 #![tactic(auto)]
@@ -42,6 +47,7 @@ mod tests;
 mod word;
 
 pub use call::ScriptCall;
+pub use command::Command;
 pub use error::ScriptError;
 pub use script::{RunOptions, Script};
-pub use surroundings::{EXECUTABLE, WORKING_DIRECTORY, first_files};
+pub use surroundings::{EXECUTABLE, Surroundings, WORKING_DIRECTORY, first_files};

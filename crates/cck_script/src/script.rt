@@ -1,5 +1,5 @@
 //! A script, read.
-ghost use Rattle.std.specs.Prelude.{◌≡◌, ◌++◌, None, IfOk, IsOkUnless, MatchResult, OnOk};
+ghost use Rattle.std.specs.Prelude.{◌≡◌, ◌++◌, None, IfOk, IsOkUnless, MatchResult, OnOk, map};
 ghost use Rattle.std.specs.Option.{option_to_list, unwrap_or};
 ghost use Rattle.cck_script.specs.Script.{IsScriptRefusal, basedir_said, basedirs_of, fail_of, fail_said, forget_of, forget_said, lines_said, wrong_line, zone_of, zone_said};
 ghost use Rattle.cck_script.specs.Seen.{line_of, lines_of, lists_of};
@@ -14,7 +14,7 @@ use std::alloc::Global;
 /// A script, read.
 #[derive(Debug, Drop)]
 pub struct Script {
-    pub(crate) commands: Vec<Command>,
+    commands: Vec<Command>,
 }
 
 /// What holds for the whole run of a script, wherever its line stands.
@@ -55,6 +55,13 @@ impl Script {
             left = part.rest;
         }
         Ok(Script { commands })
+    }
+
+    /// What its lines say, in order: one command for each line that isn't skipped.
+    pub fn commands(&self) -> &[Command]
+        ensures { map line_of result.now ≡ lines_of self.now }
+    {
+        &self.commands
     }
 
     /// What holds for the whole run. Of several lines `zone`, `store forget` or `store fail` the

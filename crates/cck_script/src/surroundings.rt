@@ -44,17 +44,23 @@ pub fn first_files(alloc: Global) -> Result<MapFiles, UtilError>
 }
 
 /// The files and variables after the first lines of a script.
+///
+/// A path has what the last of the lines says that names it, and the executable's path else what it
+/// has at first. Each path leads to itself, without its `.` and `..`. A variable stands where it was
+/// set first since the last line `clear`, with the value that it was given last.
 #[derive(Debug, Drop)]
-pub(crate) struct Surroundings {
+pub struct Surroundings {
     /// The files, on which no call is armed to fail.
-    pub(crate) files: MapFiles,
+    pub files: MapFiles,
     /// The variables.
-    pub(crate) variables: Vec<(Vec<u8>, Vec<u8>)>,
+    pub variables: Vec<(Vec<u8>, Vec<u8>)>,
 }
 
 impl Surroundings {
-    /// The files and variables before any line.
-    pub(crate) fn new(alloc: Global) -> Result<Surroundings, UtilError>
+    /// The files and variables before any line: those of [`first_files`], and none.
+    ///
+    /// It is refused only for want of memory, as [`UtilError::Memory`].
+    pub fn new(alloc: Global) -> Result<Surroundings, UtilError>
         ensures first { IfOk result (AreAfter []) }
         ensures refused { IsOkUnless result UtilError.Memory }
     {
@@ -64,11 +70,12 @@ impl Surroundings {
         })
     }
 
-    /// Does what one line more says.
+    /// Does what one line more says. A line that asks for a call, or that holds for the whole run,
+    /// changes nothing here.
     ///
     /// It is refused only for want of memory, as [`UtilError::Memory`]; what it has done then is
     /// open.
-    pub(crate) fn follow(&mut self, alloc: Global, command: &Command) -> Result<(), UtilError>
+    pub fn follow(&mut self, alloc: Global, command: &Command) -> Result<(), UtilError>
         ensures after { OnOk result ((lines : List Line) → AreAfter lines self.old
             → AreAfter (line_of command.now ∷ lines) self.new) }
         ensures refused { IsOkUnless result UtilError.Memory }
@@ -102,24 +109,6 @@ impl Surroundings {
             }
             _ => Ok(()),
         }
-    }
-
-    /// The same files and variables once more.
-    ///
-    /// It is refused only for want of memory, as [`UtilError::Memory`].
-    pub(crate) fn copy(&self, alloc: Global) -> Result<Surroundings, UtilError>
-        ensures same { IfOk result (λ copy. (lines : List Line) → AreAfter lines self.now
-            → AreAfter lines copy) }
-        ensures refused { IsOkUnless result UtilError.Memory }
-    {
-        let mut variables = Vec::new(alloc);
-        for (name, value) in &self.variables {
-            variables.push((name.to_vec(alloc)?, value.to_vec(alloc)?))?;
-        }
-        Ok(Surroundings {
-            files: self.files.copy(alloc)?,
-            variables,
-        })
     }
 }
 

@@ -23,7 +23,7 @@ fn expect_says(
     command: Command,
 ) -> Result<(), ScriptError> {
     let script = Script::parse(alloc, text)?;
-    assert_eq!(rt; script.commands.as_slice(), &[command][..], "{text:?}");
+    assert_eq!(rt; script.commands(), &[command][..], "{text:?}");
     Ok(())
 }
 

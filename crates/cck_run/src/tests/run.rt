@@ -7,14 +7,14 @@ use std::alloc::{AllocError, Global};
 use std::process::Abort;
 
 // Two files: an input, and the header that it includes.
-const FILES: &str =
+pub(super) const FILES: &str =
     "file /w/a.c 1000000000 1000000000 #include \"h.h\"\\nint x;\\n\nfile /w/h.h 1000000000 1000000000 int y1;\\n\n";
 
 // The key of the input with this header.
-const KEY: &str = "c1965f1042da0029e8e360548d31b8f8ed07ab22d8ae526c40f685c0ea9f7905";
+pub(super) const KEY: &str = "c1965f1042da0029e8e360548d31b8f8ed07ab22d8ae526c40f685c0ea9f7905";
 
 // Expects a script to end so, and this to be printed.
-fn expect_run(
+pub(super) fn expect_run(
     rt: &impl Abort,
     alloc: Global,
     script: &str,

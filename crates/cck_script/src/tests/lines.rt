@@ -86,18 +86,18 @@ fn numbers_of_wrong_lines(rt: HostRuntime) {
 #[test]
 fn skipped_lines(rt: HostRuntime) -> Result<(), ScriptError> {
     let alloc = rt.alloc();
-    assert_eq!(rt; Script::parse(alloc, b"")?.commands.len(), 0);
-    assert_eq!(rt; Script::parse(alloc, b"\n")?.commands.len(), 0);
+    assert_eq!(rt; Script::parse(alloc, b"")?.commands().len(), 0);
+    assert_eq!(rt; Script::parse(alloc, b"\n")?.commands().len(), 0);
     assert_eq!(rt;
         Script::parse(alloc, b"\n\n#\n# \\q\n#clear\n")?
-            .commands
+            .commands()
             .len(),
         0
     );
-    assert_eq!(rt; Script::parse(alloc, b"clear\nclear")?.commands.len(), 2);
+    assert_eq!(rt; Script::parse(alloc, b"clear\nclear")?.commands().len(), 2);
     assert_eq!(rt;
         Script::parse(alloc, b"\nclear\n\nclear\n\n")?
-            .commands
+            .commands()
             .len(),
         2
     );

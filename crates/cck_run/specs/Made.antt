@@ -1,19 +1,21 @@
--- calls that are ready to be made
-use Rattle.std.specs.Prelude.{◌≡◌, ℤ, codes, string_bytes}
+-- calls of a run, before and after they are made
+use Rattle.std.specs.Prelude.{◌≡◌, ℤ, ◌++◌, List, codes, string_bytes}
+use Rattle.std.specs.List.{AllZip, flat_map}
 use Rattle.cck_digest.specs.Digest.{digest_text}
 use Rattle.cck_files.specs.FileState.{FileState}
-use Rattle.cck_script.specs.Calls.{IsCall}
-use Rattle.cck_script.specs.Surroundings.{AreFiles, variables}
 use Rattle.cck_script.specs.Calls as script
+use Rattle.cck_script.specs.Surroundings.{AreFiles, variables}
 use Rattle.cck_script.specs.Words.{Bytes}
-use Rattle.cck_script.specs.declared.call.ScriptCall.{ScriptCall}
+use Rattle.c_cache_keys.specs.Call.{Answer, Done}
 use Rattle.c_cache_keys.specs.ExtraFiles.{completed}
+use Rattle.c_cache_keys.specs.MapStore.{State, map_store}
 use Rattle.c_cache_keys.specs.Seen.{arguments_of, variables_of}
-use Rattle.c_cache_keys.specs.World.{Compilation}
+use Rattle.c_cache_keys.specs.Step.{Run}
+use Rattle.c_cache_keys.specs.World.{Compilation, World}
 use Rattle.c_cache_keys.specs.declared.c_compiler.CCompiler.{CCompiler}
 use Rattle.c_cache_keys.specs.declared.calls.Call.{Call}
 use Rattle.cck_run.specs.MiniCompiler.{parsed}
-use Rattle.cck_run.specs.Run.{control_of}
+use Rattle.cck_run.specs.Run.{IsDone, answer_line, control_of}
 use Rattle.cck_run.specs.declared.mini_compiler.MiniCompiler.{MiniCompiler}
 
 -- the compiler of a run, in a zone of this offset, with the digest of its executable
@@ -23,7 +25,7 @@ pub record IsRunCompiler (hash : Bytes → Bytes) (zone : ℤ) (c : CCompiler Mi
   pub executable_digest : string_bytes c.executable_digest ≡ digest_text hash (codes "cc")
 
 -- this call asks for what a script asks for, of this compiler, and no call on its files meets a fault
-pub record IsReadyFor (c : CCompiler MiniCompiler) (asked : script.Call) (made : Call MiniCompiler FileState) : Type 0 where
+pub record IsReady (c : CCompiler MiniCompiler) (asked : script.Call) (made : Call MiniCompiler FileState) : Type 0 where
   pub zone_is : made.hasher.compiler.zone_offset ≡ c.compiler.zone_offset
   pub executable : made.hasher.executable.items ≡ c.executable.items
   pub executable_digest : string_bytes made.hasher.executable_digest ≡ string_bytes c.executable_digest
@@ -36,6 +38,10 @@ pub record IsReadyFor (c : CCompiler MiniCompiler) (asked : script.Call) (made :
   pub no_fault : made.files.faults ≡ 0
   pub unarmed : made.files.armed ≡ 0
 
--- the same of a call of the script's calls
-abbrev pub IsReady : CCompiler MiniCompiler → ScriptCall → Call MiniCompiler FileState → Type 0
-IsReady c call made = (asked : script.Call) → IsCall asked call → IsReadyFor c asked made
+-- these calls were made one after another, in a zone of this offset, from one store to the other, and their answers are printed behind what was there
+pub record AreMade (hash : Bytes → Bytes) (zone : ℤ) (w : World ℤ) (asked : List script.Call) (start end : State) (before after : Bytes) : Type 0 where
+  pub done : List (Done ℤ)
+  pub answers : List Answer
+  pub calls : AllZip (IsDone hash zone) asked done
+  pub run : Run w map_store start done answers end
+  pub printed_are : after ≡ before ++ flat_map answer_line answers
