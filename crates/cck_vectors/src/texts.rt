@@ -18,6 +18,24 @@ impl Write for Failing {
     }
 }
 
+// Knows whether all that was written went through.
+#[derive(Drop)]
+struct Buffering {
+    is_flushed: bool,
+}
+
+impl Write for Buffering {
+    fn write(&mut self, bytes: &[u8]) -> io::Result<usize> {
+        self.is_flushed = false;
+        Ok(bytes.len())
+    }
+
+    fn flush(&mut self) -> io::Result<()> {
+        self.is_flushed = true;
+        Ok(())
+    }
+}
+
 #[test]
 fn simple_starts_with(rt: HostRuntime) -> Result<(), UtilError> {
     let text = b"foo".to_vec(rt.alloc())?;
@@ -66,5 +84,13 @@ fn length_prefixes(rt: HostRuntime) -> Result<(), UtilError> {
         write_length_prefixed(&mut Failing, b""),
         Err(UtilError::Write)
     );
+    Ok(())
+}
+
+#[test]
+fn what_is_length_prefixed_goes_through(rt: HostRuntime) -> Result<(), UtilError> {
+    let mut writer = Buffering { is_flushed: false };
+    write_length_prefixed(&mut writer, b"abc")?;
+    assert!(rt; writer.is_flushed);
     Ok(())
 }
