@@ -1,18 +1,11 @@
 -- The test for a part of a text tells whether the word is one.
-use Rattle.std.proofs.Common.{◌≡◌, ℕ, ◌⊎◌, inl, inr, Bool, true, false, ◌||◌, ◌↔◌, List, [], ◌∷◌, ◌++◌, IsTrue, length, drop, refl, ap, ◌∙◌}
+use Rattle.std.proofs.Common.{◌≡◌, ℕ, inl, inr, ◌||◌, ◌↔◌, List, [], ◌∷◌, ◌++◌, IsTrue, length, drop, refl, ap, ◌∙◌}
 use Rattle.std.proofs.lemmas.Bool.Decides.{Decides-eqb}
 use Rattle.std.proofs.lemmas.Slice.Eq.{starts_is}
 use Rattle.std.specs.List.{starts_with}
 use Rattle.std.specs.Prelude.{nat_eq}
+use Rattle.std.proofs.lemmas.Bool.{or_cases, or_right}
 use Rattle.cck_digest.specs.TimeMacros.{Has, has}
-
-either : (a b : Bool) → IsTrue (a || b) → IsTrue a ⊎ IsTrue b
-either true b h = inl refl
-either false b h = inr h
-
-or_right : (a b : Bool) → IsTrue b → IsTrue (a || b)
-or_right true b h = refl
-or_right false b h = h
 
 at_start : (text word : List ℕ) → IsTrue (starts_with nat_eq text word) → Has text word
 at_start text word h = ([], drop (length word) text, (starts_is Decides-eqb text word (starts_with nat_eq text word) refl).0 h)
@@ -23,7 +16,7 @@ from_start text word after e = (starts_is Decides-eqb text word (starts_with nat
 has_then : (text word : List ℕ) → IsTrue (has text word) → Has text word
 has_then [] word h = at_start [] word h
 has_then (byte ∷ text) word h =
-    elim (either (starts_with nat_eq (byte ∷ text) word) (has text word) h) [
+    elim (or_cases (starts_with nat_eq (byte ∷ text) word) (has text word) h) [
       | inl here ↦ at_start (byte ∷ text) word here
       | inr later ↦ (let more = has_then text word later in (byte ∷ more.0, more.1, ap (λ s. byte ∷ s) more.2))
     ]

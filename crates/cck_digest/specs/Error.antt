@@ -4,7 +4,7 @@ use Rattle.cck_digest.specs.declared.error.FileError.TheVariants.{NotFound, Othe
 use Rattle.cck_digest.specs.declared.error.UtilError.{UtilError}
 use Rattle.cck_digest.specs.declared.error.UtilError.TheVariants as util
 
--- a want of memory stays one
+-- a lack of memory stays one
 abbrev pub util_error : FileError → UtilError
 util_error NotFound = util.File NotFound
 util_error OtherKind = util.File OtherKind

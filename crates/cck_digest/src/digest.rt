@@ -47,7 +47,7 @@ impl<H: HashState> Digest<H> {
 
     /// The digest text of all that was fed: the 64 digits that [`hex`] writes of the output.
     ///
-    /// It is refused only for want of memory, as [`UtilError::Memory`].
+    /// It is refused only for lack of memory, as [`UtilError::Memory`].
     pub fn finish(self, alloc: Global) -> Result<String, UtilError>
         ensures text { IfOk result (λ text. (fed : List ℕ) → H.holds self fed → string_bytes text ≡ digest_text H.hash fed) }
         ensures refused { IsOkUnless result UtilError.Memory }
@@ -84,7 +84,7 @@ fn digit(half: u8) -> char
 /// Two hexadecimal digits for each byte, in lower case, those of the low half first.
 ///
 /// The order of the halves is upstream's `util::hex`: `1f` is written `f1`. It is refused only for
-/// want of memory, as [`UtilError::Memory`].
+/// lack of memory, as [`UtilError::Memory`].
 pub fn hex(alloc: Global, bytes: &[u8]) -> Result<String, UtilError>
     ensures text { IfOk result (λ text. string_bytes text ≡ hex_text bytes.now) }
     ensures refused { IsOkUnless result UtilError.Memory }

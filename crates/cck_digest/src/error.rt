@@ -32,7 +32,7 @@ pub enum UtilError {
     /// A reader failed, by an interrupted read too.
     #[error("a read failed")]
     Read,
-    /// A call on files failed, for this reason. Want of memory is [`UtilError::Memory`] instead.
+    /// A call on files failed, for this reason. Lack of memory is [`UtilError::Memory`] instead.
     #[error("a file can't be read: {0}")]
     File(FileError),
     /// A folder stands deeper than 100 levels.
@@ -74,7 +74,7 @@ impl<T: Drop> From<AllocFailed<T>> for FileError {
     }
 }
 
-/// A want of memory stays one, and all else is [`UtilError::File`].
+/// A lack of memory stays one, and all else is [`UtilError::File`].
 impl From<FileError> for UtilError {
     ghost use Rattle.cck_digest.specs.Error.{util_error};
 

@@ -54,7 +54,8 @@ fn has(text: &[u8], word: &[u8]) -> bool
     memmem::find(text, word).is_some()
 }
 
-// Writes the end of what came before and the beginning of the piece, and says how many bytes they are.
+// Writes the end of what came before and the beginning of the piece, and says how many bytes they
+// are.
 fn fill(window: &mut [u8; WINDOW_LENGTH], tail: &[u8], piece: &[u8]) -> usize
     requires { length tail.now ≤ 12 }
     ensures within { result ≤ 24 }

@@ -1,4 +1,5 @@
-//! The hash function under every digest. It is handed in, so that no theorem rests on which one it is.
+//! The hash function under every digest. It is handed in, so that no theorem rests on which one it
+//! is.
 ghost use Rattle.std.specs.Prelude.{◌≡◌, ℕ, List, [], ◌++◌, length};
 ghost use Rattle.sha2.specs.Sha256.{sha256};
 ghost use Rattle.sha2.specs.Hashers.{Holds256};

@@ -5,12 +5,15 @@
 //! which bytes it feeds, so that a layer above can say what its whole material is.
 //!
 //! - [`HashState`] is the hash function, handed in by the caller; [`Sha256State`] is the program's.
-//! - [`Digest`] is fed piece by piece and ends in a text; [`hash_len_prefixed`] and [`hex`] go with it.
-//! - [`read_to_end`] reads a reader to its end and hands each piece to a [`Sink`].
+//! - [`Digest`] is fed piece by piece and ends in a text; [`hash_len_prefixed`] and [`hex`] go with
+//!   it.
+//! - [`read_to_end`] reads a reader to its end, [`HASH_BUFFER_SIZE`] bytes at a time at most, and
+//!   hands each piece to a [`Sink`]; [`read_all`] gives all that it reads.
 //! - [`Digest::reader_sync`] and its kin digest what a reader gives.
 //! - [`TimeMacroFinder`] finds the macros of time in a stream, however it is cut, and
 //!   [`WatchedDigest`] feeds it and a digest in one pass.
-//! - [`laws`] has what the definitions say above what they compute.
+//! - [`UtilError`] and [`FileError`] say why a call is refused, here and in the crates above.
+//! - [`laws`] has what the definitions say beyond what they compute.
 //!
 //! ```rust
 //! let mut digest = Digest::<Sha256State>::new();

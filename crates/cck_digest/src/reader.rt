@@ -47,7 +47,7 @@ impl<H: HashState> WatchedDigest<H> {
 
     /// The digest text of all that was fed, and the finder.
     ///
-    /// It is refused only for want of memory, as [`UtilError::Memory`].
+    /// It is refused only for lack of memory, as [`UtilError::Memory`].
     pub fn finish(self, alloc: Global) -> Result<(String, TimeMacroFinder), UtilError>
         ensures text { IfOk result (λ pair. (fed : List ℕ) → H.holds self.digest fed
             → string_bytes pair.0 ≡ digest_text H.hash fed) }

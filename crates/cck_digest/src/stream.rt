@@ -8,7 +8,7 @@ use crate::UtilError;
 use std::alloc::{AllocError, Global};
 use std::io::Read;
 
-/// How many bytes are asked of a reader at once.
+/// How many bytes are asked of a reader at once. Upstream's `util::HASH_BUFFER_SIZE`.
 pub const HASH_BUFFER_SIZE: usize = 131072;
 
 /// What takes a stream piece by piece.
@@ -19,12 +19,13 @@ pub trait Sink {
     // Taking this piece may lead from the one to the other.
     ghost takes: { Self → List ℕ → Self → Type 0 };
 
-    /// Takes the next piece. It is refused only for want of memory.
+    /// Takes the next piece. It is refused only for lack of memory.
     fn take(&mut self, piece: &[u8]) -> Result<(), AllocError>
         requires { is_open self.old }
         ensures { OnOk result (takes self.old piece.now self.new × is_open self.new) };
 }
 
+/// Appends each piece.
 impl Sink for Vec<u8> {
     ghost takes = { λ before piece after. after.items ≡ before.items ++ piece };
 
@@ -66,9 +67,9 @@ fn read_through<S: Sink, R: Read>(
 /// read is tried again.
 ///
 /// It is refused as [`UtilError::Read`] where a read fails, an interrupted one too, or where
-/// `u64::MAX` reads meet no end, and as [`UtilError::Memory`]. After [`UtilError::Read`] the sink has
-/// taken what the reader gave so far and is ready for more, so that a second call goes on where this
-/// one stopped. After [`UtilError::Memory`] it may have taken a beginning of the stream.
+/// `u64::MAX` reads meet no end, and as [`UtilError::Memory`]. After [`UtilError::Read`] the sink
+/// has taken what the reader gave so far and is ready for more, so that a second call goes on where
+/// this one stopped. After [`UtilError::Memory`] it may have taken a beginning of the stream.
 pub fn read_to_end<S: Sink, R: Read>(
     alloc: Global,
     reader: &mut R,

@@ -1,7 +1,7 @@
 -- where a text is cut by the first byte of a kind
 use Rattle.std.proofs.Common.{◌≡◌, ◌≢◌, ℕ, ◌+◌, ◌-◌, ◌<◌, ◌≤◌, Bool, true, false, ◌==◌, ◌||◌, List, ◌∷◌, ◌++◌, length, take, drop, get_or, refl, sym, ◌∙◌, ap, subst, arith, Some, None}
 use Rattle.std.specs.Prelude.{All}
-use Rattle.std.proofs.lemmas.Bool.{eqb-true, eq-eqb, ne_eqb}
+use Rattle.std.proofs.lemmas.Bool.{eqb-true, eq-eqb, ne_eqb, or_left, or_right}
 use Rattle.std.proofs.lemmas.List.{get_or-take, get_or_default, length-take, take-append-drop, drop_more, take_all, length-drop}
 use Rattle.memchr.specs.Find.{IsFirstByte, is_byte, is_byte2}
 
@@ -35,14 +35,6 @@ byte_at byte text place h = (
 
 pub byte_nowhere : (byte : ℕ) (text : List ℕ) → IsFirstByte (is_byte byte) text None → All (λ v. v ≢ byte) text
 byte_nowhere byte text h = all_of (λ v. v ≢ byte) text (λ k l. apart (get_or text k 0) byte (h k (omega arith) l))
-
-or_left : (a b : Bool) → a ≡ true → (a || b) ≡ true
-or_left true b e = refl
-or_left false b e = absurd cc
-
-or_right : (a b : Bool) → b ≡ true → (a || b) ≡ true
-or_right true b e = refl
-or_right false b e = e
 
 or_else : (a b : Bool) → (a || b) ≡ true → b ≡ false → a ≡ true
 or_else true b h e = refl

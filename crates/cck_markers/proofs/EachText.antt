@@ -6,8 +6,9 @@ use Rattle.std.proofs.lemmas.Bool.Decides.{eqb_tells, Decides-eqb}
 use Rattle.std.proofs.lemmas.List.{append-nil}
 use Rattle.std.proofs.lemmas.List.Elements.{All-nil, All-cons}
 use Rattle.std.proofs.lemmas.Slice.Eq.{starts_is}
+use Rattle.std.proofs.lemmas.Bool.{and_parts}
 use Rattle.cck_markers.specs.Marks.{Mark, Name, Refusal, Malformed, What, Short, Marker, Hidden, Inclusion, Plain, what, is_marker, IsFree, is_system, Unnamed, Named, Marks, at_end, unnamed, named, malformed, hidden, hidden_to_end, refused, plain, HasOneList}
-use Rattle.cck_markers.proofs.OneList.{stop_same, no_stop, not_both, one_list}
+use Rattle.cck_markers.proofs.OneList.{stop_same, some_nothing, no_stop, not_both, one_list, middle_some}
 
 -- where a text is first cut by a byte, or that it isn't there
 data Cut (stop : ℕ) (s : List ℕ) : Type 0 where
@@ -48,17 +49,6 @@ first (x ∷ s) =
       ])
     ]
 
-nothing_some : {v : ℕ} {vs : List ℕ} → v ∷ vs ≡ [] → ⊥
-nothing_some e = cc
-
-pub middle_some : (a : List ℕ) (x : ℕ) (b : List ℕ) → a ++ x ∷ b ≡ [] → ⊥
-middle_some [] x b e = nothing_some e
-middle_some (y ∷ a) x b e = nothing_some e
-
-both_nothing : (a b : List ℕ) → a ++ b ≡ [] → a ≡ []
-both_nothing [] b e = refl
-both_nothing (x ∷ a) b e = absurd (nothing_some e)
-
 -- a marker names a file, names none, or errs
 Case : List ℕ → Type 0
 Case s = Unnamed s ⊎ (Named s ⊎ ((Unnamed s → ⊥) × (Named s → ⊥)))
@@ -90,7 +80,7 @@ quote_case s front (x ∷ rest) is free (never free') =
       free = free;
       unquoted = free';
       closed = tt;
-      some = λ e. nothing_some e;
+      some = λ e. some_nothing e;
     }))
 
 case_of : (s : List ℕ) → First s → Case s
@@ -107,17 +97,6 @@ chosen_marker false false true d e = cc
 chosen_marker false false false true e = cc
 chosen_marker false false false false e = cc
 
-both_true : (a b : Bool) → (a && b) ≡ true → b ≡ true
-both_true true b h = h
-both_true false b h = cc
-
-first_true : (a b : Bool) → (a && b) ≡ true → a ≡ true
-first_true true b h = refl
-first_true false b h = cc
-
-false_true : false ≡ true → ⊥
-false_true e = cc
-
 pub any_true : (a b c : Bool) (P : Type 0) → (a || b || c) ≡ true → (a ≡ true → P) → (b ≡ true → P) → (c ≡ true → P) → P
 any_true true b c P h f g k = f refl
 any_true false true c P h f g k = g refl
@@ -132,13 +111,13 @@ pub marker_starts : (s : List ℕ) → is_marker s ≡ true → (t : List ℕ) �
 unfolding is_marker
 marker_starts s h =
     any_true (starts_with nat_eq s (codes "# ") && _) (starts_with nat_eq s (codes "#pragma GCC pch_preprocess")) (starts_with nat_eq s (codes "#line ")) ((t : List ℕ) × (s ≡ 35 ∷ t)) h
-    (λ e. (_, behind_word s (codes "# ") (first_true _ _ e)))
+    (λ e. (_, behind_word s (codes "# ") (and_parts _ _ e).0))
     (λ e. (_, behind_word s (codes "#pragma GCC pch_preprocess") e))
     (λ e. (_, behind_word s (codes "#line ") e))
 
 pub what_marker : (start : Bool) (s : List ℕ) → what start s ≡ Marker → (t : List ℕ) × (s ≡ 35 ∷ t)
 unfolding what
-what_marker start s e = marker_starts s (both_true start (is_marker s) (chosen_marker (nat_lt (length s) 7) _ _ _ e))
+what_marker start s e = marker_starts s (and_parts start (is_marker s) (chosen_marker (nat_lt (length s) 7) _ _ _ e)).1
 
 plain_some : (start : Bool) (s : List ℕ) → what start s ≡ Plain → (x : ℕ) × (t : List ℕ) × (s ≡ x ∷ t)
 unfolding what

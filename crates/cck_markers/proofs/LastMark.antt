@@ -1,6 +1,7 @@
 -- a refusal or a malformed marker is the last mark
 use Rattle.std.proofs.Common.{◌≡◌, ℕ, Bool, List, [], ◌∷◌, ◌++◌, refl}
 use Rattle.cck_markers.specs.Marks.{Mark, Name, Refusal, Malformed, Marks, at_end, unnamed, named, malformed, hidden, hidden_to_end, refused, plain}
+use Rattle.cck_markers.proofs.OneList.{middle_some}
 
 -- nothing stands behind a mark that is no name
 abbrev Ends : List Mark → Type 0
@@ -19,21 +20,17 @@ ends (hidden_to_end is free none) = rw none tt
 ends (refused is same) = rw same refl
 ends (plain is byte rest cut more) = ends more
 
-some_marks : (before : List Mark) (mark : Mark) (behind : List Mark) → before ++ mark ∷ behind ≡ [] → ⊥
-some_marks [] mark behind e = cc
-some_marks (other ∷ before) mark behind e = cc
-
 last_refusal : (before behind : List Mark) → Ends (before ++ Refusal ∷ behind) → behind ≡ []
 last_refusal [] behind h = h
 last_refusal (Name name is_system_in ∷ before) behind h = last_refusal before behind h
-last_refusal (Refusal ∷ before) behind h = absurd (some_marks before Refusal behind h)
-last_refusal (Malformed ∷ before) behind h = absurd (some_marks before Refusal behind h)
+last_refusal (Refusal ∷ before) behind h = absurd (middle_some before Refusal behind h)
+last_refusal (Malformed ∷ before) behind h = absurd (middle_some before Refusal behind h)
 
 last_malformed : (before behind : List Mark) → Ends (before ++ Malformed ∷ behind) → behind ≡ []
 last_malformed [] behind h = h
 last_malformed (Name name is_system_in ∷ before) behind h = last_malformed before behind h
-last_malformed (Refusal ∷ before) behind h = absurd (some_marks before Malformed behind h)
-last_malformed (Malformed ∷ before) behind h = absurd (some_marks before Malformed behind h)
+last_malformed (Refusal ∷ before) behind h = absurd (middle_some before Malformed behind h)
+last_malformed (Malformed ∷ before) behind h = absurd (middle_some before Malformed behind h)
 
 pub nothing_behind_refusal : (starts_line : Bool) (text : List ℕ) (before behind : List Mark) → Marks starts_line text (before ++ Refusal ∷ behind) → behind ≡ []
 nothing_behind_refusal starts_line text before behind marks = last_refusal before behind (ends marks)

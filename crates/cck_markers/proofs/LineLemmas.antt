@@ -8,7 +8,7 @@ use Rattle.memchr.specs.Find.{IsFirstByte, is_byte, is_byte2}
 use Rattle.cck_markers.specs.Marks.{has_three, is_system, Unnamed, Named}
 use Rattle.cck_markers.specs.Lines.{IsNamedAt, IsUnnamedTo}
 use Rattle.cck_markers.proofs.OneList.{stop_same, no_stop, not_both}
-use Rattle.cck_markers.proofs.EachText.{middle_some}
+use Rattle.cck_markers.proofs.OneList.{middle_some}
 use Rattle.cck_markers.proofs.Cuts.{slice_from, cut_at, byte_at, byte_nowhere, pair_free, pair_at, pair_first, pair_nowhere}
 
 pub malformed_free : (text : List ℕ) → IsFirstByte (is_byte2 34 10) text None → (Unnamed text → ⊥) × (Named text → ⊥)

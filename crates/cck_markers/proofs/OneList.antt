@@ -24,16 +24,17 @@ stop_same stop (c ∷ a) (d ∷ b) x y p q e =
     let more = stop_same stop a b x y (there (λ v. v ≢ stop) c a p) (there (λ v. v ≢ stop) d b q) (others_same c d (a ++ stop ∷ x) (b ++ stop ∷ y) e) in
     (ap₂ (λ v vs. v ∷ vs) (first_same c d (a ++ stop ∷ x) (b ++ stop ∷ y) e) more.0, more.1)
 
+pub some_nothing : {A : Type 0} {v : A} {vs : List A} → v ∷ vs ≡ [] → ⊥
+some_nothing e = cc
+
+pub middle_some : {A : Type 0} (a : List A) (x : A) (b : List A) → a ++ x ∷ b ≡ [] → ⊥
+middle_some [] x b e = some_nothing e
+middle_some (y ∷ a) x b e = some_nothing e
+
 -- a line with no such byte has no first place of it
 pub no_stop : (stop : ℕ) (s a x : List ℕ) → All (λ v. v ≢ stop) s → s ≡ a ++ stop ∷ x → ⊥
-no_stop stop [] [] x p e = nothing_some e
-  where
-    nothing_some : {v : ℕ} {vs : List ℕ} → [] ≡ v ∷ vs → ⊥
-    nothing_some e = cc
-no_stop stop [] (c ∷ a) x p e = nothing_some e
-  where
-    nothing_some : {v : ℕ} {vs : List ℕ} → [] ≡ v ∷ vs → ⊥
-    nothing_some e = cc
+no_stop stop [] [] x p e = some_nothing (sym e)
+no_stop stop [] (c ∷ a) x p e = some_nothing (sym e)
 no_stop stop (c ∷ s) [] x p e = here (λ v. v ≢ stop) c s p (first_same c stop s x e)
 no_stop stop (c ∷ s) (d ∷ a) x p e = no_stop stop s a x (there (λ v. v ≢ stop) c s p) (others_same c d s (a ++ stop ∷ x) e)
 
@@ -47,15 +48,9 @@ not_both (c ∷ a) (d ∷ b) x y p q e = not_both a b x y (there (λ v. (v ≢ 3
 -- a name runs to the first quote, or to the end
 name_same : (n m r s : List ℕ) → IsUnquoted n → IsUnquoted m → IsClosed r → IsClosed s → n ++ r ≡ m ++ s → (n ≡ m) × (r ≡ s)
 name_same [] [] r s p q c d e = (refl, e)
-name_same [] (y ∷ m) [] s p q c d e = absurd (nothing_some e)
-  where
-    nothing_some : {v : ℕ} {vs : List ℕ} → [] ≡ v ∷ vs → ⊥
-    nothing_some e = cc
+name_same [] (y ∷ m) [] s p q c d e = absurd (some_nothing (sym e))
 name_same [] (y ∷ m) (x ∷ r) s p q c d e = absurd (here (λ v. v ≢ 34) y m q (sym (first_same x y r (m ++ s) e) ∙ c))
 name_same (x ∷ n) [] r [] p q c d e = absurd (some_nothing e)
-  where
-    some_nothing : {v : ℕ} {vs : List ℕ} → v ∷ vs ≡ [] → ⊥
-    some_nothing e = cc
 name_same (x ∷ n) [] r (y ∷ s) p q c d e = absurd (here (λ v. v ≢ 34) x n p (first_same x y (n ++ r) s e ∙ d))
 name_same (x ∷ n) (y ∷ m) r s p q c d e =
     let more = name_same n m r s (there (λ v. v ≢ 34) x n p) (there (λ v. v ≢ 34) y m q) c d (others_same x y (n ++ r) (m ++ s) e) in

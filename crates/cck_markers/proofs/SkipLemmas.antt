@@ -2,7 +2,7 @@
 use Rattle.std.proofs.Common.{◌≡◌, ◌≢◌, ℕ, zero, suc, ◌+◌, ◌-◌, ◌<◌, ◌≤◌, Bool, true, false, ◌==◌, ◌&&◌, nat_eq, nat_lt, List, [], ◌∷◌, ◌++◌, length, drop, take, get_or, refl, sym, ap, ap₂, add-one, ◌∙◌, arith, length-append}
 use Rattle.std.specs.Prelude.{codes, if◌then◌else◌}
 use Rattle.std.specs.List.{starts_with}
-use Rattle.std.proofs.lemmas.Bool.{eqb-true, ltb-true}
+use Rattle.std.proofs.lemmas.Bool.{eqb-true, ltb-true, false_from_ne_true}
 use Rattle.std.proofs.lemmas.List.{drop_more, length-drop, get_or-drop, get_or_append_left}
 use Rattle.memchr.specs.Find.{Nowhere, OccursAt}
 use Rattle.cck_markers.specs.Marks.{Mark, Short, Marker, Hidden, Inclusion, Plain, what, is_marker, is_hidden, is_inclusion, plain}
@@ -38,10 +38,6 @@ occurs_behind text word rest place within starts is =
     occurs text (10 ∷ word) rest place (omega arith)
     (drop_more text place 0 within ∙ ap₂ (λ byte behind. byte ∷ behind) (eqb-true (get_or text place 0) 10 starts) (rw (add-one place) is))
 
-is_false : (b : Bool) → (b ≡ true → ⊥) → b ≡ false
-is_false true h = absurd (h refl)
-is_false false h = refl
-
 -- where nothing else stands a byte is plain
 what_plain : (a b c d e : Bool) → a ≡ false → (b ≡ true → (c ≡ false) × (d ≡ false)) → e ≡ false
     → (if a then Short else if b && c then Marker else if b && d then Hidden else if e then Inclusion else Plain) ≡ Plain
@@ -71,10 +67,10 @@ module _ (text : List ℕ) (marker hidden inclusion : ℕ)
       → (is_marker (drop place text) ≡ false) × (is_hidden (drop place text) ≡ false)
   no_line zero within before_marker before_hidden starts = cc
   no_line (suc place) within before_marker before_hidden starts = (
-    is_false _ (λ e.
+    false_from_ne_true _ (λ e.
         let hash = marker_starts (drop (suc place) text) e in
         no_marker place (omega arith) (omega arith) (occurs_behind text (35 ∷ []) hash.0 place (omega arith) starts hash.1)),
-    is_false _ (λ e.
+    false_from_ne_true _ (λ e.
         let word = hidden_starts (drop (suc place) text) e in
         no_hidden place (omega arith) (omega arith) (occurs_behind text (codes "__________") word.0 place (omega arith) starts word.1)),
   )
@@ -83,9 +79,9 @@ module _ (text : List ℕ) (marker hidden inclusion : ℕ)
   unfolding what
   are_plain size enough before_marker before_hidden before_inclusion place l =
       what_plain (nat_lt (length (drop place text)) 7) (starts_line_at text place) (is_marker (drop place text)) (is_hidden (drop place text)) (is_inclusion (drop place text))
-      (is_false _ (λ short. absurd (omega (arith, ltb-true (length (drop place text)) 7 short, length-drop place text))))
+      (false_from_ne_true _ (λ short. absurd (omega (arith, ltb-true (length (drop place text)) 7 short, length-drop place text))))
       (no_line place (omega arith) (omega arith) (omega arith))
-      (is_false _ (λ e.
+      (false_from_ne_true _ (λ e.
       let word = inclusion_starts (drop place text) e in
       no_inclusion place (omega arith) (omega arith) (occurs text (codes ".incbin") word.0 place (omega arith) word.1)))
 

@@ -8,7 +8,7 @@ use crate::mark::Mark;
 use memchr::memchr;
 
 /// How many bytes must be left for a place to be looked at.
-pub const LEAST_LEFT: usize = 7;
+pub(crate) const LEAST_LEFT: usize = 7;
 
 /// What stands at a place.
 enum What {
@@ -21,13 +21,13 @@ enum What {
 
 /// What a text begins with.
 #[derive(Debug, Clone, Copy)]
-pub struct Item<'a> {
+pub(crate) struct Item<'a> {
     /// The mark that it makes.
-    pub mark: Option<Mark<'a>>,
+    pub(crate) mark: Option<Mark<'a>>,
     /// How many bytes it is.
-    pub size: usize,
+    pub(crate) size: usize,
     /// Whether a line starts behind it.
-    pub starts_line: bool,
+    pub(crate) starts_line: bool,
 }
 
 // Whether a line that starts here is a marker.
@@ -79,7 +79,7 @@ fn what_stands(text: &[u8], starts_line: bool) -> What
 }
 
 /// What a text begins with, by whether a line starts there. `None` where no mark is to come.
-pub fn read_item(text: &[u8], starts_line: bool) -> Option<Item<'_>>
+pub(crate) fn read_item(text: &[u8], starts_line: bool) -> Option<Item<'_>>
     ensures { BeginsWith starts_line text.now result }
 {
     match what_stands(text, starts_line) {

@@ -6,13 +6,13 @@
 //! more. So a text is read as a list of marks:
 //!
 //! - a *name* that a line marker gives;
-//! - a *refusal*: `.incbin` and a quote stand somewhere, so the assembler may include a file that
-//!   no marker names;
+//! - a *refusal*: `.incbin` and a quote stand somewhere, with nothing, a space, or a space and a
+//!   backslash between, so the assembler may include a file that no marker names;
 //! - a *malformed* marker, which neither has a name nor ends its line without one.
 //!
 //! [`Markers`] gives them in order, up to the first that is no name. [`read_line`] reads a single
-//! marker and says where its name stands. Neither opens a file or takes memory, and a text is read
-//! in time linear in its length. Text is bytes, in no encoding.
+//! marker and says where its name stands, as a [`Line`]. Neither opens a file or takes memory, and
+//! a text is read in time linear in its length. Text is bytes, in no encoding.
 //!
 //! A place is looked at while at least 7 bytes are left from it on. A line starts at the text's
 //! start and behind each line feed. A marker starts a line with `# ` and a digit, with `#line ` or
@@ -30,7 +30,7 @@
 //! Ok(Some(names)) // `a.c`
 //! ```
 //!
-//! [`laws`] has what the definitions say above what they compute.
+//! [`laws`] has what the definitions say beyond what they compute.
 #![tactic(auto)]
 
 mod item;

@@ -1,5 +1,5 @@
 //! How far nothing but plain bytes stands, by searches for words.
-ghost use Rattle.std.specs.Prelude.{◌≡◌, ◌≤◌, ◌<◌, ◌^◌, ℕ, List, [], length};
+ghost use Rattle.std.specs.Prelude.{◌≤◌, ◌<◌, ◌^◌, ℕ, List, [], length};
 ghost use Rattle.memchr.specs.Find.{Nowhere, OccursAt};
 ghost use Rattle.cck_markers.specs.Markers.{Gives};
 ghost use Rattle.cck_markers.specs.Searches.{AreKnown, ArePlain, IsKnown};
@@ -47,7 +47,7 @@ fn bytes_left(word: &[u8], rest: &[u8]) -> usize
 /// where it found its word last: 0 where the word stands nowhere, and more than there are before
 /// the first search.
 #[derive(Debug, Clone, Copy)]
-pub struct Searches {
+pub(crate) struct Searches {
     marker: usize,
     hidden: usize,
     inclusion: usize,
@@ -55,7 +55,7 @@ pub struct Searches {
 
 impl Searches {
     /// Searches that were not made yet.
-    pub fn new() -> Searches
+    pub(crate) fn new() -> Searches
         ensures { (text : List ℕ) → length text < 2 ^ 64 → AreKnown result text }
     {
         Searches {
@@ -67,7 +67,7 @@ impl Searches {
 
     /// What is left behind plain bytes, and whether a line starts there. None are passed where a
     /// line starts.
-    pub fn skip_plain<'a>(&mut self, text: &'a [u8], starts_line: bool) -> (&'a [u8], bool)
+    pub(crate) fn skip_plain<'a>(&mut self, text: &'a [u8], starts_line: bool) -> (&'a [u8], bool)
         requires known { AreKnown self.old text.now }
         ensures known { AreKnown self.new result.0.now }
         ensures shorter { length result.0.now ≤ length text.now }

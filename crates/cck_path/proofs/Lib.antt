@@ -9,3 +9,4 @@ pub mod NormalLemmas
 pub mod OrderLemmas
 pub mod PartLemmas
 pub mod PrefixLemmas
+pub mod TestLemmas

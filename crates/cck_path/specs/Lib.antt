@@ -1,3 +1,4 @@
+pub mod Bytes
 pub mod Components
 pub mod Duration
 pub mod Escape

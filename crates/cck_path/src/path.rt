@@ -16,7 +16,8 @@ use std::alloc::Global;
 use std::cmp::Ordering;
 use std::io::Write;
 
-/// A component of a path. They stand in this order, and names among them in that of their bytes.
+/// A component of a path, as `std::path::Component` on Unix. Components are ordered as listed here,
+/// and names by their bytes.
 #[derive(Debug, Copy, Clone, PartialEq, Eq, PartialOrd, Ord)]
 pub enum Component<'a> {
     /// The root: a `/` that the path begins with.
@@ -29,7 +30,7 @@ pub enum Component<'a> {
     Normal(&'a [u8]),
 }
 
-/// The components of a path, in order.
+/// The components of a path, in order, as `std::path::Components` on Unix.
 ///
 /// `/` separates. Empty parts are left out, and so is a part `.` unless it is the first part of a
 /// path without root. Two paths are the same if their components are.
@@ -165,7 +166,9 @@ pub fn is_absolute(path: &[u8]) -> bool
     }
 }
 
-/// The file name of a path: its last component, if that is a name. It takes no memory.
+/// The file name of a path: its last component, if that is a name.
+///
+/// As `std::path::Path::file_name` on Unix. It takes no memory.
 pub fn file_name(path: &[u8]) -> Option<&[u8]>
     ensures { option_copied result ≡ file_name_of (components path.now) }
 {
@@ -180,7 +183,9 @@ pub fn file_name(path: &[u8]) -> Option<&[u8]>
 }
 
 /// The extension of a path: what follows the last `.` of its file name. There is none where that
-/// `.` is missing or is the first byte. It takes no memory.
+/// `.` is missing or is the first byte.
+///
+/// As `std::path::Path::extension` on Unix. It takes no memory.
 pub fn extension(path: &[u8]) -> Option<&[u8]>
     ensures { option_copied result
         ≡ option_and_then extension_of (file_name_of (components path.now)) }
@@ -196,7 +201,7 @@ pub fn extension(path: &[u8]) -> Option<&[u8]>
 /// `path` as seen from `base`: `path` itself if it is absolute or `base` is empty, and else `base`,
 /// a `/` unless `base` ends in one, and `path`.
 ///
-/// It is refused only for want of memory, as [`UtilError::Memory`].
+/// It is refused only for lack of memory, as [`UtilError::Memory`].
 pub fn join_path(alloc: Global, base: &[u8], path: &[u8]) -> Result<Vec<u8>, UtilError>
     ensures bytes { IfOk result (λ whole. whole.items ≡ joined_text base.now path.now) }
     ensures components { IfOk result (λ whole.
@@ -228,7 +233,7 @@ fn ends_in_slash(path: &[u8]) -> bool
 /// The path without `.`, `..` and doubled slashes: its root, if it has one, and the names that lead
 /// to its place. A `..` takes the name before it away, and does nothing where there is none.
 ///
-/// Upstream's `util::normalize_path`. No link is followed. It is refused only for want of memory,
+/// Upstream's `util::normalize_path`. No link is followed. It is refused only for lack of memory,
 /// as [`UtilError::Memory`].
 pub fn normalize_path(alloc: Global, path: &[u8]) -> Result<Vec<u8>, UtilError>
     ensures bytes { IfOk result (λ text. text.items ≡ path_text (normal (components path.now))) }
@@ -273,8 +278,8 @@ fn push_names(text: &mut Vec<u8>, names: &[&[u8]]) -> Result<(), UtilError>
 
 /// Writes the bytes of a path.
 ///
-/// It is refused where the writer fails, as [`UtilError::Write`], and nothing is known then of how
-/// much went out. It takes no memory.
+/// Upstream's `util::encode_path`. It is refused where the writer fails, as [`UtilError::Write`],
+/// and nothing is known then of how much went out. It takes no memory.
 pub fn encode_path<W: Write>(writer: &mut W, path: &[u8]) -> Result<(), UtilError>
     ensures written { OnOk result
         (Appends (W.contents writer.old) (W.contents writer.new) path.now) }
@@ -288,7 +293,7 @@ pub fn encode_path<W: Write>(writer: &mut W, path: &[u8]) -> Result<(), UtilErro
 
 /// The path that these bytes are: themselves.
 ///
-/// It is refused only for want of memory, as [`UtilError::Memory`].
+/// Upstream's `util::decode_path`. It is refused only for lack of memory, as [`UtilError::Memory`].
 pub fn decode_path(alloc: Global, bytes: &[u8]) -> Result<Vec<u8>, UtilError>
     ensures path { IfOk result (λ path. path.items ≡ bytes.now) }
     ensures refused { IsOkUnless result UtilError.Memory }

@@ -1,5 +1,5 @@
 -- Entries in order, by their places.
-use Rattle.std.proofs.Common.{◌≡◌, ◌≢◌, Global, ℕ, zero, suc, ◌+◌, ◌<◌, List, [], ◌∷◌, length, map, get_or, set, take, Bool, true, false, cond, ◌&&◌, T, Option, Some, None, Result, Ok, Err, IfOk, IfErr, is_ok, is_some, Ordering, Less, Equal, Greater, refl, sym, ap, subst, ◌∙◌, arith}
+use Rattle.std.proofs.Common.{◌≡◌, ◌≢◌, Global, ℕ, zero, suc, ◌+◌, ◌<◌, List, [], ◌∷◌, length, map, get_or, set, take, Bool, true, false, cond, T, Option, Some, None, Result, Ok, Err, IfOk, IfErr, is_ok, is_some, Ordering, Less, Equal, Greater, refl, sym, ap, subst, ◌∙◌, arith}
 use Rattle.std.proofs.lemmas.Bool.{false≢true}
 use Rattle.std.proofs.lemmas.Cmp.{tied_itself}
 use Rattle.std.proofs.lemmas.List.{get_or_default, length-map}
@@ -10,6 +10,7 @@ use Rattle.std.specs.List.Sorted.{IsBinarySearchResult, IsNonDecreasingBy, IsSea
 use Rattle.std.specs.Prelude.{Vec}
 use Rattle.std.specs.Ordering.{eq_by_cmp, is_eq, is_lt, ordering_index, ordering_reverse}
 use Rattle.cck_path.specs.Path.{Path, components, path_cmp, path_cmp_total, path_cmp-IsAntisymmetric}
+use Rattle.cck_path.proofs.TestLemmas.{T_parts, less_from_T, T_and, tied, below_all}
 use Rattle.cck_path_map.specs.PathMap.{IsGapFor, IsInOrder, IsPlaceOf, pair_of, path_of}
 use Rattle.cck_path_map.specs.declared.path_map.Entry.{Entry}
 
@@ -18,26 +19,8 @@ by_order Less a b c = a
 by_order Equal a b c = b
 by_order Greater a b c = c
 
-both : (a b : Bool) → T (a && b) → T a × T b
-both true b h = (tt, h)
-both false b h = absurd h
-
-is_less : (o : Ordering) → T (is_lt o) → o ≡ Less
-is_less Less h = refl
-is_less Equal h = absurd h
-is_less Greater h = absurd h
-
-pub is_equal : (o : Ordering) → is_eq o ≡ true → o ≡ Equal
-is_equal Less h = cc
-is_equal Equal h = refl
-is_equal Greater h = cc
-
 pub less≢equal : Less ≢ Equal
 less≢equal e = false≢true (ap is_eq e)
-
-join : (a b : Bool) → T a → T b → T (a && b)
-join true b h k = k
-join false b h k = absurd h
 
 untaken : {A : Type 0} (b : Bool) (x : Option A) → (b ≡ true → x ≡ None) → x ≡ cond b None x
 untaken true x h = h refl
@@ -52,10 +35,6 @@ swapped true true x y apart = absurd (apart refl refl)
 swapped true false x y apart = refl
 swapped false b x y apart = refl
 
--- paths that tie are one path
-pub tied : (p q : Path) → eq_by_cmp path_cmp p q ≡ true → p ≡ q
-tied p q h = path_cmp-IsAntisymmetric p q (is_equal (path_cmp p q) h)
-
 -- a lower path seen from the higher one
 higher : (p q : Path) → path_cmp p q ≡ Less → path_cmp q p ≡ Greater
 higher p q h = path_cmp_total.antisymm q p ∙ ap ordering_reverse h
@@ -64,21 +43,16 @@ lower : (p q : Path) → path_cmp p q ≡ Greater → path_cmp q p ≡ Less
 lower p q h = path_cmp_total.antisymm q p ∙ ap ordering_reverse h
 
 module _ {V : Type 0} where
-  -- a path below those of all pairs
-  abbrev pub below_all : Path → List (Path × V) → Bool
-  below_all p [] = true
-  below_all p (e ∷ es) = is_lt (path_cmp p e.0) && below_all p es
-
   first_below : (e : Entry V) (es : List (Entry V)) → IsInOrder (e ∷ es) → T (below_all (path_of e) (map pair_of es))
-  first_below e es h = (both (below_all (path_of e) (map pair_of es)) (is_sorted path_cmp (map pair_of es)) h).0
+  first_below e es h = (T_parts (below_all (path_of e) (map pair_of es)) (is_sorted path_cmp (map pair_of es)) h).0
 
   pub rest_in_order : (e : Entry V) (es : List (Entry V)) → IsInOrder (e ∷ es) → IsInOrder es
-  rest_in_order e es h = (both (below_all (path_of e) (map pair_of es)) (is_sorted path_cmp (map pair_of es)) h).1
+  rest_in_order e es h = (T_parts (below_all (path_of e) (map pair_of es)) (is_sorted path_cmp (map pair_of es)) h).1
 
   below_at : (p : Path) (es : List (Entry V)) → T (below_all p (map pair_of es)) → (j : ℕ) (d : Entry V) → j < length es → path_cmp p (path_of (get_or es j d)) ≡ Less
   below_at p [] h j d lt = absurd (omega (arith, lt))
-  below_at p (e ∷ es) h zero d lt = is_less (path_cmp p (path_of e)) (both (is_lt (path_cmp p (path_of e))) (below_all p (map pair_of es)) h).0
-  below_at p (e ∷ es) h (suc j) d lt = below_at p es (both (is_lt (path_cmp p (path_of e))) (below_all p (map pair_of es)) h).1 j d (omega (arith, lt))
+  below_at p (e ∷ es) h zero d lt = less_from_T (path_cmp p (path_of e)) (T_parts (is_lt (path_cmp p (path_of e))) (below_all p (map pair_of es)) h).0
+  below_at p (e ∷ es) h (suc j) d lt = below_at p es (T_parts (is_lt (path_cmp p (path_of e))) (below_all p (map pair_of es)) h).1 j d (omega (arith, lt))
 
   -- the paths rise from place to place
   pub rises : (es : List (Entry V)) → IsInOrder es → (i j : ℕ) (d : Entry V) → i < j → j < length es → path_cmp (path_of (get_or es i d)) (path_of (get_or es j d)) ≡ Less
@@ -134,8 +108,8 @@ module _ {V : Type 0} where
   find_below : (p : Path) (es : List (Entry V)) → T (below_all p (map pair_of es)) → find path_cmp p (map pair_of es) ≡ None
   find_below p [] h = refl
   find_below p (e ∷ es) h =
-      let parts = both (is_lt (path_cmp p (path_of e))) (below_all p (map pair_of es)) h in
-      missed p e es Less (is_less (path_cmp p (path_of e)) parts.0) refl ∙ find_below p es parts.1
+      let parts = T_parts (is_lt (path_cmp p (path_of e))) (below_all p (map pair_of es)) h in
+      missed p e es Less (less_from_T (path_cmp p (path_of e)) parts.0) refl ∙ find_below p es parts.1
 
   -- a new value at a path's place
   pub put_at : (es : List (Entry V)) → IsInOrder es → (p : Path) (i : ℕ) → IsPlaceOf p es i → (e : Entry V) → e ≡ get_or es i e → (v : V) → put path_cmp p v (map pair_of es) ≡ map pair_of (set es i (record { path = e.path; value = v }))
@@ -172,10 +146,10 @@ module _ {V : Type 0} where
   below_without : (p : Path) (es : List (Entry V)) (i : ℕ) → T (below_all p (map pair_of es)) → T (below_all p (map pair_of (list.remove es i)))
   below_without p [] zero h = tt
   below_without p [] (suc i) h = tt
-  below_without p (e ∷ es) zero h = (both (is_lt (path_cmp p (path_of e))) (below_all p (map pair_of es)) h).1
+  below_without p (e ∷ es) zero h = (T_parts (is_lt (path_cmp p (path_of e))) (below_all p (map pair_of es)) h).1
   below_without p (e ∷ es) (suc i) h =
-      let parts = both (is_lt (path_cmp p (path_of e))) (below_all p (map pair_of es)) h in
-      join (is_lt (path_cmp p (path_of e))) (below_all p (map pair_of (list.remove es i))) parts.0 (below_without p es i parts.1)
+      let parts = T_parts (is_lt (path_cmp p (path_of e))) (below_all p (map pair_of es)) h in
+      T_and (is_lt (path_cmp p (path_of e))) (below_all p (map pair_of (list.remove es i))) parts.0 (below_without p es i parts.1)
 
   -- without one of them, entries are still in order
   pub without_in_order : (es : List (Entry V)) (i : ℕ) → IsInOrder es → IsInOrder (list.remove es i)
@@ -183,7 +157,7 @@ module _ {V : Type 0} where
   without_in_order [] (suc i) h = tt
   without_in_order (e ∷ es) zero h = rest_in_order e es h
   without_in_order (e ∷ es) (suc i) h =
-      join (below_all (path_of e) (map pair_of (list.remove es i))) (is_sorted path_cmp (map pair_of (list.remove es i))) (below_without (path_of e) es i (first_below e es h)) (without_in_order es i (rest_in_order e es h))
+      T_and (below_all (path_of e) (map pair_of (list.remove es i))) (is_sorted path_cmp (map pair_of (list.remove es i))) (below_without (path_of e) es i (first_below e es h)) (without_in_order es i (rest_in_order e es h))
 
   find_without : (es : List (Entry V)) → IsInOrder es → (p : Path) (i : ℕ) → IsPlaceOf p es i → (q : Path) → find path_cmp q (map pair_of (list.remove es i)) ≡ cond (eq_by_cmp path_cmp q p) None (find path_cmp q (map pair_of es))
   find_without [] h p i at q = absurd (omega (arith, at.in_range))

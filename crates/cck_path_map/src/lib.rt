@@ -1,8 +1,9 @@
 //! A map keyed by paths.
 //!
 //! [`PathMap`] gives values to paths, and takes two paths for one where their components are the
-//! same: `/a/x` and `//a/./x/` have one value, `x` and `./x` two. Its entries stand in one vector, in
-//! the order of the paths, so that a look-up is a binary search and takes no memory.
+//! same: `/a/x` and `//a/./x/` have one value, `x` and `./x` two. Its entries, each an [`Entry`],
+//! stand in one vector, in the order of the paths, so that a look-up is a binary search and takes
+//! no memory.
 //!
 //! A map is seen as the finite map from lists of components to values that it is.
 //!

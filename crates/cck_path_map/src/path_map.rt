@@ -13,8 +13,8 @@ use std::marker::Model;
 /// A path of a [`PathMap`] and its value.
 #[derive(Debug, Drop)]
 pub struct Entry<V> {
-    /// The path, as it was written when it came into the map. Contracts tell its components alone, and
-    /// a test shows the spelling.
+    /// The path, as it was written when it came into the map. Contracts tell its components alone,
+    /// and a test shows the spelling.
     pub path: Vec<u8>,
     /// Its value.
     pub value: V,
@@ -100,7 +100,7 @@ impl<V: Drop> PathMap<V> {
     /// Gives a path a value, in place of the one that it has. The path is copied where it has none,
     /// and else stays as it was written first.
     ///
-    /// It is refused only for want of memory, as [`UtilError::Memory`], and changes nothing then.
+    /// It is refused only for lack of memory, as [`UtilError::Memory`], and changes nothing then.
     /// Where the path has a value it takes no memory and isn't refused.
     pub fn insert(&mut self, path: &[u8], value: V) -> Result<(), UtilError>
         ensures set { OnOk result

@@ -34,7 +34,7 @@ fn is_boundary(text: &[u8], at: usize) -> bool
 
 // Adds the boundaries of the text at which this base directory stands.
 //
-// It is refused only for want of memory, as [`UtilError::Memory`].
+// It is refused only for lack of memory, as [`UtilError::Memory`].
 fn add_places(text: &[u8], basedir: &[u8], places: &mut Vec<usize>) -> Result<(), UtilError>
     requires some { 0 < length basedir.now }
     requires within_before { All (λ k. k < length text.now) places.old.items }
@@ -116,7 +116,7 @@ impl<'a> Sites for TextSites<'a> {
 /// place is judged by the bytes before it in the text that was handed in. An empty base directory
 /// stands nowhere. The text is handed back borrowed exactly if nothing is cut out.
 ///
-/// Upstream's `util::strip_basedirs`. It is refused only for want of memory, as
+/// Upstream's `util::strip_basedirs`. It is refused only for lack of memory, as
 /// [`UtilError::Memory`].
 pub fn strip_basedirs<'a>(
     alloc: Global,
