@@ -7,10 +7,11 @@ use Rattle.std.specs.Ordering.{eq_by_cmp, is_eq, is_lt, ordering_then}
 use Rattle.std.specs.FinMap.{get, find, is_sorted}
 use Rattle.cck_path.specs.Path.{Path, Component, Root, Current, Parent, Name, component_cmp, component_cmp_total, path_cmp}
 use Rattle.cck_files.specs.FileMap.{FileNode, Nodes}
+use Rattle.cck_path.specs.declared.metadata.FileKind.TheVariants.{File}
+use Rattle.cck_path.proofs.TestLemmas.{T_and, T_parts, less_from_T}
 use Rattle.cck_file_digest.specs.Folder.{rises, any_name}
 use Rattle.cck_file_digest.specs.FolderText.{is_folder_kind, is_folder, is_reached, reached}
-use Rattle.cck_path.specs.declared.metadata.FileKind.TheVariants.{File}
-use Rattle.cck_file_digest.proofs.ReachedLemmas.{both, first, second, lt_of, tail_of, skip, join, sorted_tail, component_itself, same_component, none_either_way, same_sorted, found, find-reached, reached_sorted}
+use Rattle.cck_file_digest.proofs.ReachedLemmas.{lt_of, tail_of, skip, join, sorted_tail, component_itself, same_component, none_either_way, same_sorted, found, find-reached, reached_sorted}
 
 abbrev pub under : Component → Path × FileNode → Path × FileNode
 under c e = (c ∷ e.0, e.1)
@@ -151,13 +152,8 @@ abbrev heads_above : Component → List (Path × FileNode) → Bool
 heads_above c [] = true
 heads_above c (e ∷ es) = head_above c e.0 && heads_above c es
 
-less : (o : Ordering) → T (is_lt o) → o ≡ Less
-less Less p = refl
-less Equal p = absurd p
-less Greater p = absurd p
-
 lt_trans : (b c d : Component) → T (is_lt (component_cmp b c)) → T (is_lt (component_cmp c d)) → T (is_lt (component_cmp b d))
-lt_trans b c d h k = subst (λ o. T (is_lt o)) (sym (component_cmp_total.trans b c d (less _ h) (less _ k))) tt
+lt_trans b c d h k = subst (λ o. T (is_lt o)) (sym (component_cmp_total.trans b c d (less_from_T _ h) (less_from_T _ k))) tt
 
 head_above_more : (b c : Component) → T (is_lt (component_cmp b c)) → (q : Path) → T (head_above c q) → T (head_above b q)
 head_above_more b c l [] h = absurd h
@@ -166,27 +162,27 @@ head_above_more b c l (d ∷ r) h = lt_trans b c d l h
 heads_above_more : (b c : Component) → T (is_lt (component_cmp b c)) → (es : List (Path × FileNode)) → T (heads_above c es) → T (heads_above b es)
 heads_above_more b c l [] h = tt
 heads_above_more b c l (e ∷ es) h =
-    both (head_above b e.0) (heads_above b es) (head_above_more b c l e.0 (first (head_above c e.0) (heads_above c es) h)) (heads_above_more b c l es (second (head_above c e.0) (heads_above c es) h))
+    T_and (head_above b e.0) (heads_above b es) (head_above_more b c l e.0 (T_parts (head_above c e.0) (heads_above c es) h).0) (heads_above_more b c l es (T_parts (head_above c e.0) (heads_above c es) h).1)
 
 heads_above-under : (b c : Component) → T (is_lt (component_cmp b c)) → (es : List (Path × FileNode)) → T (heads_above b (map (under c) es))
 heads_above-under b c l [] = tt
-heads_above-under b c l (e ∷ es) = both (is_lt (component_cmp b c)) (heads_above b (map (under c) es)) l (heads_above-under b c l es)
+heads_above-under b c l (e ∷ es) = T_and (is_lt (component_cmp b c)) (heads_above b (map (under c) es)) l (heads_above-under b c l es)
 
 heads_above-append : (b : Component) (xs ys : List (Path × FileNode)) → T (heads_above b xs) → T (heads_above b ys) → T (heads_above b (xs ++ ys))
 heads_above-append b [] ys h k = k
-heads_above-append b (x ∷ xs) ys h k = both (head_above b x.0) (heads_above b (xs ++ ys)) (first (head_above b x.0) (heads_above b xs) h)
-    (heads_above-append b xs ys (second (head_above b x.0) (heads_above b xs) h) k)
+heads_above-append b (x ∷ xs) ys h k = T_and (head_above b x.0) (heads_above b (xs ++ ys)) (T_parts (head_above b x.0) (heads_above b xs) h).0
+    (heads_above-append b xs ys (T_parts (head_above b x.0) (heads_above b xs) h).1 k)
 
 then_less : (c : Component) (r q : Path) → T (head_above c q) → T (is_lt (path_cmp (c ∷ r) q))
 then_less c r [] h = absurd h
-then_less c r (d ∷ q) h = subst (λ o. T (is_lt (ordering_then o (path_cmp r q)))) (sym (less _ h)) tt
+then_less c r (d ∷ q) h = subst (λ o. T (is_lt (ordering_then o (path_cmp r q)))) (sym (less_from_T _ h)) tt
 
 -- what has this head comes before what has greater ones
 sorted_before : (c : Component) (r : Path) (v : FileNode) (ys : List (Path × FileNode)) → T (heads_above c ys) → T (is_sorted path_cmp ys) → T (is_sorted path_cmp ((c ∷ r, v) ∷ ys))
 sorted_before c r v [] h s = tt
 sorted_before c r v (y ∷ ys) h s =
-    join (c ∷ r) v y ys (then_less c r y.0 (first (head_above c y.0) (heads_above c ys) h))
-    (sorted_before c r v ys (second (head_above c y.0) (heads_above c ys) h) (sorted_tail y ys s)) s
+    join (c ∷ r) v y ys (then_less c r y.0 (T_parts (head_above c y.0) (heads_above c ys) h).0)
+    (sorted_before c r v ys (T_parts (head_above c y.0) (heads_above c ys) h).1 (sorted_tail y ys s)) s
 
 same_head : (c : Component) (r q : Path) → T (is_lt (path_cmp r q)) → T (is_lt (path_cmp (c ∷ r) (c ∷ q)))
 same_head c r q h = subst (λ o. T (is_lt (ordering_then o (path_cmp r q)))) (sym (component_itself c)) h
@@ -202,7 +198,7 @@ sorted_group c r v (x ∷ xs) ys h above s =
 module _ (m : Nodes) (f : Path) where
   above_child : (b : Component) (n : List ℕ) → T (is_lt (component_cmp b (Name n))) → (o : Option FileNode) → T (heads_above b (child_part m f n o))
   above_child b n l None = tt
-  above_child b n l (Some node) = both (is_lt (component_cmp b (Name n))) _ l (elim (is_folder_kind node.kind) as (λ k. T (heads_above b (cond k (map (under (Name n)) (reached m (f ++ Name n ∷ []))) []))) [
+  above_child b n l (Some node) = T_and (is_lt (component_cmp b (Name n))) _ l (elim (is_folder_kind node.kind) as (λ k. T (heads_above b (cond k (map (under (Name n)) (reached m (f ++ Name n ∷ []))) []))) [
     | true ↦ heads_above-under b (Name n) l (reached m (f ++ Name n ∷ []))
     | false ↦ tt
   ])
@@ -210,13 +206,13 @@ module _ (m : Nodes) (f : Path) where
   above_children : (n : List ℕ) (ns : List (List ℕ)) → T (rises (n ∷ ns)) → T (heads_above (Name n) (flat_map (child_nodes m f) ns))
   above_children n [] h = tt
   above_children n (x ∷ ns) h =
-      let l = first (is_lt (component_cmp (Name n) (Name x))) (rises (x ∷ ns)) h in
+      let l = (T_parts (is_lt (component_cmp (Name n) (Name x))) (rises (x ∷ ns)) h).0 in
       heads_above-append (Name n) (child_nodes m f x) (flat_map (child_nodes m f) ns) (above_child (Name n) x l (get m (f ++ Name x ∷ [])))
-      (heads_above_more (Name n) (Name x) l (flat_map (child_nodes m f) ns) (above_children x ns (second (is_lt (component_cmp (Name n) (Name x))) (rises (x ∷ ns)) h)))
+      (heads_above_more (Name n) (Name x) l (flat_map (child_nodes m f) ns) (above_children x ns (T_parts (is_lt (component_cmp (Name n) (Name x))) (rises (x ∷ ns)) h).1))
 
   rises_rest : (n : List ℕ) (ns : List (List ℕ)) → T (rises (n ∷ ns)) → T (rises ns)
   rises_rest n [] h = tt
-  rises_rest n (x ∷ ns) h = second (is_lt (component_cmp (Name n) (Name x))) (rises (x ∷ ns)) h
+  rises_rest n (x ∷ ns) h = (T_parts (is_lt (component_cmp (Name n) (Name x))) (rises (x ∷ ns)) h).1
 
   sorted_with_child : (n : List ℕ) (o : Option FileNode) (ys : List (Path × FileNode)) → T (heads_above (Name n) ys) → T (is_sorted path_cmp ys) → T (is_sorted path_cmp (child_part m f n o ++ ys))
   sorted_with_child n None ys above s = s
@@ -231,7 +227,7 @@ module _ (m : Nodes) (f : Path) where
 
 -- What is reached from a folder is, for each child in order, the child and what is reached from it.
 pub reached_children : (m : Nodes) (f : Path) (ns : List (List ℕ)) → T (rises ns) → IsComplete m f ns → reached m f ≡ flat_map (child_nodes m f) ns
-reached_children m f ns up all = same_sorted (reached m f) (flat_map (child_nodes m f) ns) (second _ _ (reached_sorted m f any_node)) (sorted_children m f ns up) (found_children m f ns all)
+reached_children m f ns up all = same_sorted (reached m f) (flat_map (child_nodes m f) ns) (T_parts _ _ (reached_sorted m f any_node)).1 (sorted_children m f ns up) (found_children m f ns all)
   where
     any_node : FileNode
     any_node = record { kind = File; contents = []; modified = None; changed = None }

@@ -6,31 +6,20 @@ use Rattle.std.specs.FinMap.{get}
 use Rattle.std.proofs.lemmas.List.{take_more, append-nil, take_all}
 use Rattle.std.proofs.lemmas.List.Concat.{flat_map-append}
 use Rattle.std.proofs.lemmas.List.Folds.{list_any-append}
+use Rattle.std.proofs.lemmas.Bool.{or_from, or_right, or_left}
 use Rattle.cck_path.specs.Path.{Path, Name}
 use Rattle.cck_files.specs.FileMap.{FileNode, Nodes}
 use Rattle.cck_file_digest.specs.Folder.{IsInOrder, IsFedNodes, child_name}
 use Rattle.cck_file_digest.specs.FolderText.{is_folder_kind, is_other, is_too_deep, name_below, piece, piece_of, material, reached, whole, whole_part}
 use Rattle.cck_file_digest.proofs.ChildLemmas.{child_nodes, child_part, under, reached_children}
 
-pub or_false : (a b : Bool) → a ≡ false → b ≡ false → (a || b) ≡ false
-or_false true b e f = e
-or_false false b e f = f
-
-or_right : (a b : Bool) → b ≡ true → (a || b) ≡ true
-or_right true b e = refl
-or_right false b e = e
-
-or_left : (a b : Bool) → a ≡ true → (a || b) ≡ true
-or_left true b e = refl
-or_left false b e = cc
-
 -- ---- one part after another
 
 module _ {S : Type 0} (holds : S → List ℕ → Type 0) (level : ℕ) (name : Option (List ℕ)) where
   pub fed_both : (xs ys : List (Path × FileNode)) (a b c : S) → IsFedNodes holds level name xs a b → IsFedNodes holds level name ys b c → IsFedNodes holds level name (xs ++ ys) a c
   fed_both xs ys a b c f g = record {
-    none_other = list_any-append is_other xs ys ∙ or_false _ _ f.none_other g.none_other;
-    none_too_deep = list_any-append (is_too_deep level) xs ys ∙ or_false _ _ f.none_too_deep g.none_too_deep;
+    none_other = list_any-append is_other xs ys ∙ or_from _ _ f.none_other g.none_other;
+    none_too_deep = list_any-append (is_too_deep level) xs ys ∙ or_from _ _ f.none_too_deep g.none_too_deep;
     fed = λ fed h. subst (holds c)
         (append_assoc fed (material name xs) (material name ys) ∙ ap (λ z. fed ++ z) (sym (flat_map-append (piece name) xs ys)))
         (g.fed (fed ++ material name xs) (f.fed fed h));

@@ -9,17 +9,18 @@ use Rattle.std.proofs.lemmas.Cmp.{tied_itself}
 use Rattle.cck_path.specs.Path.{Path, Component, path_cmp, path_cmp_total}
 use Rattle.cck_path.specs.declared.metadata.FileKind.TheVariants.{File}
 use Rattle.cck_files.specs.FileMap.{FileNode, Nodes}
+use Rattle.cck_path.proofs.TestLemmas.{T_parts, below_all, tied, true_from_T}
 use Rattle.cck_file_digest.specs.FolderText.{is_folder, is_name, is_reached, reached}
 use Rattle.cck_file_digest.specs.Laws.{LeadsThrough}
-use Rattle.cck_file_digest.proofs.ReachedLemmas.{T_true, below_all, find-reached, first, reached_sorted, second, tied_path}
+use Rattle.cck_file_digest.proofs.ReachedLemmas.{find-reached, reached_sorted}
 
 -- ---- membership in a list that is sorted
 
 -- a key below all others is below each of them
 below_each : (x : Path) (es : List (Path × FileNode)) (k : ℕ) (d : Path × FileNode) → T (below_all x es) → k < length es → T (is_lt (path_cmp x (get_or es k d).0))
 below_each x [] k d h l = absurd (omega arith)
-below_each x (e ∷ es) zero d h l = first (is_lt (path_cmp x e.0)) (below_all x es) h
-below_each x (e ∷ es) (suc k) d h l = below_each x es k d (second (is_lt (path_cmp x e.0)) (below_all x es) h) (omega arith)
+below_each x (e ∷ es) zero d h l = (T_parts (is_lt (path_cmp x e.0)) (below_all x es) h).0
+below_each x (e ∷ es) (suc k) d h l = below_each x es k d (T_parts (is_lt (path_cmp x e.0)) (below_all x es) h).1 (omega arith)
 
 above_differs : (x q : Path) → T (is_lt (path_cmp x q)) → eq_by_cmp path_cmp q x ≡ false
 above_differs x q h = ap is_eq (path_cmp_total.antisymm q x) ∙ by (path_cmp x q) h
@@ -34,16 +35,16 @@ find_at [] q n k sorted l e = absurd (omega arith)
 find_at (x ∷ es) q n zero sorted l e =
     ap (λ o. cond (is_eq o) (Some x.1) (find path_cmp q es)) (ap (λ y. path_cmp q y.0) e ∙ tied_itself path_cmp_total q) ∙ ap (λ y. Some y.1) e
 find_at (x ∷ es) q n (suc k) sorted l e =
-    let low : T (is_lt (path_cmp x.0 q)) = subst (λ y. T (is_lt (path_cmp x.0 y.0))) e (below_each x.0 es k (q, n) (first (below_all x.0 es) (is_sorted path_cmp es) sorted) (omega arith)) in
+    let low : T (is_lt (path_cmp x.0 q)) = subst (λ y. T (is_lt (path_cmp x.0 y.0))) e (below_each x.0 es k (q, n) (T_parts (below_all x.0 es) (is_sorted path_cmp es) sorted).0 (omega arith)) in
     ap (λ b. cond b (Some x.1) (find path_cmp q es)) (above_differs x.0 q low)
-    ∙ find_at es q n k (second (below_all x.0 es) (is_sorted path_cmp es) sorted) (omega arith) e
+    ∙ find_at es q n k (T_parts (below_all x.0 es) (is_sorted path_cmp es) sorted).1 (omega arith) e
 
 contained : (es : List (Path × FileNode)) (q : Path) (n : FileNode) → find path_cmp q es ≡ Some n → Contains es (q, n)
 contained [] q n e = cc
 contained (x ∷ es) q n e = by (eq_by_cmp path_cmp q x.0) refl e (contained es q n)
   where
     by : (b : Bool) → eq_by_cmp path_cmp q x.0 ≡ b → cond b (Some x.1) (find path_cmp q es) ≡ Some n → (find path_cmp q es ≡ Some n → Contains es (q, n)) → Contains (x ∷ es) (q, n)
-    by true t e later = let same : q ≡ x.0 = tied_path q x.0 t in let value : x.1 ≡ n = cc in (0, omega arith, λ i. (sym same i, value i))
+    by true t e later = let same : q ≡ x.0 = tied q x.0 t in let value : x.1 ≡ n = cc in (0, omega arith, λ i. (sym same i, value i))
     by false t e later = let (k, l, is) = later e in (suc k, omega (arith, l), is)
 
 -- ---- through folders
@@ -109,14 +110,14 @@ module _ (m : Nodes) where
   led_to f (c ∷ rest) h = led f c rest h
 
 sorted : (m : Nodes) (f : Path) → T (is_sorted path_cmp (reached m f))
-sorted m f = second (below_all [] (reached m f)) (is_sorted path_cmp (reached m f)) (reached_sorted m f any_node)
+sorted m f = (T_parts (below_all [] (reached m f)) (is_sorted path_cmp (reached m f)) (reached_sorted m f any_node)).1
   where
     any_node : FileNode
     any_node = record { kind = File; contents = []; modified = None; changed = None }
 
 pub reached_told : (m : Nodes) (f : Path) → (is_sorted path_cmp (reached m f) ≡ true)
     × ((q : Path) (node : FileNode) → Contains (reached m f) (q, node) ↔ ((get m (f ++ q) ≡ Some node) × LeadsThrough m f q))
-reached_told m f = (T_true _ (sorted m f), λ q node. (there q node, back q node))
+reached_told m f = (true_from_T _ (sorted m f), λ q node. (there q node, back q node))
   where
     both_of : (b : Bool) (o : Option FileNode) (node : FileNode) → cond b o None ≡ Some node → (o ≡ Some node) × (b ≡ true)
     both_of true o node e = (e, refl)

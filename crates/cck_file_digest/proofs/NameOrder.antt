@@ -6,20 +6,15 @@ use Rattle.std.specs.declared.cmp.Ordering.TheVariants.{Less, Equal, Greater}
 use Rattle.std.specs.Ordering.{is_eq, is_lt, nat_cmp, ordering_reverse}
 use Rattle.std.specs.Cmp.Lexicographic.{slice_cmp, nat_list_cmp_total}
 use Rattle.std.specs.FinMap.{get}
-use Rattle.std.proofs.lemmas.Cmp.{tied_itself}
 use Rattle.std.proofs.lemmas.List.Sums.{sum_by-cons}
 use Rattle.std.proofs.lemmas.List.Sorted.{IsPermutation-map, sum_by-IsPermutation, All-permutation}
 use Rattle.std.proofs.lemmas.List.Elements.{recursion_from_All, All-from_recursion}
 use Rattle.cck_path.specs.Path.{Path, Name, component_cmp, IsName}
-use Rattle.cck_files.specs.FileMap.{FileMap, IsListing, is_same_name}
+use Rattle.cck_files.specs.Children.{is_same_name}
+use Rattle.cck_files.specs.FileMap.{FileMap, IsListing}
+use Rattle.cck_files.proofs.NamesLemmas.{one_if, same_itself}
+use Rattle.cck_path.proofs.TestLemmas.{T_and, true_from_T}
 use Rattle.cck_file_digest.specs.Folder.{rises, any_name, IsInOrder}
-use Rattle.cck_file_digest.proofs.ReachedLemmas.{T_true, both}
-
-abbrev pub one_if : Bool → ℕ
-one_if b = cond b 1 0
-
-same_itself : (n : List ℕ) → is_same_name n n ≡ true
-same_itself n = ap is_eq (tied_itself nat_list_cmp_total n)
 
 count_first : (n : List ℕ) (xs : List (List ℕ)) → count_by (is_same_name n) (n ∷ xs) ≡ 1 + count_by (is_same_name n) xs
 count_first n xs = sum_by-cons (λ x. cond (is_same_name n x) 1 0) n xs ∙ ap (λ b. cond b 1 0 + count_by (is_same_name n) xs) (same_itself n)
@@ -66,18 +61,18 @@ module _ {X : Type 0} (f : X → List ℕ) where
         | true ↦ λ e. absurd (omega (arith, one (f x), count_first (f x) (map f (y ∷ xs)), count_cons (f x) (f y) (map f xs), ap one_if e))
         | false ↦ λ e. refl
       ] refl in
-      both (is_lt (component_cmp (Name (f x)) (Name (f y)))) (rises (map f (y ∷ xs))) (not_less_nor_same (f x) (f y) (h 0 x (omega arith) (omega arith)) apart) rest
+      T_and (is_lt (component_cmp (Name (f x)) (Name (f y)))) (rises (map f (y ∷ xs))) (not_less_nor_same (f x) (f y) (h 0 x (omega arith) (omega arith)) apart) rest
 
   -- a listing that was sorted
   pub in_order : (m : FileMap) (p : Path) (xs ys : List X) → IsListing m p (map f xs) → IsPermutation xs ys → Sorted ys → IsInOrder m.nodes p (map f ys)
   in_order m p xs ys l perm h =
       let moved = IsPermutation-map f xs ys perm in
-      let counts : (n : List ℕ) → count_by (is_same_name n) (map f ys) ≡ cond (is_some (get m.nodes (p ++ Name n ∷ []))) 1 0 = λ n. sum_by-IsPermutation (λ x. cond (is_same_name n x) 1 0) (map f xs) (map f ys) moved ∙ l.each_once n in
+      let counts : (n : List ℕ) → count_by (is_same_name n) (map f ys) ≡ cond (is_some (get m.nodes (p ++ Name n ∷ []))) 1 0 = λ n. sum_by-IsPermutation (λ x. cond (is_same_name n x) 1 0) (map f xs) (map f ys) moved ∙ l.children.each_once n in
       let few : (b : Bool) → cond b 1 0 ≤ 1 = elim [ true ↦ omega arith | false ↦ omega arith ] in
       record {
-        up = T_true (rises (map f ys)) (rises_if ys h (λ n. omega (arith, counts n, few (is_some (get m.nodes (p ++ Name n ∷ []))))));
+        up = true_from_T (rises (map f ys)) (rises_if ys h (λ n. omega (arith, counts n, few (is_some (get m.nodes (p ++ Name n ∷ []))))));
         all = λ n s. among n (map f ys) (omega (arith, counts n, ap one_if s));
-        names_only = recursion_from_All IsName (map f ys) (All-permutation IsName (map f xs) (map f ys) moved (All-from_recursion IsName (map f xs) l.names_only));
+        names_only = recursion_from_All IsName (map f ys) (All-permutation IsName (map f xs) (map f ys) moved (All-from_recursion IsName (map f xs) l.children.names_only));
         stand = λ i k. elim (is_some (get m.nodes (p ++ Name (get_or (map f ys) i []) ∷ []))) as (λ b. count_by (is_same_name (get_or (map f ys) i [])) (map f ys) ≡ cond b 1 0 → b ≡ true) [
           | true ↦ λ e. refl
           | false ↦ λ e. absurd (omega (arith, e, counted_at (map f ys) i k))

@@ -3,6 +3,7 @@ use Rattle.std.proofs.Common.{◌≡◌, ℕ, ◌+◌, ◌≤◌, ◌<◌, List,
 use Rattle.std.specs.Prelude.{is_some, nat_lt, vec_items}
 use Rattle.std.specs.List.{AllByRecursion, list_any}
 use Rattle.std.specs.FinMap.{get}
+use Rattle.std.proofs.lemmas.Bool.{or_from}
 use Rattle.std.proofs.lemmas.Bool.Decides.{nat_tests}
 use Rattle.cck_digest.specs.Error.{util_error}
 use Rattle.cck_digest.specs.declared.error.FileError.{FileError}
@@ -15,12 +16,13 @@ use Rattle.cck_path.specs.declared.metadata.FileKind.TheVariants.{File, Folder, 
 use Rattle.cck_path.specs.declared.metadata.Metadata.{Metadata}
 use Rattle.cck_path.proofs.PartLemmas.{inner_one}
 use Rattle.cck_path.proofs.NormalLemmas.{name_alone}
+use Rattle.cck_files.proofs.FileLemmas.{no_other_kind}
 use Rattle.cck_files.specs.FileMap.{FileMap, FileNode, metadata_at, metadata_in, metadata_of, contents_at, contents_in, contents_if, folder_at, folder_in, folder_if, stands_at}
 use Rattle.cck_files.specs.Calls.{IsRefusal, IsRefusalOrMemory}
 use Rattle.cck_file_digest.specs.Folder.{IsInOrder, IsFedNodes}
 use Rattle.cck_file_digest.specs.FolderText.{is_folder_kind, is_other, is_other_kind, is_too_deep, name_below, opening, piece_of, material, reached, whole, whole_part}
 use Rattle.cck_file_digest.specs.Refusals.{IsRefusalAt}
-use Rattle.cck_file_digest.proofs.FolderSteps.{or_false, other_reached, deep_reached}
+use Rattle.cck_file_digest.proofs.FolderSteps.{other_reached, deep_reached}
 
 -- a node of this kind stands at a path
 pub record IsAt (fm : FileMap) (p : Path) (kind : FileKind) : Type 0 where
@@ -75,8 +77,8 @@ module _ (fm : FileMap) (p : Path) where
     fed_folder a low f =
         let within : nat_lt 100 (level + 0) ≡ false = grind (arith, nat_tests, low) in
         subst (λ nodes. IsFedNodes holds level name nodes x y) (sym (whole_of Folder a)) record {
-          none_other = or_false _ _ (ap is_other_kind a.same) f.none_other;
-          none_too_deep = or_false _ _ (ap (λ k. is_folder_kind k && nat_lt 100 (level + 0)) a.same ∙ within) f.none_too_deep;
+          none_other = or_from _ _ (ap is_other_kind a.same) f.none_other;
+          none_too_deep = or_from _ _ (ap (λ k. is_folder_kind k && nat_lt 100 (level + 0)) a.same ∙ within) f.none_too_deep;
           fed = λ before h. subst (λ z. holds y (before ++ z)) (sym (ap (λ k. piece_of k (name_below name []) a.node.contents ++ material name (reached fm.nodes p)) a.same)) (f.fed before h);
         }
 
@@ -105,15 +107,11 @@ module _ (fm : FileMap) (p : Path) where
       by : (o : Option FileNode) → metadata_in o ≡ Err NotFound → is_some o ≡ false
       by None e = refl
       by (Some node) e = cc
-  metadata_refused level HasFault OtherKind r = absurd (by (get fm.nodes p) r)
-    where
-      by : (o : Option FileNode) → metadata_in o ≡ Err OtherKind → ⊥
-      by None e = cc
-      by (Some node) e = cc
+  metadata_refused level HasFault OtherKind r = absurd (no_other_kind (get fm.nodes p) r)
   metadata_refused level HasFault Fault r = r
   metadata_refused level HasFault Memory r = absurd r
 
-  -- where the map has an answer, only faults and want of memory refuse
+  -- where the map has an answer, only faults and lack of memory refuse
   only_faults : {X : Type 0} (found : Result X FileError) (v : X) (level : ℕ) (P Q : Type 0) (e : FileError) → found ≡ Ok v → (P → Q) → IsRefusalOrMemory found P e → IsRefusalAt level fm p Q (util_error e)
   only_faults found v level P Q NotFound is f r = cc
   only_faults found v level P Q OtherKind is f r = cc

@@ -6,51 +6,34 @@ use Rattle.std.specs.declared.cmp.Ordering.TheVariants.{Less, Equal, Greater}
 use Rattle.std.specs.Ordering.{eq_by_cmp, is_eq, is_lt, ordering_then}
 use Rattle.std.proofs.lemmas.Cmp.{tied_itself}
 use Rattle.std.specs.FinMap.{get, entries, find, is_sorted, get-entries, entries_sorted, from_sorted, entries-from_sorted, get-from_sorted, same_map}
+use Rattle.std.specs.Cmp.{Equal-is}
+use Rattle.std.proofs.lemmas.Option.{none-some}
 use Rattle.cck_path.specs.Path.{Path, Component, component_cmp, component_cmp_total, component_cmp-IsAntisymmetric, path_cmp, path_cmp_total, path_cmp-IsAntisymmetric}
 use Rattle.cck_files.specs.FileMap.{FileNode, Nodes}
+use Rattle.cck_path.proofs.TestLemmas.{T_and, T_parts, tied, below_all}
 use Rattle.cck_file_digest.specs.FolderText.{behind, is_reached, if_reached, reached}
-
-pub both : (a b : Bool) → T a → T b → T (a && b)
-both true b p q = q
-both false b p q = p
-
-pub first : (a b : Bool) → T (a && b) → T a
-first true b p = tt
-first false b p = p
-
-pub second : (a b : Bool) → T (a && b) → T b
-second true b p = p
-second false b p = absurd p
-
-pub T_true : (b : Bool) → T b → b ≡ true
-T_true true h = refl
-T_true false h = absurd h
-
-abbrev pub below_all : Path → List (Path × FileNode) → Bool
-below_all x [] = true
-below_all x (e ∷ es) = is_lt (path_cmp x e.0) && below_all x es
 
 module _ (k : Path) (v : FileNode) (e : Path × FileNode) (es : List (Path × FileNode)) where
   abbrev pub Two : Type 0
   Two = T (is_sorted path_cmp ((k, v) ∷ e ∷ es))
 
   pub lt_of : Two → T (is_lt (path_cmp k e.0))
-  lt_of h = first (is_lt (path_cmp k e.0)) (below_all k es) (first (is_lt (path_cmp k e.0) && below_all k es) (is_sorted path_cmp (e ∷ es)) h)
+  lt_of h = (T_parts (is_lt (path_cmp k e.0)) (below_all k es) (T_parts (is_lt (path_cmp k e.0) && below_all k es) (is_sorted path_cmp (e ∷ es)) h).0).0
 
   pub tail_of : Two → T (is_sorted path_cmp (e ∷ es))
-  tail_of h = second (is_lt (path_cmp k e.0) && below_all k es) (is_sorted path_cmp (e ∷ es)) h
+  tail_of h = (T_parts (is_lt (path_cmp k e.0) && below_all k es) (is_sorted path_cmp (e ∷ es)) h).1
 
   pub skip : Two → T (is_sorted path_cmp ((k, v) ∷ es))
-  skip h = both (below_all k es) (is_sorted path_cmp es)
-      (second (is_lt (path_cmp k e.0)) (below_all k es) (first (is_lt (path_cmp k e.0) && below_all k es) (is_sorted path_cmp (e ∷ es)) h))
-      (second (below_all e.0 es) (is_sorted path_cmp es) (tail_of h))
+  skip h = T_and (below_all k es) (is_sorted path_cmp es)
+      (T_parts (is_lt (path_cmp k e.0)) (below_all k es) (T_parts (is_lt (path_cmp k e.0) && below_all k es) (is_sorted path_cmp (e ∷ es)) h).0).1
+      (T_parts (below_all e.0 es) (is_sorted path_cmp es) (tail_of h)).1
 
   pub join : T (is_lt (path_cmp k e.0)) → T (is_sorted path_cmp ((k, v) ∷ es)) → T (is_sorted path_cmp (e ∷ es)) → Two
-  join l h t = both (is_lt (path_cmp k e.0) && below_all k es) (is_sorted path_cmp (e ∷ es))
-      (both (is_lt (path_cmp k e.0)) (below_all k es) l (first (below_all k es) (is_sorted path_cmp es) h)) t
+  join l h t = T_and (is_lt (path_cmp k e.0) && below_all k es) (is_sorted path_cmp (e ∷ es))
+      (T_and (is_lt (path_cmp k e.0)) (below_all k es) l (T_parts (below_all k es) (is_sorted path_cmp es) h).0) t
 
 pub sorted_tail : (e : Path × FileNode) (es : List (Path × FileNode)) → T (is_sorted path_cmp (e ∷ es)) → T (is_sorted path_cmp es)
-sorted_tail e es h = second (below_all e.0 es) (is_sorted path_cmp es) h
+sorted_tail e es h = (T_parts (below_all e.0 es) (is_sorted path_cmp es) h).1
 
 pub component_itself : (c : Component) → component_cmp c c ≡ Equal
 component_itself c = tied_itself component_cmp_total c
@@ -61,11 +44,7 @@ path_cmp-append [] a b = refl
 path_cmp-append (c ∷ f) a b = ap (λ o. ordering_then o (path_cmp (f ++ a) (f ++ b))) (component_itself c) ∙ path_cmp-append f a b
 
 pub same_component : (c d : Component) → eq_by_cmp component_cmp c d ≡ true → c ≡ d
-same_component c d e = elim (component_cmp c d) as (λ o. component_cmp c d ≡ o → is_eq o ≡ true → c ≡ d) [
-  | Less ↦ λ p e. cc
-  | Equal ↦ λ p e. component_cmp-IsAntisymmetric c d p
-  | Greater ↦ λ p e. cc
-] refl e
+same_component c d e = component_cmp-IsAntisymmetric c d ((Equal-is (component_cmp c d)).0 e)
 
 pub behind-append : (f a : Path) → behind f (f ++ a) ≡ Some a
 behind-append [] a = refl
@@ -83,12 +62,9 @@ behind_some (c ∷ f) (d ∷ q) r e = elim (eq_by_cmp component_cmp c d) as (λ 
 behind_none : (f a q : Path) → behind f q ≡ None → eq_by_cmp path_cmp (f ++ a) q ≡ false
 behind_none f a q e = elim (path_cmp (f ++ a) q) as (λ o. path_cmp (f ++ a) q ≡ o → is_eq o ≡ false) [
   | Less ↦ λ p. refl
-  | Equal ↦ λ p. let k = path_cmp-IsAntisymmetric (f ++ a) q p in let h = behind-append f a in absurd (none_some (sym e ∙ ap (behind f) (sym k) ∙ h))
+  | Equal ↦ λ p. let k = path_cmp-IsAntisymmetric (f ++ a) q p in let h = behind-append f a in absurd (none-some _ (sym e ∙ ap (behind f) (sym k) ∙ h))
   | Greater ↦ λ p. refl
 ] refl
-  where
-    none_some : None ≡ Some a → ⊥
-    none_some p = cc
 
 -- two sorted lists that answer alike are one
 pub same_sorted : (es fs : List (Path × FileNode)) → T (is_sorted path_cmp es) → T (is_sorted path_cmp fs)
@@ -114,13 +90,6 @@ pub none_either_way : (b : Bool) → ◌≡◌ {A = Option FileNode} None (cond 
 none_either_way true = refl
 none_either_way false = refl
 
-pub tied_path : (a r : Path) → eq_by_cmp path_cmp a r ≡ true → a ≡ r
-tied_path a r e = elim (path_cmp a r) as (λ o. path_cmp a r ≡ o → is_eq o ≡ true → a ≡ r) [
-  | Less ↦ λ p e. cc
-  | Equal ↦ λ p e. path_cmp-IsAntisymmetric a r p
-  | Greater ↦ λ p e. cc
-] refl e
-
 module _ (m : Nodes) (f : Path) where
   abbrev pub below : List (Path × FileNode) → List (Path × FileNode)
   below es = filter_map (λ e. if_reached m f e.1 (behind f e.0)) es
@@ -132,7 +101,7 @@ module _ (m : Nodes) (f : Path) where
   find-step q n es a (Some r) b h =
       let same : eq_by_cmp path_cmp (f ++ a) q ≡ eq_by_cmp path_cmp a r = ap (λ z. eq_by_cmp path_cmp (f ++ a) z) (behind_some f q r b) ∙ ap is_eq (path_cmp-append f a r) in
       find_optional (is_reached m f r) r a n (below es)
-      ∙ picked (is_reached m f a) (is_reached m f r) (eq_by_cmp path_cmp a r) _ (find path_cmp (f ++ a) es) n (λ t. ap (is_reached m f) (tied_path a r t)) h
+      ∙ picked (is_reached m f a) (is_reached m f r) (eq_by_cmp path_cmp a r) _ (find path_cmp (f ++ a) es) n (λ t. ap (is_reached m f) (tied a r t)) h
       ∙ ap (λ t. cond (is_reached m f a) (cond t (Some n) (find path_cmp (f ++ a) es)) None) (sym same)
 
   -- what is reached, as the map finds it

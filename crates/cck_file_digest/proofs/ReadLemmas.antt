@@ -1,7 +1,7 @@
 -- Reads of a file's contents, piece by piece.
-use Rattle.std.proofs.Common.{◌≡◌, ℕ, ◌+◌, ◌<◌, ◌≤◌, arith, refl, ◌∙◌, ap, sym, List, [], ◌∷◌, length, take, drop, ◌++◌, Result, Ok, Err, IfOk, IsOkAnd, subst, append_assoc, Vec, Global}
+use Rattle.std.proofs.Common.{◌≡◌, ℕ, ◌+◌, ◌≤◌, arith, ◌∙◌, ap, sym, List, [], ◌∷◌, length, take, drop, ◌++◌, Result, Ok, Err, IfOk, IsOkAnd, subst, append_assoc, Vec, Global}
 use Rattle.std.proofs.lemmas.Fn.{FoldsTo-push}
-use Rattle.std.proofs.lemmas.List.{take-append-drop, take-take, drop-take, take_all, flat_map_more}
+use Rattle.std.proofs.lemmas.List.{take-append-drop, take-take, drop-take, flat_map_more}
 use Rattle.cck_digest.specs.Stream.{concatenation}
 use Rattle.cck_digest.specs.declared.error.FileError.{FileError}
 use Rattle.cck_digest.proofs.StreamLemmas.{holds_after}

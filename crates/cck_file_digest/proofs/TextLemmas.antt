@@ -55,7 +55,7 @@ path_at [] i v h e = absurd (omega arith)
 path_at (x ∷ xs) zero v h e = ap (λ path. components path.items) e
 path_at (x ∷ xs) (suc i) v h e = path_at xs i v (omega arith) e
 
--- what is finished is refused only for want of memory
+-- what is finished is refused only for lack of memory
 pub finished : {T : Type 0} (r : Result T UtilError) (P P' : T → Type 0) (Q : UtilError → Type 0) → ((x : T) → P x → P' x) → Q UtilError.Memory → IfOk r P → IsOkUnless r UtilError.Memory → MatchResult r P' Q
 finished (Ok x) P P' Q f q h unless = f x h
 finished (Err e) P P' Q f q h unless = subst Q (sym unless) q

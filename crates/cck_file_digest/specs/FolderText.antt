@@ -86,13 +86,10 @@ name_below (Some name) (c ∷ q) = Some (name ++ 47 ∷ relative_text (c ∷ q))
 unfoldable pub lossy : List ℕ → List ℕ
 lossy name = encode_utf8_all (lossy_chars name)
 
-abbrev pub delimiter_of : Option (List ℕ) → List ℕ
-delimiter_of None = []
-delimiter_of (Some name) = delimiter_bytes (lossy name)
-
 -- what is fed before the contents of a file
 unfoldable pub opening : Option (List ℕ) → List ℕ
-opening name = delimiter_of name
+opening None = []
+opening (Some name) = delimiter_bytes (lossy name)
 
 abbrev pub piece_of : FileKind → Option (List ℕ) → List ℕ → List ℕ
 piece_of File name contents = opening name ++ contents

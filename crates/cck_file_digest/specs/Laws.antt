@@ -1,4 +1,4 @@
--- what the definitions say above what they compute
+-- what the definitions say beyond what they compute
 use Rattle.std.specs.Prelude.{◌≡◌, ◌≢◌, ◌↔◌, ◌||◌, ℕ, List, [], ◌++◌, true, if◌then◌else◌, Some, None, Ok, Contains, flat_map}
 use Rattle.std.specs.List.{AllByRecursion, list_any}
 use Rattle.std.specs.FinMap.{get, is_sorted}
@@ -41,6 +41,6 @@ abbrev pub FolderMaterial : Type 0
 FolderMaterial = (fm : FileMap) (p : Path) → folder_at fm p ≡ Ok tt
     → digest_material fm p ≡ (if list_any is_other (reached fm.nodes p) || list_any (is_too_deep 1) (reached fm.nodes p) then None else Some (flat_map named_piece (reached fm.nodes p)))
 
--- what is refused for another cause than a fault and want of memory has no text
+-- what is refused for another cause than a fault and lack of memory has no text
 abbrev pub RefusalsTell : Type 0
 RefusalsTell = (fm : FileMap) (p : Path) (e : UtilError) → e ≢ UtilError.Memory → IsDigestRefusal fm p ⊥ e → digest_material fm p ≡ None

@@ -16,7 +16,7 @@ IsFileRefusalAt fm p HasFault Fault = HasFault
 IsFileRefusalAt fm p HasFault Memory = ⊥
 
 -- what stands at a path of this level is refused: nothing stands there, something else than files
--- and folders is reached, or a folder of a level above 100; or a fault came, or want of memory
+-- and folders is reached, or a folder of a level above 100; or a fault came, or lack of memory
 abbrev pub IsRefusalAt : ℕ → FileMap → Path → Type 0 → UtilError → Type 0
 IsRefusalAt level fm p HasFault util.Memory = Unit {0}
 IsRefusalAt level fm p HasFault util.Read = ⊥

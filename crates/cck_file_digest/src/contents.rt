@@ -13,7 +13,7 @@ use std::alloc::{AllocError, Global};
 ///
 /// It is refused as [`Files::read_at`] is, and as [`FileError::Memory`] where the sink is refused
 /// memory. After a refusal the sink may have taken a beginning of the contents.
-pub fn feed_contents<F: Files, S: Sink>(
+pub(crate) fn feed_contents<F: Files, S: Sink>(
     files: &mut F,
     path: &[u8],
     buffer: &mut [u8],

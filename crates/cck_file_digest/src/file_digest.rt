@@ -21,8 +21,8 @@ pub trait DigestFiles {
     /// The digest text of what stands at a path.
     ///
     /// That of a regular file is of its contents. That of a folder is of the delimiter of the name
-    /// and the contents of each regular file that is reached from it through folders, in path order;
-    /// a name is the path from the folder on, with U+FFFD for what is no UTF-8. Upstream's
+    /// and the contents of each regular file that is reached from it through folders, in path
+    /// order; a name is the path from the folder on, with U+FFFD for what is no UTF-8. Upstream's
     /// `Digest::file`. It is refused as
     ///
     /// - [`UtilError::File`] of `NotFound` where nothing stands at the path,
@@ -80,7 +80,7 @@ fn digest_path<H: HashState, F: Files>(
 /// The digest texts of what stands at these paths, in their order.
 ///
 /// Upstream's `util::hash_all`. It is refused as [`DigestFiles::file`] is for the first path, in
-/// their order, that has no text or meets a fault or want of memory.
+/// their order, that has no text or meets a fault or lack of memory.
 pub fn hash_all<H: HashState, F: Files>(
     alloc: Global,
     files: &mut F,

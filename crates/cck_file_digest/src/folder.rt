@@ -15,7 +15,7 @@ use cck_files::Files;
 use cck_path::{FileKind, join_path};
 use std::alloc::{AllocError, Global};
 
-// How many levels of folders a digest has.
+// How many levels of folders a digest has at most.
 const FOLDER_LEVELS: u32 = 100;
 
 // Feeds the delimiter of a name, if there is one.

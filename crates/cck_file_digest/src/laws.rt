@@ -17,7 +17,7 @@ pub fn folder_material()
     ensures { FolderMaterial }
 {}
 
-/// Where neither a fault nor want of memory refused a digest, there is none.
+/// Where neither a fault nor lack of memory refused a digest, there is none.
 pub fn refusals_tell()
     ensures { RefusalsTell }
 {}

@@ -8,9 +8,9 @@
 //! - [`DigestFiles`] has the calls `file` and `reader` of a [`Digest`](cck_digest::Digest), and
 //!   [`hash_all`] digests many paths.
 //! - [`feed_file`] hands a file's contents to any [`Sink`](cck_digest::Sink), and [`read_contents`]
-//!   gives them whole. [`feed_contents`] reads through a buffer that the caller keeps.
+//!   gives them whole.
 //! - [`sorted_names`] lists the children of a folder.
-//! - [`laws`] has what the definitions say above what they compute.
+//! - [`laws`] has what the definitions say beyond what they compute.
 //!
 //! Files come in path order: by components, and not by the bytes of the whole name. With the files
 //! `/d/a/x` and `/d/a-b`, where `/d` and `/d/a` are folders,
@@ -29,6 +29,6 @@ mod file_digest;
 mod folder;
 pub mod laws;
 
-pub use contents::{feed_contents, feed_file, read_contents};
+pub use contents::{feed_file, read_contents};
 pub use file_digest::{DigestFiles, hash_all};
 pub use folder::sorted_names;

@@ -1,9 +1,9 @@
 -- calls on files, one after another
-use Rattle.std.proofs.Common.{◌<◌, ◌+◌, ◌^◌, ℕ, ◌≤◌, arith, refl, ◌∙◌, inl, inr, Result}
+use Rattle.std.proofs.Common.{ℕ, ◌≤◌, arith, refl, ◌∙◌, inl, inr, Result}
 use Rattle.cck_digest.specs.declared.error.FileError.{FileError}
 use Rattle.cck_digest.specs.declared.error.FileError.TheVariants.{NotFound, OtherKind, Fault, Memory}
 use Rattle.cck_files.specs.FileMap.{FileMap}
-use Rattle.cck_files.specs.Calls.{Keeps, Rose, IsRefusal, IsRefusalOrMemory}
+use Rattle.cck_files.specs.Calls.{Keeps, Rose, IsRefusal}
 
 module _ {F : Type 0} {file_map : F → FileMap} {faults : F → ℕ} {is_quiet : F → Type 0} where
   pub keeps_itself : (a : F) → Keeps file_map faults is_quiet a a

@@ -3,11 +3,11 @@ use Rattle.std.proofs.Common.{◌≡◌, ℕ, List, Option, Some, None, Ok, Err,
 use Rattle.std.specs.FinMap.{get}
 use Rattle.cck_digest.specs.declared.error.FileError.{FileError}
 use Rattle.cck_digest.specs.declared.error.FileError.TheVariants.{OtherKind}
-use Rattle.cck_files.specs.FileMap.{FileMap, FileNode, contents_at, contents_if, contents_in, contents_of_kind, file_at, file_if, file_in, metadata_at, metadata_in, metadata_of}
 use Rattle.cck_path.specs.Path.{Path}
 use Rattle.cck_path.specs.declared.metadata.FileKind.{FileKind}
 use Rattle.cck_path.specs.declared.metadata.FileKind.TheVariants.{File, Folder, Other}
 use Rattle.cck_path.specs.declared.metadata.Metadata.{Metadata}
+use Rattle.cck_files.specs.FileMap.{FileMap, FileNode, contents_at, contents_if, contents_in, contents_of_kind, file_at, file_if, file_in, metadata_at, metadata_in, metadata_of}
 
 -- only a regular file has contents,
 kind_with_contents : (n : FileNode) (k : FileKind) (c : List ℕ) → contents_if k n.contents ≡ Ok c → (file_if n k ≡ Ok n) × (n.contents ≡ c)
@@ -15,7 +15,7 @@ kind_with_contents n File c e = (refl, cc)
 kind_with_contents n Folder c e = cc
 kind_with_contents n Other c e = cc
 
-found_with_contents : (o : Option FileNode) (c : List ℕ) → contents_in o ≡ Ok c → (n : FileNode) × (file_in o ≡ Ok n) × (n.contents ≡ c)
+pub found_with_contents : (o : Option FileNode) (c : List ℕ) → contents_in o ≡ Ok c → (n : FileNode) × (file_in o ≡ Ok n) × (n.contents ≡ c)
 found_with_contents None c e = cc
 found_with_contents (Some n) c e = let both = kind_with_contents n n.kind c e in (n, both.0, both.1)
 
@@ -29,7 +29,7 @@ kind_without_contents n File x e = cc
 kind_without_contents n Folder x e = cc
 kind_without_contents n Other x e = cc
 
-found_without_contents : (o : Option FileNode) (x : FileError) → contents_in o ≡ Err x → file_in o ≡ Err x
+pub found_without_contents : (o : Option FileNode) (x : FileError) → contents_in o ≡ Err x → file_in o ≡ Err x
 found_without_contents None x e = cc
 found_without_contents (Some n) x e = kind_without_contents n n.kind x e
 
@@ -37,7 +37,7 @@ pub no_file_without_contents : (m : FileMap) (p : Path) (x : FileError) → cont
 unfolding contents_at file_at
 no_file_without_contents m p x e = found_without_contents (get m.nodes p) x e
 
--- Where there is no metadata, there is no regular file, for the same cause,
+-- where there is no metadata, there is no regular file, for the same cause
 found_without_metadata : (o : Option FileNode) (x : FileError) → metadata_in o ≡ Err x → file_in o ≡ Err x
 found_without_metadata None x e = cc
 found_without_metadata (Some n) x e = cc
@@ -46,8 +46,13 @@ pub no_file_without_metadata : (m : FileMap) (p : Path) (x : FileError) → meta
 unfolding metadata_at file_at
 no_file_without_metadata m p x e = found_without_metadata (get m.nodes p) x e
 
--- and the metadata of a regular file are its own.
-kind_of_file : (n o : FileNode) (k : FileKind) → n.kind ≡ k → file_if n k ≡ Ok o → (n ≡ o) × (o.kind ≡ File)
+-- whatever stands at a path has metadata
+pub no_other_kind : (o : Option FileNode) → metadata_in o ≡ Err OtherKind → ⊥
+no_other_kind None e = cc
+no_other_kind (Some n) e = cc
+
+-- the metadata of a regular file are its own
+pub kind_of_file : (n o : FileNode) (k : FileKind) → n.kind ≡ k → file_if n k ≡ Ok o → (n ≡ o) × (o.kind ≡ File)
 kind_of_file n o File is e = let same : n ≡ o = cc in (same, ap (λ (x : FileNode). x.kind) (sym same) ∙ is)
 kind_of_file n o Folder is e = cc
 kind_of_file n o Other is e = cc

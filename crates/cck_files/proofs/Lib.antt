@@ -1,5 +1,5 @@
 pub mod CallsLemmas
 mod ChildLemmas
 pub mod FileLemmas
-mod NamesLemmas
+pub mod NamesLemmas
 mod PlacesLemmas

@@ -1,5 +1,5 @@
 -- The names of children, gathered from entries in order.
-use Rattle.std.proofs.Common.{Global, ◌≡◌, ◌≢◌, ◌||◌, ℕ, ◌+◌, ◌<◌, List, [], ◌∷◌, ◌++◌, length, map, take, get_or, Bool, true, false, cond, Some, None, is_some, refl, sym, ap, subst, ◌∙◌, arith}
+use Rattle.std.proofs.Common.{Global, ◌≡◌, ◌≢◌, ◌||◌, ℕ, ◌+◌, ◌<◌, List, [], ◌∷◌, ◌++◌, length, map, take, get_or, Bool, true, false, cond, Some, None, is_some, refl, sym, ap, subst, ◌∙◌, arith, zero-add}
 use Rattle.std.proofs.lemmas.Bool.{false≢true, true≢false}
 use Rattle.std.proofs.lemmas.Cmp.{tied_itself}
 use Rattle.std.proofs.lemmas.List.{map-append, take_all, take_more}
@@ -9,32 +9,32 @@ use Rattle.std.specs.FinMap.{FinMap, entries, find, get, get-entries, nat_cmp-Is
 use Rattle.std.specs.List.{AllByRecursion}
 use Rattle.std.specs.Ordering.{eq_by_cmp, is_eq, nat_cmp}
 use Rattle.std.specs.Prelude.{Vec, count_by, vec_items}
+use Rattle.std.specs.Cmp.{Equal-is}
+use Rattle.std.proofs.Math.Bool.{or-false}
 use Rattle.cck_path.specs.Path.{IsName, Name, Path, path_cmp, path_cmp_total}
 use Rattle.cck_path.specs.declared.metadata.FileKind.TheVariants.{Folder}
-use Rattle.cck_path_map.proofs.PlaceLemmas.{find_before, in_order_of, is_equal, tied}
+use Rattle.cck_path_map.proofs.PlaceLemmas.{find_before, in_order_of}
 use Rattle.cck_path_map.proofs.ValueLemmas.{contains-map_values}
 use Rattle.cck_path_map.specs.PathMap.{pair_of, path_of}
 use Rattle.cck_path_map.specs.declared.path_map.Entry.{Entry}
+use Rattle.cck_path.proofs.TestLemmas.{tied}
 use Rattle.cck_files.proofs.ChildLemmas.{same_last}
-use Rattle.cck_files.specs.Children.{HasChildNames}
-use Rattle.cck_files.specs.FileMap.{FileNode, IsListing, folder_at, folder_if, folder_in, is_same_name}
+use Rattle.cck_files.specs.Children.{HasChildNames, is_same_name}
+use Rattle.cck_files.specs.FileMap.{FileNode, IsListing, folder_at, folder_if, folder_in}
 use Rattle.cck_files.specs.FileState.{files_of, node_at}
 use Rattle.cck_files.specs.declared.map_files.Place.{Place}
 
-abbrev one_if : Bool → ℕ
+abbrev pub one_if : Bool → ℕ
 one_if b = cond b 1 0
 
 same_name_is : (n m : List ℕ) → is_same_name n m ≡ true → n ≡ m
-same_name_is n m h = slice_cmp-IsAntisymmetric nat_cmp-IsAntisymmetric n m (is_equal (slice_cmp nat_cmp n m) h)
+same_name_is n m h = slice_cmp-IsAntisymmetric nat_cmp-IsAntisymmetric n m ((Equal-is (slice_cmp nat_cmp n m)).0 h)
 
-same_itself : (n : List ℕ) → is_same_name n n ≡ true
+pub same_itself : (n : List ℕ) → is_same_name n n ≡ true
 same_itself n = ap is_eq (tied_itself nat_list_cmp_total n)
 
-plain : (a : ℕ) → 0 + a ≡ a
-plain a = omega arith
-
 count_one_more : (n m : List ℕ) (xs : List (List ℕ)) → count_by (is_same_name n) (xs ++ m ∷ []) ≡ count_by (is_same_name n) xs + one_if (is_same_name n m)
-count_one_more n m xs = sum_by-append (λ x. one_if (is_same_name n x)) xs (m ∷ []) ∙ ap (λ z. count_by (is_same_name n) xs + z) (plain (one_if (is_same_name n m)))
+count_one_more n m xs = sum_by-append (λ x. one_if (is_same_name n x)) xs (m ∷ []) ∙ ap (λ z. count_by (is_same_name n) xs + z) (zero-add (one_if (is_same_name n m)))
 
 names_one_more : (m : List ℕ) → IsName m → (xs : List (List ℕ)) → AllByRecursion IsName xs → AllByRecursion IsName (xs ++ m ∷ [])
 names_one_more m name [] h = (name, tt)
@@ -46,10 +46,6 @@ apart q r other = by (eq_by_cmp path_cmp q r) refl
     by : (b : Bool) → eq_by_cmp path_cmp q r ≡ b → b ≡ false
     by true e = absurd (other (tied q r e))
     by false e = refl
-
-or_false : (b : Bool) → (b || false) ≡ b
-or_false true = refl
-or_false false = refl
 
 module _ {V : Type 0} where
   found_one_more : (q : Path) (es : List (Entry V)) (e : Entry V) → is_some (find path_cmp q (map pair_of (es ++ e ∷ []))) ≡ (is_some (find path_cmp q (map pair_of es)) || eq_by_cmp path_cmp q (path_of e))
@@ -84,7 +80,7 @@ module _ {V : Type 0} where
     pub listed_other : ((n : List ℕ) → path_of e ≢ p ++ Name n ∷ []) → IsListed p es (i + 1) (map vec_items names)
     listed_other other = record {
       names_only = l.names_only;
-      each_once = λ n. l.each_once n ∙ ap one_if (sym (found_more (p ++ Name n ∷ []) ∙ ap (λ b. found es i (p ++ Name n ∷ []) || b) (apart (p ++ Name n ∷ []) (path_of e) (λ same. other n (sym same))) ∙ or_false (found es i (p ++ Name n ∷ []))));
+      each_once = λ n. l.each_once n ∙ ap one_if (sym (found_more (p ++ Name n ∷ []) ∙ ap (λ b. found es i (p ++ Name n ∷ []) || b) (apart (p ++ Name n ∷ []) (path_of e) (λ same. other n (sym same))) ∙ or-false (found es i (p ++ Name n ∷ []))));
     }
 
     -- one that is of a child
@@ -117,6 +113,8 @@ pub listing : (m : FinMap path_cmp Place) (p : Path) (node : FileNode) (names : 
 unfolding folder_at
 listing m p node names at kind children = record {
   folder = ap folder_in at ∙ ap folder_if kind;
-  names_only = children.names_only;
-  each_once = λ n. children.each_once n ∙ ap one_if (sym (contains-map_values node_at m (p ++ Name n ∷ [])));
+  children = record {
+    names_only = children.names_only;
+    each_once = λ n. children.each_once n ∙ ap one_if (sym (contains-map_values node_at m (p ++ Name n ∷ [])));
+  };
 }

@@ -15,19 +15,20 @@ pub record Keeps {F : Type 0} (file_map : F → FileMap) (faults : F → ℕ) (i
   pub stays_quiet : is_quiet before → is_quiet after
   pub stays_calm : is_quiet before → faults after ≡ faults before
 
--- the refusal of a call that takes no memory: the map's own, or a fault where one came
-abbrev pub IsRefusal : {X : Type 0} → Result X FileError → Type 0 → FileError → Type 0
-IsRefusal answer HasFault NotFound = answer ≡ Err NotFound
-IsRefusal answer HasFault OtherKind = answer ≡ Err OtherKind
-IsRefusal answer HasFault Fault = HasFault
-IsRefusal answer HasFault Memory = ⊥
+-- the refusal of a call: the map's own, or a fault where one came, or lack of memory where it can come
+abbrev pub IsRefusalWhere : {X : Type 0} → Result X FileError → Type 0 → Type 0 → FileError → Type 0
+IsRefusalWhere answer HasFault TakesMemory NotFound = answer ≡ Err NotFound
+IsRefusalWhere answer HasFault TakesMemory OtherKind = answer ≡ Err OtherKind
+IsRefusalWhere answer HasFault TakesMemory Fault = HasFault
+IsRefusalWhere answer HasFault TakesMemory Memory = TakesMemory
 
--- the same of a call that takes memory
+-- the refusal of a call that takes no memory
+abbrev pub IsRefusal : {X : Type 0} → Result X FileError → Type 0 → FileError → Type 0
+IsRefusal answer HasFault = IsRefusalWhere answer HasFault ⊥
+
+-- the refusal of a call that takes memory
 abbrev pub IsRefusalOrMemory : {X : Type 0} → Result X FileError → Type 0 → FileError → Type 0
-IsRefusalOrMemory answer HasFault NotFound = answer ≡ Err NotFound
-IsRefusalOrMemory answer HasFault OtherKind = answer ≡ Err OtherKind
-IsRefusalOrMemory answer HasFault Fault = HasFault
-IsRefusalOrMemory answer HasFault Memory = Unit {0}
+IsRefusalOrMemory answer HasFault = IsRefusalWhere answer HasFault (Unit {0})
 
 -- n bytes of these contents were read from an offset on, and none of them only at the end
 pub record IsRead (contents : List ℕ) (offset n : ℕ) (buffer : List ℕ) : Type 0 where

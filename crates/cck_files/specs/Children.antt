@@ -1,9 +1,14 @@
 -- direct children
-use Rattle.std.specs.Prelude.{◌≡◌, ℕ, List, [], ◌∷◌, ◌++◌, count_by, if◌then◌else◌}
+use Rattle.std.specs.Prelude.{◌≡◌, ℕ, List, [], ◌∷◌, ◌++◌, Bool, count_by, if◌then◌else◌}
+use Rattle.std.specs.Cmp.Lexicographic.{slice_cmp}
 use Rattle.std.specs.FinMap.{FinMap, contains_key}
 use Rattle.std.specs.List.{AllByRecursion}
+use Rattle.std.specs.Ordering.{eq_by_cmp, nat_cmp}
 use Rattle.cck_path.specs.Path.{IsName, Name, Path, path_cmp}
-use Rattle.cck_files.specs.FileMap.{is_same_name}
+
+-- the names are the same
+abbrev pub is_same_name : List ℕ → List ℕ → Bool
+is_same_name n x = eq_by_cmp (slice_cmp nat_cmp) n x
 
 -- these are the last names of a path's direct children in a map, each once
 pub record HasChildNames {V : Type 0} (m : FinMap path_cmp V) (p : Path) (names : List (List ℕ)) : Type 0 where

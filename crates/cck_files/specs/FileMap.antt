@@ -1,16 +1,14 @@
 -- what files hold: a finite map from paths to nodes, and one from paths to canonical paths
-use Rattle.std.specs.Prelude.{◌≡◌, ℕ, List, [], ◌∷◌, ◌++◌, length, Bool, if◌then◌else◌, Option, Some, None, Result, Ok, Err, is_some, count_by}
-use Rattle.std.specs.List.{AllByRecursion}
-use Rattle.std.specs.Ordering.{eq_by_cmp, nat_cmp}
-use Rattle.std.specs.Cmp.Lexicographic.{slice_cmp}
+use Rattle.std.specs.Prelude.{◌≡◌, ℕ, List, [], length, Bool, Option, Some, None, Result, Ok, Err, is_some}
 use Rattle.std.specs.FinMap.{FinMap, get}
 use Rattle.cck_digest.specs.declared.error.FileError.{FileError}
 use Rattle.cck_digest.specs.declared.error.FileError.TheVariants.{NotFound, OtherKind}
-use Rattle.cck_path.specs.Path.{Path, Name, path_cmp, IsName}
+use Rattle.cck_path.specs.Path.{Path, path_cmp}
 use Rattle.cck_path.specs.Timestamp.{Moment}
 use Rattle.cck_path.specs.declared.metadata.FileKind.{FileKind}
 use Rattle.cck_path.specs.declared.metadata.FileKind.TheVariants.{File, Folder, Other}
 use Rattle.cck_path.specs.declared.metadata.Metadata.{Metadata}
+use Rattle.cck_files.specs.Children.{HasChildNames}
 
 -- what stands at a path; the contents say something of a regular file alone
 pub record FileNode : Type 0 where
@@ -97,12 +95,7 @@ found_or_not (Some q) = Ok q
 unfoldable pub canonical_at : FileMap → Path → Result Path FileError
 canonical_at m p = found_or_not (get m.canonicals p)
 
--- the names are the same
-abbrev pub is_same_name : List ℕ → List ℕ → Bool
-is_same_name n x = eq_by_cmp (slice_cmp nat_cmp) n x
-
 -- these are the last names of a folder's direct children, each once
 pub record IsListing (m : FileMap) (p : Path) (names : List (List ℕ)) : Type 0 where
   pub folder : folder_at m p ≡ Ok tt
-  pub names_only : AllByRecursion IsName names
-  pub each_once : (n : List ℕ) → count_by (is_same_name n) names ≡ (if is_some (get m.nodes (p ++ Name n ∷ [])) then 1 else 0)
+  pub children : HasChildNames m.nodes p names

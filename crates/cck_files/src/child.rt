@@ -10,17 +10,14 @@ use cck_path_map::PathMap;
 use std::alloc::Global;
 use std::iter;
 
-/// The last name of a path, where the path is that of a direct child of the folder. It takes no
-/// memory.
-pub fn child_name<'a>(folder: &[u8], path: &'a [u8]) -> Option<&'a [u8]>
+// The last name of a path, where the path is that of a direct child of the folder.
+fn child_name<'a>(folder: &[u8], path: &'a [u8]) -> Option<&'a [u8]>
     ensures { MatchOption result
         ((name : List ℕ) → components path.now ≢ components folder.now ++ Name name ∷ [])
         (λ name. IsName name.now
         × (components path.now ≡ components folder.now ++ Name name.now ∷ [])) }
 {
-    let Some(name) = file_name(path) else {
-        return None;
-    };
+    let name = file_name(path)?;
     if is_child(folder, name, path) {
         return Some(name);
     }
@@ -30,8 +27,8 @@ pub fn child_name<'a>(folder: &[u8], path: &'a [u8]) -> Option<&'a [u8]>
 /// The last names of a path's direct children in a map, each once, in their order. A child whose
 /// last component is no name has none.
 ///
-/// It is refused only for want of memory, as [`FileError::Memory`].
-pub fn child_names<V>(
+/// It is refused only for lack of memory, as [`FileError::Memory`].
+pub(crate) fn child_names<V>(
     alloc: Global,
     paths: &PathMap<V>,
     folder: &[u8],

@@ -21,7 +21,8 @@ use std::alloc::Global;
 /// - [`FileError::Fault`] only where the count of faults rose,
 /// - [`FileError::Memory`] where it takes memory, and never where it doesn't.
 ///
-/// Where one of the first two causes stands, the call is refused: for it, or for one of the last two.
+/// Where one of the first two causes stands, the call is refused: for it, or for one of the last
+/// two.
 pub trait Files {
     ghost use Rattle.cck_files.specs.FileMap.{FileMap, metadata_at, contents_at, folder_at, stands_at, canonical_at, IsListing};
     ghost use Rattle.cck_files.specs.Calls.{Keeps, IsRefusal, IsRefusalOrMemory, IsRead, Rose};
@@ -43,9 +44,9 @@ pub trait Files {
             (IsRefusal found (Rose (faults self.old) (faults self.new))) };
 
     /// Reads bytes of a regular file, from an offset on, to the beginning of the buffer, and
-    /// answers how many. There may be fewer than there is room for; into a buffer with room it reads
-    /// none only at the end. What stands in the buffer behind them, or after a refusal, is open. It
-    /// takes no memory.
+    /// answers how many. There may be fewer than there is room for; into a buffer with room it
+    /// reads none only at the end. The offset and the answer together are at most `u64::MAX`. What
+    /// stands in the buffer behind them, or after a refusal, is open. It takes no memory.
     fn read_at(&mut self, path: &[u8], offset: u64, buffer: &mut [u8]) -> Result<usize, FileError>
         ensures keeps { Keeps file_map faults is_quiet self.old self.new }
         ensures answer { let found = contents_at (file_map self.old) (components path.now) in

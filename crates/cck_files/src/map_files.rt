@@ -24,16 +24,16 @@ struct Place {
 
 /// Files in memory: for each path that was put or linked a [`Node`] and a canonical path.
 ///
-/// What stands at a path says nothing of other paths: a node below a path makes no folder there, and
-/// a folder that goes leaves what is below it. Paths are told apart by their components alone, so `x`
-/// and `./x` are two.
+/// What stands at a path says nothing of other paths: a node below a path makes no folder there,
+/// and a folder that goes leaves what is below it. Paths are told apart by their components alone,
+/// so `x` and `./x` are two.
 ///
 /// The calls of [`Files`](crate::Files) give the map's own answers, each by a binary search, save
-/// that of [`read_dir`](crate::Files::read_dir), which looks at every path. One of them may be armed
-/// by [`fail_at`](MapFiles::fail_at): that one is a fault and changes no file. The count of faults is
-/// a `u64`, rises by one at each fault, and stays at `u64::MAX`. So below that count a fault comes
-/// only at an armed call, and comes there. They are quiet where no call is armed and the count is
-/// below `u64::MAX`.
+/// that of [`read_dir`](crate::Files::read_dir), which looks at every path. One of them may be
+/// armed by [`fail_at`](MapFiles::fail_at): that one is a fault and changes no file. The count of
+/// faults is a `u64`, rises by one at each fault, and stays at `u64::MAX`. A fault comes at the
+/// armed call and at no other. They are quiet where no call is armed and the count is below
+/// `u64::MAX`.
 #[derive(Debug, Drop)]
 pub struct MapFiles {
     alloc: Global,
@@ -68,7 +68,7 @@ impl MapFiles {
     /// Sets what stands at a path, in place of what stood there. Its canonical path is the path as
     /// [`normalize_path`] has it. No other path changes: no folder is made above it.
     ///
-    /// It is refused only for want of memory, as [`UtilError::Memory`], and changes nothing then.
+    /// It is refused only for lack of memory, as [`UtilError::Memory`], and changes nothing then.
     pub fn put(&mut self, path: &[u8], node: Node) -> Result<(), UtilError>
         ensures set { OnOk result (self.new ≡ record self.old {
           files =
@@ -84,9 +84,10 @@ impl MapFiles {
     }
 
     /// Gives a path the node and the canonical path that a target has now. Where the target has
-    /// none, the path has neither afterwards. What becomes of the target later changes nothing here.
+    /// none, the path has neither afterwards. What becomes of the target later changes nothing
+    /// here.
     ///
-    /// It is refused only for want of memory, as [`UtilError::Memory`], and changes nothing then.
+    /// It is refused only for lack of memory, as [`UtilError::Memory`], and changes nothing then.
     pub fn link(&mut self, path: &[u8], target: &[u8]) -> Result<(), UtilError>
         ensures set { OnOk result (self.new ≡ record self.old {
           files =
@@ -125,7 +126,7 @@ impl MapFiles {
 
     /// The same files once more: the same map, the same count of faults, and the same call armed.
     ///
-    /// It is refused only for want of memory, as [`UtilError::Memory`].
+    /// It is refused only for lack of memory, as [`UtilError::Memory`].
     pub fn copy(&self, alloc: Global) -> Result<MapFiles, UtilError>
         ensures same { IfOk result (λ copy. copy ≡ self.now) }
         ensures refused { IsOkUnless result UtilError.Memory }

@@ -15,14 +15,15 @@ pub struct Node {
     pub contents: Vec<u8>,
     /// When the contents were last modified, where that is known.
     pub modified: Option<Timestamp>,
-    /// When the file was last changed, its names and rights among it, where that is known.
+    /// When its contents or its status (its links and rights) last changed, as POSIX's `st_ctim`,
+    /// where known.
     pub changed: Option<Timestamp>,
 }
 
 impl Node {
     /// The same node once more.
     ///
-    /// It is refused only for want of memory, as [`UtilError::Memory`].
+    /// It is refused only for lack of memory, as [`UtilError::Memory`].
     pub fn copy(&self, alloc: Global) -> Result<Node, UtilError>
         ensures same { IfOk result (λ copy. node_of copy ≡ node_of self.now) }
         ensures refused { IsOkUnless result UtilError.Memory }

@@ -5,21 +5,18 @@ use Rattle.std.specs.Char.{to_ascii_lowercase}
 use Rattle.std.specs.List.{find}
 use Rattle.std.proofs.lemmas.List.{get_or_default}
 use Rattle.std.proofs.lemmas.Simd.{map-map}
+use Rattle.std.proofs.Math.Bool.{and-false}
 use Rattle.cck_digest.specs.declared.error.FileError.{FileError}
 use Rattle.cck_digest.specs.declared.error.FileError.TheVariants.{NotFound, OtherKind, Fault, Memory}
 use Rattle.cck_files.specs.Calls.{IsRefusalOrMemory, Rose}
 use Rattle.cck_files.specs.FileMap.{FileMap, stands_at}
 use Rattle.cck_files.proofs.CallsLemmas.{rose_earlier, rose_later}
-use Rattle.cck_util.proofs.FindLemmas.{found_here, found_later}
 use Rattle.cck_path.specs.Names.{file_name_of}
 use Rattle.cck_path.specs.Path.{Path, components, has_root}
 use Rattle.cck_path.specs.Text.{join_path}
 use Rattle.cck_path.specs.Variables.{Variable, first_value}
+use Rattle.cck_util.proofs.FindLemmas.{found_here, found_later}
 use Rattle.cck_util.specs.Wrapper.{begins_with, candidates, found, is_compiler, is_settled, kept_parts, leads_if, leads_to_wrapper, places}
-
-and_false : (b : Bool) → (b && false) ≡ false
-and_false true = refl
-and_false false = refl
 
 -- a name that is too short
 pub too_short : (name beginning : List ℕ) → length name < length beginning → begins_with name beginning ≡ false
@@ -27,7 +24,7 @@ too_short name [] h = absurd (omega (arith, h))
 too_short [] (b ∷ beginning) h = refl
 too_short (c ∷ name) (b ∷ beginning) h =
     let e = nat_eq (to_ascii_lowercase c) (to_ascii_lowercase b) in
-    ap (λ t. e && t) (too_short name beginning (omega (arith, h))) ∙ and_false e
+    ap (λ t. e && t) (too_short name beginning (omega (arith, h))) ∙ and-false e
 
 -- two tests of one fact
 pub same_test : (b t : Bool) (P : Type 0) → (IsTrue b ↔ P) → Decides t P → b ≡ t

@@ -2,6 +2,7 @@
 ghost use Rattle.std.specs.Prelude.{◌≡◌, ℕ, List, ◌++◌, IfOk, IsOkUnless, string_bytes, map};
 ghost use Rattle.std.specs.List.{flat_map};
 ghost use Rattle.std.specs.Option.{option_map};
+ghost use Rattle.cck_path.specs.Bytes.{lists_of, variables_of};
 ghost use Rattle.cck_util.specs.Key.{assembler_bytes, object_key, plain_params};
 
 use crate::Language;
@@ -11,7 +12,10 @@ use cck_strip::{hash_arguments, strip_basedirs};
 use std::alloc::Global;
 use std::marker::Model;
 
-/// The version of the key material. A key of one version is no key of another.
+/// The version of the key material, fed into it. It is raised where equal inputs come to have
+/// another material.
+///
+/// Upstream's `CACHE_VERSION`.
 pub const CACHE_VERSION: &[u8] = b"13";
 
 /// What the key of an object is made of.
@@ -56,7 +60,7 @@ impl<'a> HashKeyParams<'a> {
         preprocessor_output: &'a [u8],
     ) -> HashKeyParams<'a>
         ensures { result ≡ plain_params compiler_digest.now language
-            (map (λ a. a.items) arguments.now) preprocessor_output.now }
+            (lists_of arguments.now) preprocessor_output.now }
     {
         HashKeyParams {
             compiler_digest,
@@ -82,7 +86,7 @@ impl<'a> HashKeyParams<'a> {
     /// Sets the variables of the environment, as pairs of a name and a value. Those that change
     /// what a compiler writes enter the key, in this order.
     pub fn with_env_vars(mut self, env_vars: &'a [(Vec<u8>, Vec<u8>)]) -> HashKeyParams<'a>
-        ensures { result ≡ record self.entry { env_vars = map (λ v. (v.0.items, v.1.items)) env_vars.now } }
+        ensures { result ≡ record self.entry { env_vars = variables_of env_vars.now } }
     {
         self.env_vars = env_vars;
         self
@@ -96,10 +100,10 @@ impl<'a> HashKeyParams<'a> {
         self
     }
 
-    /// Sets the base directories, which are cut out of the arguments and the text, so that checkouts
-    /// in several places can share a key.
+    /// Sets the base directories, which are cut out of the arguments and the text, so that
+    /// checkouts in several places can share a key.
     pub fn with_basedirs(mut self, basedirs: &'a [Vec<u8>]) -> HashKeyParams<'a>
-        ensures { result ≡ record self.entry { basedirs = map (λ b. b.items) basedirs.now } }
+        ensures { result ≡ record self.entry { basedirs = lists_of basedirs.now } }
     {
         self.basedirs = basedirs;
         self
@@ -115,7 +119,12 @@ impl<'a> HashKeyParams<'a> {
 
     /// The key of these parts: the digest text of the key material.
     ///
-    /// It is refused only for want of memory, as [`UtilError::Memory`].
+    /// The material is, in this order: the compiler's digest text; the byte 1 for C++ and else 0;
+    /// [`CACHE_VERSION`]; the language's name; each argument without the base directories and a
+    /// byte ff behind it; the digest texts of the further files; that of the assembler; the
+    /// variables that enter the key; and the text without the base directories.
+    ///
+    /// It is refused only for lack of memory, as [`UtilError::Memory`].
     pub fn compute<H: HashState>(&self, alloc: Global) -> Result<String, UtilError>
         ensures key { IfOk result (λ key. string_bytes key ≡ object_key H.hash self.now) }
         ensures refused { IsOkUnless result UtilError.Memory }

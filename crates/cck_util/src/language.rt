@@ -6,6 +6,8 @@ use std::str::FromStr;
 use thiserror::Error;
 
 /// The language of an input.
+///
+/// Upstream's `compiler::Language`.
 #[derive(Debug, Copy, Clone, PartialEq, Eq)]
 pub enum Language {
     /// Assembly.
@@ -66,6 +68,8 @@ impl Language {
     ];
 
     /// The name of the language, as it stands in a key. No two languages share one.
+    ///
+    /// Upstream's `Language::as_str`.
     pub fn as_str(&self) -> &'static str
         ensures { result.now ≡ language_name self.now }
     {
@@ -89,6 +93,8 @@ impl Language {
     }
 
     /// Whether the C preprocessor goes over an input in this language before it is compiled.
+    ///
+    /// Upstream's `Language::needs_c_preprocessing`.
     pub fn needs_c_preprocessing(&self) -> bool
         ensures { result ≡ is_preprocessed_first self.now }
     {

@@ -1,4 +1,4 @@
-//! Laws about the definitions: what they say above what they compute. Each is the contract of a
+//! Laws about the definitions: what they say beyond what they compute. Each is the contract of a
 //! function that does nothing.
 ghost use Rattle.cck_util.specs.Shape.{EqualWithoutBasedirs, OneShapeOneMaterial};
 

@@ -10,11 +10,16 @@
 //!     .compute::<Sha256State>(alloc)?;
 //! ```
 //!
-//! [`resolve_compiler_avoiding_wrapper`] finds the compiler behind a wrapper such as `ccache`.
+//! - [`Language`] is the language of an input, and has the name that stands in the key; a text that
+//!   is none's is an [`UnknownLanguage`]. [`CACHE_VERSION`] stands in the key too.
+//! - [`hash_extra_hashes`], [`hash_assembler_digest`] and [`hash_variables_named`] feed single
+//!   parts to a digest.
+//! - [`resolve_compiler_avoiding_wrapper`] finds the compiler behind a wrapper such as `ccache`.
+//! - [`laws`] has what the definitions say beyond what they compute.
 //!
 //! What this stands on is passed on: digests of `cck_digest`, base directories cut out by
-//! `cck_strip`, paths, byte texts and times of `cck_path`, and the interface to files of
-//! `cck_files`.
+//! `cck_strip`, paths, byte texts and times of `cck_path`, the interface to files of `cck_files`,
+//! and the digests of files of `cck_file_digest`.
 #![tactic(auto)]
 
 mod key;

@@ -2,6 +2,7 @@
 ghost use Rattle.std.specs.Prelude.{◌≡◌, ℕ, List, ◌++◌, map};
 ghost use Rattle.std.specs.List.{flat_map, list_any};
 ghost use Rattle.std.specs.Str.{bytes_eq};
+ghost use Rattle.cck_path.specs.Bytes.{variables_of};
 ghost use Rattle.cck_util.specs.Variables.{object_variables, variable_bytes, variables_named};
 
 use cck_digest::{Digest, HashState, hash_len_prefixed};
@@ -38,7 +39,7 @@ pub fn hash_variables_named<H: HashState>(
 )
     ensures { (fed : List ℕ) → H.holds digest.old fed →
         H.holds digest.new (fed ++ flat_map variable_bytes
-        (variables_named (map (λ n. n.now) names.now) (map (λ v. (v.0.items, v.1.items)) variables.now))) }
+        (variables_named (map (λ n. n.now) names.now) (variables_of variables.now))) }
 {
     for (name, value) in variables {
         if is_one_of(name, names) {
@@ -56,7 +57,7 @@ pub(crate) fn hash_object_variables<H: HashState>(
 )
     ensures { (fed : List ℕ) → H.holds digest.old fed →
         H.holds digest.new (fed ++ flat_map variable_bytes
-        (object_variables (map (λ v. (v.0.items, v.1.items)) variables.now))) }
+        (object_variables (variables_of variables.now))) }
 {
     hash_variables_named(digest, variables, &OBJECT_VARIABLES);
 }

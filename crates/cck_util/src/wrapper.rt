@@ -5,6 +5,7 @@ ghost use Rattle.std.specs.Option.{option_map};
 ghost use Rattle.std.specs.Str.{str_eq_ignore_ascii_case};
 ghost use Rattle.cck_files.specs.Calls.{Keeps, Rose};
 ghost use Rattle.cck_files.specs.FileMap.{stands_at};
+ghost use Rattle.cck_path.specs.Bytes.{variables_of};
 ghost use Rattle.cck_path.specs.Components.{component_of};
 ghost use Rattle.cck_path.specs.Path.{components};
 ghost use Rattle.cck_path.specs.Text.{join_path as joined_text};
@@ -23,12 +24,13 @@ use std::alloc::Global;
 ///
 /// The answer is `executable` itself where it is absolute and doesn't lead to a wrapper. Otherwise
 /// its file name is looked up in the folders of the first variable `PATH`, in order and without
-/// those that have a component `ccache` or `sccache`. The answer is the first of these paths at
-/// which something stands and that doesn't lead to a wrapper. Where there is none, or no file name,
-/// or no variable `PATH`, it is `executable` too. Where the count of faults rose the answer may be
-/// another of these paths at which something stands, or `executable`.
+/// those that have a component `ccache` or `sccache`. The folders stand between the `:` of its
+/// value, and for an empty one the name is looked up alone. The answer is the first of these paths
+/// at which something stands and that doesn't lead to a wrapper. Where there is none, or no file
+/// name, or no variable `PATH`, it is `executable` too. Where the count of faults rose the answer
+/// may be another of these paths at which something stands, or `executable`.
 ///
-/// Upstream's `util::resolve_compiler_avoiding_wrapper`. It is refused only for want of memory, as
+/// Upstream's `util::resolve_compiler_avoiding_wrapper`. It is refused only for lack of memory, as
 /// [`UtilError::Memory`].
 pub fn resolve_compiler_avoiding_wrapper<F: Files>(
     alloc: Global,
@@ -39,10 +41,10 @@ pub fn resolve_compiler_avoiding_wrapper<F: Files>(
     ensures keeps { Keeps F.file_map F.faults F.is_quiet files.old files.new }
     ensures answer { IfOk result (λ path.
         (path.items ≡ resolved (F.file_map files.old) executable.now
-        (map (λ v. (v.0.items, v.1.items)) vars.now))
+        (variables_of vars.now))
         ⊎ Rose (F.faults files.old) (F.faults files.new)) }
     ensures place { IfOk result (λ path. Contains
-        (executable.now ∷ candidates executable.now (map (λ v. (v.0.items, v.1.items)) vars.now))
+        (executable.now ∷ candidates executable.now (variables_of vars.now))
         path.items) }
     ensures standing { IfOk result (λ path. (path.items ≡ executable.now)
         ⊎ (stands_at (F.file_map files.old) (components path.items) ≡ true)) }
@@ -64,10 +66,10 @@ fn find_compiler<F: Files>(
     ensures keeps { Keeps F.file_map F.faults F.is_quiet files.old files.new }
     ensures answer { IfOk result (λ compiler.
         (option_map (λ path. path.items) compiler ≡ found (F.file_map files.old) executable.now
-        (map (λ v. (v.0.items, v.1.items)) vars.now))
+        (variables_of vars.now))
         ⊎ Rose (F.faults files.old) (F.faults files.new)) }
     ensures place { IfOk result (λ compiler. IfSome compiler (λ path. Contains
-        (candidates executable.now (map (λ v. (v.0.items, v.1.items)) vars.now))
+        (candidates executable.now (variables_of vars.now))
         path.items)) }
     ensures standing { IfOk result (λ compiler. IfSome compiler (λ path.
         stands_at (F.file_map files.old) (components path.items) ≡ true)) }
@@ -197,10 +199,7 @@ fn leads_to_wrapper<F: Files>(alloc: Global, files: &mut F, path: &[u8]) -> Resu
 fn is_wrapper(path: &[u8]) -> bool
     ensures { result ≡ is_wrapper (components path.now) }
 {
-    match file_name(path) {
-        Some(name) => is_wrapper_name(name),
-        None => false,
-    }
+    file_name(path).is_some_and(|name| is_wrapper_name(name))
 }
 
 // Whether a file name is a wrapper's.

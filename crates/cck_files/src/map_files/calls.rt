@@ -56,8 +56,8 @@ impl Files for MapFiles {
             return Err(FileError::NotFound);
         };
         match place.node.kind {
-            FileKind::File => return Ok(read_bytes(&place.node.contents, offset, buffer)),
-            FileKind::Folder | FileKind::Other => return Err(FileError::OtherKind),
+            FileKind::File => Ok(read_bytes(&place.node.contents, offset, buffer)),
+            FileKind::Folder | FileKind::Other => Err(FileError::OtherKind),
         }
     }
 
@@ -78,11 +78,8 @@ impl Files for MapFiles {
             return Err(FileError::NotFound);
         };
         match place.node.kind {
-            FileKind::File | FileKind::Other => return Err(FileError::OtherKind),
-            FileKind::Folder => {
-                let names = child_names(alloc, &self.places, path)?;
-                return Ok(names);
-            }
+            FileKind::File | FileKind::Other => Err(FileError::OtherKind),
+            FileKind::Folder => child_names(alloc, &self.places, path),
         }
     }
 

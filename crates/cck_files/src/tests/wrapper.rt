@@ -9,13 +9,13 @@ use std::alloc::Global;
 
 // Files that count the calls on one path.
 #[derive(Drop)]
-struct NotingFiles<F> {
+struct CountedFiles<F> {
     inner: F,
     path: Vec<u8>,
     count: u64,
 }
 
-impl<F: Files> NotingFiles<F> {
+impl<F: Files> CountedFiles<F> {
     fn note(&mut self, path: &[u8])
         ensures { self.new.inner ≡ self.old.inner }
     {
@@ -25,7 +25,7 @@ impl<F: Files> NotingFiles<F> {
     }
 }
 
-impl<F: Files> Files for NotingFiles<F> {
+impl<F: Files> Files for CountedFiles<F> {
     ghost file_map = { λ files. F.file_map files.inner };
 
     ghost faults = { λ files. F.faults files.inner };
@@ -76,7 +76,7 @@ fn count_standing<F: Files>(files: &mut F, paths: &[&[u8]]) -> usize {
 #[test]
 fn counted_calls(rt: HostRuntime) -> Result<(), UtilError> {
     let alloc = rt.alloc();
-    let mut files: NotingFiles<MapFiles> = NotingFiles {
+    let mut files: CountedFiles<MapFiles> = CountedFiles {
         inner: sample(alloc)?,
         path: b"/d/x".to_vec(alloc)?,
         count: 0,

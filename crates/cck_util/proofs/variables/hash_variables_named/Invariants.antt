@@ -1,5 +1,6 @@
 use Rattle.std.proofs.Common.{List, ℕ, ◌++◌, take, map}
 use Rattle.std.specs.List.{flat_map}
+use Rattle.cck_path.specs.Bytes.{variables_of}
 use Rattle.cck_util.specs.Variables.{variable_bytes, variables_named}
 use Rattle.cck_util.proofs.variables.hash_variables_named.Given as goal
 
@@ -7,4 +8,4 @@ use Rattle.cck_util.proofs.variables.hash_variables_named.Given as goal
 abbrev pub invariant-loop-name : goal.invariant-loop-name
 invariant-loop-name g l = (fed : List ℕ) → g.H.HashState.holds l.initial.digest fed →
     g.H.HashState.holds l.digest (fed ++ flat_map variable_bytes
-    (variables_named (map (λ n. n.now) l.names) (map (λ v. (v.0.items, v.1.items)) (take l.name-index l.variables))))
+    (variables_named (map (λ n. n.now) l.names) (variables_of (take l.name-index l.variables))))

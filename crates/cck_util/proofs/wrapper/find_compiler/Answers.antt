@@ -1,5 +1,6 @@
 use Rattle.std.proofs.Common.{◌≡◌, true, inl, inr, sym, map, ap, ◌∙◌, subst, Contains, IfSome}
 use Rattle.cck_files.specs.FileMap.{stands_at}
+use Rattle.cck_path.specs.Bytes.{variables_of}
 use Rattle.cck_path.specs.Path.{components}
 use Rattle.cck_path.specs.Text.{join_path}
 use Rattle.cck_util.proofs.WrapperLemmas.{in_turn, nothing_found, no_name, no_path, candidates_by, first_found, if_ok}
@@ -7,23 +8,23 @@ use Rattle.cck_util.proofs.wrapper.find_compiler.Goals as goal
 
 pub returns-then-branch-clause-answer : goal.returns-then-branch-clause-answer
 returns-then-branch-clause-answer g c = elim c.in_ok-is_settled.ensures.answer [
-  | inl e ↦ inl (nothing_found (g.F.Files.file_map c.args.files.now) c.args.executable.now (map (λ v. (v.0.items, v.1.items)) c.args.vars.now) (sym c.if-branch.true ∙ e))
+  | inl e ↦ inl (nothing_found (g.F.Files.file_map c.args.files.now) c.args.executable.now (variables_of c.args.vars.now) (sym c.if-branch.true ∙ e))
   | inr r ↦ inr r
 ]
 
 pub returns-in_default-clause-answer : goal.returns-in_default-clause-answer
 returns-in_default-clause-answer g c =
-    inl (no_name (g.F.Files.file_map c.args.files.now) c.args.executable.now (map (λ v. (v.0.items, v.1.items)) c.args.vars.now) c.in_default.ensures)
+    inl (no_name (g.F.Files.file_map c.args.files.now) c.args.executable.now (variables_of c.args.vars.now) c.in_default.ensures)
 
 pub returns-in_default-first_value-clause-answer : goal.returns-in_default-first_value-clause-answer
 returns-in_default-first_value-clause-answer g c =
-    inl (no_path (g.F.Files.file_map c.args.files.now) c.args.executable.now c.in-Some.name.now (map (λ v. (v.0.items, v.1.items)) c.args.vars.now)
+    inl (no_path (g.F.Files.file_map c.args.files.now) c.args.executable.now c.in-Some.name.now (variables_of c.args.vars.now)
     c.in-Some.ensures c.in_default-first_value.ensures)
 
 pub returns-clause-answer : goal.returns-clause-answer
 returns-clause-answer g c =
     let F = g.F.Files in
-    let vars = map (λ v. (v.0.items, v.1.items)) c.args.vars.now in
+    let vars = variables_of c.args.vars.now in
     let paths = candidates_by c.args.executable.now c.in-Some.name.now c.in-Some-first_value.path.now vars c.deref.result.now
     c.in-Some.ensures c.in-Some-first_value.ensures (ap (map (λ part. part.now)) c.deref.ensures.value ∙ c.in_ok-parts.ensures.parts) in
     let settled = c.in_ok-is_settled.ensures in
@@ -35,7 +36,7 @@ returns-clause-answer g c =
 
 pub returns-clause-place : goal.returns-clause-place
 returns-clause-place g c =
-    let vars = map (λ v. (v.0.items, v.1.items)) c.args.vars.now in
+    let vars = variables_of c.args.vars.now in
     let paths = candidates_by c.args.executable.now c.in-Some.name.now c.in-Some-first_value.path.now vars c.deref.result.now
     c.in-Some.ensures c.in-Some-first_value.ensures (ap (map (λ part. part.now)) c.deref.ensures.value ∙ c.in_ok-parts.ensures.parts) in
     if_ok c.first_compiler.result c.first_compiler.ensures.place

@@ -1,4 +1,5 @@
-use Rattle.std.proofs.Common.{inr, map}
+use Rattle.std.proofs.Common.{inr}
+use Rattle.cck_path.specs.Bytes.{variables_of}
 use Rattle.cck_util.specs.Wrapper.{candidates}
 use Rattle.cck_util.proofs.WrapperLemmas.{contains_later}
 use Rattle.cck_util.proofs.wrapper.resolve_compiler_avoiding_wrapper.Goals as goal
@@ -6,7 +7,7 @@ use Rattle.cck_util.proofs.wrapper.resolve_compiler_avoiding_wrapper.Goals as go
 pub returns-in-Some-clause-place : goal.returns-in-Some-clause-place
 returns-in-Some-clause-place g c =
     let place = rw c.in-Some.is at c.in_ok-compiler.ensures.place in
-    contains_later c.args.executable.now (candidates c.args.executable.now (map (λ v. (v.0.items, v.1.items)) c.args.vars.now)) c.in-Some.compiler.items place
+    contains_later c.args.executable.now (candidates c.args.executable.now (variables_of c.args.vars.now)) c.in-Some.compiler.items place
 
 pub returns-in-Some-clause-standing : goal.returns-in-Some-clause-standing
 returns-in-Some-clause-standing g c = let standing = rw c.in-Some.is at c.in_ok-compiler.ensures.standing in inr standing
