@@ -1,5 +1,5 @@
 -- The entry that lies in a map, and the entry that bytes spell.
-use Rattle.std.proofs.Common.{◌≡◌, ℕ, ◌*◌, ◌^◌, ◌<◌, ◌≤◌, Bool, true, false, ◌&&◌, T, List, [], ◌∷◌, ◌++◌, length, map, Some, None, Result, Ok, Err, refl, sym, ap, subst, ◌∙◌, append_assoc, arith, inl}
+use Rattle.std.proofs.Common.{◌≡◌, ℕ, ◌*◌, ◌^◌, ◌<◌, ◌≤◌, true, List, [], ◌∷◌, ◌++◌, length, map, Some, None, Result, Ok, Err, refl, sym, ap, subst, ◌∙◌, append_assoc, arith}
 use Rattle.std.specs.Prelude.{String, OnOk}
 use Rattle.std.specs.Global.{Vec}
 use Rattle.std.specs.declared.alloc.Global.{Global}
@@ -14,40 +14,23 @@ use Rattle.std.specs.FinMap.{entries, entries_sorted, entries-from_sorted, from_
 use Rattle.std.specs.FinMap.Entries.{below_all}
 use Rattle.std.proofs.lemmas.List.{length-append, length-map, nil_from_length}
 use Rattle.std.proofs.lemmas.List.Concat.{flat_map-cons}
-use Rattle.cck_include.specs.declared.include.IncludeEntry.{IncludeEntry}
-use Rattle.cck_entry.specs.Results.{KeyResult, result_in, FitsResult}
-use Rattle.cck_include.specs.Include.{Include, include_in}
-use Rattle.cck_entry.specs.Entry.{text_cmp}
-use Rattle.cck_entry.specs.Writing.{entry_bytes, include_bytes, result_bytes}
-use Rattle.cck_digest.specs.Digest.{length_prefixed}
 use Rattle.std.specs.Int.{w64, to_le_bytes}
-use Rattle.cck_entry.specs.Reading.{entry_at, comes_after, Fails}
-use Rattle.cck_entry.specs.Entry.{Entry, EntryText, entry_in, include_count, lengths, Reads, IsReadFrom, IsEntryOrMemory}
+use Rattle.std.proofs.lemmas.Option.{same_Some}
+use Rattle.std.proofs.lemmas.Bool.{and_parts, and_from}
+use Rattle.std.proofs.lemmas.Float.{T_from_true}
+use Rattle.cck_include.specs.declared.include.IncludeEntry.{IncludeEntry}
+use Rattle.cck_include.specs.Include.{Include, include_in}
+use Rattle.cck_digest.specs.Digest.{length_prefixed}
 use Rattle.cck_time.specs.declared.error.Error.{Error}
 use Rattle.cck_time.specs.declared.error.Error.TheVariants.{Io, Deserialization, UnknownFormat, Memory}
-use Rattle.cck_entry.proofs.FieldLemmas.{IsBytes, some_is}
+use Rattle.cck_path.proofs.TestLemmas.{true_from_T}
+use Rattle.cck_entry.specs.Results.{KeyResult, result_in, FitsResult}
+use Rattle.cck_entry.specs.Entry.{text_cmp}
+use Rattle.cck_entry.specs.Writing.{entry_bytes, include_bytes, result_bytes}
+use Rattle.cck_entry.specs.Reading.{entry_at, comes_after, Fails}
+use Rattle.cck_entry.specs.Entry.{Entry, EntryText, entry_in, include_count, lengths, IsReadFrom}
+use Rattle.cck_entry.proofs.FieldLemmas.{IsBytes}
 use Rattle.cck_entry.proofs.TextLemmas.{Ascends, IsEntry, entry_takes, entry_again, includes_long}
-
-from_T : (b : Bool) → T b → b ≡ true
-from_T true h = refl
-from_T false h = absurd h
-
-to_T : (b : Bool) → b ≡ true → T b
-to_T true e = tt
-to_T false e = absurd cc
-
-both : (a b : Bool) → a ≡ true → b ≡ true → (a && b) ≡ true
-both true true p q = refl
-both true false p q = absurd cc
-both false b p q = absurd cc
-
-first_of : (a b : Bool) → (a && b) ≡ true → a ≡ true
-first_of true b e = refl
-first_of false b e = e
-
-second_of : (a b : Bool) → (a && b) ≡ true → b ≡ true
-second_of true b e = e
-second_of false b e = absurd cc
 
 is_less : (r : Ordering) → r ≡ Less → is_lt r ≡ true
 is_less r e = ap is_lt e
@@ -56,58 +39,58 @@ is_less r e = ap is_lt e
 
 below_in : (k : String Global) (es : List (String Global × Vec IncludeEntry)) → AllByRecursion (λ y. string_cmp k y ≡ Less) (keys_of es) → below_all text_cmp (string_bytes k) (map result_in es) ≡ true
 below_in k [] h = refl
-below_in k (e ∷ es) h = both _ _ (is_less _ h.0) (below_in k es h.1)
+below_in k (e ∷ es) h = and_from _ _ (is_less _ h.0) (below_in k es h.1)
 
 sorted_in : (es : List (String Global × Vec IncludeEntry)) → IsStrictlySortedBy string_cmp (keys_of es) → is_sorted text_cmp (map result_in es) ≡ true
 unfolding IsStrictlySortedBy
 sorted_in [] h = refl
-sorted_in (e ∷ es) h = both _ _ (below_in e.0 es h.0) (sorted_in es h.1)
+sorted_in (e ∷ es) h = and_from _ _ (below_in e.0 es h.0) (sorted_in es h.1)
 
 pub entries_in : (es : List (String Global × Vec IncludeEntry)) → IsStrictlySortedBy string_cmp (keys_of es) → entries (entry_in es) ≡ map result_in es
-entries_in es h = entries-from_sorted text_cmp (map result_in es) (to_T _ (sorted_in es h))
+entries_in es h = entries-from_sorted text_cmp (map result_in es) (T_from_true _ (sorted_in es h))
 
 -- ---- the keys of an entry ascend, as its text is read
 
 comes_after-append : (front : List KeyResult) (r : KeyResult) (k : List ℕ) → comes_after front k ≡ true → is_lt (text_cmp r.0 k) ≡ true → comes_after (front ++ r ∷ []) k ≡ true
-comes_after-append [] r k h lt = both _ _ lt refl
-comes_after-append (f ∷ front) r k h lt = both _ _ (first_of _ _ h) (comes_after-append front r k (second_of _ _ h) lt)
+comes_after-append [] r k h lt = and_from _ _ lt refl
+comes_after-append (f ∷ front) r k h lt = and_from _ _ (and_parts _ _ h).0 (comes_after-append front r k (and_parts _ _ h).1 lt)
 
 abbrev AllAfter : List KeyResult → List KeyResult → Type 0
 AllAfter front rs = AllByRecursion (λ r. comes_after front r.0 ≡ true) rs
 
 all_after_more : (front : List KeyResult) (r : KeyResult) (rs : List KeyResult) → AllAfter front rs → below_all text_cmp r.0 rs ≡ true → AllAfter (front ++ r ∷ []) rs
 all_after_more front r [] h b = tt
-all_after_more front r (x ∷ rs) h b = (comes_after-append front r x.0 h.0 (first_of _ _ b), all_after_more front r rs h.1 (second_of _ _ b))
+all_after_more front r (x ∷ rs) h b = (comes_after-append front r x.0 h.0 (and_parts _ _ b).0, all_after_more front r rs h.1 (and_parts _ _ b).1)
 
 ascends_from : (rs front : List KeyResult) → AllAfter front rs → is_sorted text_cmp rs ≡ true → Ascends front rs
 ascends_from [] front h s = tt
-ascends_from (r ∷ rs) front h s = (h.0, ascends_from rs (front ++ r ∷ []) (all_after_more front r rs h.1 (first_of _ _ s)) (second_of _ _ s))
+ascends_from (r ∷ rs) front h s = (h.0, ascends_from rs (front ++ r ∷ []) (all_after_more front r rs h.1 (and_parts _ _ s).0) (and_parts _ _ s).1)
 
 none_in_front : (rs : List KeyResult) → AllAfter [] rs
 none_in_front [] = tt
 none_in_front (r ∷ rs) = (refl, none_in_front rs)
 
 after_one : (a b : List KeyResult) (r : KeyResult) (k : List ℕ) → comes_after (a ++ r ∷ b) k ≡ true → is_lt (text_cmp r.0 k) ≡ true
-after_one [] b r k h = first_of _ _ h
-after_one (x ∷ a) b r k h = after_one a b r k (second_of _ _ h)
+after_one [] b r k h = (and_parts _ _ h).0
+after_one (x ∷ a) b r k h = after_one a b r k (and_parts _ _ h).1
 
 below_from : (rs a b : List KeyResult) (r : KeyResult) → Ascends (a ++ r ∷ b) rs → below_all text_cmp r.0 rs ≡ true
 below_from [] a b r h = refl
 below_from (x ∷ rs) a b r h =
-    both _ _ (after_one a b r x.0 h.0) (below_from rs a (b ++ x ∷ []) r (subst (λ (f : List KeyResult). Ascends f rs) (append_assoc a (r ∷ b) (x ∷ [])) h.1))
+    and_from _ _ (after_one a b r x.0 h.0) (below_from rs a (b ++ x ∷ []) r (subst (λ (f : List KeyResult). Ascends f rs) (append_assoc a (r ∷ b) (x ∷ [])) h.1))
 
 sorted_from : (rs front : List KeyResult) → Ascends front rs → is_sorted text_cmp rs ≡ true
 sorted_from [] front h = refl
-sorted_from (r ∷ rs) front h = both _ _ (below_from rs front [] r h.1) (sorted_from rs (front ++ r ∷ []) h.1)
+sorted_from (r ∷ rs) front h = and_from _ _ (below_from rs front [] r h.1) (sorted_from rs (front ++ r ∷ []) h.1)
 
 -- in a list in order a key comes after those in front of it
 below_at : (key : List ℕ) (front : List KeyResult) (r : KeyResult) (behind : List KeyResult) → below_all text_cmp key (front ++ r ∷ behind) ≡ true → is_lt (text_cmp key (r.0)) ≡ true
-below_at key [] r behind h = first_of _ _ h
-below_at key (x ∷ front) r behind h = below_at key front r behind (second_of _ _ h)
+below_at key [] r behind h = (and_parts _ _ h).0
+below_at key (x ∷ front) r behind h = below_at key front r behind (and_parts _ _ h).1
 
 after_front : (front : List KeyResult) (r : KeyResult) (behind : List KeyResult) → is_sorted text_cmp (front ++ r ∷ behind) ≡ true → comes_after front (r.0) ≡ true
 after_front [] r behind h = refl
-after_front (x ∷ front) r behind h = both _ _ (below_at x.0 front r behind (first_of _ _ h)) (after_front front r behind (second_of _ _ h))
+after_front (x ∷ front) r behind h = and_from _ _ (below_at x.0 front r behind (and_parts _ _ h).0) (after_front front r behind (and_parts _ _ h).1)
 
 pub after_copied : (es : List (String Global × Vec IncludeEntry)) (front : List KeyResult) (r : KeyResult) (behind : List KeyResult) → IsStrictlySortedBy string_cmp (keys_of es) → front ++ r ∷ behind ≡ map result_in es → comes_after front (r.0) ≡ true
 after_copied es front r behind h e = after_front front r behind (ap (is_sorted text_cmp) e ∙ sorted_in es h)
@@ -122,7 +105,7 @@ tail_is a b e = cc
 
 pub as_entry : (e : Entry) (rest : List ℕ) → EntryText e (1 ∷ rest) → entry_at rest ≡ Some (entries e)
 as_entry e rest h =
-    let fits : IsEntry (entries e) = record { count = h.count; each = h.each; ascends = ascends_from (entries e) [] (none_in_front (entries e)) (from_T _ (entries_sorted e)) } in
+    let fits : IsEntry (entries e) = record { count = h.count; each = h.each; ascends = ascends_from (entries e) [] (none_in_front (entries e)) (true_from_T _ (entries_sorted e)) } in
     let text = tail_is rest _ h.text in
     ap entry_at text ∙ entry_again (entries e) fits
 
@@ -130,7 +113,7 @@ as_entry e rest h =
 pub read_text : (rest : List ℕ) (rs : List KeyResult) → IsBytes rest → entry_at rest ≡ Some rs → EntryText (from_sorted rs) (1 ∷ rest)
 read_text rest rs fits e =
     let t = entry_takes rest rs fits e in
-    let same : entries (from_sorted {R = text_cmp} rs) ≡ rs = entries-from_sorted text_cmp rs (to_T _ (sorted_from rs [] t.0.ascends)) in
+    let same : entries (from_sorted {R = text_cmp} rs) ≡ rs = entries-from_sorted text_cmp rs (T_from_true _ (sorted_from rs [] t.0.ascends)) in
     record {
       count = rw same t.0.count;
       each = rw same t.0.each;
@@ -145,8 +128,8 @@ no_text rest none e h = let s = as_entry e rest h in absurd cc
 pub one_entry : (rest : List ℕ) (rs : List KeyResult) (e : Entry) → IsBytes rest → entry_at rest ≡ Some rs → EntryText e (1 ∷ rest) → from_sorted rs ≡ e
 one_entry rest rs e fits is h =
     let t = entry_takes rest rs fits is in
-    let found : rs ≡ entries e = some_is rs (entries e) (sym is ∙ as_entry e rest h) in
-    same_entries_map (from_sorted rs) e (entries-from_sorted text_cmp rs (to_T _ (sorted_from rs [] t.0.ascends)) ∙ found)
+    let found : rs ≡ entries e = same_Some rs (entries e) (sym is ∙ as_entry e rest h) in
+    same_entries_map (from_sorted rs) e (entries-from_sorted text_cmp rs (T_from_true _ (sorted_from rs [] t.0.ascends)) ∙ found)
 
 -- ---- how many includes there are
 

@@ -5,11 +5,11 @@ use Rattle.std.specs.FinMap.{entries, same_entries_map}
 use Rattle.std.specs.Option.{option_eq}
 use Rattle.std.specs.Prelude.{Decides}
 use Rattle.std.proofs.lemmas.Bool.Decides.{Decides-and, Decides-eqb, Decides-int_eq, Decides-like}
-use Rattle.cck_path.specs.Timestamp.{Moment}
-use Rattle.cck_entry.specs.Entry.{Entry}
-use Rattle.cck_entry.specs.Equality.{same_entry, same_include, same_moment, same_result}
-use Rattle.cck_entry.specs.Results.{KeyResult}
+use Rattle.cck_path.specs.Timestamp.{Moment, same_moment}
 use Rattle.cck_include.specs.Include.{Include}
+use Rattle.cck_entry.specs.Entry.{Entry}
+use Rattle.cck_entry.specs.Equality.{same_entry, same_include, same_result}
+use Rattle.cck_entry.specs.Results.{KeyResult}
 
 moment_decides : (a b : Moment) → Decides (same_moment a b) (a ≡ b)
 moment_decides a b =

@@ -1,5 +1,5 @@
 -- A field that is read is the field that was written, and what was written is read again.
-use Rattle.std.proofs.Common.{◌≡◌, ℕ, zero, suc, ◌+◌, ◌^◌, ◌<◌, ◌≤◌, Bool, true, false, cond, ltb, List, [], ◌∷◌, ◌++◌, length, get_or, take, drop, Option, Some, None, refl, sym, ap, subst, ◌∙◌, append_assoc, arith, inl, inr, ℤ, pos, negsuc}
+use Rattle.std.proofs.Common.{◌≡◌, ℕ, zero, suc, ◌+◌, ◌^◌, ◌<◌, ◌≤◌, true, false, cond, ltb, List, [], ◌∷◌, ◌++◌, length, get_or, take, drop, Option, Some, None, refl, sym, ap, subst, ◌∙◌, append_assoc, arith, inl, inr}
 use Rattle.std.specs.Prelude.{IfSome, FitsSigned}
 use Rattle.std.specs.Str.{is_utf8}
 use Rattle.std.specs.Int.{Width, w32, w64, byte_len, from_le_bytes, to_le_bytes, cast_signed, cast_unsigned}
@@ -8,10 +8,13 @@ use Rattle.std.proofs.lemmas.Int.{to_z-of_z, of_z-to_z}
 use Rattle.std.proofs.Math.Facts.{sfits_to_z}
 use Rattle.std.proofs.lemmas.List.{take_at, drop_at, take-append-drop, length-append, length-take, get_or-drop, get_or-take, get_or_past}
 use Rattle.std.proofs.lemmas.Nat.{le_bytes_4, le_bytes_8, from_le_bytes-to_le_bytes_4, from_le_bytes-to_le_bytes_8}
+use Rattle.std.proofs.lemmas.Option.{same_Some}
 use Rattle.cck_path.specs.Timestamp.{Moment}
-use Rattle.cck_entry.specs.Results.{FitsMoment, Fits}
 use Rattle.cck_include.specs.Include.{Include}
 use Rattle.cck_digest.specs.Digest.{length_prefixed}
+use Rattle.cck_time.proofs.NumberLemmas.{long_bits_small}
+use Rattle.cck_path.proofs.TestLemmas.{then_some, else_some}
+use Rattle.cck_entry.specs.Results.{FitsMoment, Fits}
 use Rattle.cck_entry.specs.Writing.{moment_bytes, time_bytes, include_bytes}
 use Rattle.cck_entry.specs.Reading.{◌>>=◌, number_at, length_prefixed_at, text_at, moment_at, time_at, include_at}
 
@@ -32,18 +35,6 @@ IsBytes-take n bytes h i =
 pub bind_some : {A B : Type 0} (r : Option A) (f : A → Option B) (y : B) → (r >>= f) ≡ Some y → (x : A) × (r ≡ Some x) × (f x ≡ Some y)
 bind_some (Some x) f y e = (x, refl, e)
 bind_some None f y e = absurd cc
-
--- a test that did not end it
-pub else_some : {A : Type 0} (b : Bool) (r : Option A) (y : A) → cond b None r ≡ Some y → (b ≡ false) × (r ≡ Some y)
-else_some true r y e = absurd cc
-else_some false r y e = (refl, e)
-
-pub then_some : {A : Type 0} (b : Bool) (r : Option A) (y : A) → cond b r None ≡ Some y → (b ≡ true) × (r ≡ Some y)
-then_some true r y e = (refl, e)
-then_some false r y e = absurd cc
-
-pub some_is : {A : Type 0} (x y : A) → Some x ≡ Some y → x ≡ y
-some_is x y e = cc
 
 -- what a reader took from the front
 pub record Takes (bytes text rest : List ℕ) : Type 0 where
@@ -80,7 +71,7 @@ wide64 = record {
 pub number_takes : (w : Width) (limit : ℕ) (wide : IsWide w limit) (bytes : List ℕ) (n : ℕ) (rest : List ℕ) → IsBytes bytes → number_at w bytes ≡ Some (n, rest) → Takes bytes (to_le_bytes w n) rest × (n < limit)
 number_takes w limit wide bytes n rest fits e =
     let g = else_some (ltb (length bytes) (byte_len w)) (Some (from_le_bytes w (take (byte_len w) bytes), drop (byte_len w) bytes)) (n, rest) e in
-    let same = some_is (from_le_bytes w (take (byte_len w) bytes), drop (byte_len w) bytes) (n, rest) g.1 in
+    let same = same_Some (from_le_bytes w (take (byte_len w) bytes), drop (byte_len w) bytes) (n, rest) g.1 in
     let long : byte_len w ≤ length bytes = ltb-false _ _ g.0 in
     let n-is : from_le_bytes w (take (byte_len w) bytes) ≡ n = ap (λ (p : ℕ × List ℕ). p.0) same in
     let rest-is : drop (byte_len w) bytes ≡ rest = ap (λ (p : ℕ × List ℕ). p.1) same in
@@ -107,7 +98,7 @@ length_prefixed_takes bytes text rest fits e =
     let second : Takes n.1 (take n.0 n.1) (drop n.0 n.1) = record { parts = sym (take-append-drop n.0 n.1); rest_fits = IsBytes-drop n.0 n.1 t.0.rest_fits } in
     let both = Takes-then bytes (to_le_bytes w64 n.0) n.1 (take n.0 n.1) (drop n.0 n.1) t.0 second in
     let whole : Takes bytes (length_prefixed (take n.0 n.1)) (drop n.0 n.1) = subst (λ (k : ℕ). Takes bytes (to_le_bytes w64 k ++ take n.0 n.1) (drop n.0 n.1)) (sym len) both in
-    subst (λ (p : List ℕ × List ℕ). Takes bytes (length_prefixed p.0) p.1 × (length p.0 < 2 ^ 64)) (some_is (take n.0 n.1, drop n.0 n.1) (text, rest) g.1) (whole, omega (arith, t.1))
+    subst (λ (p : List ℕ × List ℕ). Takes bytes (length_prefixed p.0) p.1 × (length p.0 < 2 ^ 64)) (same_Some (take n.0 n.1, drop n.0 n.1) (text, rest) g.1) (whole, omega (arith, t.1))
 
 pub length_prefixed_again : (text rest : List ℕ) → length text < 2 ^ 64 → length_prefixed_at (length_prefixed text ++ rest) ≡ Some (text, rest)
 unfolding length_prefixed_at
@@ -121,7 +112,7 @@ text_takes bytes text rest fits e =
     let b = bind_some (length_prefixed_at bytes) (λ t. cond (is_utf8 t.0) (Some t) None) (text, rest) e in
     let g = then_some (is_utf8 b.0.0) (Some b.0) (text, rest) b.2 in
     let t = length_prefixed_takes bytes b.0.0 b.0.1 fits b.1 in
-    subst (λ (p : List ℕ × List ℕ). Takes bytes (length_prefixed p.0) p.1 × (length p.0 < 2 ^ 64) × (is_utf8 p.0 ≡ true)) (some_is b.0 (text, rest) g.1) (t.0, t.1, g.0)
+    subst (λ (p : List ℕ × List ℕ). Takes bytes (length_prefixed p.0) p.1 × (length p.0 < 2 ^ 64) × (is_utf8 p.0 ≡ true)) (same_Some b.0 (text, rest) g.1) (t.0, t.1, g.0)
 
 pub text_again : (text rest : List ℕ) → length text < 2 ^ 64 → is_utf8 text ≡ true → text_at (length_prefixed text ++ rest) ≡ Some (text, rest)
 unfolding text_at
@@ -142,16 +133,12 @@ moment_takes bytes m rest fits e =
     let back : cast_unsigned w64 (cast_signed w64 a.0.0) ≡ a.0.0 = of_z-to_z w64 a.0.0 t0.1 in
     let signed : Takes bytes (moment_bytes made.0) made.1 = subst (λ (k : ℕ). Takes bytes (to_le_bytes w64 k ++ to_le_bytes w32 b.0.0) b.0.1) (sym back) both in
     let in_range : FitsSigned w64 (cast_signed w64 a.0.0) = sfits_to_z {w = w64} {n = a.0.0} (record { fits = t0.1 }) in
-    subst (λ (p : Moment × List ℕ). Takes bytes (moment_bytes p.0) p.1 × FitsMoment p.0) (some_is made (m, rest) g.1) (signed, (in_range, ltb-true _ _ g.0))
-
-unsigned_small : (z : ℤ) → FitsSigned w64 z → cast_unsigned w64 z < 2 ^ 64
-unsigned_small (pos n) h = omega (arith, h.sfits)
-unsigned_small (negsuc n) h = omega (arith, h.sfits)
+    subst (λ (p : Moment × List ℕ). Takes bytes (moment_bytes p.0) p.1 × FitsMoment p.0) (same_Some made (m, rest) g.1) (signed, (in_range, ltb-true _ _ g.0))
 
 pub moment_again : (m : Moment) (rest : List ℕ) → FitsMoment m → moment_at (moment_bytes m ++ rest) ≡ Some (m, rest)
 unfolding moment_at
 moment_again m rest h =
-    let small : cast_unsigned w64 m.seconds < 2 ^ 64 = unsigned_small m.seconds h.0 in
+    let small : cast_unsigned w64 m.seconds < 2 ^ 64 = long_bits_small m.seconds h.0 in
     let regrouped : moment_bytes m ++ rest ≡ to_le_bytes w64 (cast_unsigned w64 m.seconds) ++ (to_le_bytes w32 m.nanoseconds ++ rest) = append_assoc (to_le_bytes w64 (cast_unsigned w64 m.seconds)) (to_le_bytes w32 m.nanoseconds) rest in
     let below : ltb m.nanoseconds 1_000_000_000 ≡ true = lt-ltb _ _ h.1 in
     ap moment_at regrouped ∙ rw (number_again w64 (2 ^ 64) wide64 (cast_unsigned w64 m.seconds) (to_le_bytes w32 m.nanoseconds ++ rest) small, number_again w32 (2 ^ 32) wide32 m.nanoseconds rest (omega (arith, h.1)), below, to_z-of_z w64 m.seconds h.0) refl
@@ -163,11 +150,11 @@ pub time_takes : (bytes : List ℕ) (o : Option Moment) (rest : List ℕ) → Is
 unfolding time_at
 time_takes [] o rest fits e = absurd cc
 time_takes (zero ∷ bytes) o rest fits e =
-    subst (λ (x : Option Moment × List ℕ). Takes (0 ∷ bytes) (time_bytes x.0) x.1 × IfSome x.0 FitsMoment) (some_is (None, bytes) (o, rest) e) (record { parts = refl; rest_fits = IsBytes-rest 0 bytes fits }, tt)
+    subst (λ (x : Option Moment × List ℕ). Takes (0 ∷ bytes) (time_bytes x.0) x.1 × IfSome x.0 FitsMoment) (same_Some (None, bytes) (o, rest) e) (record { parts = refl; rest_fits = IsBytes-rest 0 bytes fits }, tt)
 time_takes (suc zero ∷ bytes) o rest fits e =
     let b = bind_some (moment_at bytes) (λ m. Some (Some m.0, m.1)) (o, rest) e in
     let t = moment_takes bytes b.0.0 b.0.1 (IsBytes-rest 1 bytes fits) b.1 in
-    subst (λ (x : Option Moment × List ℕ). Takes (1 ∷ bytes) (time_bytes x.0) x.1 × IfSome x.0 FitsMoment) (some_is (Some b.0.0, b.0.1) (o, rest) b.2) (record { parts = ap (λ (w : List ℕ). 1 ∷ w) t.0.parts; rest_fits = t.0.rest_fits }, t.1)
+    subst (λ (x : Option Moment × List ℕ). Takes (1 ∷ bytes) (time_bytes x.0) x.1 × IfSome x.0 FitsMoment) (same_Some (Some b.0.0, b.0.1) (o, rest) b.2) (record { parts = ap (λ (w : List ℕ). 1 ∷ w) t.0.parts; rest_fits = t.0.rest_fits }, t.1)
 time_takes (suc (suc b) ∷ bytes) o rest fits e = absurd cc
 
 pub time_again : (o : Option Moment) (rest : List ℕ) → IfSome o FitsMoment → time_at (time_bytes o ++ rest) ≡ Some (o, rest)
@@ -195,7 +182,7 @@ include_takes bytes x fits e =
     let e14 = Takes-then a.0.1 (length_prefixed b.0.0) b.0.1 (to_le_bytes w64 c.0.0 ++ (time_bytes d.0.0 ++ time_bytes f.0.0)) f.0.1 t1.0 e24 in
     let e04 = Takes-then bytes (length_prefixed a.0.0) a.0.1 (length_prefixed b.0.0 ++ (to_le_bytes w64 c.0.0 ++ (time_bytes d.0.0 ++ time_bytes f.0.0))) f.0.1 t0.0 e14 in
     let made : Include × List ℕ = (record { path = a.0.0; digest = b.0.0; size = c.0.0; modified = d.0.0; changed = f.0.0 }, f.0.1) in
-    subst (λ (y : Include × List ℕ). Takes bytes (include_bytes y.0) y.1 × Fits y.0) {x = made} (some_is made x f.2)
+    subst (λ (y : Include × List ℕ). Takes bytes (include_bytes y.0) y.1 × Fits y.0) {x = made} (same_Some made x f.2)
     (e04, record { path = t0.1; digest = t1.1; digest_text = t1.2; size = t2.1; modified = t3.1; changed = t4.1 })
 
 pub include_again : (i : Include) (rest : List ℕ) → Fits i → include_at (include_bytes i ++ rest) ≡ Some (i, rest)

@@ -1,8 +1,8 @@
 -- What is found is the greatest.
-use Rattle.std.proofs.Common.{◌≡◌, ◌≢◌, ℕ, Bool, true, false, ◌&&◌, ◌⊎◌, inl, inr, T, cond, List, [], ◌∷◌, ◌++◌, reverse, Option, Some, None, refl, sym, ap, ◌∙◌}
+use Rattle.std.proofs.Common.{◌≡◌, ◌≢◌, ℕ, Bool, true, false, ◌⊎◌, inl, inr, cond, List, [], ◌∷◌, ◌++◌, reverse, Option, Some, None, refl, sym, ap, ◌∙◌}
 use Rattle.std.specs.List.{list_all}
 use Rattle.std.specs.List as lists
-use Rattle.std.specs.Ordering.{is_lt, is_eq, ordering_reverse}
+use Rattle.std.specs.Ordering.{is_eq, ordering_reverse}
 use Rattle.std.specs.declared.cmp.Ordering.{Ordering}
 use Rattle.std.specs.declared.cmp.Ordering.TheVariants.{Less, Equal, Greater}
 use Rattle.std.specs.Cmp.Lexicographic.{nat_list_cmp_total}
@@ -10,10 +10,12 @@ use Rattle.std.specs.Cmp.{tied_itself}
 use Rattle.std.specs.FinMap.{find, entries, entries_sorted, get-entries, is_sorted, slice_cmp-IsAntisymmetric, nat_cmp-IsAntisymmetric}
 use Rattle.std.specs.FinMap.Entries.{below_all}
 use Rattle.std.proofs.lemmas.List.{reverse-append}
+use Rattle.std.proofs.lemmas.Bool.{and_parts}
+use Rattle.cck_include.specs.Include.{Include}
+use Rattle.cck_path.proofs.TestLemmas.{true_from_T, less_is}
 use Rattle.cck_entry.specs.Entry.{Entry, text_cmp}
 use Rattle.cck_entry.specs.Find.{found_in, IsGreatest}
 use Rattle.cck_entry.specs.Results.{KeyResult}
-use Rattle.cck_include.specs.Include.{Include}
 
 abbrev Rows : Type 0
 Rows = List KeyResult
@@ -51,29 +53,12 @@ find_by k r rs l Greater e h = inr h
 find_cases : (k : List ℕ) (r : KeyResult) (rs : Rows) (l : List Include) → find text_cmp k (r ∷ rs) ≡ Some l → ((k ≡ r.0) × (r.1 ≡ l)) ⊎ (find text_cmp k rs ≡ Some l)
 find_cases k r rs l h = find_by k r rs l (text_cmp k r.0) refl h
 
-less : (o : Ordering) → is_lt o ≡ true → o ≡ Less
-less Less e = refl
-less Equal e = absurd cc
-less Greater e = absurd cc
-
-first_of : (a b : Bool) → (a && b) ≡ true → a ≡ true
-first_of true b e = refl
-first_of false b e = e
-
-second_of : (a b : Bool) → (a && b) ≡ true → b ≡ true
-second_of true b e = e
-second_of false b e = absurd cc
-
-from_T : (b : Bool) → T b → b ≡ true
-from_T true h = refl
-from_T false h = absurd h
-
 below_key : (r : KeyResult) (rs : Rows) (k : List ℕ) (l : List Include) → below_all text_cmp r.0 rs ≡ true → find text_cmp k rs ≡ Some l → text_cmp r.0 k ≡ Less
 below_key r [] k l b h = absurd cc
 below_key r (x ∷ rs) k l b h =
     elim (find_cases k x rs l h) [
-      | inl here ↦ ap (text_cmp r.0) here.0 ∙ less _ (first_of _ _ b)
-      | inr there ↦ below_key r rs k l (second_of _ _ b) there
+      | inl here ↦ ap (text_cmp r.0) here.0 ∙ less_is _ (and_parts _ _ b).0
+      | inr there ↦ below_key r rs k l (and_parts _ _ b).1 there
     ]
 
 above : (a b : List ℕ) → text_cmp a b ≡ Less → text_cmp b a ≡ Greater
@@ -115,11 +100,11 @@ step m r rs None false below is h =
 
 greatest_in : (m : Include → Bool) (rs : Rows) → is_sorted text_cmp rs ≡ true → Greatest m rs (found_in m rs)
 greatest_in m [] s = λ k list e. absurd cc
-greatest_in m (r ∷ rs) s = rw (found_cons m r rs) (step m r rs (found_in m rs) (list_all m r.1) (first_of _ _ s) refl (greatest_in m rs (second_of _ _ s)))
+greatest_in m (r ∷ rs) s = rw (found_cons m r rs) (step m r rs (found_in m rs) (list_all m r.1) (and_parts _ _ s).0 refl (greatest_in m rs (and_parts _ _ s).1))
 
 by_get : (m : Include → Bool) (e : Entry) (o : Option (KeyResult)) → Greatest m (entries e) o → IsGreatest m e o
 by_get m e None h = λ k list is. h k list (sym (get-entries e k) ∙ is)
 by_get m e (Some r) h = (get-entries e r.0 ∙ h.0, h.1, λ k list is f. h.2 k list (sym (get-entries e k) ∙ is) f)
 
 pub greatest_of : (m : Include → Bool) (e : Entry) → IsGreatest m e (found_in m (entries e))
-greatest_of m e = by_get m e (found_in m (entries e)) (greatest_in m (entries e) (from_T _ (entries_sorted e)))
+greatest_of m e = by_get m e (found_in m (entries e)) (greatest_in m (entries e) (true_from_T _ (entries_sorted e)))

@@ -1,5 +1,5 @@
 -- A key that gets its includes, in a map and in the entry that lies in it.
-use Rattle.std.proofs.Common.{◌≡◌, ℕ, ◌+◌, ◌≤◌, Bool, true, false, ltb, cond, ◌||◌, List, [], ◌∷◌, length, map, Option, Some, None, option_map, unwrap_or, refl, sym, ap, ◌∙◌, arith, zero-add}
+use Rattle.std.proofs.Common.{◌≡◌, ℕ, ◌+◌, ◌≤◌, Bool, true, false, ltb, cond, List, [], ◌∷◌, length, map, Option, Some, None, option_map, unwrap_or, refl, sym, ap, ◌∙◌, arith, zero-add}
 use Rattle.std.specs.Prelude.{String}
 use Rattle.std.specs.Global.{Vec}
 use Rattle.std.specs.declared.alloc.Global.{Global}
@@ -17,10 +17,10 @@ use Rattle.std.specs.FinMap.Entries.{put, by_order}
 use Rattle.std.proofs.lemmas.Map.Entries.{sum_by-insert_entry}
 use Rattle.std.proofs.lemmas.List.{length-map}
 use Rattle.std.proofs.lemmas.List.Sums.{sum_by-cons}
-use Rattle.std.proofs.lemmas.Bool.{ltb-false}
+use Rattle.std.proofs.lemmas.Bool.{ltb-false, or_parts}
 use Rattle.cck_include.specs.declared.include.IncludeEntry.{IncludeEntry}
-use Rattle.cck_entry.specs.Results.{KeyResult, result_in}
 use Rattle.cck_include.specs.Include.{Include, include_in, includes_in}
+use Rattle.cck_entry.specs.Results.{KeyResult, result_in}
 use Rattle.cck_entry.specs.Entry.{text_cmp}
 use Rattle.cck_entry.specs.Entry.{Entry, entry_in, include_count, added, within_results, within_includes, is_over}
 use Rattle.cck_entry.proofs.EntryLemmas.{entries_in, empty_in, entries_of_empty}
@@ -95,11 +95,7 @@ pub added_to_none : (es new : List (String Global × Vec IncludeEntry)) (e : Ent
 added_to_none es new e key list none over h = h ∙ ap (λ (m : Entry). insert m key list) (empty_in es none) ∙ sym (added_to e key list true over)
 
 -- what passes no limit
-under_both : (a b : Bool) → (a || b) ≡ false → (a ≡ false) × (b ≡ false)
-under_both true b e = absurd cc
-under_both false b e = (refl, e)
-
 pub under_limits : (e : Entry) (n : ℕ) → is_over e n ≡ false → (len e ≤ 100) × (include_count (entries e) + n ≤ 10000)
 under_limits e n over =
-    let under = under_both (ltb 100 (len e)) (ltb 10000 (include_count (entries e) + n)) over in
+    let under = or_parts (ltb 100 (len e)) (ltb 10000 (include_count (entries e) + n)) over in
     (ltb-false _ _ under.0, ltb-false _ _ under.1)

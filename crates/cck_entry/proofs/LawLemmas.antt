@@ -8,14 +8,14 @@ use Rattle.std.specs.FinMap.{contains_key, empty, entries, entries-insert, get-e
 use Rattle.std.specs.FinMap.Entries.{by_order, put}
 use Rattle.std.specs.declared.cmp.Ordering.{Ordering}
 use Rattle.std.specs.declared.cmp.Ordering.TheVariants.{Equal, Greater, Less}
+use Rattle.std.proofs.lemmas.Option.{same_Some}
+use Rattle.cck_include.specs.Include.{Include}
 use Rattle.cck_entry.specs.Entry.{Entry, EntryText, added, include_count, is_over, text_cmp}
 use Rattle.cck_entry.specs.Results.{KeyResult}
-use Rattle.cck_include.specs.Include.{Include}
 use Rattle.cck_entry.specs.Laws.{AddedIsLimited, AddedToAllOrNothing, OneTextOneEntry}
 use Rattle.cck_entry.specs.Reading.{entry_at}
 use Rattle.cck_entry.specs.Writing.{entry_bytes, result_bytes}
 use Rattle.cck_entry.proofs.EntryLemmas.{as_entry}
-use Rattle.cck_entry.proofs.FieldLemmas.{some_is}
 use Rattle.cck_entry.proofs.InsertLemmas.{added_to, under_limits}
 
 -- ---- texts
@@ -29,7 +29,7 @@ one_text_one_entry e f a b s t = (one_entry, one_text)
         let rest = to_le_bytes w64 (length (entries e)) ++ flat_map result_bytes (entries e) in
         let first : entry_at rest ≡ Some (entries e) = as_entry e rest (subst (EntryText e) s.text s) in
         let second : entry_at rest ≡ Some (entries f) = as_entry f rest (subst (EntryText f) (sym same ∙ s.text) t) in
-        same_entries_map e f (some_is (entries e) (entries f) (sym first ∙ second))
+        same_entries_map e f (same_Some (entries e) (entries f) (sym first ∙ second))
 
     one_text : e ≡ f → a ≡ b
     one_text same = s.text ∙ ap (λ (m : Entry). entry_bytes (entries m)) same ∙ sym t.text

@@ -5,20 +5,22 @@ use Rattle.std.specs.Int.{w64, to_le_bytes}
 use Rattle.std.proofs.lemmas.Bool.{eqb-true, le-ltb}
 use Rattle.std.proofs.lemmas.List.{append-nil, nil_from_length, length-append}
 use Rattle.std.proofs.lemmas.List.Concat.{flat_map-cons}
+use Rattle.std.proofs.lemmas.Option.{same_Some}
 use Rattle.cck_path.specs.Timestamp.{Moment}
-use Rattle.cck_entry.specs.Results.{KeyResult, Fits, FitsResult}
 use Rattle.cck_include.specs.Include.{Include}
 use Rattle.cck_digest.specs.Digest.{length_prefixed}
+use Rattle.cck_path.proofs.TestLemmas.{else_some, then_some}
+use Rattle.cck_entry.specs.Results.{KeyResult, Fits, FitsResult}
 use Rattle.cck_entry.specs.Writing.{time_bytes, include_bytes, result_bytes}
 use Rattle.cck_entry.specs.Reading.{◌>>=◌, number_at, text_at, include_at, includes_at, counted_at, result_at, results_from, entry_at, comes_after}
-use Rattle.cck_entry.proofs.FieldLemmas.{IsBytes, bind_some, else_some, then_some, some_is, Takes, Takes-then, wide64, number_takes, number_again, text_takes, text_again, include_takes, include_again}
+use Rattle.cck_entry.proofs.FieldLemmas.{IsBytes, bind_some, Takes, Takes-then, wide64, number_takes, number_again, text_takes, text_again, include_takes, include_again}
 
 -- ---- includes
 
 includes_take : (n : ℕ) (bytes : List ℕ) (x : List Include × List ℕ) → IsBytes bytes → includes_at n bytes ≡ Some x → Takes bytes (flat_map include_bytes x.0) x.1 × (length x.0 ≡ n) × AllByRecursion Fits x.0
 unfolding includes_at
 includes_take zero bytes x fits e =
-    subst (λ (y : List Include × List ℕ). Takes bytes (flat_map include_bytes y.0) y.1 × (length y.0 ≡ 0) × AllByRecursion Fits y.0) (some_is ([], bytes) x e) (record { parts = refl; rest_fits = fits }, refl, tt)
+    subst (λ (y : List Include × List ℕ). Takes bytes (flat_map include_bytes y.0) y.1 × (length y.0 ≡ 0) × AllByRecursion Fits y.0) (same_Some ([], bytes) x e) (record { parts = refl; rest_fits = fits }, refl, tt)
 includes_take (suc n) bytes x fits e =
     let a = bind_some (include_at bytes) (λ first. includes_at n first.1 >>= λ others. Some (first.0 ∷ others.0, others.1)) x e in
     let b = bind_some (includes_at n a.0.1) (λ others. Some (a.0.0 ∷ others.0, others.1)) x a.2 in
@@ -26,7 +28,7 @@ includes_take (suc n) bytes x fits e =
     let second = includes_take n a.0.1 b.0 first.0.rest_fits b.1 in
     let both = Takes-then bytes (include_bytes a.0.0) a.0.1 (flat_map include_bytes b.0.0) b.0.1 first.0 second.0 in
     let made : List Include × List ℕ = (a.0.0 ∷ b.0.0, b.0.1) in
-    subst (λ (y : List Include × List ℕ). Takes bytes (flat_map include_bytes y.0) y.1 × (length y.0 ≡ suc n) × AllByRecursion Fits y.0) (some_is made x b.2) (rw flat_map-cons both, ap suc second.1, (first.1, second.2))
+    subst (λ (y : List Include × List ℕ). Takes bytes (flat_map include_bytes y.0) y.1 × (length y.0 ≡ suc n) × AllByRecursion Fits y.0) (same_Some made x b.2) (rw flat_map-cons both, ap suc second.1, (first.1, second.2))
 
 includes_again : (is : List Include) (rest : List ℕ) → AllByRecursion Fits is → includes_at (length is) (flat_map include_bytes is ++ rest) ≡ Some (is, rest)
 unfolding includes_at
@@ -89,7 +91,7 @@ result_takes bytes x fits e =
     let t1 = counted_takes a.0.1 b.0 t0.0.rest_fits b.1 in
     let both = Takes-then bytes (length_prefixed a.0.0) a.0.1 (to_le_bytes w64 (length b.0.0) ++ flat_map include_bytes b.0.0) b.0.1 t0.0 t1.0 in
     let made : KeyResult × List ℕ = ((a.0.0, b.0.0), b.0.1) in
-    subst (λ (y : KeyResult × List ℕ). Takes bytes (result_bytes y.0) y.1 × FitsResult y.0) (some_is made x b.2)
+    subst (λ (y : KeyResult × List ℕ). Takes bytes (result_bytes y.0) y.1 × FitsResult y.0) (same_Some made x b.2)
     (both, record { key = t0.1; key_text = t0.2; count = t1.1; includes = t1.2 })
 
 result_again : (r : KeyResult) (rest : List ℕ) → FitsResult r → result_at (result_bytes r ++ rest) ≡ Some (r, rest)
@@ -115,7 +117,7 @@ record Read (front : List KeyResult) (n : ℕ) (bytes : List ℕ) (x : List KeyR
 results_take : (n : ℕ) (front : List KeyResult) (bytes : List ℕ) (x : List KeyResult × List ℕ) → IsBytes bytes → results_from front n bytes ≡ Some x → Read front n bytes x
 unfolding results_from
 results_take zero front bytes x fits e =
-    subst (λ (y : List KeyResult × List ℕ). Read front 0 bytes y) (some_is (front, bytes) x e)
+    subst (λ (y : List KeyResult × List ℕ). Read front 0 bytes y) (same_Some (front, bytes) x e)
     (record { new = []; all = sym (append-nil front); text = record { parts = refl; rest_fits = fits }; count = refl; each = tt; ascends = tt })
 results_take (suc n) front bytes x fits e =
     let a = bind_some (result_at bytes) (λ first. cond (comes_after front first.0.0) (results_from (front ++ first.0 ∷ []) n first.1) None) x e in
@@ -172,7 +174,7 @@ entry_takes bytes rs fits e =
     let nothing : b.0.1 ≡ [] = nil_from_length b.0.1 (eqb-true _ _ h.0) in
     let both = (Takes-then bytes (to_le_bytes w64 a.0.0) a.0.1 (flat_map result_bytes second.new) b.0.1 first.0 second.text).parts in
     let whole : bytes ≡ body second.new = both ∙ ap (λ (r : List ℕ). (to_le_bytes w64 a.0.0 ++ flat_map result_bytes second.new) ++ r) nothing ∙ append-nil (to_le_bytes w64 a.0.0 ++ flat_map result_bytes second.new) ∙ ap (λ (k : ℕ). to_le_bytes w64 k ++ flat_map result_bytes second.new) (sym second.count) in
-    let same : second.new ≡ rs = sym second.all ∙ some_is b.0.0 rs h.1 in
+    let same : second.new ≡ rs = sym second.all ∙ same_Some b.0.0 rs h.1 in
     subst (λ (v : List KeyResult). IsEntry v × (bytes ≡ body v)) same (record { count = omega (arith, second.count, first.1); each = second.each; ascends = second.ascends }, whole)
 
 pub entry_again : (rs : List KeyResult) → IsEntry rs → entry_at (body rs) ≡ Some rs

@@ -1,17 +1,13 @@
 -- when two entries are equal, as a test
 use Rattle.std.specs.Prelude.{Bool, ◌&&◌, nat_eq}
-use Rattle.std.specs.Ordering.{int_eq}
 use Rattle.std.specs.Option.{option_eq}
 use Rattle.std.specs.Cmp.Lexicographic.{pointwise, lists_equiv, options_equiv}
 use Rattle.std.specs.Cmp.{IsEquivalence, IsPartialEquivalence, and_equiv, on_equiv, nat_eq_equiv, int_eq_equiv, partial_equiv_from_equiv}
 use Rattle.std.specs.FinMap.{entries}
-use Rattle.cck_path.specs.Timestamp.{Moment}
-use Rattle.cck_entry.specs.Results.{KeyResult}
+use Rattle.cck_path.specs.Timestamp.{Moment, same_moment}
 use Rattle.cck_include.specs.Include.{Include}
+use Rattle.cck_entry.specs.Results.{KeyResult}
 use Rattle.cck_entry.specs.Entry.{Entry}
-
-abbrev pub same_moment : Moment → Moment → Bool
-same_moment a b = int_eq a.seconds b.seconds && nat_eq a.nanoseconds b.nanoseconds
 
 abbrev pub same_include : Include → Include → Bool
 same_include a b =

@@ -1,8 +1,8 @@
--- what the definitions say above what they compute
+-- what the definitions say beyond what they compute
 use Rattle.std.specs.Prelude.{◌≡◌, ◌↔◌, ◌⊎◌, ℕ, ◌≤◌, List, MatchBool, length}
 use Rattle.std.specs.FinMap.{empty, entries, insert, len}
-use Rattle.cck_entry.specs.Entry.{Entry, EntryText, added, include_count, is_over}
 use Rattle.cck_include.specs.Include.{Include}
+use Rattle.cck_entry.specs.Entry.{Entry, EntryText, added, include_count, is_over}
 
 -- an entry has one text, and a text is of one entry
 abbrev pub OneTextOneEntry : Type 0

@@ -1,10 +1,10 @@
 //! Results added to an entry.
 ghost use Rattle.std.specs.Prelude.{◌≡◌, List, MatchResult, None, Some};
-ghost use Rattle.cck_entry.specs.Entry.{added};
 ghost use Rattle.cck_files.specs.Calls.{Keeps, Rose};
 ghost use Rattle.cck_include.specs.Gathered.{digested_in, gathered};
 ghost use Rattle.cck_include.specs.Include.{Include};
 ghost use Rattle.cck_include.specs.Refusal.{IsMissing};
+ghost use Rattle.cck_entry.specs.Entry.{added};
 
 use crate::PreprocessorCacheEntry;
 use cck_files::Files;
@@ -13,17 +13,17 @@ use cck_path::Timestamp;
 use cck_time::Error;
 
 impl PreprocessorCacheEntry {
-    /// Gives a key the files that its result included, each a digest and a path, as its result. What
-    /// is [recorded of them](gather) is asked of the files first. The result replaces the one that
-    /// the key had.
+    /// Gives a key the files that its result included, each a digest and a path, as its result.
+    /// What is [recorded of them](gather) is asked of the files first. The result replaces the one
+    /// that the key had.
     ///
     /// All results are cleared before if there are more than 100, or if their includes and the new
     /// ones are more than 10000 together; what the key had counts too. So at most 101 results stand
     /// afterwards, and at most 10000 includes, unless one result stands alone.
     ///
     /// It is refused as [`Error::Io`] with [`NotFound`](cck_digest::FileError::NotFound) only where
-    /// nothing stands at one of the paths, or with [`Fault`](cck_digest::FileError::Fault) only where a
-    /// fault came, and as [`Error::Memory`]. A refusal leaves the entry as it was.
+    /// nothing stands at one of the paths, or with [`Fault`](cck_digest::FileError::Fault) only
+    /// where a fault came, and as [`Error::Memory`]. A refusal leaves the entry as it was.
     ///
     /// Upstream's `PreprocessorCacheEntry::add_result`.
     pub fn add_result<F: Files>(

@@ -4,14 +4,15 @@ ghost use Rattle.std.specs.FinMap.{empty, entries, len};
 ghost use Rattle.std.specs.Io.KnownBytes.{Appends};
 ghost use Rattle.std.specs.String.{string_bytes};
 ghost use Rattle.cck_digest.specs.declared.error.UtilError.TheVariants as util;
+ghost use Rattle.cck_include.specs.Include.{includes_in};
 ghost use Rattle.cck_entry.specs.Entry.{Entry, EntryText, IsEntryOrMemory, IsReadFrom, Reads, added, include_count, is_over};
 ghost use Rattle.cck_entry.specs.Results.{result_in};
-ghost use Rattle.cck_include.specs.Include.{includes_in};
 
 use crate::reading::read_entry;
 use crate::results::{Results, copy_results, insert_counted, total};
-use crate::writing::{FORMAT_VERSION, write_entry};
+use crate::writing::write_entry;
 use cck_include::IncludeEntry;
+use cck_preprocessor_key::FORMAT_VERSION;
 use cck_time::Error;
 use std::alloc::Global;
 use std::collections::BTreeMap;
@@ -69,9 +70,9 @@ impl PreprocessorCacheEntry {
 
     /// The entry whose text these bytes are; for no bytes it is the one without results.
     ///
-    /// [`Error::UnknownFormat`] names a first byte other than 1. [`Error::Deserialization`] says that
-    /// the bytes begin with 1 and are the text of no entry. A count is judged by the bytes left before
-    /// memory is taken for it. [`Error::Memory`] says that memory was refused.
+    /// [`Error::UnknownFormat`] names a first byte other than 1. [`Error::Deserialization`] says
+    /// that the bytes begin with 1 and are the text of no entry. A count is judged by the bytes
+    /// left before memory is taken for it. [`Error::Memory`] says that memory was refused.
     pub fn read(alloc: Global, bytes: &[u8]) -> Result<PreprocessorCacheEntry, Error>
         ensures reads { Reads result bytes.now }
         ensures only { (e : Entry) → EntryText e bytes.now → IsEntryOrMemory e result }
@@ -87,8 +88,8 @@ impl PreprocessorCacheEntry {
 
     /// Writes the entry's text, the only one that it has.
     ///
-    /// [`Error::Io`] with `UtilError::Write` says that the writer failed, and is the only refusal. How
-    /// much was written by then is not said.
+    /// [`Error::Io`] with `UtilError::Write` says that the writer failed, and is the only refusal.
+    /// How much was written by then is not said.
     pub fn serialize_to<W: Write>(&self, writer: &mut W) -> Result<(), Error>
         ensures text { OnOk result ((text : List ℕ) × EntryText self.now text
             × Appends (W.contents writer.old) (W.contents writer.new) text) }
@@ -111,7 +112,8 @@ impl PreprocessorCacheEntry {
         self.number_of_entries
     }
 
-    /// The results, in the order of their keys' bytes.
+    /// The results, in the order of their keys' bytes: all that the entry holds, for a caller that
+    /// shows it or compares it with something else.
     pub fn results(&self) -> &BTreeMap<String, Vec<IncludeEntry>>
         ensures { entries self.now ≡ map result_in result.now.entries }
     {

@@ -1,8 +1,8 @@
-//! Laws about the definitions: what they say above what they compute. Each is the contract of a
+//! Laws about the definitions: what they say beyond what they compute. Each is the contract of a
 //! function that does nothing.
 ghost use Rattle.std.specs.Prelude.{◌≡◌, ◌↔◌, IsTrue};
-ghost use Rattle.cck_entry.specs.Entry.{Entry};
 ghost use Rattle.cck_include.specs.Include.{include_in};
+ghost use Rattle.cck_entry.specs.Entry.{Entry};
 ghost use Rattle.cck_entry.specs.Find.{GreatestIsFound};
 ghost use Rattle.cck_entry.specs.Laws.{AddedIsLimited, AddedToAllOrNothing, OneTextOneEntry};
 

@@ -1,19 +1,19 @@
-//! The preprocessor cache, after sccache's `src/compiler/preprocessor_cache.rs`: the key that a store
-//! is asked under before anything is preprocessed, and the *entry* that it holds under it.
+//! The preprocessor cache, after sccache's `src/compiler/preprocessor_cache.rs`: the key that a
+//! store is asked under before anything is preprocessed, and the *entry* that it holds under it.
 //!
-//! An entry is a finite map from the keys of results to the files that each result included, as they
-//! were then. Where all of them are found unchanged later, the result's key is taken, and no
+//! An entry is a finite map from the keys of results to the files that each result included, as
+//! they were then. Where all of them are found unchanged later, the result's key is taken, and no
 //! preprocessor runs.
 //!
 //! - [`preprocessor_cache_entry_hash_key`] gives the key.
-//! - [`PreprocessorCacheEntry`] is an entry. [`PreprocessorCacheEntry::add_result`] gives it a result,
-//!   within limits, and [`PreprocessorCacheEntry::lookup_result_digest`] finds the result whose files
-//!   all still are what they were.
-//! - [`IncludeEntry`] is a file that was included: its path, digest, size and times. The digest is its
-//!   [`recorded_digest`], which tells its contents and what the macros of time in them show.
+//! - [`PreprocessorCacheEntry`] is an entry. [`PreprocessorCacheEntry::add_result`] gives it a
+//!   result, within limits, and [`PreprocessorCacheEntry::lookup_result_digest`] finds the result
+//!   whose files all still are what they were.
+//! - [`IncludeEntry`] is a file that was included: its path, digest, size and times. The digest is
+//!   its [`recorded_digest`], which tells its contents and what the macros of time in them show.
 //! - [`PreprocessorCacheEntry::serialize_to`] writes an entry and [`PreprocessorCacheEntry::read`]
 //!   reads it back. Other bytes are refused, each for a named cause.
-//! - [`laws`] has what the definitions say above what they compute.
+//! - [`laws`] has what the definitions say beyond what they compute.
 //!
 //! An entry is written in one way only. Numbers have their lowest byte first:
 //!
@@ -22,7 +22,7 @@
 //! | the format | one byte, 1 |
 //! | the number of results | 8 bytes |
 //! | each result, keys ascending by their bytes | the key's length in 8 bytes, the key, the number of its includes in 8 bytes, these in their order |
-//! | each include | the path's length in 8 bytes, the path, the digest's length in 8 bytes, the digest, the size in 8 bytes, the time of the contents, the time of the status |
+//! | each include | the path's length in 8 bytes, the path, the digest's length in 8 bytes, the digest, the size in 8 bytes, the time of the modification, the time of the change |
 //! | a time | the byte 0 for none; or the byte 1, the seconds in 8 bytes, the nanoseconds below a second in 4 |
 //!
 //! Keys and digests are UTF-8, paths are any bytes, and nothing follows the last result.
@@ -48,6 +48,6 @@ mod tests;
 mod writing;
 
 pub use cck_include::{IncludeEntry, gather, includes_match, recorded_digest};
-pub use cck_preprocessor_key::preprocessor_cache_entry_hash_key;
+pub use cck_preprocessor_key::{FORMAT_VERSION, preprocessor_cache_entry_hash_key};
 pub use cck_time::{Error, PreprocessorCacheModeConfig, local_time_part};
 pub use entry::PreprocessorCacheEntry;

@@ -1,13 +1,13 @@
 //! Which result of an entry still stands.
-ghost use Rattle.std.specs.Prelude.{◌≡◌, IfOk, IsOkUnless, map};
+ghost use Rattle.std.specs.Prelude.{IfOk, IsOkUnless, map};
 ghost use Rattle.std.specs.FinMap.{entries};
 ghost use Rattle.std.specs.Option.{option_map};
-ghost use Rattle.cck_entry.specs.Find.{IsLookup};
-ghost use Rattle.cck_entry.specs.Results.{result_in};
 ghost use Rattle.cck_files.specs.Calls.{Keeps, Rose};
 ghost use Rattle.cck_include.specs.Matching.{matches};
 ghost use Rattle.cck_include.specs.Setting.{setting_in};
 ghost use Rattle.jiff.specs.Words.{plain_zone};
+ghost use Rattle.cck_entry.specs.Find.{IsLookup};
+ghost use Rattle.cck_entry.specs.Results.{result_in};
 
 use crate::PreprocessorCacheEntry;
 use crate::results::Results;
@@ -22,11 +22,12 @@ use std::alloc::Global;
 
 impl PreprocessorCacheEntry {
     /// The key of the result whose included files all still are what they were, the greatest by its
-    /// bytes where there are several, if there is one. A result that included nothing always stands.
+    /// bytes where there are several, if there is one. A result that included nothing always
+    /// stands.
     ///
-    /// No file that could be read is read twice. A file that can't be read, for whatever cause, isn't
-    /// what it was; so where a fault came, the answer may be none, or another key whose files all are
-    /// what they were.
+    /// No file that could be read is read twice. A file that can't be read, for whatever cause,
+    /// isn't what it was; so where a fault came, the answer may be none, or another key whose files
+    /// all are what they were.
     ///
     /// It is refused only as [`Error::Memory`].
     ///

@@ -1,10 +1,10 @@
 //! What bytes are read as, from the left: each call takes what they begin with, and hands back the
 //! bytes behind it. All lengths and counts are looked at before memory is taken for them.
-ghost use Rattle.std.specs.Prelude.{◌≡◌, ◌∷◌, [], map};
+ghost use Rattle.std.specs.Prelude.{[], map};
 ghost use Rattle.std.specs.Int.{w32, w64};
 ghost use Rattle.std.specs.String.{string_bytes};
-ghost use Rattle.cck_entry.specs.Results.{result_in};
 ghost use Rattle.cck_include.specs.Include.{include_in, includes_in};
+ghost use Rattle.cck_entry.specs.Results.{result_in};
 ghost use Rattle.cck_entry.specs.Reading.{Gives, counted_at, entry_at, include_at, includes_at, length_prefixed_at, moment_at, number_at, result_at, results_from, text_at, time_at};
 
 use crate::results::{Results, comes_last, put_last};
@@ -172,10 +172,7 @@ fn read_result(alloc: Global, bytes: &[u8]) -> Result<(String, Vec<IncludeEntry>
         (λ x. ((string_bytes x.0, includes_in x.1.items), x.2.now)) result (result_at bytes.now) }
 {
     let (key, rest) = read_text(bytes)?;
-    let (includes, rest) = match read_counted_includes(alloc, rest) {
-        Ok(read) => read,
-        Err(error) => return Err(error)
-    };
+    let (includes, rest) = read_counted_includes(alloc, rest)?;
     Ok((String::from_str(alloc, key)?, includes, rest))
 }
 

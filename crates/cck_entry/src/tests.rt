@@ -15,12 +15,12 @@ const ONE_RESULT: [u8; 67] = [
     2, 0, 0, 0, 0, 0, 0, 0, b'/', b'a', // its path
     1, 0, 0, 0, 0, 0, 0, 0, b'd', // its digest
     3, 0, 0, 0, 0, 0, 0, 0, // its size
-    1, 5, 0, 0, 0, 0, 0, 0, 0, 7, 0, 0, 0, // a time of its contents
-    0, // no time of its status
+    1, 5, 0, 0, 0, 0, 0, 0, 0, 7, 0, 0, 0, // a time of modification
+    0, // no time of change
 ];
 
-// The key `a` without includes, and `b` with two: `/a` with both times, the first of them before 1970,
-// and `/c` of no bytes, with an empty digest and no times.
+// The key `a` without includes, and `b` with two: `/a` with both times, the first of them before
+// 1970, and `/c` of no bytes, with an empty digest and no times.
 const TWO_RESULTS: [u8; 124] = [
     1, 2, 0, 0, 0, 0, 0, 0, 0, // the format, and 2 results
     1, 0, 0, 0, 0, 0, 0, 0, b'a', 0, 0, 0, 0, 0, 0, 0, 0, // a key, no includes
@@ -28,8 +28,8 @@ const TWO_RESULTS: [u8; 124] = [
     2, 0, 0, 0, 0, 0, 0, 0, b'/', b'a', // a path
     1, 0, 0, 0, 0, 0, 0, 0, b'd', // its digest
     3, 0, 0, 0, 0, 0, 0, 0, // its size
-    1, 255, 255, 255, 255, 255, 255, 255, 255, 0xff, 0xc9, 0x9a, 0x3b, // a time of its contents
-    1, 5, 0, 0, 0, 0, 0, 0, 0, 7, 0, 0, 0, // a time of its status
+    1, 255, 255, 255, 255, 255, 255, 255, 255, 0xff, 0xc9, 0x9a, 0x3b, // a time of modification
+    1, 5, 0, 0, 0, 0, 0, 0, 0, 7, 0, 0, 0, // a time of change
     2, 0, 0, 0, 0, 0, 0, 0, b'/', b'c', // a path
     0, 0, 0, 0, 0, 0, 0, 0, // its digest
     0, 0, 0, 0, 0, 0, 0, 0, // its size
@@ -217,7 +217,8 @@ fn cut_and_joined(rt: HostRuntime) -> Result<(), Error> {
 #[test]
 fn damaged_fields(rt: HostRuntime) -> Result<(), Error> {
     let alloc = rt.alloc();
-    // The highest byte of each length and count, then the key, the digest and the bytes before times.
+    // The highest byte of each length and count, then the key, the digest and the bytes before
+    // times.
     for at in [8, 16, 25, 33, 43] {
         expect_damaged(&rt, alloc, &changed(alloc, at, 255)?);
     }

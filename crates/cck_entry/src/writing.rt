@@ -7,19 +7,17 @@ ghost use Rattle.std.specs.List.{AllByRecursion, flat_map};
 ghost use Rattle.std.specs.String.{string_bytes, string_cmp};
 ghost use Rattle.cck_digest.specs.Digest.{length_prefixed};
 ghost use Rattle.cck_digest.specs.declared.error.UtilError.TheVariants as util;
-ghost use Rattle.cck_entry.specs.Results.{Fits, FitsMoment, FitsResult, result_in};
 ghost use Rattle.cck_include.specs.Include.{include_in, includes_in};
+ghost use Rattle.cck_entry.specs.Results.{Fits, FitsMoment, FitsResult, result_in};
 ghost use Rattle.cck_entry.specs.Writing.{entry_bytes, include_bytes, moment_bytes, result_bytes, time_bytes};
 
 use crate::results::Results;
 use cck_digest::UtilError;
 use cck_include::IncludeEntry;
 use cck_path::Timestamp;
+use cck_preprocessor_key::FORMAT_VERSION;
 use cck_time::Error;
 use std::io::Write;
-
-/// The first byte of an entry, which names the format.
-pub(crate) const FORMAT_VERSION: u8 = 1;
 
 /// Writes these bytes.
 fn write_bytes<W: Write>(writer: &mut W, bytes: &[u8]) -> Result<(), Error>
@@ -43,7 +41,7 @@ fn write_u64<W: Write>(writer: &mut W, n: u64) -> Result<(), Error>
 
 /// Writes bytes behind their length.
 #[tactic(auto, using(crate::proofs::AppendLemmas::appends_then))]
-fn write_length_prefixed<W: Write>(writer: &mut W, bytes: &[u8]) -> Result<(), Error>
+fn write_with_length<W: Write>(writer: &mut W, bytes: &[u8]) -> Result<(), Error>
     ensures text { OnOk result
         (Appends (W.contents writer.old) (W.contents writer.new) (length_prefixed bytes.now)) }
     ensures err { IfErr result (λ e. e ≡ Error.Io util.Write) }
@@ -111,8 +109,8 @@ fn write_include<W: Write>(writer: &mut W, one: &IncludeEntry) -> Result<(), Err
     ensures err { IfErr result (λ e. e ≡ Error.Io util.Write) }
     ensures fits { OnOk result (Fits (include_in one.now)) }
 {
-    write_length_prefixed(writer, &one.path)?;
-    write_length_prefixed(writer, one.digest.as_bytes())?;
+    write_with_length(writer, &one.path)?;
+    write_with_length(writer, one.digest.as_bytes())?;
     write_u64(writer, one.file_size)?;
     write_time(writer, one.mtime)?;
     write_time(writer, one.ctime)?;
@@ -155,7 +153,7 @@ fn write_result<W: Write>(
     ensures fits { OnOk result (FitsResult (string_bytes key.now, includes_in includes.now.items)) }
 {
     let includes = includes.as_slice();
-    write_length_prefixed(writer, key.as_bytes())?;
+    write_with_length(writer, key.as_bytes())?;
     write_count(writer, includes)?;
     write_includes(writer, includes)?;
     Ok(())

@@ -5,20 +5,21 @@ use Rattle.std.specs.Prelude.{String}
 use Rattle.std.specs.Global.{Vec}
 use Rattle.std.specs.String.{string_bytes}
 use Rattle.std.specs.declared.alloc.Global.{Global}
+use Rattle.std.specs.FinMap.{get}
+use Rattle.std.specs.Option.{option_map}
 use Rattle.cck_digest.specs.declared.error.UtilError.TheVariants as util
 use Rattle.cck_time.specs.declared.error.Error.{Error}
 use Rattle.cck_time.specs.declared.error.Error.TheVariants as error
-use Rattle.std.specs.FinMap.{get}
-use Rattle.std.specs.Option.{option_map}
 use Rattle.cck_digest.specs.declared.error.FileError.{FileError}
 use Rattle.cck_digest.specs.declared.error.FileError.TheVariants.{NotFound, OtherKind, Fault, Memory}
+use Rattle.cck_files.proofs.FileLemmas.{no_other_kind}
 use Rattle.cck_files.specs.Calls.{IsRefusal}
-use Rattle.cck_files.specs.FileMap.{FileMap, FileNode, metadata_at, metadata_in}
+use Rattle.cck_files.specs.FileMap.{FileMap, metadata_at}
+use Rattle.cck_path.specs.Path.{Path, components}
+use Rattle.cck_path.specs.Timestamp.{Moment}
 use Rattle.cck_include.specs.Gathered.{Digested, all_of, digested_in, gathered, include_at, include_said}
 use Rattle.cck_include.specs.Include.{Include}
 use Rattle.cck_include.specs.Refusal.{IsMissing, io_error}
-use Rattle.cck_path.specs.Path.{Path, components}
-use Rattle.cck_path.specs.Timestamp.{Moment}
 
 all_of-push : {A : Type 0} (os : List (Option A)) (xs : List A) (x : A) → all_of os ≡ Some xs → all_of (os ++ Some x ∷ []) ≡ Some (xs ++ x ∷ [])
 all_of-push {A = A} [] xs x e = let none : [] ≡ xs = cc in subst (λ ys. ◌≡◌ {A = Option (List A)} (Some (x ∷ [])) (Some (ys ++ x ∷ []))) none refl
@@ -58,11 +59,6 @@ missing_by M N P Q (error.Io util.IncompleteHex) f g h = h
 missing_by M N P Q (error.Io util.InvalidHex) f g h = h
 missing_by M N P Q error.Deserialization f g h = h
 missing_by M N P Q (error.UnknownFormat byte) f g h = h
-
--- whatever stands at a path has metadata
-no_other_kind : (at : Option FileNode) → metadata_in at ≡ Err OtherKind → ⊥
-no_other_kind None e = cc
-no_other_kind (Some n) e = cc
 
 no_other_at : (files : FileMap) (p : Path) → metadata_at files p ≡ Err OtherKind → ⊥
 unfolding metadata_at

@@ -2,16 +2,18 @@
 use Rattle.std.proofs.Common.{◌≡◌, ℕ, Bool, true, false, not, ◌&&◌, ◌||◌, List, [], ◌++◌, length, if◌then◌else◌, Option, Some, None, refl, sym, ap, ◌∙◌, arith}
 use Rattle.std.specs.Option.{unwrap_or}
 use Rattle.std.proofs.lemmas.List.{append-nil, length-append}
+use Rattle.std.proofs.lemmas.Bool.{or_right}
 use Rattle.cck_digest.proofs.HexLemmas.{text_length}
 use Rattle.cck_digest.proofs.ReadsBack.{bytes_read_back}
 use Rattle.cck_digest.specs.Digest.{digest_text}
 use Rattle.cck_files.specs.FileMap.{FileNode}
-use Rattle.cck_include.specs.Laws.{AreTold, ShowTheSame, at_moment}
-use Rattle.cck_include.specs.Recorded.{Setting, counts_part, file_time_part, has_date, has_time, has_timestamp, is_timed, recorded, recorded_by}
 use Rattle.cck_path.specs.Timestamp.{Moment, nanos_of}
 use Rattle.cck_path.specs.Variables.{Variable}
 use Rattle.cck_time.proofs.PartLemmas.{days_told, seconds_told}
 use Rattle.cck_time.specs.TimePart.{epoch_text, local_day, time_part}
+use Rattle.cck_include.specs.Laws.{AreTold, ShowTheSame, at_moment}
+use Rattle.cck_include.specs.Recorded.{counts_part, file_time_part, has_date, has_time, has_timestamp, is_timed, recorded, recorded_by}
+use Rattle.cck_include.specs.Setting.{Setting}
 
 -- what a digest was made of
 made_of : (hash : List ℕ → List ℕ) (time timed : Bool) (text : List ℕ) (part : Option (List ℕ)) (digest : List ℕ) → recorded_by hash time timed text part ≡ Some digest
@@ -42,10 +44,6 @@ recorded_has_length s n digest long e =
 counted : (ignores has : Bool) → ignores ≡ false → (not ignores && has) ≡ has
 counted false has e = refl
 counted true has e = absurd cc
-
-or_right : (a b : Bool) → b ≡ true → (a || b) ≡ true
-or_right true b e = refl
-or_right false b e = e
 
 pub equal_digests_tell : (s : Setting) (moment : Moment) (variables : List Variable) (n o : FileNode) (digest : List ℕ) → ((fed : List ℕ) → length (s.hash fed) ≡ 32) → AreTold s (at_moment moment variables s) n o
     → recorded s n ≡ Some digest → recorded (at_moment moment variables s) o ≡ Some digest → ShowTheSame s (at_moment moment variables s) n o

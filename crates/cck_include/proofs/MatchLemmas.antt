@@ -14,13 +14,14 @@ use Rattle.cck_digest.specs.declared.error.FileError.TheVariants.{NotFound, Othe
 use Rattle.cck_files.proofs.FileLemmas.{file_of_kind, no_file_of_kind, no_file_without_metadata}
 use Rattle.cck_files.specs.Calls.{IsRefusal}
 use Rattle.cck_files.specs.FileMap.{FileMap, FileNode, file_at, metadata_at}
-use Rattle.cck_include.specs.Include.{Include}
-use Rattle.cck_include.specs.Known.{AreKnown}
-use Rattle.cck_include.specs.Matching.{MayMiss, digest_found, file_matches, is_digest, matches, times_accept, times_agree}
-use Rattle.cck_include.specs.Recorded.{Setting, recorded}
 use Rattle.cck_path.specs.Path.{Path, components, path_cmp, path_cmp_total, path_cmp-IsAntisymmetric}
 use Rattle.cck_path.specs.declared.metadata.FileKind.TheVariants.{File}
 use Rattle.cck_path.specs.declared.metadata.Metadata.{Metadata}
+use Rattle.cck_include.specs.Include.{Include}
+use Rattle.cck_include.specs.Known.{AreKnown}
+use Rattle.cck_include.specs.Matching.{MayMiss, digest_found, file_matches, is_digest, matches, times_accept, times_agree}
+use Rattle.cck_include.specs.Recorded.{recorded}
+use Rattle.cck_include.specs.Setting.{Setting}
 
 -- an answer without a fault
 pub exact : (answer right : Bool) (P : Type 0) → answer ≡ right → MayMiss P answer right

@@ -10,15 +10,16 @@ use Rattle.cck_digest.specs.declared.error.FileError.TheVariants.{NotFound, Othe
 use Rattle.cck_files.proofs.FileLemmas.{file_with_contents, metadata_of_file, no_file_without_contents, no_file_without_metadata}
 use Rattle.cck_files.specs.Calls.{IsRefusal, IsRefusalOrMemory}
 use Rattle.cck_files.specs.FileMap.{FileMap, FileNode, contents_at, file_at, metadata_at}
-use Rattle.cck_include.specs.Recorded.{Setting, recorded, recorded_by}
-use Rattle.cck_include.specs.Refusal.{IsIoRefusal, io_error}
-use Rattle.cck_include.specs.Scan.{IsScanOf}
-use Rattle.cck_include.specs.declared.recorded.Scan.{Scan}
 use Rattle.cck_path.specs.Path.{Path}
 use Rattle.cck_path.specs.declared.metadata.Metadata.{Metadata}
 use Rattle.cck_time.specs.TimePart.{time_part}
 use Rattle.cck_time.specs.declared.error.Error.{Error}
 use Rattle.cck_time.specs.declared.error.Error.TheVariants as error
+use Rattle.cck_include.specs.Recorded.{recorded, recorded_by}
+use Rattle.cck_include.specs.Setting.{Setting}
+use Rattle.cck_include.specs.Refusal.{IsIoRefusal, io_error}
+use Rattle.cck_include.specs.Scan.{IsScanOf}
+use Rattle.cck_include.specs.declared.recorded.Scan.{Scan}
 
 -- two tests of one thing agree
 pub same_test : (a b : Bool) (P : Type 0) → IsTrue a ↔ P → IsTrue b ↔ P → a ≡ b

@@ -1,12 +1,12 @@
 -- what recorded digests tell
 use Rattle.std.specs.Prelude.{◌≡◌, ℕ, true, false, List, length, if◌then◌else◌, Some}
-use Rattle.std.specs.Option.{option_map}
 use Rattle.cck_digest.specs.Digest.{digest_text}
 use Rattle.cck_files.specs.FileMap.{FileNode}
-use Rattle.cck_include.specs.Recorded.{Setting, counts_part, file_time_part, has_date, has_time, has_timestamp, recorded}
 use Rattle.cck_path.specs.Timestamp.{Moment, nanos_of}
 use Rattle.cck_path.specs.Variables.{Variable}
-use Rattle.cck_time.specs.TimePart.{epoch_text, local_day, local_second}
+use Rattle.cck_time.specs.TimePart.{AreOfOneSecond, epoch_text, local_day}
+use Rattle.cck_include.specs.Recorded.{counts_part, file_time_part, has_date, has_time, has_timestamp, recorded}
+use Rattle.cck_include.specs.Setting.{Setting}
 
 -- with a hash of 32 bytes it has 64 characters, and 128 where a time part counts
 abbrev pub RecordedHasLength : Type 0
@@ -35,7 +35,7 @@ pub record ShowTheSame (s t : Setting) (n o : FileNode) : Type 0 where
   pub day : s.config.ignore_time_macros ≡ false → has_date n.contents ≡ true → local_day s.zone (nanos_of s.moment) ≡ local_day s.zone (nanos_of t.moment)
   pub epoch : s.config.ignore_time_macros ≡ false → has_date n.contents ≡ true → epoch_text s.variables ≡ epoch_text t.variables
   pub second : s.config.ignore_time_macros ≡ false → has_timestamp n.contents ≡ true
-      → option_map (λ t. local_second s.zone (nanos_of t)) n.modified ≡ option_map (λ t. local_second s.zone (nanos_of t)) o.modified
+      → AreOfOneSecond s.zone n.modified o.modified
 
 -- equal recorded digests, even of other moments and variables, are of files that show the same
 abbrev pub EqualDigestsTell : Type 0

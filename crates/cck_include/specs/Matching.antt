@@ -1,19 +1,19 @@
 -- when an included file is what it was
 use Rattle.std.specs.Prelude.{◌≡◌, ◌⊎◌, ℕ, Bool, true, false, ◌&&◌, ◌||◌, nat_eq, List, length, Option, Some, None, Ok, Err, Result}
-use Rattle.std.specs.Ordering.{int_eq}
 use Rattle.std.specs.Str.{bytes_eq}
 use Rattle.cck_digest.specs.declared.error.FileError.{FileError}
 use Rattle.cck_files.specs.FileMap.{FileMap, FileNode, file_at}
-use Rattle.cck_include.specs.Include.{Include}
-use Rattle.cck_include.specs.Recorded.{Setting, recorded}
 use Rattle.cck_path.specs.Path.{components}
-use Rattle.cck_path.specs.Timestamp.{Moment}
+use Rattle.cck_path.specs.Timestamp.{Moment, same_moment}
 use Rattle.cck_time.specs.declared.config.PreprocessorCacheModeConfig.{PreprocessorCacheModeConfig}
+use Rattle.cck_include.specs.Include.{Include}
+use Rattle.cck_include.specs.Recorded.{recorded}
+use Rattle.cck_include.specs.Setting.{Setting}
 
 -- the time is known, and is this one
 abbrev pub is_moment : Option Moment → Moment → Bool
 is_moment None t = false
-is_moment (Some a) t = int_eq a.seconds t.seconds && nat_eq a.nanoseconds t.nanoseconds
+is_moment (Some a) t = same_moment a t
 
 -- the times that were recorded are the file's: both, or that of the last modification where it stands alone
 abbrev pub times_agree : Bool → Option Moment → Option Moment → Option Moment → Option Moment → Bool

@@ -3,19 +3,8 @@ use Rattle.std.specs.Prelude.{ℕ, Bool, true, false, ◌&&◌, ◌||◌, not, L
 use Rattle.cck_digest.specs.Digest.{digest_text}
 use Rattle.cck_digest.specs.TimeMacros.{has, time_macro, date_macro, timestamp_macro}
 use Rattle.cck_files.specs.FileMap.{FileNode}
-use Rattle.cck_path.specs.Timestamp.{Moment}
-use Rattle.cck_path.specs.Variables.{Variable}
 use Rattle.cck_time.specs.TimePart.{time_part}
-use Rattle.cck_time.specs.declared.config.PreprocessorCacheModeConfig.{PreprocessorCacheModeConfig}
-use Rattle.jiff.specs.Types.{TimeZone}
-
--- how files are judged: by which hash and options, at which moment, in which zone, with which variables
-pub record Setting : Type 0 where
-  pub hash : List ℕ → List ℕ
-  pub config : PreprocessorCacheModeConfig
-  pub moment : Moment
-  pub zone : TimeZone
-  pub variables : List Variable
+use Rattle.cck_include.specs.Setting.{Setting}
 
 -- the contents hold this macro of time
 unfoldable pub has_time : List ℕ → Bool

@@ -8,7 +8,7 @@ use Rattle.cck_files.specs.Calls.{IsRefusal}
 use Rattle.cck_time.specs.declared.error.Error.{Error}
 use Rattle.cck_time.specs.declared.error.Error.TheVariants.{Io, Deserialization, UnknownFormat, Memory}
 
--- the map's own answer, a fault where one came, or want of memory
+-- the map's own answer, a fault where one came, or lack of memory
 abbrev pub IsIoRefusal : {X : Type 0} → Result X FileError → Type 0 → Error → Type 0
 IsIoRefusal answer HasFault Memory = Unit {0}
 IsIoRefusal answer HasFault (Io (util.File e)) = IsRefusal answer HasFault e
@@ -24,7 +24,7 @@ IsIoRefusal answer HasFault (Io util.InvalidHex) = ⊥
 IsIoRefusal answer HasFault Deserialization = ⊥
 IsIoRefusal answer HasFault (UnknownFormat byte) = ⊥
 
--- a want of memory stays one, and all else is a refusal of files
+-- a lack of memory stays one, and all else is a refusal of files
 abbrev pub io_error : FileError → Error
 io_error NotFound = Io (util.File NotFound)
 io_error OtherKind = Io (util.File OtherKind)

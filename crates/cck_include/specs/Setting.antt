@@ -1,16 +1,26 @@
--- the setting that a caller hands in
-use Rattle.std.specs.Prelude.{ℕ, List, map}
+-- how files are judged
+use Rattle.std.specs.Prelude.{ℕ, List}
 use Rattle.std.specs.Global.{Vec}
-use Rattle.cck_include.specs.Recorded.{Setting}
+use Rattle.cck_path.specs.Bytes.{variables_of}
 use Rattle.cck_path.specs.Timestamp.{Moment}
+use Rattle.cck_path.specs.Variables.{Variable}
 use Rattle.cck_time.specs.declared.config.PreprocessorCacheModeConfig.{PreprocessorCacheModeConfig}
 use Rattle.jiff.specs.Types.{TimeZone}
 
+-- how files are judged: by which hash and options, at which moment, in which zone, with which variables
+pub record Setting : Type 0 where
+  pub hash : List ℕ → List ℕ
+  pub config : PreprocessorCacheModeConfig
+  pub moment : Moment
+  pub zone : TimeZone
+  pub variables : List Variable
+
+-- the setting that a caller hands in
 abbrev pub setting_in : (List ℕ → List ℕ) → PreprocessorCacheModeConfig → Moment → TimeZone → List (Vec ℕ × Vec ℕ) → Setting
 setting_in hash config moment zone variables = record {
   hash = hash;
   config = config;
   moment = moment;
   zone = zone;
-  variables = map (λ v. (v.0.items, v.1.items)) variables;
+  variables = variables_of variables;
 }

@@ -1,6 +1,5 @@
 //! What is recorded of included files.
 ghost use Rattle.std.specs.Prelude.{◌≡◌, None, Some, MatchResult};
-ghost use Rattle.std.specs.String.{string_bytes};
 ghost use Rattle.cck_files.specs.Calls.{Keeps, Rose};
 ghost use Rattle.cck_include.specs.Gathered.{digested_in, gathered, include_at, is_before, kept, are_before};
 ghost use Rattle.cck_include.specs.Include.{include_in, includes_in};
@@ -67,8 +66,8 @@ fn include_at<F: Files>(
 }
 
 /// What is recorded of each of these files, in their order, with the digest that stands before its
-/// path: its size, and both its times where both are known and lie before the moment, so that a file
-/// that may still be written in that same instant is not known by its times.
+/// path: its size, and both its times where both are known and lie before the moment, so that a
+/// file that may still be written in that same instant is not known by its times.
 ///
 /// It is refused as [`Error::Io`] with [`NotFound`](cck_digest::FileError::NotFound) only where
 /// nothing stands at one of the paths, or with [`Fault`](cck_digest::FileError::Fault) only where a

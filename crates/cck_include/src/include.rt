@@ -17,9 +17,9 @@ pub struct IncludeEntry {
     pub digest: String,
     /// How many bytes the file had.
     pub file_size: u64,
-    /// The time of the last change of its contents, if it is to be compared.
+    /// When its contents were last modified, if that is to be compared.
     pub mtime: Option<Timestamp>,
-    /// The time of the last change of its status, if it is to be compared.
+    /// When the file was last changed, if that is to be compared.
     pub ctime: Option<Timestamp>,
 }
 

@@ -4,12 +4,12 @@ ghost use Rattle.std.specs.List.{list_all};
 ghost use Rattle.std.specs.Option.{option_map};
 ghost use Rattle.cck_files.specs.Calls.{Keeps, Rose};
 ghost use Rattle.cck_files.specs.FileMap.{file_at};
+ghost use Rattle.cck_path.specs.Path.{components};
+ghost use Rattle.jiff.specs.Words.{plain_zone};
 ghost use Rattle.cck_include.specs.Include.{include_in, includes_in};
 ghost use Rattle.cck_include.specs.Known.{AreKnown};
 ghost use Rattle.cck_include.specs.Matching.{MayMiss, digest_found, is_digest, is_moment, matches, times_agree};
 ghost use Rattle.cck_include.specs.Setting.{setting_in};
-ghost use Rattle.cck_path.specs.Path.{components};
-ghost use Rattle.jiff.specs.Words.{plain_zone};
 
 use crate::{IncludeEntry, recorded_digest};
 use cck_digest::HashState;
@@ -160,9 +160,10 @@ fn include_matches<H: HashState, F: Files>(
 }
 
 /// Whether all of these included files still are what they were. Each is a regular file of the
-/// recorded size, and its times or its recorded digest say that it is the same; the times do so only
-/// with [`file_stat_matches`](PreprocessorCacheModeConfig::file_stat_matches). A file that can't be
-/// read, for whatever cause, is none. Where a fault came, it may be answered that they are not.
+/// recorded size, and its times or its recorded digest say that it is the same; the times do so
+/// only with [`file_stat_matches`](PreprocessorCacheModeConfig::file_stat_matches). A file that
+/// can't be read, for whatever cause, is none. Where a fault came, it may be answered that they are
+/// not.
 ///
 /// `known` keeps the recorded digests that were found, by path, so that no file is read twice while
 /// files, moment, zone, variables and options are the same. It may be empty at first.

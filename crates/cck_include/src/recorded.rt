@@ -4,13 +4,14 @@ ghost use Rattle.std.specs.Option.{option_map};
 ghost use Rattle.cck_digest.specs.Digest.{digest_text};
 ghost use Rattle.cck_files.specs.Calls.{IsRefusalOrMemory, Keeps, Rose};
 ghost use Rattle.cck_files.specs.FileMap.{contents_at, file_at};
+ghost use Rattle.cck_path.specs.Bytes.{variables_of};
+ghost use Rattle.cck_path.specs.Path.{components};
+ghost use Rattle.cck_time.specs.TimePart.{time_part};
+ghost use Rattle.jiff.specs.Words.{plain_zone};
 ghost use Rattle.cck_include.specs.Recorded.{recorded, recorded_by};
 ghost use Rattle.cck_include.specs.Refusal.{IsIoRefusal};
 ghost use Rattle.cck_include.specs.Scan.{IsScanOf};
 ghost use Rattle.cck_include.specs.Setting.{setting_in};
-ghost use Rattle.cck_path.specs.Path.{components};
-ghost use Rattle.cck_time.specs.TimePart.{time_part};
-ghost use Rattle.jiff.specs.Words.{plain_zone};
 
 use crate::refusal::io_error;
 use cck_digest::{Digest, FileError, HashState, WatchedDigest};
@@ -80,7 +81,7 @@ fn digest_of<H: HashState>(
     ensures digest { IfOk result (λ o. option_map string_bytes o
         ≡ recorded_by H.hash scan.has_time (scan.has_date || scan.has_timestamp) (string_bytes scan.text)
         (time_part scan.has_date scan.has_timestamp modified moment (plain_zone zone.now)
-        (map (λ v. (v.0.items, v.1.items)) vars.now))) }
+        (variables_of vars.now))) }
     ensures refused { IsOkUnless result Error.Memory }
 {
     let Scan {
@@ -108,8 +109,9 @@ fn digest_of<H: HashState>(
 /// [`ignore_time_macros`](PreprocessorCacheModeConfig::ignore_time_macros) it is the text of the
 /// contents alone. So two files of one recorded digest show the same text to a preprocessor.
 ///
-/// There is none (`None`) exactly where macros of time count and the contents hold `__TIME__`, or the
-/// time part can't be told: a time that it needs is missing or out of range. The file is read once.
+/// There is none (`None`) exactly where macros of time count and the contents hold `__TIME__`, or
+/// the time part can't be told: a time that it needs is missing or out of range. The file is read
+/// once.
 ///
 /// It is refused as [`Error::Io`] with
 ///

@@ -5,7 +5,7 @@ ghost use Rattle.cck_include.specs.Refusal.{io_error};
 use cck_digest::{FileError, UtilError};
 use cck_time::Error;
 
-// A want of memory stays one, and all else is `Error::Io`.
+// A lack of memory stays one, and all else is `Error::Io`.
 pub(crate) fn io_error(error: FileError) -> Error
     ensures { result ≡ io_error error }
 {

@@ -1,14 +1,14 @@
 -- Equal material of one request is of equal files.
-use Rattle.std.proofs.Common.{◌≡◌, ℕ, suc, List, [], ◌∷◌, ◌++◌, All, length, map, refl, sym, ap, ◌∙◌, arith, append_assoc}
+use Rattle.std.proofs.Common.{◌≡◌, ℕ, suc, List, [], ◌∷◌, ◌++◌, All, length, map, refl, sym, ◌∙◌, arith, append_assoc}
 use Rattle.std.proofs.lemmas.List.{append_cancel_left}
 use Rattle.std.specs.List.{flat_map}
 use Rattle.cck_digest.proofs.ReadsBack.{pieces_read_back}
-use Rattle.cck_preprocessor_key.specs.PreprocessorKey.{RequestParts, multiarch_bytes, preprocessor_material, preprocessor_variable_names}
 use Rattle.cck_strip.specs.Argument.{argument_bytes, stripped_argument}
 use Rattle.cck_strip.specs.Text.{stripped_text}
 use Rattle.cck_util.specs.Key.{assembler_bytes, flag_byte}
 use Rattle.cck_util.specs.Language.{language_name}
 use Rattle.cck_util.specs.Variables.{variable_bytes, variables_named}
+use Rattle.cck_preprocessor_key.specs.PreprocessorKey.{RequestParts, multiarch_bytes, preprocessor_material, preprocessor_variable_names}
 
 equal_lengths : (xs ys : List (List ℕ)) → length xs ≡ length ys → All (λ x. length x ≡ 64) xs → All (λ y. length y ≡ 64) ys → map length xs ≡ map length ys
 equal_lengths [] [] c h k = refl

@@ -1,7 +1,9 @@
 -- the key under which a store is asked before anything is preprocessed
 use Rattle.std.specs.Prelude.{ℕ, List, [], ◌∷◌, ◌++◌, Bool, Option, codes, if◌then◌else◌, map}
+use Rattle.std.specs.Global.{Vec}
 use Rattle.std.specs.List.{flat_map}
 use Rattle.cck_digest.specs.Digest.{digest_text}
+use Rattle.cck_path.specs.Bytes.{lists_of, variables_of}
 use Rattle.cck_path.specs.Variables.{Variable}
 use Rattle.cck_strip.specs.Argument.{argument_bytes, stripped_argument}
 use Rattle.cck_strip.specs.Text.{stripped_text}
@@ -21,6 +23,20 @@ pub record RequestParts : Type 0 where
   pub env_vars : List Variable
   pub input_file : List ℕ
   pub basedirs : List (List ℕ)
+
+-- the same as a caller hands it in
+abbrev pub request_parts_in : List ℕ → Bool → Language → Bool → List (Vec ℕ) → Option (List ℕ) → List (Vec ℕ × Vec ℕ) → List ℕ → List (Vec ℕ) → RequestParts
+request_parts_in compiler_digest plusplus language multiarch arguments assembler_digest env_vars input_file basedirs = record {
+  compiler_digest = compiler_digest;
+  plusplus = plusplus;
+  language = language;
+  multiarch = multiarch;
+  arguments = lists_of arguments;
+  assembler_digest = assembler_digest;
+  env_vars = variables_of env_vars;
+  input_file = input_file;
+  basedirs = lists_of basedirs;
+}
 
 -- the names of the variables that change which files a preprocessor finds
 abbrev pub preprocessor_variable_names : List (List ℕ)

@@ -7,8 +7,8 @@ ghost use Rattle.cck_include.specs.Recorded.{recorded};
 ghost use Rattle.cck_include.specs.Refusal.{IsIoRefusal};
 ghost use Rattle.cck_include.specs.Setting.{setting_in};
 ghost use Rattle.cck_path.specs.Path.{components};
-ghost use Rattle.cck_preprocessor_key.specs.PreprocessorKey.{multiarch_bytes, preprocessor_key};
 ghost use Rattle.jiff.specs.Words.{plain_zone};
+ghost use Rattle.cck_preprocessor_key.specs.PreprocessorKey.{multiarch_bytes, preprocessor_key, request_parts_in};
 
 use cck_digest::{Digest, HashState, UtilError};
 use cck_files::Files;
@@ -30,8 +30,11 @@ const PREPROCESSOR_VARIABLES: [&[u8]; 6] = [
     b"OBJCPLUS_INCLUDE_PATH",
 ];
 
-// The format of entries, so that keys of several formats differ.
-const FORMAT_VERSION: u8 = 1;
+/// The format of entries: their first byte, and a byte of each key material, so that keys of
+/// several formats differ.
+///
+/// Upstream's `FORMAT_VERSION`.
+pub const FORMAT_VERSION: u8 = 1;
 
 // Feeds a mark of requests for several architectures.
 fn hash_multiarch<H: HashState>(digest: &mut Digest<H>, multiarch: bool)
@@ -60,17 +63,8 @@ fn key_text<H: HashState>(
     recorded: &str,
 ) -> Result<String, UtilError>
     ensures key { IfOk result (λ key. string_bytes key ≡ preprocessor_key H.hash
-        (record {
-          compiler_digest = compiler_digest.now;
-          plusplus = plusplus;
-          language = language;
-          multiarch = multiarch;
-          arguments = map (λ a. a.items) arguments.now;
-          assembler_digest = option_map (λ d. d.now) assembler_digest.entry;
-          env_vars = map (λ v. (v.0.items, v.1.items)) env_vars.now;
-          input_file = input_file.now;
-          basedirs = map (λ b. b.items) basedirs.now;
-        })
+        (request_parts_in compiler_digest.now plusplus language multiarch arguments.now
+        (option_map (λ d. d.now) assembler_digest.entry) env_vars.now input_file.now basedirs.now)
         (map string_bytes extra_hashes.now) recorded.now) }
     ensures refused { IsOkUnless result UtilError.Memory }
 {
@@ -93,8 +87,8 @@ fn key_text<H: HashState>(
 ///
 /// The material is, in this order: the compiler's digest; a byte 0 or 1 for `plusplus`; the format
 /// byte 1; the language's name; `multiarch-per-pass` if the request is for several architectures;
-/// the arguments as in [`hash_arguments`]; the extra hashes, unseparated; the assembler's digest, if
-/// there is one; of the variables those that change which files a preprocessor finds, each as
+/// the arguments as in [`hash_arguments`]; the extra hashes, unseparated; the assembler's digest,
+/// if there is one; of the variables those that change which files a preprocessor finds, each as
 /// length-prefixed name, `=` and length-prefixed value; the path of the input without the base
 /// directories; the recorded digest of the input.
 ///
@@ -129,17 +123,8 @@ pub fn preprocessor_cache_entry_hash_key<H: HashState, F: Files>(
     ensures answer { let found = file_at (F.file_map files.old) (components input_file.now) in
         MatchResult result (λ key. IsOkAnd found (λ file. option_map string_bytes key
         ≡ option_map (preprocessor_key H.hash
-        (record {
-          compiler_digest = compiler_digest.now;
-          plusplus = plusplus;
-          language = language;
-          multiarch = multiarch;
-          arguments = map (λ a. a.items) arguments.now;
-          assembler_digest = option_map (λ d. d.now) assembler_digest.entry;
-          env_vars = map (λ v. (v.0.items, v.1.items)) env_vars.now;
-          input_file = input_file.now;
-          basedirs = map (λ b. b.items) basedirs.now;
-        })
+        (request_parts_in compiler_digest.now plusplus language multiarch arguments.now
+        (option_map (λ d. d.now) assembler_digest.entry) env_vars.now input_file.now basedirs.now)
         (map string_bytes extra_hashes.now))
         (recorded (setting_in H.hash config moment (plain_zone zone.now) env_vars.now) file)))
         (IsIoRefusal found (Rose (F.faults files.old) (F.faults files.new))) }

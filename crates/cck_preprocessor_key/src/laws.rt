@@ -2,7 +2,8 @@
 ghost use Rattle.cck_preprocessor_key.specs.Laws.{OneRequestOneMaterial};
 
 /// Within one request, equal key material is of equal digest texts of the further files and of an
-/// equal recorded digest of the input: so equal keys are of inputs and further files that are the same.
+/// equal recorded digest of the input: so equal keys are of inputs and further files that are the
+/// same.
 ///
 /// It asks that there are equally many of these texts, of 64 characters each, as every digest text
 /// is.

@@ -20,7 +20,7 @@ bits_small : (z : ℤ) → FitsSigned w32 z → cast_unsigned w32 z < 2 ^ 32
 bits_small (pos n) h = omega (arith, h.sfits)
 bits_small (negsuc n) h = omega (arith, h.sfits)
 
-long_bits_small : (z : ℤ) → FitsSigned w64 z → cast_unsigned w64 z < 2 ^ 64
+pub long_bits_small : (z : ℤ) → FitsSigned w64 z → cast_unsigned w64 z < 2 ^ 64
 long_bits_small (pos n) h = omega (arith, h.sfits)
 long_bits_small (negsuc n) h = omega (arith, h.sfits)
 

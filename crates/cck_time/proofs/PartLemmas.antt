@@ -1,9 +1,10 @@
 -- What the parts of a file's text tell.
-use Rattle.std.proofs.Common.{◌≡◌, ℕ, List, [], ◌++◌, length, codes, refl, sym, ap, ◌∙◌, arith, Bool, true, false, ◌&&◌, if◌then◌else◌, Option, Some, None, ℤ, pos, neg_ℤ, int_le, FitsSigned}
+use Rattle.std.proofs.Common.{◌≡◌, ℕ, List, [], ◌++◌, length, codes, refl, sym, ap, ◌∙◌, arith, Bool, true, false, if◌then◌else◌, Option, Some, None, ℤ, pos, neg_ℤ, int_le, FitsSigned}
 use Rattle.std.specs.Int.{w64}
 use Rattle.std.specs.Option.{option_map, option_and_then, unwrap_or}
 use Rattle.std.proofs.lemmas.Int.{ints}
 use Rattle.std.proofs.lemmas.List.{append_cancel_left, length-append}
+use Rattle.std.proofs.lemmas.Bool.{and_parts}
 use Rattle.jiff.specs.Types.{TimeZone, UTC, Unknown, Fixed, Posix, Tzif}
 use Rattle.jiff.specs.Words.{offset_at, IsOffsetSeconds, IsTimestampNanos, IsEpochDay}
 use Rattle.jiff_core.proofs.SignedLemmas.{signed_arith}
@@ -12,8 +13,9 @@ use Rattle.jiff_tz.specs.Tzif as Table
 use Rattle.cck_digest.proofs.ReadsBack.{bytes_read_back}
 use Rattle.cck_path.specs.Timestamp.{Moment, nanos_of}
 use Rattle.cck_path.specs.Variables.{Variable}
+use Rattle.cck_path.proofs.TestLemmas.{from_and_then}
 use Rattle.cck_time.specs.Calendar.{CivilDate, IsInCalendar, day_number}
-use Rattle.cck_time.specs.TimePart.{is_instant, instant_nanos, local_day, local_second, local_date, delimiter, i64_bytes, date_bytes, epoch_text, date_part, stamp_part, time_part}
+use Rattle.cck_time.specs.TimePart.{AreOfOneSecond, is_instant, instant_nanos, local_day, local_second, local_date, delimiter, i64_bytes, date_bytes, epoch_text, date_part, stamp_part, time_part}
 use Rattle.cck_time.proofs.CalendarLemmas.{date_has_day}
 use Rattle.cck_time.proofs.NumberLemmas.{i64_back, nested, date_reads_back}
 
@@ -26,13 +28,9 @@ offset_range (Fixed o) n = o.in_range
 offset_range (Posix tz) n = (PosixRule.offset_at tz n).in_range
 offset_range (Tzif z) n = (Table.offset_at z.now n).in_range
 
-both_of : (a b : Bool) → (a && b) ≡ true → (a ≡ true) × (b ≡ true)
-both_of true b e = (refl, e)
-both_of false b e = absurd cc
-
 pub instant_range : (n : ℤ) → is_instant n ≡ true → IsTimestampNanos n
 instant_range n h =
-    let b = both_of (int_le (neg_ℤ (pos 377_705_023_201_000_000_000)) n) (int_le n (pos 253_402_207_200_999_999_999)) h in
+    let b = and_parts (int_le (neg_ℤ (pos 377_705_023_201_000_000_000)) n) (int_le n (pos 253_402_207_200_999_999_999)) h in
     (grind (arith, ints, b.0), grind (arith, ints, b.1))
 
 second_fits : (zone : TimeZone) (n : ℤ) → is_instant n ≡ true → FitsSigned w64 (local_second zone n)
@@ -55,10 +53,6 @@ one_second_is zone m n p q e = i64_back (local_second zone m) (local_second zone
 from_map : {X Y : Type 0} (f : X → Y) (o : Option X) (y : Y) → option_map f o ≡ Some y → (x : X) × (o ≡ Some x) × (f x ≡ y)
 from_map f None y e = absurd cc
 from_map {Y = Y} f (Some x) y e = (x, refl, ap (λ (p : Option Y). unwrap_or p y) e)
-
-from_and_then : {X Y : Type 0} (f : X → Option Y) (o : Option X) (y : Y) → option_and_then f o ≡ Some y → (x : X) × (o ≡ Some x) × (f x ≡ Some y)
-from_and_then f None y e = absurd cc
-from_and_then f (Some x) y e = (x, refl, e)
 
 from_instant : (t : Moment) (n : ℤ) → instant_nanos t ≡ Some n → (is_instant (nanos_of t) ≡ true) × (nanos_of t ≡ n)
 from_instant t n e = by (is_instant (nanos_of t)) refl e
@@ -128,7 +122,7 @@ days_told zone timestamp m n a b v w part p q =
 -- and the second
 pub seconds_told : (zone : TimeZone) (date : Bool) (m n : Option Moment) (a b : Moment) (v w : List Variable) (part : List ℕ)
     → time_part date true m a zone v ≡ Some part → time_part date true n b zone w ≡ Some part
-    → option_map (λ t. local_second zone (nanos_of t)) m ≡ option_map (λ t. local_second zone (nanos_of t)) n
+    → AreOfOneSecond zone m n
 seconds_told zone date m n a b v w part p q =
     let x = from_time_part date true m a zone v part p in
     let y = from_time_part date true n b zone w part q in
@@ -137,4 +131,4 @@ seconds_told zone date m n a b v w part p q =
     let first = from_stamp_part m zone x.1 x.3 in
     let second = from_stamp_part n zone y.1 y.3 in
     let bytes = append_cancel_left (delimiter (codes "timestamp")) _ _ (first.3 ∙ back ∙ sym second.3) in
-    rw (first.1, second.1) (ap (λ (k : ℤ). Some k) (one_second_is zone (nanos_of first.0) (nanos_of second.0) first.2 second.2 bytes))
+    rw (first.1, second.1) (one_second_is zone (nanos_of first.0) (nanos_of second.0) first.2 second.2 bytes)

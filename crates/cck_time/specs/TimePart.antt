@@ -5,9 +5,9 @@ use Rattle.std.specs.Int.{w32, w64, cast_unsigned, to_le_bytes, int_div_euclid}
 use Rattle.cck_digest.specs.Digest.{delimiter_bytes}
 use Rattle.cck_path.specs.Timestamp.{Moment, nanos_of}
 use Rattle.cck_path.specs.Variables.{Variable, first_value}
-use Rattle.cck_time.specs.Calendar.{CivilDate, date_of_day}
 use Rattle.jiff.specs.Types.{TimeZone}
 use Rattle.jiff.specs.Words.{nanos_of_seconds, offset_at}
+use Rattle.cck_time.specs.Calendar.{CivilDate, date_of_day}
 
 -- so many nanoseconds since 1970-01-01T00:00:00Z are an instant: it has a civil time in every zone
 abbrev pub is_instant : ℤ → Bool
@@ -73,6 +73,12 @@ unfoldable pub time_part : Bool → Bool → Option Moment → Moment → TimeZo
 time_part date timestamp modified moment zone variables =
     option_and_then (λ d. option_map (λ s. d ++ s) (stamp_part timestamp modified zone))
     (date_part date moment zone variables)
+
+-- both are known, and fall into one local second
+abbrev pub AreOfOneSecond : TimeZone → Option Moment → Option Moment → Type 0
+AreOfOneSecond zone (Some t) (Some u) = local_second zone (nanos_of t) ≡ local_second zone (nanos_of u)
+AreOfOneSecond zone (Some t) None = ⊥
+AreOfOneSecond zone None u = ⊥
 
 -- what was put behind the old bytes, if it was there to be put
 abbrev pub IsAppended : List ℕ → List ℕ → Bool → Option (List ℕ) → Type 0

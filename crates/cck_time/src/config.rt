@@ -1,5 +1,6 @@
 //! The options of the preprocessor cache mode.
 ghost use Rattle.std.specs.Prelude.{◌≡◌, true, false};
+ghost use Rattle.cck_time.specs.Config.{activated};
 
 /// The options of the preprocessor cache mode, in which a result is answered without preprocessing
 /// where nothing that was read has changed.
@@ -12,11 +13,11 @@ pub struct PreprocessorCacheModeConfig {
     /// Whether a file of equal size and equal times is taken to be unchanged without a look at its
     /// contents. Off by default.
     pub file_stat_matches: bool,
-    /// Whether the time of the last change of status counts among these times, beside that of the
-    /// last modification. On by default.
+    /// Whether the time of the last change counts among these times, beside that of the last
+    /// modification. On by default.
     pub use_ctime_for_stat: bool,
-    /// Whether `__DATE__`, `__TIME__` and `__TIMESTAMP__` in a file are taken for any other text. Off
-    /// by default.
+    /// Whether `__DATE__`, `__TIME__` and `__TIMESTAMP__` in a file are taken for any other text.
+    /// Off by default.
     pub ignore_time_macros: bool,
     /// Whether headers that a line marker calls a system's are left out. Off by default.
     pub skip_system_headers: bool,
@@ -28,14 +29,7 @@ pub struct PreprocessorCacheModeConfig {
 impl PreprocessorCacheModeConfig {
     /// The default options with the mode switched on.
     pub fn activated() -> PreprocessorCacheModeConfig
-        ensures { result ≡ record {
-          use_preprocessor_cache_mode = true;
-          file_stat_matches = false;
-          use_ctime_for_stat = true;
-          ignore_time_macros = false;
-          skip_system_headers = false;
-          hash_working_directory = true;
-        } }
+        ensures { result ≡ activated }
     {
         PreprocessorCacheModeConfig {
             use_preprocessor_cache_mode: true,

@@ -1,15 +1,15 @@
 //! Laws about the definitions, each the contract of a function that does nothing.
-ghost use Rattle.std.specs.Prelude.{◌≡◌, ◌↔◌, ℕ, ℤ, Bool, true, IsTrue, List, Option, Some, IsSome, option_map};
+ghost use Rattle.std.specs.Prelude.{◌≡◌, ◌↔◌, ℕ, ℤ, Bool, true, IsTrue, List, Option, Some, IsSome};
 ghost use Rattle.std.specs.Option.{IsSomeAnd};
 ghost use Rattle.cck_path.specs.Timestamp.{Moment, nanos_of};
 ghost use Rattle.cck_path.specs.Variables.{Variable};
-ghost use Rattle.cck_time.specs.Calendar.{CivilDate, IsInCalendar, date_of_day, day_number};
-ghost use Rattle.cck_time.specs.TimePart.{date_bytes, epoch_text, i64_bytes, is_instant, local_date, local_day, local_second, time_part};
 ghost use Rattle.jiff.specs.Types.{TimeZone};
 ghost use Rattle.jiff.specs.Words.{IsEpochDay, IsTimestampNanos};
+ghost use Rattle.cck_time.specs.Calendar.{CivilDate, IsInCalendar, date_of_day, day_number};
+ghost use Rattle.cck_time.specs.TimePart.{AreOfOneSecond, date_bytes, epoch_text, i64_bytes, is_instant, local_date, local_day, local_second, time_part};
 
-/// The date of a day is the one date of the calendar whose day it is: what is found has the day, each
-/// date is found by its day, and each day from -9999-01-01 to 9999-12-31 has one.
+/// The date of a day is the one date of the calendar whose day it is: what is found has the day,
+/// each date is found by its day, and each day from -9999-01-01 to 9999-12-31 has one.
 pub fn dates_of_days()
     ensures day { (day : ℤ) (d : CivilDate) → date_of_day day ≡ Some d →
         IsInCalendar d × (day_number d ≡ day) }
@@ -18,8 +18,8 @@ pub fn dates_of_days()
         (d : CivilDate) × (date_of_day day ≡ Some d) }
 {}
 
-/// There is a time part exactly where each time that it needs is an instant of `jiff`: the moment for
-/// a date, and for a timestamp a modification time that is known.
+/// There is a time part exactly where each time that it needs is an instant of `jiff`: the moment
+/// for a date, and for a timestamp a modification time that is known.
 pub fn parts_exist()
     ensures { (date timestamp : Bool) (modified : Option Moment) (moment : Moment)
         (zone : TimeZone) (variables : List Variable) →
@@ -42,9 +42,9 @@ pub fn one_second()
         local_second zone m ≡ local_second zone n }
 {}
 
-/// Equal time parts of one zone and of equal flags, whatever else they were made for, tell what they
-/// show: with a date the local day of the moment and what `SOURCE_DATE_EPOCH` says, and with a
-/// timestamp the local second of the modification.
+/// Equal time parts of one zone and of equal flags, whatever else they were made for, tell what
+/// they show: with a date the local day of the moment and what `SOURCE_DATE_EPOCH` says, and with a
+/// timestamp that both modification times are known and of one local second.
 pub fn equal_parts_tell()
     ensures days { (zone : TimeZone) (timestamp : Bool) (m n : Option Moment) (a b : Moment)
         (v w : List Variable) (part : List ℕ) →
@@ -56,6 +56,5 @@ pub fn equal_parts_tell()
         (v w : List Variable) (part : List ℕ) →
         time_part date true m a zone v ≡ Some part →
         time_part date true n b zone w ≡ Some part →
-        option_map (λ t. local_second zone (nanos_of t)) m
-        ≡ option_map (λ t. local_second zone (nanos_of t)) n }
+        AreOfOneSecond zone m n }
 {}

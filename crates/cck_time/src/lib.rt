@@ -1,14 +1,16 @@
-//! What a file's text can show at a moment, in a zone, and the options of the preprocessor cache mode.
+//! What a file's text can show at a moment, in a zone, and the options of the preprocessor cache
+//! mode.
 //!
 //! A source file that holds `__DATE__` or `__TIMESTAMP__` is compiled to something else on another
-//! day, or once it was modified, though its text is the same. A digest that is recorded of such a file
-//! is therefore not of its text alone: it goes on with the file's *time part*, the bytes that stand for
-//! what these macros show. Equal parts show the same.
+//! day, or once it was modified, though its text is the same. A digest that is recorded of such a
+//! file is therefore not of its text alone: it goes on with the file's *time part*, the bytes that
+//! stand for what these macros show. Equal parts show the same.
 //!
-//! - [`local_time_part`] makes the time part of a file, for a moment, a time zone and the variables of
-//!   the environment, all handed in.
-//! - [`PreprocessorCacheModeConfig`] has the options, and [`Error`] the refusals of calls on entries.
-//! - [`laws`] has what the definitions say above what they compute: equal parts tell the day, the
+//! - [`local_time_part`] makes the time part of a file, for a moment, a time zone and the variables
+//!   of the environment, all handed in.
+//! - [`PreprocessorCacheModeConfig`] has the options, and [`Error`] the refusals of calls on
+//!   entries.
+//! - [`laws`] has what the definitions say beyond what they compute: equal parts tell the day, the
 //!   second and `SOURCE_DATE_EPOCH`, each day has one date, and when there is a part.
 //!
 //! ```rust

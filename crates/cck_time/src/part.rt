@@ -1,8 +1,9 @@
 //! The time part of a file: what its text can show at a moment, in a zone.
 ghost use Rattle.std.specs.Prelude.{◌≡◌, ◌++◌, codes, IfOk, IfErr, OnOk, Some, map, option_map};
+ghost use Rattle.cck_path.specs.Bytes.{variables_of};
+ghost use Rattle.jiff.specs.Words.{plain_zone};
 ghost use Rattle.cck_time.specs.Calendar.{civil_date};
 ghost use Rattle.cck_time.specs.TimePart.{IsAppended, date_bytes, date_part, delimiter, epoch_text, i32_bytes, i64_bytes, instant_nanos, local_date, local_second, stamp_part, time_part, u32_bytes};
-ghost use Rattle.jiff.specs.Words.{plain_zone};
 
 use crate::Error;
 use cck_path::{Timestamp, first_value};
@@ -34,10 +35,10 @@ fn second_at(zone: &TimeZone<'_>, instant: jiff::Timestamp) -> i64
 }
 
 // What a compiler is told to show in place of the date, empty where it isn't told.
-fn epoch_text<'a>(variables: &'a [(Vec<u8>, Vec<u8>)]) -> &'a [u8]
-    ensures { result.now ≡ epoch_text (map (λ v. (v.0.items, v.1.items)) variables.now) }
+fn epoch_text<'a>(vars: &'a [(Vec<u8>, Vec<u8>)]) -> &'a [u8]
+    ensures { result.now ≡ epoch_text (variables_of vars.now) }
 {
-    match first_value(variables, b"SOURCE_DATE_EPOCH") {
+    match first_value(vars, b"SOURCE_DATE_EPOCH") {
         Some(value) => value,
         None => &[],
     }
@@ -93,15 +94,15 @@ fn put_year_month_day(part: &mut Vec<u8>, date: Date) -> Result<(), Error>
     Ok(())
 }
 
-fn put_date(part: &mut Vec<u8>, date: Date, variables: &[(Vec<u8>, Vec<u8>)]) -> Result<(), Error>
+fn put_date(part: &mut Vec<u8>, date: Date, vars: &[(Vec<u8>, Vec<u8>)]) -> Result<(), Error>
     ensures value { OnOk result (part.new.items ≡ part.old.items ++ (delimiter (codes "date")
         ++ date_bytes (civil_date date)
-        ++ epoch_text (map (λ v. (v.0.items, v.1.items)) variables.now))) }
+        ++ epoch_text (variables_of vars.now))) }
     ensures refused { IfErr result (λ e. e ≡ Error.Memory) }
 {
     put_delimiter(part, b"date")?;
     put_year_month_day(part, date)?;
-    part.extend_from_slice(epoch_text(variables))?;
+    part.extend_from_slice(epoch_text(vars))?;
     Ok(())
 }
 
@@ -122,11 +123,11 @@ fn put_date_part(
     date: bool,
     moment: Timestamp,
     zone: &TimeZone<'_>,
-    variables: &[(Vec<u8>, Vec<u8>)],
+    vars: &[(Vec<u8>, Vec<u8>)],
 ) -> Result<bool, Error>
     ensures value { IfOk result (λ there. IsAppended part.old.items part.new.items there
         (date_part date moment (plain_zone zone.now)
-        (map (λ v. (v.0.items, v.1.items)) variables.now))) }
+        (variables_of vars.now))) }
     ensures refused { IfErr result (λ e. e ≡ Error.Memory) }
 {
     if !date {
@@ -135,7 +136,7 @@ fn put_date_part(
     let Some(instant) = instant_of(moment) else {
         return Ok(false);
     };
-    put_date(part, date_at(zone, instant), variables)?;
+    put_date(part, date_at(zone, instant), vars)?;
     Ok(true)
 }
 
@@ -174,9 +175,9 @@ fn put_stamp_part(
 /// `i64`), counted from 1970-01-01T00:00:00 without a zone and rounded down. With neither there are
 /// no bytes.
 ///
-/// There is no part (`None`) exactly where a time that is needed is missing or outside `jiff`'s range
-/// of instants, from -9999-01-02T01:59:59Z to 9999-12-30T22:00:00.999999999Z. The moment is needed for
-/// a date alone, the modification time for a timestamp alone.
+/// There is no part (`None`) exactly where a time that is needed is missing or outside `jiff`'s
+/// range of instants, from -9999-01-02T01:59:59Z to 9999-12-30T22:00:00.999999999Z. The moment is
+/// needed for a date alone, the modification time for a timestamp alone.
 ///
 /// It is refused only as [`Error::Memory`].
 #[tactic(auto, unfolding(crate::specs::TimePart::time_part))]
@@ -187,15 +188,15 @@ pub fn local_time_part(
     modified: Option<Timestamp>,
     moment: Timestamp,
     zone: &TimeZone<'_>,
-    variables: &[(Vec<u8>, Vec<u8>)],
+    vars: &[(Vec<u8>, Vec<u8>)],
 ) -> Result<Option<Vec<u8>>, Error>
     ensures value { IfOk result (λ part. option_map (λ v. v.items) part
         ≡ time_part date timestamp modified moment (plain_zone zone.now)
-        (map (λ v. (v.0.items, v.1.items)) variables.now)) }
+        (variables_of vars.now)) }
     ensures refused { IfErr result (λ e. e ≡ Error.Memory) }
 {
     let mut part = Vec::new(alloc);
-    if !put_date_part(&mut part, date, moment, zone, variables)? {
+    if !put_date_part(&mut part, date, moment, zone, vars)? {
         return Ok(None);
     }
     if !put_stamp_part(&mut part, timestamp, modified, zone)? {

@@ -1,20 +1,18 @@
-use Rattle.std.proofs.Common.{rules, ◌≡◌, ℕ, List, [], ◌∷◌, ◌++◌, inl, refl, true, false, ap, subst, sym, ◌∙◌, append_assoc, map}
+use Rattle.std.proofs.Common.{rules, ◌≡◌, [], ◌∷◌, ◌++◌, inl, true, false, ap, subst, sym, ◌∙◌, append_assoc, map}
 use Rattle.std.proofs.lemmas.List.{append-nil}
 use Rattle.std.specs.List.{list_all}
 use Rattle.std.specs.Iterator.Adapters.{rev_source}
-use Rattle.cck_entry.proofs.LookupLemmas.{misses, hits}
-use Rattle.cck_entry.specs.Find.{found_in}
-use Rattle.cck_entry.specs.Results.{result_in}
 use Rattle.cck_files.proofs.CallsLemmas.{keeps_all, keeps_itself}
 use Rattle.cck_files.specs.Calls.{Rose}
-use Rattle.cck_files.specs.FileMap.{FileMap}
 use Rattle.cck_include.proofs.MatchLemmas.{none_known}
 use Rattle.cck_include.specs.Include.{includes_in}
 use Rattle.cck_include.specs.Known.{AreKnown}
 use Rattle.cck_include.specs.Matching.{MayMiss, matches}
 use Rattle.cck_include.specs.Setting.{setting_in}
-use Rattle.cck_include.specs.declared.include.IncludeEntry.{IncludeEntry}
 use Rattle.jiff.specs.Words.{plain_zone}
+use Rattle.cck_entry.proofs.LookupLemmas.{misses, hits}
+use Rattle.cck_entry.specs.Find.{found_in}
+use Rattle.cck_entry.specs.Results.{result_in}
 use Rattle.cck_entry.proofs.lookup.find_result.Goals as goal
 
 pub loop-key-init : goal.loop-key-init
