@@ -6,7 +6,8 @@ use Rattle.cck_digest.specs.declared.error.FileError.TheVariants.{NotFound, Othe
 use Rattle.cck_digest.specs.declared.error.UtilError.TheVariants as util
 use Rattle.cck_files.specs.Calls.{IsRefusal}
 use Rattle.cck_files.specs.FileMap.{FileMap, FileNode, file_at, file_if, file_in, metadata_at, metadata_in, metadata_of}
-use Rattle.cck_include.specs.Recorded.{Setting, recorded}
+use Rattle.cck_include.specs.Recorded.{recorded}
+use Rattle.cck_include.specs.Setting.{Setting}
 use Rattle.cck_include.specs.Refusal.{IsIoRefusal}
 use Rattle.cck_path.specs.Path.{Path}
 use Rattle.cck_path.specs.declared.metadata.FileKind.TheVariants as kind
@@ -71,7 +72,7 @@ module _ (s : Setting) (files : FileMap) (p : Path) (m : Metadata) (is : metadat
     readable : (e : FileError) → file_at files p ≡ Err e → ⊥
     readable e h = let bad : ◌≡◌ {A = Result FileNode FileError} (Ok node_at.0) (Err e) = sym found ∙ h in cc
 
-    -- a regular file can't be read only for a fault or want of memory
+    -- a regular file can't be read only for a fault or lack of memory
     pub unread_at : (P Q : Type 0) (e : Error) → (P → Q) → IsIoRefusal (file_at files p) P e → IsJudged (standing_at s files p) Q (judged_unread e)
     unread_at P Q error.Memory f r = tt
     unread_at P Q (error.Io (util.File NotFound)) f r = absurd (readable NotFound r)

@@ -1,10 +1,9 @@
 -- What a line marker does, from what is read of it.
-use Rattle.std.proofs.Common.{◌≡◌, ◌≢◌, ◌⊎◌, inl, inr, ℕ, ◌+◌, Bool, true, false, List, [], ◌∷◌, length, Ok, Err, refl, sym, ap, arith, ◌∙◌}
+use Rattle.std.proofs.Common.{◌≡◌, ◌≢◌, ◌⊎◌, inl, inr, ℕ, ◌+◌, Bool, true, false, List, [], Ok, Err, refl, sym, ap, ◌∙◌}
 use Rattle.cck_markers.specs.Lines.{IsNamedAt, IsUnnamedTo}
 use Rattle.cck_markers.specs.Marks.{Named, Unnamed, is_system}
 use Rattle.cck_walk.specs.Decided.{Context, Digests, Refuses, after, is_looked_for, outcome}
 use Rattle.cck_walk.specs.Line.{IsLineAnswer, IsNameAnswer, NamesNone}
-use Rattle.cck_walk.specs.declared.error.WalkError.{WalkError}
 use Rattle.cck_walk.specs.declared.error.WalkError.TheVariants as error
 use Rattle.cck_walk.specs.declared.line.LineAction.TheVariants.{Continue, Break}
 
@@ -41,7 +40,3 @@ module _ (c : Context) (HasFault : Type 0) (text : List ℕ) (start hash : ℕ) 
 
     pub stops : (new : Digests) → name ≢ [] → IsNameAnswer c HasFault old new name is_system_in (Ok false) → IsLineAnswer c HasFault text start hash old new (Ok (Break (start + end, start + begin, false)))
     stops new some does = (begin, end, refl, refl, does.0, (r.0, r.1, λ e. some (sym r.2 ∙ e), stopped does.1))
-
-pub empty_of : (name : List ℕ) → length name ≡ 0 → name ≡ []
-empty_of [] e = refl
-empty_of (byte ∷ name) e = absurd (omega (arith, e))

@@ -1,18 +1,17 @@
 -- Digests by paths, and how they are listed.
-use Rattle.std.proofs.Common.{◌≡◌, ◌&&◌, ℕ, ◌+◌, ◌<◌, List, [], ◌∷◌, ◌++◌, length, map, take, get_or, Bool, true, false, if◌then◌else◌, T, is_some, Option, Some, None, refl, sym, ap, arith, subst, ◌∙◌}
+use Rattle.std.proofs.Common.{◌≡◌, ◌&&◌, ℕ, ◌+◌, ◌<◌, List, [], ◌∷◌, ◌++◌, length, map, take, get_or, Bool, true, false, if◌then◌else◌, T, is_some, Some, refl, sym, ap, arith, subst, ◌∙◌}
 use Rattle.std.proofs.lemmas.Bool.{false≢true}
 use Rattle.std.proofs.lemmas.List.{get_or_default, length-map, map-append, take_all, take_more}
-use Rattle.std.specs.FinMap.{FinMap, contains_key, empty, entries, entries_sorted, entries-from_sorted, find, from_sorted, get, get-empty, get-entries, get-from_entries, get-from_sorted, get-insert, insert, is_sorted, len, len-entries, same_map}
+use Rattle.std.specs.FinMap.{FinMap, empty, entries, entries_sorted, entries-from_sorted, find, from_sorted, get, get-empty, get-entries, get-from_entries, get-from_sorted, get-insert, insert, is_sorted, len, len-entries, same_map}
 use Rattle.std.specs.Global.{Vec}
-use Rattle.std.specs.Option.{option_map}
 use Rattle.std.specs.Ordering.{eq_by_cmp, is_lt}
 use Rattle.std.specs.Prelude.{String, string_bytes}
 use Rattle.std.specs.declared.alloc.Global.{Global}
 use Rattle.cck_path.proofs.ComponentLemmas.{leading_names-names}
 use Rattle.cck_path.specs.Path.{Path, Name, Root, has_root, leading_names, normal, path_cmp, path_cmp_total, path_cmp-IsAntisymmetric}
 use Rattle.cck_path.specs.Text.{path_text}
-use Rattle.cck_path_map.proofs.PlaceLemmas.{below_all, find_at, in_order_of, tied}
-use Rattle.cck_path_map.proofs.ValueLemmas.{get-map_values}
+use Rattle.cck_path_map.proofs.PlaceLemmas.{find_at, in_order_of}
+use Rattle.cck_path.proofs.TestLemmas.{below_all, tied}
 use Rattle.cck_path_map.specs.PathMap.{IsPlaceOf, pair_of, path_of}
 use Rattle.cck_path_map.specs.Values.{map_values}
 use Rattle.cck_path_map.specs.declared.path_map.Entry.{Entry}
@@ -50,13 +49,6 @@ module _ {V W : Type 0} (f : V → W) where
 
   pub len-map_values : (m : FinMap path_cmp V) → len (map_values f m) ≡ len m
   len-map_values m = len-entries (map_values f m) ∙ ap length (entries-map_values m) ∙ length-map (entries m) (λ e. (e.0, f e.1)) ∙ sym (len-entries m)
-
-  pub contains-map_values : (m : FinMap path_cmp V) (p : Path) → contains_key (map_values f m) p ≡ contains_key m p
-  contains-map_values m p = ap is_some (get-map_values f m p) ∙ is_some-option_map (get m p)
-    where
-      is_some-option_map : (x : Option V) → is_some (option_map f x) ≡ is_some x
-      is_some-option_map None = refl
-      is_some-option_map (Some x) = refl
 
 pub none_normal : (V : Type 0) → AreNormal {V = V} empty
 none_normal V p h = absurd (false≢true (sym (ap is_some (get-empty path_cmp p)) ∙ h))

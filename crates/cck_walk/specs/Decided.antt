@@ -1,17 +1,17 @@
 -- what the marks of a text decide
 use Rattle.std.specs.Prelude.{◌≡◌, ◌&&◌, ◌||◌, ◌==◌, ◌-◌, if◌then◌else◌, ℕ, nat_le, Bool, true, List, [], ◌∷◌, length, slice_index, is_some, not, false, Option, Some, None}
 use Rattle.std.specs.FinMap.{FinMap, empty, get, insert}
+use Rattle.std.specs.List.{AllByRecursion}
 use Rattle.std.specs.Ordering.{eq_by_cmp}
+use Rattle.std.specs.Global.{Vec}
 use Rattle.cck_files.specs.FileMap.{FileMap}
-use Rattle.cck_include.specs.Recorded.{Setting}
-use Rattle.cck_include.specs.Setting.{setting_in}
+use Rattle.cck_include.specs.Setting.{Setting, setting_in}
 use Rattle.cck_markers.specs.Marks.{Mark, Marks, Name, Refusal, Malformed}
 use Rattle.cck_path.specs.Path.{Path, components, joined, normal, path_cmp}
 use Rattle.cck_path.specs.Timestamp.{Moment}
 use Rattle.cck_time.specs.declared.config.PreprocessorCacheModeConfig.{PreprocessorCacheModeConfig}
-use Rattle.cck_walk.specs.Standing.{Standing, standing_at}
 use Rattle.jiff.specs.Types.{TimeZone}
-use Rattle.std.specs.Global.{Vec}
+use Rattle.cck_walk.specs.Standing.{Standing, standing_at}
 
 -- digests by paths
 abbrev pub Digests : Type 0
@@ -91,18 +91,16 @@ decided c (Some held) (Refusal ∷ marks) = IsRefused
 decided c (Some held) (Malformed ∷ marks) = Errs
 decided c (Some held) (Name name is_system ∷ marks) = decided c (after held (outcome c held name is_system)) marks
 
--- a file is looked for by a name of these marks, up to the one that decides
-unfoldable pub looks_for : Context → Option Digests → List Mark → Bool
-looks_for c None marks = false
-looks_for c (Some held) [] = false
-looks_for c (Some held) (Refusal ∷ marks) = false
-looks_for c (Some held) (Malformed ∷ marks) = false
-looks_for c (Some held) (Name name is_system ∷ marks) = is_looked_for c held name is_system || looks_for c (after held (outcome c held name is_system)) marks
+-- by this mark no file is looked for
+abbrev pub AsksForNone : Context → Mark → Type 0
+AsksForNone c (Name name is_system) = is_looked_for c empty name is_system ≡ false
+AsksForNone c Refusal = Unit {0}
+AsksForNone c Malformed = Unit {0}
 
 -- no file is looked for by a name of the text
 abbrev pub LooksForNone : Context → List ℕ → Type 0
-LooksForNone c text = (marks : List Mark) → Marks true text marks → looks_for c (Some empty) marks ≡ false
+LooksForNone c text = (marks : List Mark) → Marks true text marks → AllByRecursion (AsksForNone c) marks
 
 -- the marks of the text decide this: each text has one list of marks, by the law `HasOneList` of `cck_markers`
-abbrev pub Decides : Context → List ℕ → Decided → Type 0
-Decides c text d = (marks : List Mark) × Marks true text marks × (decided c (Some empty) marks ≡ d)
+abbrev pub TextDecides : Context → List ℕ → Decided → Type 0
+TextDecides c text d = (marks : List Mark) × Marks true text marks × (decided c (Some empty) marks ≡ d)

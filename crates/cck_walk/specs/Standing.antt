@@ -3,7 +3,8 @@ use Rattle.std.specs.Prelude.{◌≡◌, ◌⊎◌, ◌||◌, if◌then◌else�
 use Rattle.std.specs.FinMap.{get}
 use Rattle.cck_files.specs.FileMap.{FileMap, FileNode}
 use Rattle.cck_include.specs.Gathered.{is_before}
-use Rattle.cck_include.specs.Recorded.{Setting, recorded}
+use Rattle.cck_include.specs.Recorded.{recorded}
+use Rattle.cck_include.specs.Setting.{Setting}
 use Rattle.cck_path.specs.Path.{Path}
 use Rattle.cck_path.specs.Timestamp.{Moment}
 use Rattle.cck_path.specs.declared.metadata.FileKind.{FileKind}

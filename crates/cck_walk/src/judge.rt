@@ -3,8 +3,8 @@ ghost use Rattle.std.specs.Prelude.{◌≡◌, ◌||◌};
 ghost use Rattle.cck_files.specs.Calls.{Keeps, Rose};
 ghost use Rattle.cck_include.specs.Setting.{setting_in};
 ghost use Rattle.cck_path.specs.Path.{components};
-ghost use Rattle.cck_walk.specs.Standing.{IsJudged, is_late, judged_unread, standing_at};
 ghost use Rattle.jiff.specs.Words.{plain_zone};
+ghost use Rattle.cck_walk.specs.Standing.{IsJudged, is_late, judged_unread, standing_at};
 
 use crate::WalkError;
 use cck_digest::HashState;
@@ -17,7 +17,7 @@ use std::alloc::Global;
 
 /// What a path stands for in a walk.
 #[derive(Debug, Drop)]
-pub enum Judged {
+pub(crate) enum Judged {
     /// A folder.
     Folder,
     /// A regular file that can be recorded, with its digest.
@@ -31,7 +31,7 @@ fn is_late(time: Option<Timestamp>, moment: Timestamp) -> bool
     ensures { result ≡ is_late moment time }
 {
     match time {
-        Some(time) => !(time < moment),
+        Some(time) => time >= moment,
         None => false,
     }
 }
@@ -58,7 +58,7 @@ fn judge_unread(error: Error) -> Result<Judged, WalkError>
 /// where a fault came anything may be.
 ///
 /// It is refused only as [`WalkError::Memory`].
-pub fn judge<H: HashState, F: Files>(
+pub(crate) fn judge<H: HashState, F: Files>(
     alloc: Global,
     files: &mut F,
     path: &[u8],

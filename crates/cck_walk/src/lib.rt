@@ -5,13 +5,15 @@
 //! their digests say whether the same text would be printed again, so that nothing needs to be
 //! preprocessed. [`process_preprocessed_file`] looks at each name:
 //!
-//! - names that are empty or stand in `<` and `>`, and those of system headers where the options say
-//!   so, are passed over;
+//! - names that are empty or stand in `<` and `>`, and those of system headers where the options
+//!   say so, are passed over;
 //! - any other is joined to the working directory and then normalised. The input and folders are
-//!   passed over, and a regular file is recorded with its [recorded digest](cck_include);
+//!   passed over, and a regular file is recorded with its
+//!   [recorded digest](cck_include::recorded_digest);
 //! - a name that means anything else refuses the text: nothing stands there, the file may still be
 //!   written in this instant, as a time of it is the moment of the walk or later, or it has no
-//!   recorded digest. So does `.incbin` with a quote, since no marker names the file that it includes.
+//!   recorded digest. So does `.incbin` with a quote behind it, since no marker names the file
+//!   that it includes.
 //!
 //! The first such name, inclusion or malformed marker decides. No file behind it is looked at.
 //!
@@ -23,9 +25,10 @@
 //! walk // accepted, with `/inc/h.h` and its digest
 //! ```
 //!
-//! Files are handed in as [`Files`](cck_files::Files). Where a call on them meets a fault the text may
-//! be refused; an accepted text and a malformed marker are what they are without one.
-//! [`process_preprocessor_line`] is the walk's step for one marker, which fills [`Records`].
+//! Files are handed in as [`Files`](cck_files::Files). Where a call on them meets a fault the text
+//! may be refused; an accepted text and a malformed marker are what they are without one.
+//! [`process_preprocessor_line`] does the same for one marker, and fills [`Records`]. What is
+//! decided is a [`Walk`], or a [`LineAction`] for one marker, and a refusal is a [`WalkError`].
 #![tactic(auto)]
 
 mod error;

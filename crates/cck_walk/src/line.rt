@@ -1,9 +1,9 @@
 //! One line marker.
 ghost use Rattle.std.specs.Prelude.{◌≡◌, ◌≤◌, ◌<◌, drop, length};
 ghost use Rattle.cck_files.specs.Calls.{Keeps, Rose};
+ghost use Rattle.jiff.specs.Words.{plain_zone};
 ghost use Rattle.cck_walk.specs.Decided.{context_in};
 ghost use Rattle.cck_walk.specs.Line.{IsLineAnswer, NamesNone};
-ghost use Rattle.jiff.specs.Words.{plain_zone};
 
 use crate::name::take_name;
 use crate::{Records, WalkError};
@@ -22,14 +22,14 @@ pub enum LineAction {
     /// name, as the second is.
     Continue((usize, usize)),
     /// With `true` no name was looked at: go on at the first place. With `false` the name refuses
-    /// the text. The second place is that of the name's first byte, or, where the marker has no name,
-    /// the `#` that was handed in.
+    /// the text. The second place is that of the name's first byte, or, where the marker has no
+    /// name, the `#` that was handed in.
     Break((usize, usize, bool)),
 }
 
-/// Reads the line marker that begins at `start`, and records the file that it names. `hash_start` is
-/// the place of its `#`, which an answer for a marker without a name hands back; nothing before
-/// `start` is read.
+/// Reads the line marker that begins at `start`, and records the file that it names. `hash_start`
+/// is the place of its `#`, which an answer for a marker without a name hands back; nothing before
+/// `start` is read. It asks that `hash_start <= start < text.len()`.
 ///
 /// - The line ends before a quote comes: `Break` with the place of the line feed, `hash_start` and
 ///   `true`.
@@ -38,13 +38,13 @@ pub enum LineAction {
 ///   folder, the input, or a path that was recorded: `Continue`.
 /// - The name means a regular file with a recorded digest and with no time at the moment or later:
 ///   `Continue`, and the file is recorded.
-/// - The name means anything else, or a fault came: `Break` with the places behind it and of it, and
-///   `false`.
+/// - The name means anything else, or a fault came: `Break` with the places behind it and of it,
+///   and `false`.
 ///
 /// It is refused as [`WalkError::Marker`] exactly where neither a quote nor a line feed comes, or a
-/// quote first, as the text's last byte; and as [`WalkError::Memory`]. Records change by a `Continue`
-/// alone. No file is asked for a marker without a name, for a name that is passed over by itself, nor
-/// for the path of the input or of a record.
+/// quote first, as the text's last byte; and as [`WalkError::Memory`]. Records change by a
+/// `Continue` alone. No file is asked for a marker without a name, for a name that is passed over
+/// by itself, nor for the path of the input or of a record.
 ///
 /// Upstream's `compiler::c::process_preprocessor_line`.
 pub fn process_preprocessor_line<H: HashState, F: Files>(

@@ -3,9 +3,9 @@ ghost use Rattle.std.specs.Prelude.{◌≡◌, IfOk, IsOkUnless, false};
 ghost use Rattle.std.specs.Ordering.{eq_by_cmp};
 ghost use Rattle.cck_files.specs.Calls.{Keeps, Rose};
 ghost use Rattle.cck_path.specs.Path.{components, joined, normal, path_cmp};
+ghost use Rattle.jiff.specs.Words.{plain_zone};
 ghost use Rattle.cck_walk.specs.Decided.{context_in, is_angled, is_looked_for, is_passed};
 ghost use Rattle.cck_walk.specs.Line.{IsNameAnswer};
-ghost use Rattle.jiff.specs.Words.{plain_zone};
 
 use crate::judge::{Judged, judge};
 use crate::{Records, WalkError};
@@ -61,7 +61,7 @@ fn path_named(alloc: Global, cwd: &[u8], name: &[u8]) -> Result<Vec<u8>, WalkErr
 /// `false`. No file is asked for a name that is passed over, nor for the path of the input or of a
 /// record.
 #[tactic(auto, unfolding(crate::specs::Decided::outcome, crate::specs::Decided::is_known, crate::specs::Decided::is_looked_for))]
-pub fn take_name<H: HashState, F: Files>(
+pub(crate) fn take_name<H: HashState, F: Files>(
     alloc: Global,
     files: &mut F,
     input_file: &[u8],
@@ -85,20 +85,16 @@ pub fn take_name<H: HashState, F: Files>(
     if is_passed(name, is_system, config.skip_system_headers) {
         return Ok(true);
     }
-    let path = match path_named(alloc, cwd, name) {
-        Ok(path) => path,
-        Err(error) => return Err(error),
-    };
+    let path = path_named(alloc, cwd, name)?;
     if records.contains(&path) || is_same(&path, input_file) {
         return Ok(true);
     }
-    match judge::<H, F>(alloc, files, &path, config, moment, zone, vars) {
-        Ok(Judged::Folder) => Ok(true),
-        Ok(Judged::Bad) => Ok(false),
-        Ok(Judged::Regular(digest)) => match records.insert(&path, digest) {
-            Ok(()) => Ok(true),
-            Err(error) => Err(error),
-        },
-        Err(error) => Err(error),
+    match judge::<H, F>(alloc, files, &path, config, moment, zone, vars)? {
+        Judged::Folder => Ok(true),
+        Judged::Bad => Ok(false),
+        Judged::Regular(digest) => {
+            records.insert(&path, digest)?;
+            Ok(true)
+        }
     }
 }

@@ -1,9 +1,9 @@
 //! The walk over a text.
 ghost use Rattle.std.specs.Prelude.{◌≡◌};
 ghost use Rattle.cck_files.specs.Calls.{Keeps, Rose};
+ghost use Rattle.jiff.specs.Words.{plain_zone};
 ghost use Rattle.cck_walk.specs.Decided.{LooksForNone, context_in};
 ghost use Rattle.cck_walk.specs.Walk.{IsWalk};
-ghost use Rattle.jiff.specs.Words.{plain_zone};
 
 use crate::name::take_name;
 use crate::{Records, WalkError};
@@ -27,17 +27,21 @@ pub enum Walk {
 
 /// Looks at each file that a preprocessed text names.
 ///
-/// The first mark of the text decides that is an inclusion by the assembler, a name that is neither a
-/// folder nor a regular file with a recorded digest and with no time at the moment or later, or a
-/// malformed marker. The text is refused for the first two. Where no mark decides, it is accepted.
-/// Names are joined to the working directory and normalised; `input_file` is neither, so it has to be
-/// given as a name of it would be read to be passed over. Empty names, names in angles, the input, and the
-/// names of system headers where the options skip these are passed over.
+/// The text is refused at the first inclusion by the assembler, or name that is neither a folder
+/// nor a regular file with a recorded digest and with no time at the moment or later. A malformed
+/// marker before these is an error. Where there is neither, the text is accepted.
 ///
-/// No file is asked for a name that is passed over by itself, nor twice for one path, nor for the
-/// input. Where a fault came the text may be refused. What is accepted, and which marker is malformed, is
-/// exact then too. It is refused as [`WalkError::Marker`] exactly where a malformed marker decides,
-/// and as [`WalkError::Memory`].
+/// Names are joined to the working directory and normalised. Passed over are empty names, names in
+/// angles, the input, and the names of system headers where the options skip these. `input_file` is
+/// compared as it is handed in, so it has to be joined and normalised where the input is to be
+/// passed over. No file is asked for a name that is passed over, nor for a path that has a digest
+/// already.
+///
+/// Where a fault came the text may be refused. What is accepted, and that a marker is malformed, is
+/// exact then too. It is refused as
+///
+/// - [`WalkError::Marker`] exactly where a malformed marker decides,
+/// - [`WalkError::Memory`].
 ///
 /// Upstream's `compiler::c::process_preprocessed_file`.
 pub fn process_preprocessed_file<H: HashState, F: Files>(

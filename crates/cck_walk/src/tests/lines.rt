@@ -42,7 +42,8 @@ fn act(
     act_at(alloc, files, records, text, 0, 0, config)
 }
 
-// The answer, where no file is looked at: the first call on files, which would fail, is still to come.
+// The answer, where no file is looked at: the first call on files, which would fail, is still to
+// come.
 fn act_alone(
     rt: &impl Abort,
     alloc: Global,

@@ -1,11 +1,12 @@
 use Rattle.std.proofs.Common.{drop, sym, ap, length, subst}
 use Rattle.std.proofs.lemmas.Bool.{eqb-true, eqb-false}
+use Rattle.std.proofs.lemmas.List.{nil_from_length}
 use Rattle.cck_files.specs.Calls.{Rose}
 use Rattle.cck_markers.proofs.Cuts.{slice_from}
 use Rattle.cck_markers.specs.Lines.{IsUnnamedTo}
-use Rattle.cck_walk.specs.Decided.{context_in}
-use Rattle.cck_walk.proofs.LineLemmas.{IsReadAt, empty_of, goes_on, looks_for_none, stops, unnamed, unwritten}
 use Rattle.jiff.specs.Words.{plain_zone}
+use Rattle.cck_walk.specs.Decided.{context_in}
+use Rattle.cck_walk.proofs.LineLemmas.{IsReadAt, goes_on, looks_for_none, stops, unnamed, unwritten}
 use Rattle.cck_walk.proofs.line.process_preprocessor_line.Goals as goal
 
 pub returns-in-Unnamed-clause-answer : goal.returns-in-Unnamed-clause-answer
@@ -21,7 +22,7 @@ returns-then-is_empty-clause-answer g c =
     let x = context_in g.H.HashState.hash c.args.config c.args.moment (plain_zone c.args.zone.now) c.args.vars.now (F.file_map c.args.files.now) c.args.input_file.now c.args.cwd.now in
     let n = c.in-Named in
     unwritten x (Rose (F.faults c.args.files.now) (F.faults c.args.files.now)) (drop c.args.start c.args.text.now) c.args.start c.args.hash_start c.args.records.now n.begin n.end n.name.now n.is_system
-    (subst (λ t. IsReadAt t n.begin n.end n.name.now n.is_system) (slice_from c.args.text.now c.args.start) n.ensures) (empty_of n.name.now (eqb-true _ 0 (sym c.if-is_empty.ensures)))
+    (subst (λ t. IsReadAt t n.begin n.end n.name.now n.is_system) (slice_from c.args.text.now c.args.start) n.ensures) (nil_from_length n.name.now (eqb-true _ 0 (sym c.if-is_empty.ensures)))
 
 pub returns-in-Ok-true-clause-answer : goal.returns-in-Ok-true-clause-answer
 returns-in-Ok-true-clause-answer g c =

@@ -6,4 +6,4 @@ use Rattle.cck_walk.proofs.name.take_name.Goals as goal
 pub insert-requires : goal.insert-requires
 insert-requires g c =
     let p : Path = joined (components c.args.cwd.now) (components c.args.name.now) in
-    rw c.deref-in-Ok-Regular.ensures.value (ap normal c.in-Ok.ensures.path ∙ normal_twice p ∙ sym c.in-Ok.ensures.path)
+    rw c.deref-in-Regular.ensures.value (ap normal c.in_ok-path.ensures.path ∙ normal_twice p ∙ sym c.in_ok-path.ensures.path)

@@ -3,9 +3,9 @@ use Rattle.cck_files.proofs.CallsLemmas.{keeps_all, rose_earlier}
 use Rattle.cck_files.specs.Calls.{Rose}
 use Rattle.cck_markers.specs.Markers.{Gives}
 use Rattle.cck_markers.specs.Marks.{Malformed, Name, Refusal}
-use Rattle.cck_walk.proofs.WalkLemmas.{accepted, leads_on, malformed, none_behind, none_here, refused, refused_by}
-use Rattle.cck_walk.specs.Decided.{Refuses, after, context_in, is_looked_for, outcome}
 use Rattle.jiff.specs.Words.{plain_zone}
+use Rattle.cck_walk.proofs.WalkLemmas.{accepted, leads_on, malformed, none_behind, none_here, nothing_more, refused, refused_by}
+use Rattle.cck_walk.specs.Decided.{Refuses, after, context_in, is_looked_for, outcome}
 use Rattle.cck_walk.proofs.walk.process_preprocessed_file.Goals as goal
 
 pub returns-in-Refusal-clause-answer : goal.returns-in-Refusal-clause-answer
@@ -36,8 +36,8 @@ loop-mark-preserved g c =
       untouched = λ none.
           let q = c.loop-mark.invariant.untouched none in
           let here : is_looked_for (context_in g.H.HashState.hash c.args.config c.args.moment (plain_zone c.args.zone.now) c.args.vars.now (F.file_map c.loop-mark.files) c.args.input_file.now c.args.cwd.now) held name c.in-Name.is_system ≡ false =
-          rw c.loop-mark.invariant.keeps.same_map (none_here x c.loop-mark.mark-iterator c.next.new.self held name c.in-Name.is_system q.1 gives) in
-          (c.take_name.ensures.untouched here ∙ q.0, none_behind x c.loop-mark.mark-iterator c.next.new.self held name c.in-Name.is_system q.1 gives c.take_name.new.records does);
+          rw c.loop-mark.invariant.keeps.same_map (none_here x c.loop-mark.mark-iterator c.next.new.self held name c.in-Name.is_system q.1 q.2 gives) in
+          (c.take_name.ensures.untouched here ∙ q.0, nothing_more x c.loop-mark.mark-iterator c.next.new.self held name c.in-Name.is_system q.1 q.2 gives c.take_name.new.records does, none_behind x c.loop-mark.mark-iterator c.next.new.self held name c.in-Name.is_system q.1 q.2 gives);
       leads = leads_on x c.args.text.now c.loop-mark.mark-iterator c.next.new.self held c.take_name.new.records name c.in-Name.is_system c.loop-mark.invariant.leads gives does;
     }
 
@@ -71,7 +71,7 @@ returns-in-Ok-false-clause-untouched g c =
     λ none.
     let q = c.loop-mark.invariant.untouched none in
     let here : is_looked_for (context_in g.H.HashState.hash c.args.config c.args.moment (plain_zone c.args.zone.now) c.args.vars.now (F.file_map c.loop-mark.files) c.args.input_file.now c.args.cwd.now) held name c.in-Name.is_system ≡ false =
-    rw c.loop-mark.invariant.keeps.same_map (none_here x c.loop-mark.mark-iterator c.next.new.self held name c.in-Name.is_system q.1 gives) in
+    rw c.loop-mark.invariant.keeps.same_map (none_here x c.loop-mark.mark-iterator c.next.new.self held name c.in-Name.is_system q.1 q.2 gives) in
     c.take_name.ensures.untouched here ∙ q.0
 
 pub returns-in-Err-clause-untouched : goal.returns-in-Err-clause-untouched
@@ -84,5 +84,5 @@ returns-in-Err-clause-untouched g c =
     λ none.
     let q = c.loop-mark.invariant.untouched none in
     let here : is_looked_for (context_in g.H.HashState.hash c.args.config c.args.moment (plain_zone c.args.zone.now) c.args.vars.now (F.file_map c.loop-mark.files) c.args.input_file.now c.args.cwd.now) held name c.in-Name.is_system ≡ false =
-    rw c.loop-mark.invariant.keeps.same_map (none_here x c.loop-mark.mark-iterator c.next.new.self held name c.in-Name.is_system q.1 gives) in
+    rw c.loop-mark.invariant.keeps.same_map (none_here x c.loop-mark.mark-iterator c.next.new.self held name c.in-Name.is_system q.1 q.2 gives) in
     c.take_name.ensures.untouched here ∙ q.0
