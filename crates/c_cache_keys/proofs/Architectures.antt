@@ -1,6 +1,5 @@
 -- The architectures that are asked for.
 use Rattle.std.proofs.Common.{◌≡◌, ℕ, suc, ◌+◌, ◌<◌, ◌≤◌, List, [], ◌∷◌, ◌++◌, Bool, true, false, not, ◌&&◌, ◌||◌, cond, Some, length, map, take, get_or, refl, sym, ap, ◌∙◌, filter, nat_le, Bor, arith}
-use Rattle.std.specs.Bool.{one_answer}
 use Rattle.std.specs.Global.{Vec}
 use Rattle.std.specs.List.{find, list_any}
 use Rattle.std.specs.Option.{option_map_or}
@@ -11,18 +10,15 @@ use Rattle.std.proofs.lemmas.List.{append-nil, get_or-map, length-map, map-appen
 use Rattle.std.proofs.lemmas.List.Elements.{filter_more}
 use Rattle.std.proofs.lemmas.Map.Views.{any-filter_same}
 use Rattle.std.proofs.lemmas.Slice.Eq.{bytes_eq-Decides}
-use Rattle.c_cache_keys.specs.Arguments.{Arguments, Bytes, archs, each_once, is_arch}
-use Rattle.c_cache_keys.specs.Seen.{lists_of}
+use Rattle.cck_path.specs.Bytes.{Bytes, lists_of}
+use Rattle.cck_path.proofs.TestLemmas.{bytes_eq-sym}
+use Rattle.c_cache_keys.specs.Arguments.{Arguments, archs, each_once, is_arch}
 
 same : (a b : Bytes) → bytes_eq a b ≡ true → a ≡ b
 same a b h = (bytes_eq-Decides a b).0 h
 
 itself : (a : Bytes) → bytes_eq a a ≡ true
 itself a = (bytes_eq-Decides a a).1 refl
-
-turned : (a b : Bytes) → bytes_eq a b ≡ bytes_eq b a
-turned a b = one_answer (bytes_eq a b) (bytes_eq b a) (bytes_eq-Decides a b)
-    (λ h. sym (same b a h), λ is. (bytes_eq-Decides b a).1 (sym is))
 
 -- one more behind them: it is added where it isn't among them
 pub each_once_more : (xs : List Bytes) (x : Bytes) → each_once (xs ++ x ∷ []) ≡ each_once xs ++ cond (list_any (λ y. bytes_eq y x) (each_once xs)) [] (x ∷ [])
@@ -46,11 +42,11 @@ each_once_more (a ∷ xs) x =
     by true is =
         ap (λ u. cond (list_any (λ y. bytes_eq y x) (each_once xs) || u) [] (x ∷ [])) is
         ∙ ap (λ u. cond u [] (x ∷ [])) (or-true (list_any (λ y. bytes_eq y x) (each_once xs)))
-        ∙ sym (ap (λ u. cond (u || list_any (λ y. bytes_eq y x) (filter (λ b. not (bytes_eq b a)) (each_once xs))) [] (x ∷ [])) (turned a x ∙ is))
+        ∙ sym (ap (λ u. cond (u || list_any (λ y. bytes_eq y x) (filter (λ b. not (bytes_eq b a)) (each_once xs))) [] (x ∷ [])) (bytes_eq-sym a x ∙ is))
     by false other =
         ap (λ u. cond (list_any (λ y. bytes_eq y x) (each_once xs) || u) [] (x ∷ [])) other
         ∙ ap (λ u. cond u [] (x ∷ [])) (or-false (list_any (λ y. bytes_eq y x) (each_once xs)))
-        ∙ sym (ap (λ u. cond (u || list_any (λ y. bytes_eq y x) (filter (λ b. not (bytes_eq b a)) (each_once xs))) [] (x ∷ [])) (turned a x ∙ other)
+        ∙ sym (ap (λ u. cond (u || list_any (λ y. bytes_eq y x) (filter (λ b. not (bytes_eq b a)) (each_once xs))) [] (x ∷ [])) (bytes_eq-sym a x ∙ other)
         ∙ ap (λ u. cond u [] (x ∷ [])) (any-filter_same (λ y. bytes_eq y x) (λ b. not (bytes_eq b a)) true
         (λ y at. ap not (ap (λ z. bytes_eq z a) (same y x at) ∙ other)) (each_once xs)))
 

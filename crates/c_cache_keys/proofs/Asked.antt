@@ -2,15 +2,15 @@
 use Rattle.std.proofs.Common.{◌≡◌, inl, inr, Option, Some, None, Ok, subst}
 use Rattle.std.specs.Prelude.{Contains}
 use Rattle.std.specs.FinMap.{empty, entries}
+use Rattle.cck_path.specs.Bytes.{Bytes}
 use Rattle.cck_entry.proofs.EntryLemmas.{entries_of_empty}
 use Rattle.cck_entry.specs.Entry as entry
 use Rattle.cck_entry.specs.Entry.{Entry, EntryText}
 use Rattle.cck_entry.specs.Find.{IsLookup}
 use Rattle.cck_entry.specs.Results.{KeyResult}
 use Rattle.c_cache_keys.proofs.Elements.{none_in}
-use Rattle.c_cache_keys.specs.Arguments.{Bytes}
 use Rattle.c_cache_keys.specs.Call.{Call}
-use Rattle.c_cache_keys.specs.Step.{Asked, Hit, Miss, Reads, matching}
+use Rattle.c_cache_keys.specs.Step.{Asked, Hit, Miss, ReadsAs, matching}
 use Rattle.c_cache_keys.specs.World.{World}
 
 -- what was looked up
@@ -22,11 +22,11 @@ nothing_held : (e : Entry) → e ≡ empty → (r : KeyResult) → Contains (ent
 nothing_held e is r at = none_in r (subst (λ es. Contains es r) entries_of_empty (subst (λ e. Contains (entries e) r) is at))
 
 module _ {V : Type 0} (w : World V) (c : Call V) (F : Type 0) (bytes : Bytes) (e : Entry) where
-  reads_as : (found : Option Bytes) → entry.Reads (Ok e) bytes → IsLookup (matching w c) (entries e) F found → Reads w c F bytes (looked_up found)
+  reads_as : (found : Option Bytes) → entry.Reads (Ok e) bytes → IsLookup (matching w c) (entries e) F found → ReadsAs w c F bytes (looked_up found)
   reads_as None (inl text) h = inr (e, text, h)
   reads_as None (inr none) h = inl none.0
   reads_as (Some key) (inl text) h = (e, text, h)
   reads_as (Some key) (inr none) h = absurd (nothing_held e none.1 (key, h.0) h.1)
 
-  pub reads : (o found : Option Bytes) → o ≡ found → entry.Reads (Ok e) bytes → IsLookup (matching w c) (entries e) F o → Reads w c F bytes (looked_up found)
-  reads o found same text h = subst (λ f. Reads w c F bytes (looked_up f)) same (reads_as o text h)
+  pub reads : (o found : Option Bytes) → o ≡ found → entry.Reads (Ok e) bytes → IsLookup (matching w c) (entries e) F o → ReadsAs w c F bytes (looked_up found)
+  reads o found same text h = subst (λ f. ReadsAs w c F bytes (looked_up f)) same (reads_as o text h)

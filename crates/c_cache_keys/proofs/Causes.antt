@@ -1,11 +1,12 @@
 -- Each refusal has its cause.
 use Rattle.std.proofs.Common.{◌≡◌, inl, inr, sym, subst, Some, None, Ok, Err}
+use Rattle.cck_path.specs.Bytes.{Bytes}
+use Rattle.c_cache_keys.proofs.Stepped.{failed_miss}
 use Rattle.c_cache_keys.proofs.Stored.{not_refused}
-use Rattle.c_cache_keys.specs.Arguments.{Bytes}
 use Rattle.c_cache_keys.specs.Call.{Call, Fault, Refused, Why, Memory, Extra, ExtraFault, Input, InputFault, Store as StoreFails, Damaged, NoText, TextFault, Marker}
 use Rattle.c_cache_keys.specs.Hits.{Cause, RefusalsHaveCauses}
 use Rattle.c_cache_keys.specs.Keys.{preprocessor_key_of}
-use Rattle.c_cache_keys.specs.Step.{Asked, Asks, Ends, Failed, Gives, Hit, Makes, Miss, Reads, Step, StopsMaking, StopsOpening, asked, drops, gives, made, stopped, stops}
+use Rattle.c_cache_keys.specs.Step.{Asked, Asks, Ends, Failed, Gives, Hit, Makes, Miss, ReadsAs, Step, StopsMaking, StopsOpening, asked, gives, made, stopped, stops}
 use Rattle.c_cache_keys.specs.Store.{Handed, Store, StoreLaws}
 use Rattle.c_cache_keys.specs.World.{World}
 use Rattle.c_cache_keys.specs.declared.store.StoreError.TheVariants as store
@@ -15,9 +16,6 @@ same_why e = cc
 
 failed_same : {v w : Why} → Failed v ≡ Failed w → v ≡ w
 failed_same e = cc
-
-not_miss : {v : Why} → Failed v ≡ Miss → ⊥
-not_miss e = cc
 
 module _ {V S : Type 0} (w : World V) (st : Store S) (laws : StoreLaws st) where
   opening_cause : (c : Call V) (F : Type 0) (s t : S) (why : Why) → (F → ⊥) → StopsOpening w c F why → Cause w st c s t why
@@ -47,10 +45,9 @@ module _ {V S : Type 0} (w : World V) (st : Store S) (laws : StoreLaws st) where
   -- the state of the store before a key is made has no part in why it isn't
   makes_cause : (c : Call V) (F : Type 0) (z s t : S) (why : Why) → (F → ⊥) → Makes w st c F s (Refused why) t → Cause w st c z t why
   makes_cause c F z s t why no_fault (stops v cause is same) = subst (Cause w st c z t) (same_why (sym is)) (making_cause c F z t v no_fault cause)
-  makes_cause c F z s t why no_fault (drops key p is) = subst (Cause w st c z t) (same_why (sym is)) tt
   makes_cause c F z s t why no_fault (gives key is-plain quiet is stores) = absurd (not_refused (sym is))
 
-  bytes_cause : (c : Call V) (F : Type 0) (s t : S) (k x : Bytes) (why : Why) → preprocessor_key_of w c ≡ Some k → st.held s k x → Reads w c F x (Failed why) → Cause w st c s t why
+  bytes_cause : (c : Call V) (F : Type 0) (s t : S) (k x : Bytes) (why : Why) → preprocessor_key_of w c ≡ Some k → st.held s k x → ReadsAs w c F x (Failed why) → Cause w st c s t why
   bytes_cause c F s t k x Memory is-k held h = tt
   bytes_cause c F s t k x Damaged is-k held h = (k, x, is-k, held, h.0, h.1)
   bytes_cause c F s t k x Extra is-k held h = absurd h
@@ -65,7 +62,7 @@ module _ {V S : Type 0} (w : World V) (st : Store S) (laws : StoreLaws st) where
   handed_cause : (c : Call V) (F : Type 0) (s t : S) (k : Bytes) (why : Why) (a : Handed) → preprocessor_key_of w c ≡ Some k → st.got s k a t → Gives w c F a (Failed why) → Cause w st c s t why
   handed_cause c F s t k why (Err store.Fault) is-k got given = subst (Cause w st c s t) (sym (failed_same given)) (laws.got_error s t k store.Fault got)
   handed_cause c F s t k why (Err store.Memory) is-k got given = subst (Cause w st c s t) (sym (failed_same given)) tt
-  handed_cause c F s t k why (Ok None) is-k got given = absurd (not_miss given)
+  handed_cause c F s t k why (Ok None) is-k got given = absurd (failed_miss given)
   handed_cause c F s t k why (Ok (Some x)) is-k got given = bytes_cause c F s t k x why is-k (laws.got_some s t k x got) given
 
   ends_cause : (c : Call V) (F : Type 0) (s t mid : S) (k : Bytes) (why : Why) (o : Asked) → (F → ⊥) → preprocessor_key_of w c ≡ Some k → Asks w st c F k s o mid → Ends w st c F o mid (Refused why) t → Cause w st c s t why

@@ -4,21 +4,21 @@ use Rattle.std.proofs.lemmas.Bool.{false≢true, or_cases, or_parts}
 use Rattle.std.specs.FinMap.{get, get-empty, get-insert, empty, insert}
 use Rattle.std.specs.Ordering.{eq_by_cmp}
 use Rattle.std.specs.Prelude.{Contains, cond}
-use Rattle.cck_file_digest.proofs.ReachedLemmas.{tied_path}
+use Rattle.std.proofs.lemmas.Option.{same_Some, none-some}
 use Rattle.cck_files.specs.FileMap.{FileNode, file_at, folder_at}
 use Rattle.cck_markers.specs.Marks.{Mark, Name, Refusal, Malformed}
+use Rattle.cck_path.specs.Bytes.{Bytes}
 use Rattle.cck_path.specs.Path.{Path, components, path_cmp, path_cmp_total}
 use Rattle.cck_walk.specs.Decided.{Accepts, Decided, Digests, IsRefused, Outcome, Passes, Records, Refuses, after, decided, is_known, is_passed, outcome, path_outcome, standing_outcome}
 use Rattle.cck_walk.specs.Decided as decision
 use Rattle.cck_walk.specs.Standing.{Standing, Folder, Regular, Bad, standing_at}
+use Rattle.cck_path.proofs.TestLemmas.{tied}
 use Rattle.c_cache_keys.proofs.Elements.{first_in, later_in, none_in, one_of}
-use Rattle.c_cache_keys.proofs.Includes.{none_is_some, same_some}
 use Rattle.c_cache_keys.proofs.NameTests.{passed_for, taken_for}
 use Rattle.c_cache_keys.proofs.PathEntries.{path_itself}
 use Rattle.c_cache_keys.proofs.Standings.{IsRegular, folder_or_file, standing_bad, standing_folder, standing_regular}
-use Rattle.c_cache_keys.specs.Arguments.{Bytes}
 use Rattle.c_cache_keys.specs.Call.{Call}
-use Rattle.c_cache_keys.specs.Walk.{Decides, IsGood, IsLooked, Verdict, input_path, path_of}
+use Rattle.c_cache_keys.specs.Walk.{MarksDecide, IsGood, IsLooked, Verdict, input_path, path_of}
 use Rattle.c_cache_keys.specs.Walked.{verdict_of, walk_context}
 use Rattle.c_cache_keys.specs.World.{World, setting}
 
@@ -54,7 +54,7 @@ module _ {V : Type 0} (w : World V) (c : Call V) where
         let p = path_of c name in
         elim (or_cases (is_some (get held p)) (eq_by_cmp path_cmp p (components (input_path c))) is) [
           | inl has ↦ (let (digest, at) = is_there (get held p) has in known digest at does)
-          | inr input ↦ unlooked (λ looked. looked.other (tied_path p (components (input_path c)) input)) does
+          | inr input ↦ unlooked (λ looked. looked.other (tied p (components (input_path c)) input)) does
         ]
     by_path false is passed o does =
         let p = path_of c name in
@@ -83,11 +83,11 @@ module _ {V : Type 0} (w : World V) (c : Call V) where
   AreRegular held = (p : Path) (digest : Bytes) → get held p ≡ Some digest → IsRegular w c p digest
 
   pub none_regular : AreRegular empty
-  none_regular p digest h = absurd (none_is_some (sym (get-empty path_cmp p) ∙ h))
+  none_regular p digest h = absurd (none-some _ (sym (get-empty path_cmp p) ∙ h))
 
   set_at : (held : Digests) (p q : Path) (digest own : Bytes) (b : Bool) → eq_by_cmp path_cmp q p ≡ b → cond b (Some digest) (get held q) ≡ Some own
       → ((q ≡ p) × (digest ≡ own)) ⊎ (get held q ≡ Some own)
-  set_at held p q digest own true is h = inl (tied_path q p is, same_some digest own h)
+  set_at held p q digest own true is h = inl (tied q p is, same_Some digest own h)
   set_at held p q digest own false is h = inr h
 
   -- what has a digest after one was set
@@ -105,12 +105,12 @@ module _ {V : Type 0} (w : World V) (c : Call V) where
       ]
 
   good : (p : Path) (digest : Bytes) → IsRegular w c p digest → IsGood w c p
-  good p digest (n, file, old, own) = inr (n, file, old, λ none. none_is_some (sym none ∙ own))
+  good p digest (n, file, old, own) = inr (n, file, old, λ none. (none-some _ (sym none ∙ own)))
 
   module _ (held : Digests) (regular : AreRegular held) (name : Bytes) (system : Bool) (marks : List Mark)
-      (others : (more : Digests) → AreRegular more → Decides w c marks (verdict_of (decided (walk_context w c) (Some more) marks))) where
+      (others : (more : Digests) → AreRegular more → MarksDecide w c marks (verdict_of (decided (walk_context w c) (Some more) marks))) where
     abbrev After : Outcome → Type 0
-    After o = Decides w c (Name name system ∷ marks) (verdict_of (decided (walk_context w c) (after held o) marks))
+    After o = MarksDecide w c (Name name system ∷ marks) (verdict_of (decided (walk_context w c) (after held o) marks))
 
     name_decides : (o : Outcome) → Does held name system o → After o
     unfolding decided
@@ -122,7 +122,7 @@ module _ {V : Type 0} (w : World V) (c : Call V) where
     name_decides o (refuses looked bad is) = subst After (sym is) (inr (looked, bad, refl))
 
   -- marks decide the verdict that is said of them
-  pub told : (marks : List Mark) (held : Digests) → AreRegular held → Decides w c marks (verdict_of (decided (walk_context w c) (Some held) marks))
+  pub told : (marks : List Mark) (held : Digests) → AreRegular held → MarksDecide w c marks (verdict_of (decided (walk_context w c) (Some held) marks))
   unfolding decided
   told [] held regular = refl
   told (Refusal ∷ marks) held regular = refl
@@ -130,14 +130,14 @@ module _ {V : Type 0} (w : World V) (c : Call V) where
   told (Name name system ∷ marks) held regular = name_decides held regular name system marks (told marks) (outcome (walk_context w c) held name system) (happens held name system)
 
   -- marks decide one verdict
-  pub one_verdict : (marks : List Mark) (u v : Verdict) → Decides w c marks u → Decides w c marks v → u ≡ v
-  one_verdict [] u v d e = d ∙ sym e
-  one_verdict (Refusal ∷ marks) u v d e = d ∙ sym e
-  one_verdict (Malformed ∷ marks) u v d e = d ∙ sym e
-  one_verdict (Name name system ∷ marks) u v (inl d) (inl e) = one_verdict marks u v d.1 e.1
-  one_verdict (Name name system ∷ marks) u v (inl d) (inr e) = absurd (e.1 (d.0 e.0))
-  one_verdict (Name name system ∷ marks) u v (inr d) (inl e) = absurd (d.1 (e.0 d.0))
-  one_verdict (Name name system ∷ marks) u v (inr d) (inr e) = d.2 ∙ sym e.2
+  pub one_decision : (marks : List Mark) (u v : Verdict) → MarksDecide w c marks u → MarksDecide w c marks v → u ≡ v
+  one_decision [] u v d e = d ∙ sym e
+  one_decision (Refusal ∷ marks) u v d e = d ∙ sym e
+  one_decision (Malformed ∷ marks) u v d e = d ∙ sym e
+  one_decision (Name name system ∷ marks) u v (inl d) (inl e) = one_decision marks u v d.1 e.1
+  one_decision (Name name system ∷ marks) u v (inl d) (inr e) = absurd (e.1 (d.0 e.0))
+  one_decision (Name name system ∷ marks) u v (inr d) (inl e) = absurd (d.1 (e.0 d.0))
+  one_decision (Name name system ∷ marks) u v (inr d) (inr e) = d.2 ∙ sym e.2
 
   -- these marks have a name that is looked at and means this path
   abbrev pub IsMeant : List Mark → Path → Type 0
@@ -211,7 +211,7 @@ module _ {V : Type 0} (w : World V) (c : Call V) where
         }
       where
         kept_beside : (p : Path) (digest : Bytes) → get held p ≡ Some digest → (b : Bool) → eq_by_cmp path_cmp p (path_of c name) ≡ b → get (insert held (path_of c name) own) p ≡ Some digest
-        kept_beside p digest h true is = absurd (none_is_some (sym none ∙ ap (get held) (sym (tied_path p (path_of c name) is)) ∙ h))
+        kept_beside p digest h true is = absurd (none-some _ (sym none ∙ ap (get held) (sym (tied p (path_of c name) is)) ∙ h))
         kept_beside p digest h false is = get-insert path_cmp_total held (path_of c name) own p ∙ ap (λ b. cond b (Some own) (get held p)) is ∙ h
 
     name_gathers : ((more : Digests) → decided (walk_context w c) (Some more) marks ≡ Accepts digests → AreGathered marks more digests)

@@ -1,7 +1,8 @@
 -- Elements of lists.
-use Rattle.std.proofs.Common.{◌≡◌, ◌⊎◌, inl, inr, zero, suc, List, [], ◌∷◌, refl, sym, ap, arith, Bool, true, false, ◌&&◌, ◌∙◌}
+use Rattle.std.proofs.Common.{◌≡◌, ◌⊎◌, inl, inr, zero, suc, List, [], ◌∷◌, refl, sym, ap, arith, Bool, true, ◌&&◌, ◌∙◌}
 use Rattle.std.specs.Prelude.{Contains}
 use Rattle.std.specs.List.{list_all}
+use Rattle.std.proofs.lemmas.Bool.{and_parts}
 
 pub first_in : {X : Type 0} (x : X) (xs : List X) → Contains (x ∷ xs) x
 first_in x xs = (0, omega arith, refl)
@@ -20,15 +21,11 @@ one_of x y xs (suc k, less, is) = inr (k, omega (arith, less), is)
 pub only_one : {X : Type 0} (x y : X) → Contains (x ∷ []) y → x ≡ y
 only_one x y h = elim (one_of x y [] h) [ inl is ↦ is | inr more ↦ absurd (none_in y more) ]
 
-pub both_true : (a b : Bool) → (a && b) ≡ true → (a ≡ true) × (b ≡ true)
-both_true true b h = (refl, h)
-both_true false b h = absurd cc
-
 -- a test that all pass, each passes
 pub each_passes : {X : Type 0} (test : X → Bool) (xs : List X) (x : X) → list_all test xs ≡ true → Contains xs x → test x ≡ true
 each_passes test [] x h at = absurd (none_in x at)
 each_passes test (y ∷ xs) x h at =
-    let parts = both_true (test y) (list_all test xs) h in
+    let parts = and_parts (test y) (list_all test xs) h in
     elim (one_of y x xs at) [ inl is ↦ ap test (sym is) ∙ parts.0 | inr more ↦ each_passes test xs x parts.1 more ]
 
 -- and a test that each passes, all pass

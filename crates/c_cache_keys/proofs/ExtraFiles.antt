@@ -11,12 +11,12 @@ use Rattle.cck_digest.specs.declared.error.FileError.TheVariants as file
 use Rattle.cck_file_digest.specs.Folder.{child_names}
 use Rattle.cck_files.specs.Calls.{IsRefusalOrMemory}
 use Rattle.cck_files.specs.FileMap.{FileMap, folder_at}
+use Rattle.cck_path.specs.Bytes.{Bytes, variables_of}
 use Rattle.cck_path.specs.Path.{components}
 use Rattle.cck_path.specs.Text.{join_path}
 use Rattle.cck_path.specs.Variables.{Variable}
-use Rattle.c_cache_keys.specs.Arguments.{Arguments, Bytes}
+use Rattle.c_cache_keys.specs.Arguments.{Arguments}
 use Rattle.c_cache_keys.specs.ExtraFiles.{extra_files, if_folder, is_hip, is_library, libraries, library_folder, named_by, named_files, with_extra_files}
-use Rattle.c_cache_keys.specs.Seen.{variables_of}
 
 -- the test of a text
 pub text_test : {E : Type 0} (r : Result (Bor (List ℕ)) E) (bytes : List ℕ) (Q : E → Type 0) → MatchResult r (λ s. (s.now ≡ bytes) × IsUtf8 bytes) (λ e. (IsUtf8 bytes → ⊥) × Q e) → is_ok r ≡ is_utf8 bytes

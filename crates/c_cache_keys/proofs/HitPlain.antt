@@ -4,6 +4,7 @@ use Rattle.std.specs.Prelude.{Contains}
 use Rattle.std.specs.FinMap.{empty, entries}
 use Rattle.std.specs.List.{list_all}
 use Rattle.std.proofs.lemmas.List.Elements.{Contains-append_left, Contains-append_right}
+use Rattle.std.proofs.lemmas.Option.{same_Some}
 use Rattle.cck_entry.proofs.LawLemmas.{one_text_one_entry}
 use Rattle.cck_entry.specs.Entry.{Entry, EntryText, added}
 use Rattle.cck_entry.specs.Results.{KeyResult}
@@ -11,17 +12,17 @@ use Rattle.cck_files.specs.FileMap.{FileNode, file_at, metadata_of}
 use Rattle.cck_include.specs.Gathered.{include_at, include_of}
 use Rattle.cck_include.specs.Include.{Include}
 use Rattle.cck_include.specs.Recorded.{has_time, recorded}
+use Rattle.cck_path.specs.Bytes.{Bytes}
 use Rattle.cck_path.specs.Path.{Path, components}
 use Rattle.cck_path.specs.Text.{join_path, path_text}
 use Rattle.c_cache_keys.proofs.Elements.{each_passes, only_one}
-use Rattle.c_cache_keys.proofs.Includes.{components-meant, entries-added, gathered_each, include_here, match_known, same_ok, same_some}
+use Rattle.c_cache_keys.proofs.Includes.{components-meant, entries-added, gathered_each, include_here, match_known, same_ok}
 use Rattle.c_cache_keys.proofs.KeySame.{input_known, key_known, material_known, material_same, plain_same, used_prints}
 use Rattle.c_cache_keys.proofs.RecordedSame.{recorded_same}
-use Rattle.c_cache_keys.specs.Arguments.{Bytes}
 use Rattle.c_cache_keys.specs.Call.{Call}
 use Rattle.c_cache_keys.specs.Keys.{input_recorded, key_material, plain_key, preprocessor_key_of, printed, uses_cache}
 use Rattle.c_cache_keys.specs.Premises.{Agree, IsBefore, IsSameFile, NoTime, Premises, SameFiles, of_file, of_key, of_time}
-use Rattle.c_cache_keys.specs.Step.{Keeps, OwnPair, matching}
+use Rattle.c_cache_keys.specs.Step.{AreOwnIncludes, OwnPair, matching}
 use Rattle.c_cache_keys.specs.Walk.{IsNamed, IsRecorded, input_path}
 use Rattle.c_cache_keys.specs.World.{HasSize, World, setting}
 
@@ -68,7 +69,7 @@ module _ {V : Type 0} (w : World V) (size : HasSize w.hash) (calls : List (Call 
           (record { request = request; extra = extra }, (material_known w c mc is-mc).0, r, digest-c, digest-d)
 
   abbrev InputSame : Type 0
-  InputSame = NoTime w c × ((n : FileNode) → file_at c.files (components (input_path c)) ≡ Ok n → (o : FileNode) × (file_at d.files (components (input_path c)) ≡ Ok o) × IsSameFile w c d n o)
+  InputSame = (input : FileNode) × (file_at c.files (components (input_path c)) ≡ Ok input) × NoTime w c × ((n : FileNode) → file_at c.files (components (input_path c)) ≡ Ok n → (o : FileNode) × (file_at d.files (components (input_path c)) ≡ Ok o) × IsSameFile w c d n o)
 
   input_same : (r : Bytes) → c.request ≡ d.request → input_recorded w c ≡ Some r → input_recorded w d ≡ Some r → InputSame
   input_same r request digest-c digest-d =
@@ -79,6 +80,8 @@ module _ {V : Type 0} (w : World V) (size : HasSize w.hash) (calls : List (Call 
       go : (n o : FileNode) → file_at c.files (components (input_path c)) ≡ Ok n → recorded (setting w c) n ≡ Some r → file_at d.files (components (input_path c)) ≡ Ok o → recorded (setting w d) o ≡ Some r → InputSame
       go n o file-n rec-n file-o rec-o =
           let (same, clear) = file_same n o _ _ r file-n file-o rec-n rec-o in (
+            n,
+            file-n,
             λ m file. ap (λ v. has_time v.contents) (same_ok m n (sym file ∙ file-n)) ∙ clear,
             λ m file. (o, file-o, subst (λ v. IsSameFile w c d v o) (sym (same_ok m n (sym file ∙ file-n))) same),
           )
@@ -91,12 +94,12 @@ module _ {V : Type 0} (w : World V) (size : HasSize w.hash) (calls : List (Call 
       let at_own : of_path.path ≡ p = sym (components-named w c text of_path.path of_path.named) ∙ ap components (sym of_path.written) ∙ read in
       let same_node : of_path.node ≡ n = same_ok of_path.node n (sym of_path.file ∙ ap (file_at c.files) at_own ∙ file) in
       let (here, long) = include_here c.files c.moment (digest, path_text p) p n read file in
-      let made : include_of c.moment (digest, path_text p) (metadata_of n) ≡ x = same_some _ x (sym here ∙ is) in
+      let made : include_of c.moment (digest, path_text p) (metadata_of n) ≡ x = same_Some _ x (sym here ∙ is) in
       let (o, file-o, rec-o) = match_known (setting w d) d.files x p premises.options.file_stat_matches (ap (λ i. components i.path) (sym made) ∙ read) match in
       (o, file-o, (file_same n o p p digest file file-o (ap (recorded (setting w c)) (sym same_node) ∙ of_path.digest) (rec-o ∙ ap (λ i. Some i.digest) (sym made))).0)
 
   -- so is each regular file that the earlier text names
-  named_same : (includes : List Include) → (keeps : Keeps w c includes) → list_all (matching w d) includes ≡ true
+  named_same : (includes : List Include) → (keeps : AreOwnIncludes w c includes) → list_all (matching w d) includes ≡ true
       → (p : Path) (n : FileNode) → IsNamed w c keeps.text p → file_at c.files p ≡ Ok n → (o : FileNode) × (file_at d.files p ≡ Ok o) × IsSameFile w c d n o
   named_same includes keeps all_match p n named file =
       let (digest, at) = keeps.recorded.all p n named file in
@@ -113,11 +116,14 @@ module _ {V : Type 0} (w : World V) (size : HasSize w.hash) (calls : List (Call 
     where
       go : found ≡ key → list_all (matching w d) own.includes ≡ true → Agree w c d → uses_cache w c.request ≡ true → InputSame → plain_key w d ≡ Some found
       go same_key all_match agree used input =
-          let same : SameFiles w c d own.keeps.text =
-          λ p n where_from file. elim where_from [
-            | inl is ↦ (let (o, file-o, alike) = input.1 n (ap (file_at c.files) (sym is) ∙ file) in (o, ap (file_at d.files) is ∙ file-o, alike))
-            | inr named ↦ named_same own.includes own.keeps all_match p n named file
-          ]
+          let same : SameFiles w c d own.keeps.text = record {
+            input = input.0;
+            is_input = input.1;
+            same = λ p n where_from file. elim where_from [
+              | inl is ↦ (let (o, file-o, alike) = input.3 n (ap (file_at c.files) (sym is) ∙ file) in (o, ap (file_at d.files) is ∙ file-o, alike))
+              | inr named ↦ named_same own.includes own.keeps all_match p n named file
+            ];
+          }
           in
-          let prints : printed w d ≡ Some own.keeps.text = premises.compiler c d own.keeps.text before own.keeps.is_text input.0 own.keeps.accepted agree same in
+          let prints : printed w d ≡ Some own.keeps.text = premises.compiler c d own.keeps.text before own.keeps.is_text input.2 own.keeps.accepted agree same in
           sym (plain_same w c d own.keeps.text (used_prints w c.request used) agree.request agree.extra own.keeps.is_text prints) ∙ own.is_plain ∙ ap Some (sym same_key)

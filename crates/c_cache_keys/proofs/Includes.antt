@@ -1,6 +1,6 @@
 -- What is recorded of a call's files, and the entry of one result.
 use Rattle.std.proofs.Common.{◌≡◌, inl, inr, Bool, true, false, ◌&&◌, ◌||◌, List, [], ◌∷◌, length, map, refl, sym, ap, ◌∙◌, subst, Option, Some, None, Result, Ok, Err}
-use Rattle.std.proofs.lemmas.Bool.{eq-eqb}
+use Rattle.std.proofs.lemmas.Bool.{eq-eqb, and_parts, and_left, or_right}
 use Rattle.std.proofs.lemmas.Slice.Eq.{bytes_eq-Decides}
 use Rattle.std.specs.Cmp.Lexicographic.{nat_list_cmp_total}
 use Rattle.std.specs.FinMap.{empty, entries, entries-insert, get, insert}
@@ -8,15 +8,19 @@ use Rattle.std.specs.FinMap.Entries.{put}
 use Rattle.std.specs.Option.{option_map}
 use Rattle.std.specs.Prelude.{Contains, MatchBool, nat_eq}
 use Rattle.std.specs.Str.{bytes_eq}
+use Rattle.std.proofs.lemmas.Option.{same_Some}
 use Rattle.cck_digest.specs.declared.error.FileError.{FileError}
 use Rattle.cck_entry.proofs.EntryLemmas.{entries_of_empty}
 use Rattle.cck_entry.proofs.LawLemmas.{added_to_all_or_nothing}
-use Rattle.cck_entry.specs.Entry.{Entry, added, is_over, text_cmp}
-use Rattle.cck_files.specs.FileMap.{FileMap, FileNode, contents_of_kind, file_at, file_if, file_in, metadata_at, metadata_in, metadata_of}
+use Rattle.cck_entry.specs.Entry.{added, is_over, text_cmp}
+use Rattle.cck_files.proofs.FileLemmas.{kind_of_file}
+use Rattle.cck_files.specs.FileMap.{FileMap, FileNode, contents_of_kind, file_at, file_in, metadata_at, metadata_in, metadata_of}
 use Rattle.cck_include.specs.Gathered.{Digested, all_of, gathered, include_at, include_of, include_said}
 use Rattle.cck_include.specs.Include.{Include}
 use Rattle.cck_include.specs.Matching.{file_matches, is_digest, matches, times_accept}
-use Rattle.cck_include.specs.Recorded.{Setting, recorded}
+use Rattle.cck_include.specs.Recorded.{recorded}
+use Rattle.cck_include.specs.Setting.{Setting}
+use Rattle.cck_path.specs.Bytes.{Bytes}
 use Rattle.cck_path.proofs.NormalLemmas.{components-normal}
 use Rattle.cck_path.proofs.JoinLemmas.{components-join}
 use Rattle.cck_path.specs.Path.{Path, components, joined, normal}
@@ -24,17 +28,10 @@ use Rattle.cck_path.specs.Text.{join_path, path_text}
 use Rattle.cck_path.specs.Timestamp.{Moment}
 use Rattle.cck_path.specs.declared.metadata.FileKind.{FileKind}
 use Rattle.cck_path.specs.declared.metadata.FileKind.TheVariants.{File, Folder, Other}
-use Rattle.c_cache_keys.specs.Arguments.{Bytes}
-use Rattle.c_cache_keys.proofs.Elements.{both_true, first_in, later_in, none_in, one_of}
-
-pub same_some : {A : Type 0} (x y : A) → Some x ≡ Some y → x ≡ y
-same_some x y e = cc
+use Rattle.c_cache_keys.proofs.Elements.{first_in, later_in, none_in, one_of}
 
 pub same_ok : {A E : Type 0} (x y : A) → ◌≡◌ {A = Result A E} (Ok x) (Ok y) → x ≡ y
 same_ok x y e = cc
-
-pub none_is_some : {A : Type 0} {x : A} → None ≡ Some x → ⊥
-none_is_some e = cc
 
 -- ---- files
 
@@ -43,15 +40,10 @@ pub components-meant : (cwd name : Bytes) → components (path_text (normal (joi
 components-meant cwd name =
     ap (λ p. components (path_text (normal p))) (sym (components-join cwd name)) ∙ components-normal (join_path cwd name) ∙ ap normal (components-join cwd name)
 
-file_of_kind : (n m : FileNode) (k : FileKind) → n.kind ≡ k → file_if n k ≡ Ok m → (n ≡ m) × (m.kind ≡ File)
-file_of_kind n m File is e = let same : n ≡ m = same_ok n m e in (same, ap (λ v. v.kind) (sym same) ∙ is)
-file_of_kind n m Folder is e = absurd cc
-file_of_kind n m Other is e = absurd cc
-
 -- what is said of a regular file
 said_of : (o : Option FileNode) (n : FileNode) → file_in o ≡ Ok n → metadata_in o ≡ Ok (metadata_of n) × (n.kind ≡ File)
 said_of None n e = absurd cc
-said_of (Some m) n e = let (same, kind) = file_of_kind m n m.kind refl e in (ap (λ v. Ok (metadata_of v)) same, kind)
+said_of (Some m) n e = let (same, kind) = kind_of_file m n m.kind refl e in (ap (λ v. Ok (metadata_of v)) same, kind)
 
 size_of : (n : FileNode) (k : FileKind) → n.kind ≡ k → k ≡ File → (metadata_of n).len ≡ length n.contents
 size_of n File is e = ap (λ k. length (contents_of_kind k n.contents)) is
@@ -70,7 +62,7 @@ include_here files moment d p n is file =
 
 one_more : {A : Type 0} (x : A) (o : Option (List A)) (xs : List A) → option_map (λ ys. x ∷ ys) o ≡ Some xs → (ys : List A) × (o ≡ Some ys) × (x ∷ ys ≡ xs)
 one_more x None xs e = absurd cc
-one_more x (Some ys) xs e = (ys, refl, same_some (x ∷ ys) xs e)
+one_more x (Some ys) xs e = (ys, refl, same_Some (x ∷ ys) xs e)
 
 module _ {D A : Type 0} (f : D → Option A) where
   split : (d : D) (ds : List D) (o : Option A) (xs : List A) → f d ≡ o → all_of (o ∷ map f ds) ≡ Some xs
@@ -88,7 +80,7 @@ module _ {D A : Type 0} (f : D → Option A) where
       ]
 
   pub from_each : (ds : List D) (xs : List A) → all_of (map f ds) ≡ Some xs → (x : A) → Contains xs x → (d : D) × Contains ds d × (f d ≡ Some x)
-  from_each [] xs e x at = absurd (none_in x (subst (λ l. Contains l x) (sym (same_some [] xs e)) at))
+  from_each [] xs e x at = absurd (none_in x (subst (λ l. Contains l x) (sym (same_Some [] xs e)) at))
   from_each (c ∷ ds) xs e x at =
       let (y, ys, first, rest, same) = split c ds (f c) xs refl e in
       elim (one_of y x ys (subst (λ l. Contains l x) (sym same) at)) [
@@ -108,10 +100,6 @@ gathered_from files moment ds xs e = from_each (include_at files moment) ds xs e
 
 -- ---- matches
 
-off_or : (a b : Bool) → a ≡ false → (a && b) ≡ false
-off_or true b h = absurd cc
-off_or false b h = refl
-
 digest_is : (o : Option Bytes) (digest : Bytes) → is_digest o digest ≡ true → o ≡ Some digest
 digest_is None digest e = absurd cc
 digest_is (Some d) digest e = ap Some ((bytes_eq-Decides d digest).0 e)
@@ -121,8 +109,8 @@ matches_known : (s : Setting) (i : Include) (r : Result FileNode FileError) → 
     → (o : FileNode) × (r ≡ Ok o) × (recorded s o ≡ Some i.digest)
 matches_known s i (Err e) off h = absurd cc
 matches_known s i (Ok o) off h =
-    let parts = both_true (nat_eq (length o.contents) i.size) _ h in
-    (o, refl, digest_is (recorded s o) i.digest (ap (λ b. b || is_digest (recorded s o) i.digest) (sym (off_or s.config.file_stat_matches _ off)) ∙ parts.1))
+    let parts = and_parts (nat_eq (length o.contents) i.size) _ h in
+    (o, refl, digest_is (recorded s o) i.digest (ap (λ b. b || is_digest (recorded s o) i.digest) (sym (and_left s.config.file_stat_matches _ off)) ∙ parts.1))
 
 pub match_known : (s : Setting) (files : FileMap) (i : Include) (p : Path) → s.config.file_stat_matches ≡ false → components i.path ≡ p → matches s files i ≡ true
     → (o : FileNode) × (file_at files p ≡ Ok o) × (recorded s o ≡ Some i.digest)
@@ -131,13 +119,9 @@ match_known s files i p off is h =
     let (o, file, digest) = matches_known s i (file_at files (components i.path)) off h in
     (o, ap (file_at files) (sym is) ∙ file, digest)
 
-or_right : (a b : Bool) → b ≡ true → (a || b) ≡ true
-or_right true b h = refl
-or_right false b h = h
-
 is_the_digest : (o : Option Bytes) (digest : Bytes) → o ≡ Some digest → is_digest o digest ≡ true
 is_the_digest None digest e = absurd cc
-is_the_digest (Some d) digest e = ap (λ v. bytes_eq v digest) (same_some d digest e) ∙ (bytes_eq-Decides digest digest).1 refl
+is_the_digest (Some d) digest e = ap (λ v. bytes_eq v digest) (same_Some d digest e) ∙ (bytes_eq-Decides digest digest).1 refl
 
 -- a regular file of the size and of the recorded digest matches
 pub match_by_digest : (s : Setting) (files : FileMap) (i : Include) (p : Path) (o : FileNode) → components i.path ≡ p → file_at files p ≡ Ok o
@@ -153,9 +137,6 @@ match_by_digest s files i p o is file size digest =
 either_way : {X : Type 0} (b : Bool) (x y z : X) → y ≡ z → MatchBool b (x ≡ y) (x ≡ z) → x ≡ y
 either_way true x y z e h = h
 either_way false x y z e h = h ∙ sym e
-
-no_results : Entry
-no_results = empty
 
 pub entries-added : (key : Bytes) (includes : List Include) → entries (added empty key includes) ≡ (key, includes) ∷ []
 entries-added key includes =

@@ -1,44 +1,38 @@
 -- What a preprocessor key tells of a call, and what one such key tells of two calls of one request.
-use Rattle.std.proofs.Common.{◌≡◌, Bool, true, false, ◌&&◌, cond, List, [], ◌∷◌, length, map, refl, sym, ap, ap₂, ◌∙◌, subst, All, Option, Some, None, Result, Ok, Err, arith, zero, suc}
-use Rattle.std.specs.Option.{option_and_then, option_map}
+use Rattle.std.proofs.Common.{◌≡◌, true, cond, List, [], ◌∷◌, length, map, refl, sym, ap, ap₂, ◌∙◌, subst, All, Option, Some, None, Result, Ok, Err, arith, zero, suc}
+use Rattle.std.specs.Option.{option_map}
+use Rattle.std.proofs.lemmas.Option.{same_Some, none-some}
+use Rattle.std.proofs.lemmas.Bool.{and_parts}
 use Rattle.cck_digest.specs.Digest.{digest_text}
 use Rattle.cck_digest.specs.declared.error.FileError.{FileError}
 use Rattle.cck_file_digest.specs.FileDigest.{text_and, text_at, texts}
 use Rattle.cck_file_digest.specs.FolderText.{digest_material}
 use Rattle.cck_files.specs.FileMap.{FileMap, FileNode, file_at}
 use Rattle.cck_include.specs.Recorded.{recorded}
+use Rattle.cck_path.specs.Bytes.{Bytes}
 use Rattle.cck_path.specs.Path.{Path, components}
 use Rattle.cck_path.specs.Text.{join_path}
 use Rattle.cck_preprocessor_key.proofs.MaterialLemmas.{one_request_one_material}
 use Rattle.cck_preprocessor_key.specs.PreprocessorKey.{preprocessor_material}
 use Rattle.cck_util.specs.Key.{object_key}
-use Rattle.c_cache_keys.proofs.Includes.{none_is_some, same_some}
+use Rattle.cck_path.proofs.TestLemmas.{from_and_then, then_some}
 use Rattle.c_cache_keys.proofs.RecordedSame.{length-digest_text}
-use Rattle.c_cache_keys.specs.Arguments.{Bytes}
 use Rattle.c_cache_keys.specs.Call.{Call, Request}
 use Rattle.c_cache_keys.specs.Keys.{extra_texts, input_file, input_recorded, is_preprocessed, key_material, of_both, params, plain_key, preprocessor_key_of, printed, request_parts, text_of, told, uses_cache}
 use Rattle.c_cache_keys.specs.Walk.{input_path}
 use Rattle.c_cache_keys.specs.World.{HasSize, World, setting}
 
 mapped_some : {A B : Type 0} (f : A → B) (o : Option A) (b : B) → option_map f o ≡ Some b → (a : A) × (o ≡ Some a) × (b ≡ f a)
-mapped_some f None b e = absurd (none_is_some e)
-mapped_some f (Some a) b e = (a, refl, sym (same_some (f a) b e))
-
-then_some : {A B : Type 0} (f : A → Option B) (o : Option A) (b : B) → option_and_then f o ≡ Some b → (a : A) × (o ≡ Some a) × (f a ≡ Some b)
-then_some f None b e = absurd (none_is_some e)
-then_some f (Some a) b e = (a, refl, e)
+mapped_some f None b e = absurd (none-some _ e)
+mapped_some f (Some a) b e = (a, refl, sym (same_Some (f a) b e))
 
 both_some : {A B C : Type 0} (f : A → B → C) (o : Option A) (p : Option B) (c : C) → of_both f o p ≡ Some c → (a : A) × (b : B) × (o ≡ Some a) × (p ≡ Some b) × (c ≡ f a b)
-both_some f None p c e = absurd (none_is_some e)
+both_some f None p c e = absurd (none-some _ e)
 both_some f (Some a) p c e = let (b, is, same) = mapped_some (f a) p c e in (a, b, refl, is, same)
 
-if_some : {A : Type 0} (b : Bool) (o : Option A) (a : A) → cond b o None ≡ Some a → (b ≡ true) × (o ≡ Some a)
-if_some true o a e = (refl, e)
-if_some false o a e = absurd (none_is_some e)
-
 told_some : {X : Type 0} (r : Result X FileError) (x : X) → told r ≡ Some x → r ≡ Ok x
-told_some (Ok y) x e = ap (λ v. Ok v) (same_some y x e)
-told_some (Err v) x e = absurd (none_is_some e)
+told_some (Ok y) x e = ap (λ v. Ok v) (same_Some y x e)
+told_some (Err v) x e = absurd (none-some _ e)
 
 -- ---- digest texts
 
@@ -49,13 +43,13 @@ text_size hash size files p t e =
     ap length same ∙ length-digest_text hash size m
 
 one_more_text : (o : Option Bytes) (os : Option (List Bytes)) (ts : List Bytes) → text_and o os ≡ Some ts → (t : Bytes) × (others : List Bytes) × (o ≡ Some t) × (os ≡ Some others) × (ts ≡ t ∷ others)
-one_more_text None os ts e = absurd (none_is_some e)
+one_more_text None os ts e = absurd (none-some _ e)
 one_more_text (Some t) os ts e = let (others, is, same) = mapped_some (λ us. t ∷ us) os ts e in (t, others, refl, is, same)
 
 -- there are as many as paths, of 64 characters each
 texts_sized : (hash : Bytes → Bytes) → HasSize hash → (files : FileMap) (ps : List Path) (ts : List Bytes) → texts hash files ps ≡ Some ts → (length ts ≡ length ps) × All (λ t. length t ≡ 64) ts
 texts_sized hash size files [] ts e =
-    let none : [] ≡ ts = same_some [] ts e in
+    let none : [] ≡ ts = same_Some [] ts e in
     (ap length (sym none), subst (All (λ t. length t ≡ 64)) none (λ k d less. absurd (omega (arith, less))))
 texts_sized hash size files (p ∷ ps) ts e =
     let (t, others, is, rest, same) = one_more_text (text_at hash files p) (texts hash files ps) ts e in
@@ -65,10 +59,6 @@ texts_sized hash size files (p ∷ ps) ts e =
     one_more_sized : (t : Bytes) (others : List Bytes) → length t ≡ 64 → All (λ t. length t ≡ 64) others → All (λ t. length t ≡ 64) (t ∷ others)
     one_more_sized t others first rest zero d less = first
     one_more_sized t others first rest (suc k) d less = rest k d (omega (arith, less))
-
-needs_text : (b c : Bool) → (b && c) ≡ true → b ≡ true
-needs_text true c e = refl
-needs_text false c e = absurd cc
 
 -- ---- calls
 
@@ -83,20 +73,20 @@ module _ {V : Type 0} (w : World V) where
       × (m ≡ preprocessor_material (request_parts w c.request (input_path c)) xs r)
   unfolding key_material
   material_known c m e =
-      let (used, is) = if_some (uses_cache w c.request) _ m e in
+      let (used, is) = then_some (uses_cache w c.request) _ m e in
       let (xs, r, is-xs, is-r, same) = both_some (preprocessor_material (request_parts w c.request (input_path c))) (extra_texts w c) (input_recorded w c) m is in
       (used, xs, r, is-xs, is-r, same)
 
   pub input_known : (c : Call V) (r : Bytes) → input_recorded w c ≡ Some r → (n : FileNode) × (file_at c.files (components (input_path c)) ≡ Ok n) × (recorded (setting w c) n ≡ Some r)
   unfolding input_recorded input_file
   input_known c r e =
-      let (n, is, digest) = then_some (recorded (setting w c)) (input_file w c) r e in
+      let (n, is, digest) = from_and_then (recorded (setting w c)) (input_file w c) r e in
       (n, told_some (file_at c.files (components (input_path c))) n is, digest)
 
   -- where a cache is used, a preprocessor is needed
   pub used_prints : (q : Request V) → uses_cache w q ≡ true → is_preprocessed q ≡ true
   unfolding uses_cache
-  used_prints q e = needs_text (is_preprocessed q) _ e
+  used_prints q e = (and_parts (is_preprocessed q) _ e).0
 
   texts_of_call : HasSize w.hash → (c : Call V) (xs : List Bytes) → extra_texts w c ≡ Some xs → (length xs ≡ length (map components c.request.arguments.extra_hash_files)) × All (λ t. length t ≡ 64) xs
   unfolding extra_texts

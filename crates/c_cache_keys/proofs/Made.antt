@@ -6,63 +6,42 @@ use Rattle.std.specs.FinMap.{get}
 use Rattle.std.specs.Global.{Vec}
 use Rattle.std.specs.Option.{option_map}
 use Rattle.std.specs.declared.alloc.Global.{Global}
+use Rattle.std.proofs.lemmas.Option.{same_Some}
 use Rattle.cck_digest.specs.declared.error.FileError.{FileError}
 use Rattle.cck_digest.specs.declared.error.FileError.TheVariants as file
 use Rattle.cck_files.specs.Calls.{IsRefusalOrMemory}
-use Rattle.cck_files.specs.FileMap.{FileNode, contents_at, contents_if, contents_in, file_at, file_if, file_in}
+use Rattle.cck_files.specs.FileMap.{FileNode, contents_at, file_at}
 use Rattle.cck_include.specs.Gathered.{Digested, all_of, gathered, include_at}
 use Rattle.cck_include.specs.Include.{Include}
 use Rattle.cck_markers.proofs.OneList.{one_list}
-use Rattle.cck_markers.specs.Marks.{Mark, Name, Refusal, Malformed}
+use Rattle.cck_path.specs.Bytes.{Bytes}
 use Rattle.cck_path.specs.Path.{components}
 use Rattle.cck_path.specs.Text.{path_text}
-use Rattle.cck_path.specs.declared.metadata.FileKind.{FileKind}
-use Rattle.cck_path.specs.declared.metadata.FileKind.TheVariants.{File, Folder, Other}
 use Rattle.cck_util.specs.Key.{object_key}
 use Rattle.cck_walk.specs.declared.error.WalkError.{WalkError}
 use Rattle.cck_walk.specs.declared.error.WalkError.TheVariants as failed
 use Rattle.cck_walk.specs.declared.walk.Walk as walk
 use Rattle.cck_walk.specs.declared.walk.Walk.TheVariants as answer
+use Rattle.cck_files.proofs.FileLemmas.{found_without_contents, found_with_contents}
+use Rattle.c_cache_keys.proofs.Decisions.{one_decision}
 use Rattle.c_cache_keys.proofs.Elements.{first_in, later_in, none_in}
 use Rattle.c_cache_keys.proofs.HitPlain.{components-named}
-use Rattle.c_cache_keys.proofs.Includes.{include_here, same_some}
+use Rattle.c_cache_keys.proofs.Includes.{include_here}
 use Rattle.c_cache_keys.proofs.Opened.{some_none}
-use Rattle.c_cache_keys.specs.Arguments.{Bytes}
 use Rattle.c_cache_keys.specs.Call.{Call, Refused, Memory}
 use Rattle.c_cache_keys.specs.Hasher.{IsPrintedFor, IsPut, made_of}
 use Rattle.c_cache_keys.specs.Keys.{extra_texts, input_file, is_preprocessed, key_material, params, plain_key, preprocessor_key_of, printed, text_of, told, uses_cache}
 use Rattle.c_cache_keys.specs.Refusals.{input_refusal, text_refusal, walk_refusal}
 use Rattle.c_cache_keys.specs.Seen.{IsPrinted, why_of}
-use Rattle.c_cache_keys.specs.Step.{Keeps, Makes, NotErring, NothingNew, StopsMaking, gives, stops}
+use Rattle.c_cache_keys.specs.Step.{AreOwnIncludes, Makes, NotErring, NothingNew, StopsMaking, gives, stops}
 use Rattle.c_cache_keys.specs.Store.{Store}
-use Rattle.c_cache_keys.specs.Walk.{Accepted, AreRecorded, Decides, Errs, IsNamed, IsRecorded, NotAccepted, Verdict, Walk, input_path}
+use Rattle.c_cache_keys.specs.Walk.{Accepted, AreRecorded, MarksDecide, Errs, IsNamed, IsRecorded, NotAccepted, Verdict, Walk, input_path}
 use Rattle.c_cache_keys.specs.Walked.{IsWalked, digested_of}
 use Rattle.c_cache_keys.specs.World.{World}
 use Rattle.c_cache_keys.specs.declared.error.KeyError.{KeyError}
 use Rattle.c_cache_keys.specs.declared.error.KeyError.TheVariants as key
 use Rattle.c_cache_keys.specs.declared.error.PreprocessError.{PreprocessError}
 use Rattle.c_cache_keys.specs.declared.error.PreprocessError.TheVariants as text
-
--- ---- the input itself
-
-read_kind : (n : FileNode) (k : FileKind) (contents : Bytes) → contents_if k n.contents ≡ Ok contents → (file_if n k ≡ Ok n) × (n.contents ≡ contents)
-read_kind n File contents e = (refl, cc)
-read_kind n Folder contents e = absurd cc
-read_kind n Other contents e = absurd cc
-
-read_node : (o : Option FileNode) (contents : Bytes) → contents_in o ≡ Ok contents → (n : FileNode) × (file_in o ≡ Ok n) × (n.contents ≡ contents)
-read_node None contents e = absurd cc
-read_node (Some n) contents e = let r = read_kind n n.kind contents e in (n, r.0, r.1)
-
-no_kind : (n : FileNode) (k : FileKind) (e : FileError) → contents_if k n.contents ≡ Err e → file_if n k ≡ Err e
-no_kind n File e is = absurd cc
-no_kind n Folder e is = cc
-no_kind n Other e is = cc
-
--- why there are no contents is why there is no file
-pub no_node : (o : Option FileNode) (e : FileError) → contents_in o ≡ Err e → file_in o ≡ Err e
-no_node None e is = cc
-no_node (Some n) e is = no_kind n n.kind e is
 
 -- ---- what is recorded
 
@@ -115,26 +94,10 @@ accepts_errs : ◌≡◌ {A = Verdict} Accepted Errs → ⊥
 accepts_errs e = cc
 
 module _ {V : Type 0} (w : World V) where
-  one_decision : (c : Call V) (marks : List Mark) (u v : Verdict) → Decides w c marks u → Decides w c marks v → u ≡ v
-  one_decision c [] u v a b = a ∙ sym b
-  one_decision c (Refusal ∷ marks) u v a b = a ∙ sym b
-  one_decision c (Malformed ∷ marks) u v a b = a ∙ sym b
-  one_decision c (Name name system ∷ marks) u v a b =
-      elim a [
-        | inl more ↦ (elim b [
-          | inl more' ↦ one_decision c marks u v more.1 more'.1
-          | inr bad ↦ absurd (bad.1 (more.0 bad.0))
-        ])
-        | inr bad ↦ (elim b [
-          | inl more ↦ absurd (bad.1 (more.0 bad.0))
-          | inr bad' ↦ bad.2 ∙ sym bad'.2
-        ])
-      ]
-
   -- a text has one verdict
   pub one_verdict : (c : Call V) (text : Bytes) (u v : Verdict) → Walk w c text u → Walk w c text v → u ≡ v
   one_verdict c text u v (marks, are, a) (marks', are', b) =
-      one_decision c marks u v a (subst (λ ms. Decides w c ms v) (one_list true text marks' marks are' are) b)
+      one_decision w c marks u v a (subst (λ ms. MarksDecide w c ms v) (one_list true text marks' marks are' are) b)
 
 module _ {V S : Type 0} (w : World V) (st : Store S) (c : Call V) (F : Type 0) where
   prints_text : (text : Bytes) → is_preprocessed c.request ≡ true → printed w c ≡ Some text → text_of w c ≡ Some text
@@ -182,7 +145,7 @@ module _ {V S : Type 0} (w : World V) (st : Store S) (c : Call V) (F : Type 0) w
       → IsOkUnless r key.Memory → Makes w st c F s (made_of r) s
   unfolding contents_at input_file file_at
   from_input s r xs contents needs extra reads is unless =
-      let (n, file, same) = read_node (get c.files.nodes (components (input_path c))) contents reads in
+      let (n, file, same) = found_with_contents (get c.files.nodes (components (input_path c))) contents reads in
       let none = no_key needs in
       finished s r (object_key w.hash (params w c.request xs contents)) (is_plain xs contents extra (no_preprocessor contents n needs (ap told file) same))
       (quiet_without none) (inr (nothing_new none)) is unless
@@ -193,7 +156,7 @@ module _ {V S : Type 0} (w : World V) (st : Store S) (c : Call V) (F : Type 0) w
   stop_input s e needs h = stops (why_of (input_refusal e)) (why e h) refl refl
     where
       no_file : (e : FileError) → contents_at c.files (components (input_path c)) ≡ Err e → input_file w c ≡ None
-      no_file e is = ap told (no_node (get c.files.nodes (components (input_path c))) e is)
+      no_file e is = ap told (found_without_contents (get c.files.nodes (components (input_path c))) e is)
 
       why : (e : FileError) → IsRefusalOrMemory (contents_at c.files (components (input_path c))) F e → StopsMaking w c F (why_of (input_refusal e))
       why file.NotFound h = (needs, no_file file.NotFound h)
@@ -221,7 +184,7 @@ module _ {V S : Type 0} (w : World V) (st : Store S) (c : Call V) (F : Type 0) w
     plain_here = is_plain xs text for.extra (prints_text text for.first for.prints)
 
     same_text : (other : Bytes) → printed w c ≡ Some other → other ≡ text
-    same_text other is = same_some other text (sym is ∙ for.prints)
+    same_text other is = same_Some other text (sym is ∙ for.prints)
 
     -- with this verdict on the text no malformed marker decides, and nothing is recorded unless it is accepted
     quiet_by : (v : Verdict) → Walk w c text v → (v ≡ Errs → ⊥) → NotErring w c F
@@ -252,7 +215,7 @@ module _ {V S : Type 0} (w : World V) (st : Store S) (c : Call V) (F : Type 0) w
     nothing_named s answer is walk none =
         finished s (Ok answer) plain plain_here (quiet_by Accepted walk accepts_errs) (inr (λ key includes some keeps. by keeps keeps.digested refl)) is tt
       where
-        by : {includes : List Include} (keeps : Keeps w c includes) (ds : List Digested) → ds ≡ keeps.digested → ⊥
+        by : {includes : List Include} (keeps : AreOwnIncludes w c includes) (ds : List Digested) → ds ≡ keeps.digested → ⊥
         by keeps [] same = keeps.some (sym same)
         by keeps (d ∷ ds) same =
             let r = keeps.recorded.each d (subst (λ l. Contains l d) same (first_in d ds)) in

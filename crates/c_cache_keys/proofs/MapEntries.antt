@@ -11,8 +11,8 @@ use Rattle.std.specs.String.{string_bytes, string_cmp}
 use Rattle.std.specs.declared.alloc.Global.{Global}
 use Rattle.std.specs.declared.cmp.Ordering.{Ordering}
 use Rattle.std.specs.declared.cmp.Ordering.TheVariants.{Equal, Greater, Less}
+use Rattle.cck_path.specs.Bytes.{Bytes}
 use Rattle.cck_entry.specs.Entry.{text_cmp}
-use Rattle.c_cache_keys.specs.Arguments.{Bytes}
 use Rattle.c_cache_keys.specs.MapStore.{State, pair_of}
 
 found_by : (b : Bool) (p : String Global × Vec ℕ) (o : Option (Vec ℕ)) (q : Option Bytes) → option_map (λ v. v.items) o ≡ q

@@ -4,7 +4,8 @@ use Rattle.std.specs.Prelude.{All, if◌then◌else◌}
 use Rattle.std.proofs.lemmas.Bool.Decides.{Decides-eqb}
 use Rattle.std.proofs.lemmas.List.{append-nil}
 use Rattle.std.proofs.lemmas.List.Elements.{All-nil, All-cons}
-use Rattle.cck_markers.proofs.OneList.{no_stop, not_both, stop_same}
+use Rattle.std.proofs.lemmas.Bool.{false≢true, or_parts}
+use Rattle.cck_markers.proofs.OneList.{no_stop, not_both, stop_same, some_nothing}
 use Rattle.cck_markers.specs.Marks.{Mark, Name, Refusal, Malformed, Marks, What, Short, Marker, Hidden, Inclusion, Plain, what, IsClosed, IsFree, Named, is_system, at_end, unnamed, named, malformed, hidden, hidden_to_end, refused, plain}
 
 -- the bytes before the first that stops, and the others
@@ -32,11 +33,8 @@ all_before P stops pass (x ∷ s) = by (stops x) refl (all_before P stops pass s
     by true e h = All-nil P
     by false e h = All-cons P x (before stops s) (pass x e) h
 
-false_true : false ≡ true → ⊥
-false_true e = cc
-
 pub differs : (x y : ℕ) → (x == y) ≡ false → x ≢ y
-differs x y e = λ same. false_true (sym e ∙ (Decides-eqb x y).1 same)
+differs x y e = λ same. false≢true (sym e ∙ (Decides-eqb x y).1 same)
 
 pub is : (x y : ℕ) → (x == y) ≡ true → x ≡ y
 is x y e = (Decides-eqb x y).0 e
@@ -50,12 +48,8 @@ is_line_end x = x == 10
 abbrev is_stop : ℕ → Bool
 is_stop x = (x == 34) || (x == 10)
 
-neither : (a b : Bool) → (a || b) ≡ false → (a ≡ false) × (b ≡ false)
-neither true b e = absurd (false_true (sym e))
-neither false b e = (refl, e)
-
 pub free_before : (s : List ℕ) → IsFree (before is_stop s)
-free_before s = all_before (λ x. (x ≢ 34) × (x ≢ 10)) is_stop (λ x e. let both = neither (x == 34) (x == 10) e in (differs x 34 both.0, differs x 10 both.1)) s
+free_before s = all_before (λ x. (x ≢ 34) × (x ≢ 10)) is_stop (λ x e. let both = or_parts (x == 34) (x == 10) e in (differs x 34 both.0, differs x 10 both.1)) s
 
 -- all of a text, where nothing stops
 pub whole : (stops : ℕ → Bool) (s : List ℕ) → behind stops s ≡ [] → before stops s ≡ s
@@ -63,9 +57,6 @@ whole stops s e = sym (together stops s ∙ ap (λ (t : List ℕ). before stops 
 
 pub cut_at : (stops : ℕ → Bool) (s : List ℕ) (t : List ℕ) → behind stops s ≡ t → s ≡ before stops s ++ t
 cut_at stops s t e = together stops s ∙ ap (λ (u : List ℕ). before stops s ++ u) e
-
-pub something : {x : ℕ} {s : List ℕ} → x ∷ s ≡ [] → ⊥
-something e = cc
 
 -- marks that a text has, if they could be read
 abbrev Found : Bool → List ℕ → Type 0
@@ -111,7 +102,7 @@ named_by s x t rest at r closed =
       free = free_before s;
       unquoted = all_before (λ v. v ≢ 34) is_quote (λ v h. differs v 34 h) (x ∷ t);
       closed = closed;
-      some = λ e. something (cut_at is_quote (x ∷ t) rest r ∙ e);
+      some = λ e. some_nothing (cut_at is_quote (x ∷ t) rest r ∙ e);
     }
 
 abbrev with_name : Reader → (start : Bool) (s : List ℕ) → what start s ≡ Marker → (n : Named s) → Found start s

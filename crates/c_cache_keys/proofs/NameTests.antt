@@ -4,8 +4,8 @@ use Rattle.std.proofs.Math.Seq.{get_or-append_seam}
 use Rattle.std.proofs.lemmas.Bool.{and_from, and_parts, eq-eqb, eqb-true, false≢true, le-leb, or_cases, or_parts}
 use Rattle.std.proofs.lemmas.List.{length-append, take_all, take_more}
 use Rattle.std.specs.Prelude.{slice_index}
+use Rattle.cck_path.specs.Bytes.{Bytes}
 use Rattle.cck_walk.specs.Decided.{is_angled, is_passed}
-use Rattle.c_cache_keys.specs.Arguments.{Bytes}
 use Rattle.c_cache_keys.specs.Walk.{IsAngled}
 
 -- the last byte stands behind the others

@@ -1,32 +1,31 @@
 -- How a call begins.
-use Rattle.std.proofs.Common.{◌≡◌, ℕ, zero, suc, ◌<◌, Bool, true, false, ◌&&◌, ◌||◌, cond, List, [], ◌∷◌, length, map, Option, Some, None, Result, Ok, Err, refl, sym, ap, ◌∙◌, arith}
-use Rattle.std.specs.Prelude.{IsOkAnd, is_none, is_some, slice_index_or, string_bytes}
-use Rattle.std.specs.FinMap.{get}
+use Rattle.std.proofs.Common.{◌≡◌, ℕ, zero, suc, ◌<◌, Bool, true, false, ◌&&◌, List, [], ◌∷◌, length, map, Option, Some, None, Result, Ok, Err, refl, sym, ap, ◌∙◌, arith}
+use Rattle.std.specs.Prelude.{IsOkAnd, is_none, slice_index_or, string_bytes}
 use Rattle.std.specs.Global.{Vec}
-use Rattle.std.specs.List.{list_any}
 use Rattle.std.specs.Option.{option_map}
+use Rattle.std.proofs.lemmas.Option.{none-some}
 use Rattle.cck_digest.specs.Digest.{digest_text}
 use Rattle.cck_digest.specs.declared.error.FileError.{FileError}
 use Rattle.cck_digest.specs.declared.error.FileError.TheVariants as file
 use Rattle.cck_digest.specs.declared.error.UtilError.{UtilError}
 use Rattle.cck_digest.specs.declared.error.UtilError.TheVariants as util
+use Rattle.cck_file_digest.proofs.MaterialLemmas.{refused_told}
 use Rattle.cck_file_digest.specs.FileDigest.{IsFirstRefusal, paths_of, text_and, text_at, texts}
-use Rattle.cck_file_digest.specs.FolderText.{digest_material, is_other, is_too_deep, material, material_of, whole, whole_part}
+use Rattle.cck_file_digest.specs.FolderText.{digest_material}
 use Rattle.cck_file_digest.specs.Refusals.{IsDigestRefusal}
-use Rattle.cck_files.specs.FileMap.{FileMap, FileNode, file_at, stands_at}
+use Rattle.cck_files.specs.FileMap.{FileMap, FileNode, file_at}
 use Rattle.cck_include.specs.Recorded.{recorded}
 use Rattle.cck_include.specs.Refusal.{IsIoRefusal}
+use Rattle.cck_path.specs.Bytes.{Bytes, lists_of}
 use Rattle.cck_path.specs.Path.{Path, components}
 use Rattle.cck_preprocessor_key.specs.PreprocessorKey.{preprocessor_material}
 use Rattle.cck_time.specs.declared.error.Error.{Error}
 use Rattle.cck_time.specs.declared.error.Error.TheVariants as entry
-use Rattle.c_cache_keys.proofs.Includes.{none_is_some}
-use Rattle.c_cache_keys.specs.Arguments.{Bytes}
 use Rattle.c_cache_keys.specs.Call.{Call}
 use Rattle.c_cache_keys.specs.Hasher.{IsInputRefusal, IsKeyOfInput, IsOpening}
 use Rattle.c_cache_keys.specs.Keys.{extra_texts, input_file, input_recorded, is_direct, is_preprocessed, key_material, preprocessor_key_of, request_parts, told, uses_cache}
 use Rattle.c_cache_keys.specs.Refusals.{extra_refusal, key_refusal}
-use Rattle.c_cache_keys.specs.Seen.{lists_of, why_of}
+use Rattle.c_cache_keys.specs.Seen.{why_of}
 use Rattle.c_cache_keys.specs.Step.{StopsOpening}
 use Rattle.c_cache_keys.specs.Walk.{input_path}
 use Rattle.c_cache_keys.specs.World.{World, setting}
@@ -35,7 +34,7 @@ use Rattle.c_cache_keys.specs.declared.error.KeyError.TheVariants as key
 use Rattle.c_cache_keys.specs.declared.hasher.opening.Opening.{Opening}
 
 pub some_none : {A : Type 0} {x : A} {o : Option A} → o ≡ Some x → o ≡ None → ⊥
-some_none is none = none_is_some (sym none ∙ is)
+some_none is none = (none-some _ (sym none ∙ is))
 
 true_false : (b : Bool) → b ≡ true → b ≡ false → ⊥
 true_false b e f = cc
@@ -52,39 +51,11 @@ paths_as (v ∷ vs) = ap (λ ps. components v.items ∷ ps) (paths_as vs)
 
 -- ---- digests of files
 
-nothing_of : (es : List (Path × FileNode)) → list_any is_other es ≡ true → material_of es ≡ None
-nothing_of [] e = refl
-nothing_of (x ∷ es) e = ap (λ b. cond (b || list_any (is_too_deep 1) (x ∷ es)) None (Some (material None (x ∷ es)))) e
-
-too_deep_of : (es : List (Path × FileNode)) → list_any (is_too_deep 1) es ≡ true → material_of es ≡ None
-too_deep_of [] e = refl
-too_deep_of (x ∷ es) e = by (list_any is_other (x ∷ es)) e
-  where
-    by : (b : Bool) {d : Bool} → d ≡ true → cond (b || d) None (Some (material None (x ∷ es))) ≡ None
-    by true e = refl
-    by false e = ap (λ b. cond b None (Some (material None (x ∷ es)))) e
-
--- what is refused for another cause than a fault or want of memory has no digest text
+-- what is refused for another cause than a fault or lack of memory has no digest text
 module _ (hash : Bytes → Bytes) (files : FileMap) (F : Type 0) where
   no_text : (p : Path) → digest_material files p ≡ None → text_at hash files p ≡ None
   unfolding text_at
   no_text p e = ap (option_map (digest_text hash)) e
-
-  missing : (p : Path) → stands_at files p ≡ false → digest_material files p ≡ None
-  unfolding stands_at digest_material whole
-  missing p e = by (get files.nodes p) e
-    where
-      by : (o : Option FileNode) → is_some o ≡ false → material_of (whole_part files.nodes p o) ≡ None
-      by None e = refl
-      by (Some n) e = absurd (true_false true refl e)
-
-  of_other : (p : Path) → list_any is_other (whole files.nodes p) ≡ true → digest_material files p ≡ None
-  unfolding digest_material
-  of_other p e = nothing_of (whole files.nodes p) e
-
-  of_deep : (p : Path) → list_any (is_too_deep 1) (whole files.nodes p) ≡ true → digest_material files p ≡ None
-  unfolding digest_material
-  of_deep p e = too_deep_of (whole files.nodes p) e
 
   texts_none : (ps : List Path) (i : ℕ) → i < length ps → text_at hash files (slice_index_or ps i []) ≡ None → texts hash files ps ≡ None
   texts_none [] i h e = absurd (omega (h, arith))
@@ -99,11 +70,11 @@ module _ {V : Type 0} (w : World V) (c : Call V) (F : Type 0) where
   stop_extra : (e : UtilError) (p : Path) → (text_at w.hash c.files p ≡ None → extra_texts w c ≡ None) → IsDigestRefusal c.files p F e → StopsOpening w c F (why_of (extra_refusal e))
   stop_extra util.Memory p none h = tt
   stop_extra util.Read p none h = absurd h
-  stop_extra (util.File file.NotFound) p none h = none (no_text w.hash c.files F p (missing w.hash c.files F p h))
-  stop_extra (util.File file.OtherKind) p none h = none (no_text w.hash c.files F p (of_other w.hash c.files F p h))
+  stop_extra (util.File file.NotFound) p none h = none (no_text w.hash c.files F p (refused_told c.files p (util.File file.NotFound) (λ same. cc) h))
+  stop_extra (util.File file.OtherKind) p none h = none (no_text w.hash c.files F p (refused_told c.files p (util.File file.OtherKind) (λ same. cc) h))
   stop_extra (util.File file.Fault) p none h = h
   stop_extra (util.File file.Memory) p none h = absurd h
-  stop_extra util.TooDeep p none h = none (no_text w.hash c.files F p (of_deep w.hash c.files F p h))
+  stop_extra util.TooDeep p none h = none (no_text w.hash c.files F p (refused_told c.files p util.TooDeep (λ same. cc) h))
   stop_extra util.TooLong p none h = absurd h
   stop_extra util.Write p none h = absurd h
   stop_extra util.IncompleteEscape p none h = absurd h

@@ -11,9 +11,10 @@ use Rattle.std.specs.String.{string_bytes}
 use Rattle.std.specs.declared.alloc.Global.{Global}
 use Rattle.std.proofs.lemmas.Map.Text.{is_eq-slice_cmp}
 use Rattle.cck_file_digest.specs.FolderText.{lossy}
+use Rattle.cck_path.specs.Bytes.{Bytes}
 use Rattle.cck_path.specs.Names.{file_name_of}
 use Rattle.cck_path.specs.Path.{components}
-use Rattle.c_cache_keys.specs.Arguments.{Arguments, Bytes, output_name, output_path}
+use Rattle.c_cache_keys.specs.Arguments.{Arguments, output_name, output_path}
 use Rattle.c_cache_keys.specs.Seen.{output_of}
 use Rattle.c_cache_keys.specs.declared.arguments.ArtifactDescriptor.{ArtifactDescriptor}
 

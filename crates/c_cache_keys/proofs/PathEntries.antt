@@ -1,5 +1,5 @@
 -- The entries of a finite map by paths, as a list.
-use Rattle.std.proofs.Common.{◌≡◌, inl, inr, zero, suc, ◌<◌, List, [], ◌∷◌, length, map, get_or, Bool, true, false, cond, T, Some, Ordering, Less, Equal, Greater, refl, sym, ap, subst, ◌∙◌, arith}
+use Rattle.std.proofs.Common.{◌≡◌, inl, inr, zero, suc, ◌<◌, List, [], ◌∷◌, length, map, get_or, Bool, true, false, cond, T, Some, Less, refl, sym, ap, subst, ◌∙◌, arith}
 use Rattle.std.proofs.lemmas.Cmp.{tied_itself}
 use Rattle.std.proofs.lemmas.List.{get_or_default}
 use Rattle.std.specs.FinMap.{FinMap, entries, entries_sorted, find, get, get-entries, is_sorted}
@@ -7,15 +7,10 @@ use Rattle.std.specs.FinMap.Entries.{below_all}
 use Rattle.std.specs.List.{AllPairs}
 use Rattle.std.specs.Ordering.{eq_by_cmp, is_eq, is_lt, ordering_reverse}
 use Rattle.std.specs.Prelude.{Contains}
-use Rattle.cck_file_digest.proofs.ReachedLemmas.{first, second, tied_path}
+use Rattle.std.proofs.lemmas.Option.{same_Some, none-some}
 use Rattle.cck_path.specs.Path.{Path, path_cmp, path_cmp_total}
+use Rattle.cck_path.proofs.TestLemmas.{less_from_T, T_parts, tied}
 use Rattle.c_cache_keys.proofs.Elements.{first_in, later_in, none_in, one_of}
-use Rattle.c_cache_keys.proofs.Includes.{none_is_some, same_some}
-
-less : (o : Ordering) → T (is_lt o) → o ≡ Less
-less Less h = refl
-less Equal h = absurd h
-less Greater h = absurd h
 
 pub path_itself : (p : Path) → eq_by_cmp path_cmp p p ≡ true
 path_itself p = ap is_eq (tied_itself path_cmp_total p)
@@ -27,13 +22,13 @@ module _ {X : Type 0} where
   found_or_later : (p : Path) (x : X) (e : Path × X) (es : List (Path × X)) (b : Bool) → eq_by_cmp path_cmp p e.0 ≡ b
       → (find path_cmp p es ≡ Some x → Contains es (p, x)) → cond b (Some e.1) (find path_cmp p es) ≡ Some x → Contains (e ∷ es) (p, x)
   found_or_later p x e es true is rest h =
-      let path : e.0 ≡ p = sym (tied_path p e.0 is) in
-      let value : e.1 ≡ x = same_some e.1 x h in
+      let path : e.0 ≡ p = sym (tied p e.0 is) in
+      let value : e.1 ≡ x = same_Some e.1 x h in
       subst (λ f. Contains (e ∷ es) f) (λ i. (path i, value i)) (first_in e es)
   found_or_later p x e es false is rest h = later_in e (p, x) es (rest h)
 
   found_stands : (p : Path) (x : X) (es : List (Path × X)) → find path_cmp p es ≡ Some x → Contains es (p, x)
-  found_stands p x [] h = absurd (none_is_some h)
+  found_stands p x [] h = absurd (none-some _ h)
   found_stands p x (e ∷ es) h = found_or_later p x e es (eq_by_cmp path_cmp p e.0) refl (found_stands p x es) h
 
   -- a path with a value is among the entries
@@ -44,8 +39,8 @@ module _ {X : Type 0} where
   below p [] h e at = absurd (none_in e at)
   below p (f ∷ es) h e at =
       elim (one_of f e es at) [
-        | inl is ↦ ap (λ (g : Path × X). path_cmp p g.0) (sym is) ∙ less (path_cmp p f.0) (first (is_lt (path_cmp p f.0)) (below_all path_cmp p es) h)
-        | inr more ↦ below p es (second (is_lt (path_cmp p f.0)) (below_all path_cmp p es) h) e more
+        | inl is ↦ ap (λ (g : Path × X). path_cmp p g.0) (sym is) ∙ less_from_T (path_cmp p f.0) (T_parts (is_lt (path_cmp p f.0)) (below_all path_cmp p es) h).0
+        | inr more ↦ below p es (T_parts (is_lt (path_cmp p f.0)) (below_all path_cmp p es) h).1 e more
       ]
 
   stands_found : (e : Path × X) (es : List (Path × X)) → T (is_sorted path_cmp es) → Contains es e → find path_cmp e.0 es ≡ Some e.1
@@ -54,8 +49,8 @@ module _ {X : Type 0} where
       elim (one_of f e es at) [
         | inl is ↦ (let own : f ≡ e = is in subst (λ (g : Path × X). find path_cmp g.0 (f ∷ es) ≡ Some g.1) own (ap (λ b. cond b (Some f.1) (find path_cmp f.0 es)) (path_itself f.0)))
         | inr more ↦
-            ap (λ b. cond b (Some f.1) (find path_cmp e.0 es)) (higher f.0 e.0 (below f.0 es (first (below_all path_cmp f.0 es) (is_sorted path_cmp es) h) e more))
-            ∙ stands_found e es (second (below_all path_cmp f.0 es) (is_sorted path_cmp es) h) more
+            ap (λ b. cond b (Some f.1) (find path_cmp e.0 es)) (higher f.0 e.0 (below f.0 es (T_parts (below_all path_cmp f.0 es) (is_sorted path_cmp es) h).0 e more))
+            ∙ stands_found e es (T_parts (below_all path_cmp f.0 es) (is_sorted path_cmp es) h).1 more
       ]
 
   -- an entry's path has its value
@@ -91,6 +86,6 @@ module _ {X : Type 0} where
       let r = made_from f es y (j, low, get_or_default (map f es) j y d low) in
       ap (λ p. path_cmp p (path y)) (told e (first_in e es))
       ∙ ap (path_cmp e.0) (ap path (sym r.2) ∙ told r.0 (later_in e r.0 es r.1))
-      ∙ below e.0 es (first (below_all path_cmp e.0 es) (is_sorted path_cmp es) h) r.0 r.1
+      ∙ below e.0 es (T_parts (below_all path_cmp e.0 es) (is_sorted path_cmp es) h).0 r.0 r.1
   made_in_order f path (e ∷ es) told h (suc i) (suc j) d lt range =
-      made_in_order f path es (λ g at. told g (later_in e g es at)) (second (below_all path_cmp e.0 es) (is_sorted path_cmp es) h) i j d (omega (arith, lt)) (omega (arith, range))
+      made_in_order f path es (λ g at. told g (later_in e g es at)) (T_parts (below_all path_cmp e.0 es) (is_sorted path_cmp es) h).1 i j d (omega (arith, lt)) (omega (arith, range))

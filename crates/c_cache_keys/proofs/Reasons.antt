@@ -1,29 +1,25 @@
 -- Each refusal gives its reason.
-use Rattle.std.proofs.Common.{◌≡◌, Some, Ok, Err, map, subst, sym, List, Result}
+use Rattle.std.proofs.Common.{◌≡◌, Ok, Err, map, subst, sym, List, Result}
 use Rattle.std.specs.Prelude.{IfErr, IsOkUnless}
 use Rattle.std.specs.FinMap.{get}
 use Rattle.cck_digest.specs.declared.error.FileError.{FileError}
 use Rattle.cck_digest.specs.declared.error.FileError.TheVariants as file
 use Rattle.cck_digest.specs.declared.error.UtilError.{UtilError}
 use Rattle.cck_digest.specs.declared.error.UtilError.TheVariants as util
-use Rattle.cck_entry.specs.Entry.{Reads}
 use Rattle.cck_file_digest.specs.FileDigest.{IsFirstRefusal}
 use Rattle.cck_file_digest.specs.Refusals.{IsDigestRefusal, IsFileRefusalAt}
+use Rattle.cck_files.proofs.FileLemmas.{found_without_contents}
 use Rattle.cck_files.proofs.CallsLemmas.{refusal_by}
 use Rattle.cck_files.specs.Calls.{IsRefusalOrMemory}
 use Rattle.cck_files.specs.FileMap.{FileMap, contents_at, file_at}
+use Rattle.cck_path.specs.Bytes.{Bytes}
 use Rattle.cck_path.specs.Path.{Path, components}
-use Rattle.cck_time.specs.declared.error.Error.{Error}
-use Rattle.cck_time.specs.declared.error.Error.TheVariants as entry
 use Rattle.cck_walk.specs.declared.error.WalkError.{WalkError}
 use Rattle.cck_walk.specs.declared.error.WalkError.TheVariants as walk
-use Rattle.c_cache_keys.proofs.Made.{no_node}
-use Rattle.c_cache_keys.specs.Arguments.{Bytes}
 use Rattle.c_cache_keys.specs.Call.{Call}
 use Rattle.c_cache_keys.specs.Hasher.{IsInputRefusal}
-use Rattle.c_cache_keys.specs.Keys.{preprocessor_key_of}
-use Rattle.c_cache_keys.specs.Reasons.{IsFileReason, IsReason, IsStoreReason}
-use Rattle.c_cache_keys.specs.Refusals.{entry_refusal, extra_refusal, input_refusal, text_refusal, walk_refusal}
+use Rattle.c_cache_keys.specs.Reasons.{IsFileReason, IsReason}
+use Rattle.c_cache_keys.specs.Refusals.{extra_refusal, input_refusal, text_refusal, walk_refusal}
 use Rattle.c_cache_keys.specs.Store.{Store}
 use Rattle.c_cache_keys.specs.Walk.{input_path}
 use Rattle.c_cache_keys.specs.World.{World}
@@ -115,8 +111,8 @@ module _ {V : Type 0} (w : World V) (c : Call V) (F : Type 0) where
   -- the input can't be read where no preprocessor is needed
   pub input_reason : (e : FileError) → IsRefusalOrMemory (contents_at c.files (components (input_path c))) F e → IsFileReason w c F (input_refusal e)
   unfolding contents_at file_at
-  input_reason file.NotFound h = no_node (get c.files.nodes (components (input_path c))) file.NotFound h
-  input_reason file.OtherKind h = no_node (get c.files.nodes (components (input_path c))) file.OtherKind h
+  input_reason file.NotFound h = found_without_contents (get c.files.nodes (components (input_path c))) file.NotFound h
+  input_reason file.OtherKind h = found_without_contents (get c.files.nodes (components (input_path c))) file.OtherKind h
   input_reason file.Fault h = h
   input_reason file.Memory h = tt
 
@@ -132,22 +128,7 @@ module _ {V : Type 0} (w : World V) (c : Call V) (F : Type 0) where
 -- ---- reasons of the store, and of both
 
 module _ {V S : Type 0} (w : World V) (st : Store S) (c : Call V) (s t : S) where
-  pub entry_reason : (k bytes : Bytes) (e : Error) → st.got s k (Ok (Some bytes)) t → Reads (Err e) bytes → IsStoreReason st k s t (entry_refusal e)
-  entry_reason k bytes entry.Memory got reads = tt
-  entry_reason k bytes entry.Deserialization got reads = record { other = λ e. cc; bytes = bytes; got = got; reads = reads }
-  entry_reason k bytes (entry.UnknownFormat byte) got reads = record { other = λ e. cc; bytes = bytes; got = got; reads = reads }
-  entry_reason k bytes (entry.Io cause) got reads = absurd reads
-
   module _ (F : Type 0) where
-    pub store_reason : (k : Bytes) (e : KeyError) → preprocessor_key_of w c ≡ Some k → IsStoreReason st k s t e → IsReason w st c F s t e
-    store_reason k key.Memory is h = tt
-    store_reason k key.Store is h = tt
-    store_reason k (key.Entry e) is h = (k, is, h)
-    store_reason k (key.Extra e) is h = absurd h
-    store_reason k (key.Input e) is h = absurd h
-    store_reason k (key.Preprocess e) is h = absurd h
-    store_reason k key.Marker is h = absurd h
-
     pub file_reason : (e : KeyError) → IsFileReason w c F e → IsReason w st c F s t e
     file_reason key.Memory h = h
     file_reason key.Store h = absurd h

@@ -1,30 +1,23 @@
 -- Equal recorded digests are of files that a text can't tell apart.
-use Rattle.std.proofs.Common.{◌≡◌, ◌*◌, Bool, true, false, ◌||◌, [], ◌∷◌, ◌++◌, length, refl, sym, ap, ◌∙◌, arith, Option, Some, None, not, ◌&&◌}
+use Rattle.std.proofs.Common.{◌≡◌, Bool, true, false, ◌||◌, [], ◌++◌, length, refl, sym, ap, ◌∙◌, Option, Some, None, not, ◌&&◌}
 use Rattle.std.proofs.lemmas.List.{append-nil}
-use Rattle.std.specs.Option.{option_map}
+use Rattle.std.proofs.lemmas.Bool.{or_right}
+use Rattle.cck_digest.proofs.HexLemmas.{text_length}
 use Rattle.cck_digest.proofs.ReadsBack.{bytes_read_back}
-use Rattle.cck_digest.specs.Digest.{digest_text, hex_text}
+use Rattle.cck_digest.specs.Digest.{digest_text}
 use Rattle.cck_files.specs.FileMap.{FileNode}
 use Rattle.cck_include.specs.Recorded.{file_time_part, has_date, has_time, has_timestamp, is_timed, recorded, recorded_by}
+use Rattle.cck_path.specs.Bytes.{Bytes}
 use Rattle.cck_path.specs.Timestamp.{nanos_of}
-use Rattle.cck_time.specs.TimePart.{local_day, local_second, time_part}
+use Rattle.cck_time.specs.TimePart.{AreOfOneSecond, local_day, time_part}
 use Rattle.cck_time.proofs.PartLemmas.{days_told, seconds_told}
-use Rattle.c_cache_keys.specs.Arguments.{Bytes}
 use Rattle.c_cache_keys.specs.Call.{Call}
 use Rattle.c_cache_keys.specs.Premises.{IsSameFile}
 use Rattle.c_cache_keys.specs.World.{HasSize, World, setting}
 
-length-hex_text : (bytes : Bytes) → length (hex_text bytes) ≡ 2 * length bytes
-length-hex_text [] = refl
-length-hex_text (b ∷ bytes) = omega (arith, length-hex_text bytes)
-
 -- a digest text has 64 characters
 pub length-digest_text : (hash : Bytes → Bytes) → HasSize hash → (bytes : Bytes) → length (digest_text hash bytes) ≡ 64
-length-digest_text hash size bytes = length-hex_text (hash bytes) ∙ ap (λ n. 2 * n) (size bytes)
-
-or_true : (a b : Bool) → b ≡ true → (a || b) ≡ true
-or_true true b h = refl
-or_true false b h = h
+length-digest_text hash size bytes = text_length hash bytes (size bytes)
 
 -- what a recorded digest is made of
 recorded_some : (hash : Bytes → Bytes) (time timed : Bool) (text : Bytes) (part : Option Bytes) (r : Bytes) → recorded_by hash time timed text part ≡ Some r
@@ -39,7 +32,7 @@ abbrev SameDay : {V : Type 0} → World V → Call V → Call V → Type 0
 SameDay w c d = local_day w.zone (nanos_of c.moment) ≡ local_day w.zone (nanos_of d.moment)
 
 abbrev SameSecond : {V : Type 0} → World V → FileNode → FileNode → Type 0
-SameSecond w n o = option_map (λ t. local_second w.zone (nanos_of t)) n.modified ≡ option_map (λ t. local_second w.zone (nanos_of t)) o.modified
+SameSecond w n o = AreOfOneSecond w.zone n.modified o.modified
 
 abbrev IsTold : {V : Type 0} → World V → Call V → Call V → FileNode → FileNode → Bool → Bool → Type 0
 IsTold w c d n o date timestamp = (date ≡ true → SameDay w c d) × (timestamp ≡ true → SameSecond w n o)
@@ -95,7 +88,7 @@ module _ {V : Type 0} (w : World V) (size : HasSize w.hash) where
         record {
           contents = contents;
           day = λ h. (facts (ap (λ b. b || has_timestamp n.contents) h)).0 h;
-          second = λ h. (facts (or_true (has_date n.contents) (has_timestamp n.contents) h)).1 h;
+          second = λ h. (facts (or_right (has_date n.contents) (has_timestamp n.contents) h)).1 h;
         },
         clear,
       )

@@ -4,16 +4,16 @@ use Rattle.std.specs.Prelude.{Contains}
 use Rattle.std.specs.FinMap.{entries}
 use Rattle.std.specs.List.{AllZip, list_all}
 use Rattle.std.proofs.lemmas.List.Elements.{Contains-append_left, Contains-append_right}
+use Rattle.cck_path.specs.Bytes.{Bytes}
 use Rattle.cck_entry.specs.Entry.{Entry, EntryText}
 use Rattle.cck_include.specs.Include.{Include}
 use Rattle.c_cache_keys.proofs.Elements.{first_in}
 use Rattle.c_cache_keys.proofs.HitPlain.{hit_plain}
-use Rattle.c_cache_keys.specs.Arguments.{Bytes}
 use Rattle.c_cache_keys.specs.Call.{Answer, Call, Damaged, Done, Fault, Keyed, Refused, calls_of}
 use Rattle.c_cache_keys.specs.Keys.{plain_key}
 use Rattle.c_cache_keys.specs.Laws.{FreshIsPlain, HitIsPlain, IsTransparent, KeepsOldOrOwn, NothingDamaged, Runs, RunsJoin, RunsTransparent, StaysSound, Transparent, joined_lists}
 use Rattle.c_cache_keys.specs.Premises.{IsBefore, Premises}
-use Rattle.c_cache_keys.specs.Step.{Asked, Asks, Ends, Failed, Gives, Hit, Makes, Miss, OwnPair, Puts, Run, Sound, Step, StopsMaking, StopsOpening, asked, drops, gives, made, matching, stopped, stops}
+use Rattle.c_cache_keys.specs.Step.{Asked, Asks, Ends, Failed, Gives, Hit, Makes, Miss, OwnPair, Puts, Run, Sound, Step, StopsMaking, StopsOpening, asked, gives, made, matching, stopped, stops}
 use Rattle.c_cache_keys.specs.Store.{Handed, Store, StoreLaws}
 use Rattle.c_cache_keys.specs.World.{HasSize, World}
 use Rattle.c_cache_keys.specs.declared.store.StoreError.TheVariants as store
@@ -40,32 +40,31 @@ module _ {V S : Type 0} (w : World V) (st : Store S) where
   )
 
 module _ {V S : Type 0} (w : World V) (st : Store S) (size : HasSize w.hash) (laws : StoreLaws st) where
-  -- what is held after a step was held before it, or is the call's own pair
-  abbrev pub IsKept : Call V → S → S → Type 0
-  IsKept c s t = (k b : Bytes) → st.held t k b → st.held s k b ⊎ ((key : Bytes) × OwnPair w c key k b)
+  -- what is held after a step was held before it, or is the call's own pair behind a fresh answer
+  abbrev pub IsKept : Call V → Answer → S → S → Type 0
+  IsKept c r s t = (k b : Bytes) → st.held t k b → st.held s k b ⊎ ((key : Bytes) × (r ≡ Keyed key true) × OwnPair w c key k b)
 
-  same_kept : (c : Call V) (s t : S) → t ≡ s → IsKept c s t
-  same_kept c s t is k b h = inl (subst (λ v. st.held v k b) is h)
+  same_kept : (c : Call V) (r : Answer) (s t : S) → t ≡ s → IsKept c r s t
+  same_kept c r s t is k b h = inl (subst (λ v. st.held v k b) is h)
 
-  puts_kept : (c : Call V) (key : Bytes) (s t : S) → Puts w st c key s t → IsKept c s t
-  puts_kept c key s t p k b h =
+  puts_kept : (c : Call V) (key : Bytes) (r : Answer) (s t : S) → r ≡ Keyed key true → Puts w st c key s t → IsKept c r s t
+  puts_kept c key r s t fresh p k b h =
       elim (laws.put_old s t p.k p.bytes p.answer p.put k b h) [
         | inl old ↦ inl old
-        | inr is ↦ inr (key, subst (λ v. OwnPair w c key v b) (sym is.0) (subst (λ v. OwnPair w c key p.k v) (sym is.1) p.own))
+        | inr is ↦ inr (key, fresh, subst (λ v. OwnPair w c key v b) (sym is.0) (subst (λ v. OwnPair w c key p.k v) (sym is.1) p.own))
       ]
 
-  makes_kept : (c : Call V) (F : Type 0) (s t : S) (r : Answer) → Makes w st c F s r t → IsKept c s t
-  makes_kept c F s t r (stops why cause is same) = same_kept c s t same
-  makes_kept c F s t r (drops key puts is) = puts_kept c key s t puts
-  makes_kept c F s t r (gives key is-plain calm is stores) = elim stores [ inl puts ↦ puts_kept c key s t puts | inr not ↦ same_kept c s t not.0 ]
+  makes_kept : (c : Call V) (F : Type 0) (s t : S) (r : Answer) → Makes w st c F s r t → IsKept c r s t
+  makes_kept c F s t r (stops why cause is same) = same_kept c r s t same
+  makes_kept c F s t r (gives key is-plain calm is stores) = elim stores [ inl puts ↦ puts_kept c key r s t is puts | inr not ↦ same_kept c r s t not.0 ]
 
-  ends_kept : (c : Call V) (F : Type 0) (o : Asked) (s t : S) (r : Answer) → Ends w st c F o s r t → IsKept c s t
-  ends_kept c F (Hit key) s t r e = same_kept c s t e.1
-  ends_kept c F (Failed why) s t r e = same_kept c s t e.1
+  ends_kept : (c : Call V) (F : Type 0) (o : Asked) (s t : S) (r : Answer) → Ends w st c F o s r t → IsKept c r s t
+  ends_kept c F (Hit key) s t r e = same_kept c r s t e.1
+  ends_kept c F (Failed why) s t r e = same_kept c r s t e.1
   ends_kept c F Miss s t r e = makes_kept c F s t r e
 
-  pub step_kept : (c : Call V) (F : Type 0) (s t : S) (r : Answer) → Step w st c F s r t → IsKept c s t
-  step_kept c F s t r (stopped why cause is same) = same_kept c s t same
+  pub step_kept : (c : Call V) (F : Type 0) (s t : S) (r : Answer) → Step w st c F s r t → IsKept c r s t
+  step_kept c F s t r (stopped why cause is same) = same_kept c r s t same
   step_kept c F s t r (made opened not makes) = makes_kept c F s t r makes
   step_kept c F s t r (asked opened k is-k control o mid asks ends) =
       λ q b h. elim (ends_kept c F o mid t r ends q b h) [
@@ -77,7 +76,7 @@ module _ {V S : Type 0} (w : World V) (st : Store S) (size : HasSize w.hash) (la
   first_any earlier c F s t r sound step k b h =
       elim (step_kept c F s t r step k b h) [
         | inl old ↦ (let (c', at, key, own) = sound k b old in (c', Contains-append_left earlier (c ∷ []) c' at, key, own))
-        | inr own ↦ (c, Contains-append_right earlier (c ∷ []) c (first_in c []), own.0, own.1)
+        | inr own ↦ (c, Contains-append_right earlier (c ∷ []) c (first_in c []), own.0, own.2)
       ]
 
   pub stays_sound : StaysSound w st
@@ -85,7 +84,6 @@ module _ {V S : Type 0} (w : World V) (st : Store S) (size : HasSize w.hash) (la
 
   makes_plain : (c : Call V) (F : Type 0) (s t : S) (key : Bytes) (fresh : Bool) → Makes w st c F s (Keyed key fresh) t → (plain_key w c ≡ Some key) × (fresh ≡ true)
   makes_plain c F s t key fresh (stops why cause is same) = cc
-  makes_plain c F s t key fresh (drops key' puts is) = cc
   makes_plain c F s t key fresh (gives key' is-plain calm is stores) = let same : key ≡ key' = cc in (is-plain ∙ ap Some (sym same), cc)
 
   ends_plain : (c : Call V) (F : Type 0) (o : Asked) (s t : S) (key : Bytes) → Ends w st c F o s (Keyed key true) t → plain_key w c ≡ Some key
@@ -138,7 +136,6 @@ module _ {V S : Type 0} (w : World V) (st : Store S) (size : HasSize w.hash) (la
 
   not_made : (c : Call V) (F : Type 0) (s t : S) → Makes w st c F s (Refused Damaged) t → ⊥
   not_made c F s t (stops why cause is same) = let e : why ≡ Damaged = cc in subst (StopsMaking w c F) e cause
-  not_made c F s t (drops key puts is) = cc
   not_made c F s t (gives key is-plain calm is stores) = cc
 
   entry_any : (earlier : List (Call V)) (c : Call V) (F : Type 0) (s t : S) → Sound w st s earlier → Step w st c F s (Refused Damaged) t → ⊥

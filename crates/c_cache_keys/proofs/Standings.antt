@@ -6,13 +6,13 @@ use Rattle.std.specs.Prelude.{IfSome}
 use Rattle.cck_files.specs.FileMap.{FileNode, file_at, file_if, file_in, folder_at, folder_if, folder_in}
 use Rattle.cck_include.specs.Gathered.{is_before}
 use Rattle.cck_include.specs.Recorded.{recorded}
+use Rattle.cck_path.specs.Bytes.{Bytes}
 use Rattle.cck_path.specs.Path.{Path}
 use Rattle.cck_path.specs.Timestamp.{Moment}
 use Rattle.cck_path.specs.declared.metadata.FileKind.{FileKind}
 use Rattle.cck_path.specs.declared.metadata.FileKind.TheVariants as kind
 use Rattle.cck_walk.specs.Standing.{Folder, Regular, Bad, digest_standing, is_late, kind_standing, node_standing, standing_at}
 use Rattle.c_cache_keys.proofs.Includes.{same_ok}
-use Rattle.c_cache_keys.specs.Arguments.{Bytes}
 use Rattle.c_cache_keys.specs.Call.{Call}
 use Rattle.c_cache_keys.specs.Walk.{IsGood, IsOld}
 use Rattle.c_cache_keys.specs.World.{World, setting}

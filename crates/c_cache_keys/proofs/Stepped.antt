@@ -1,10 +1,10 @@
 -- One call, from its parts.
 use Rattle.std.proofs.Common.{◌≡◌, ℕ, ◌≤◌, false, inl, inr, ap, refl, subst, arith, Option, Ok, String}
 use Rattle.std.specs.declared.alloc.Global.{Global}
+use Rattle.cck_path.specs.Bytes.{Bytes}
 use Rattle.cck_files.proofs.CallsLemmas.{rose_earlier, rose_later}
 use Rattle.cck_files.specs.Calls.{Rose}
 use Rattle.c_cache_keys.proofs.Widen.{wide_asks, wide_makes}
-use Rattle.c_cache_keys.specs.Arguments.{Bytes}
 use Rattle.c_cache_keys.specs.Call.{Answer, Call, Keyed, Refused, Why, Memory}
 use Rattle.c_cache_keys.specs.Hasher.{IsFound, IsOpening, asked_of}
 use Rattle.c_cache_keys.specs.Seen.{why_of}
@@ -18,7 +18,7 @@ use Rattle.c_cache_keys.specs.declared.hasher.opening.Opening.{Opening}
 hit_miss : {key : Bytes} → Hit key ≡ Miss → ⊥
 hit_miss e = cc
 
-failed_miss : {why : Why} → Failed why ≡ Miss → ⊥
+pub failed_miss : {why : Why} → Failed why ≡ Miss → ⊥
 failed_miss e = cc
 
 module _ {V S : Type 0} (w : World V) (st : Store S) (c : Call V) (F : Type 0) where

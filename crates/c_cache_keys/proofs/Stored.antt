@@ -4,6 +4,7 @@ use Rattle.std.specs.Prelude.{Contains}
 use Rattle.std.specs.FinMap.{empty, entries}
 use Rattle.std.specs.List.{AllZip, list_all}
 use Rattle.std.specs.Option.{option_and_then, option_map}
+use Rattle.std.proofs.lemmas.Option.{same_Some, none-some}
 use Rattle.cck_entry.proofs.LawLemmas.{one_text_one_entry}
 use Rattle.cck_entry.specs.Entry.{Entry, EntryText, added}
 use Rattle.cck_entry.specs.Find.{found_in}
@@ -13,17 +14,17 @@ use Rattle.cck_files.specs.FileMap.{metadata_of}
 use Rattle.cck_include.specs.Gathered.{include_of}
 use Rattle.cck_include.specs.Include.{Include}
 use Rattle.cck_include.specs.Recorded.{recorded}
+use Rattle.cck_path.specs.Bytes.{Bytes}
 use Rattle.cck_path.specs.Path.{components}
 use Rattle.c_cache_keys.proofs.Elements.{all_pass}
 use Rattle.c_cache_keys.proofs.HitPlain.{components-named}
-use Rattle.c_cache_keys.proofs.Includes.{entries-added, gathered_from, include_here, match_by_digest, none_is_some, same_some}
+use Rattle.c_cache_keys.proofs.Includes.{entries-added, gathered_from, include_here, match_by_digest}
 use Rattle.c_cache_keys.proofs.KeySame.{key_known, material_known}
-use Rattle.c_cache_keys.specs.Arguments.{Bytes}
 use Rattle.c_cache_keys.specs.Call.{Answer, Call, Done, Fault, Keyed, Refused, calls_of, Why, Memory, Extra, ExtraFault, Input, InputFault, Store as StoreFails, Damaged, NoText, TextFault, Marker}
 use Rattle.c_cache_keys.specs.Hits.{FreshIsHeld, HeldIsAnswered, IsAside, SameRecords, StoredIsHit}
 use Rattle.c_cache_keys.specs.Keys.{input_file, input_recorded, preprocessor_key_of}
 use Rattle.c_cache_keys.specs.Laws.{HandedIsAnswered, RecacheIsFresh}
-use Rattle.c_cache_keys.specs.Step.{Asked, Ends, Failed, Gives, Hit, Keeps, Makes, Miss, Puts, Reads, Run, Step, Stores, StopsOpening, asked, drops, found, gives, made, matching, stopped, stops}
+use Rattle.c_cache_keys.specs.Step.{Asked, Ends, Failed, Gives, Hit, AreOwnIncludes, Makes, Miss, Puts, ReadsAs, Run, Step, Stores, StopsOpening, asked, found, gives, made, matching, stopped, stops}
 use Rattle.c_cache_keys.specs.Store.{Handed, HoldsOnly, Setback, Store, StoreLaws}
 use Rattle.c_cache_keys.specs.Walk.{IsNamed}
 use Rattle.c_cache_keys.specs.World.{World, setting}
@@ -45,7 +46,7 @@ pub same_key : {key other : Bytes} {a b : Bool} → Keyed key a ≡ Keyed other 
 same_key e = cc
 
 none_some : {A : Type 0} {o : Option A} {x : A} → o ≡ None → o ≡ Some x → ⊥
-none_some e f = none_is_some (sym e ∙ f)
+none_some e f = (none-some _ (sym e ∙ f))
 
 pub not_both : ◌≡◌ {A = CacheControl} Default ForceRecache → ⊥
 not_both e = cc
@@ -64,9 +65,9 @@ module _ {V : Type 0} (w : World V) where
 
   no_input : (c : Call V) (r : Bytes) → input_recorded w c ≡ Some r → input_file w c ≡ None → ⊥
   unfolding input_recorded
-  no_input c r is missing = none_is_some (ap (option_and_then (recorded (setting w c))) (sym missing) ∙ is)
+  no_input c r is missing = (none-some _ (ap (option_and_then (recorded (setting w c))) (sym missing) ∙ is))
 
-  -- a call with a key to ask under is stopped before it only for want of memory, where no fault came
+  -- a call with a key to ask under is stopped before it only for lack of memory, where no fault came
   not_stopped : (c : Call V) (F : Type 0) (k : Bytes) (why : Why) → preprocessor_key_of w c ≡ Some k → (F → ⊥) → StopsOpening w c F why → why ≡ Memory
   not_stopped c F k Memory is-k no_fault cause = refl
   not_stopped c F k Extra is-k no_fault cause =
@@ -86,11 +87,11 @@ module _ {V : Type 0} (w : World V) where
   not_stopped c F k Marker is-k no_fault cause = absurd cause
 
   -- what bytes come to that are the text of an entry with a key to be found
-  reads_found : (c : Call V) (F : Type 0) (e : Entry) (bytes key : Bytes) (o : Asked) → (F → ⊥) → EntryText e bytes → found w c e ≡ Some key → Reads w c F bytes o
+  reads_found : (c : Call V) (F : Type 0) (e : Entry) (bytes key : Bytes) (o : Asked) → (F → ⊥) → EntryText e bytes → found w c e ≡ Some key → ReadsAs w c F bytes o
       → (o ≡ Hit key) ⊎ (o ≡ Failed Memory)
   reads_found c F e bytes key (Hit other) no_fault text is (f, text', (list, at, all, which)) =
       elim which [
-        | inl exact ↦ inl (ap Hit (same_some other key (sym (found_by c f (Some (other, list)) exact) ∙ ap (found w c) (same_entry f e bytes text' text) ∙ is)))
+        | inl exact ↦ inl (ap Hit (same_Some other key (sym (found_by c f (Some (other, list)) exact) ∙ ap (found w c) (same_entry f e bytes text' text) ∙ is)))
         | inr fault ↦ absurd (no_fault fault)
       ]
   reads_found c F e bytes key Miss no_fault text is (inl nothing) = absurd (nothing_written _ _ (sym nothing ∙ text.text))
@@ -112,7 +113,6 @@ module _ {V S : Type 0} (w : World V) (st : Store S) where
   pub recache_is_fresh : RecacheIsFresh w st
   recache_is_fresh d s t key again (stopped why cause is same) = absurd (not_refused is)
   recache_is_fresh d s t key again (made opened not (stops why cause is same)) = absurd (not_refused is)
-  recache_is_fresh d s t key again (made opened not (drops other p is)) = absurd (not_refused is)
   recache_is_fresh d s t key again (made opened not (gives other is-plain quiet is stores)) = absurd (not_fresh (sym is))
   recache_is_fresh d s t key again (asked opened k is-k control o mid asks ends) = absurd (not_both (sym control ∙ again))
 
@@ -132,7 +132,7 @@ module _ {V S : Type 0} (w : World V) (st : Store S) where
   handed_any c F s t k r control is-k no_fault enough (made opened not makes) =
       absurd (elim not [ inl nothing ↦ none_some nothing is-k | inr again ↦ not_both (sym control ∙ again) ])
   handed_any c F s t k r control is-k no_fault enough (asked opened k' is-k' control' o mid asks ends) =
-      (asks.answer, mid, subst (λ v. st.got s v asks.answer mid) (same_some k' k (sym is-k' ∙ is-k)) asks.got, o, asks.gives, ends)
+      (asks.answer, mid, subst (λ v. st.got s v asks.answer mid) (same_Some k' k (sym is-k' ∙ is-k)) asks.got, o, asks.gives, ends)
 
   pub handed_is_answered : HandedIsAnswered w st
   handed_is_answered d s t k r can step =
@@ -151,7 +151,6 @@ module _ {V S : Type 0} (w : World V) (st : Store S) (laws : StoreLaws st) where
 
   makes_count : (c : Call V) (F : Type 0) (s t : S) (r : Answer) → Makes w st c F s r t → st.setbacks s ≤ st.setbacks t
   makes_count c F s t r (stops why cause is same) = rw same (le_refl _)
-  makes_count c F s t r (drops key p is) = laws.put_count s t p.k p.bytes p.answer p.put
   makes_count c F s t r (gives key is-plain calm is stores) = stores_count c F key s t stores
 
   ends_count : (c : Call V) (F : Type 0) (o : Asked) (s t : S) (r : Answer) → Ends w st c F o s r t → st.setbacks s ≤ st.setbacks t
@@ -173,17 +172,16 @@ module _ {V S : Type 0} (w : World V) (st : Store S) (laws : StoreLaws st) where
   -- ---- what a fresh answer leaves
 
   abbrev HeldSo : Call V → S → Bytes → Bytes → Type 0
-  HeldSo c t k key = (own : List Include) × Keeps w c own × (bytes : Bytes) × EntryText (added empty key own) bytes × HoldsOnly st t k bytes
+  HeldSo c t k key = (own : List Include) × AreOwnIncludes w c own × (bytes : Bytes) × EntryText (added empty key own) bytes × HoldsOnly st t k bytes
 
   puts_held : (c : Call V) (s t : S) (k key : Bytes) → preprocessor_key_of w c ≡ Some k → Calm s t → Puts w st c key s t → HeldSo c t k key
   puts_held c s t k key is-k calm p =
-      let same : p.k ≡ k = same_some p.k k (sym p.own.is_key ∙ is-k) in
+      let same : p.k ≡ k = same_Some p.k k (sym p.own.is_key ∙ is-k) in
       (p.own.includes, p.own.keeps, p.bytes, p.own.is_text, subst (λ v. HoldsOnly st t v p.bytes) same (laws.put_new s t p.k p.bytes p.answer p.put calm))
 
-  makes_held : (c : Call V) (F : Type 0) (s t : S) (k key : Bytes) (includes : List Include) → preprocessor_key_of w c ≡ Some k → Keeps w c includes → (F → ⊥) → Calm s t
+  makes_held : (c : Call V) (F : Type 0) (s t : S) (k key : Bytes) (includes : List Include) → preprocessor_key_of w c ≡ Some k → AreOwnIncludes w c includes → (F → ⊥) → Calm s t
       → Makes w st c F s (Keyed key true) t → HeldSo c t k key
   makes_held c F s t k key includes is-k keeps no_fault calm (stops why cause is same) = absurd (not_refused is)
-  makes_held c F s t k key includes is-k keeps no_fault calm (drops other p is) = absurd (not_refused is)
   makes_held c F s t k key includes is-k keeps no_fault calm (gives other is-plain quiet is stores) =
       subst (λ v. HeldSo c t k v) (sym (same_key is)) (by stores)
     where
@@ -191,7 +189,7 @@ module _ {V S : Type 0} (w : World V) (st : Store S) (laws : StoreLaws st) where
       by (inl p) = puts_held c s t k other is-k calm p
       by (inr not) = absurd (elim (not.1) [ inl fault ↦ no_fault fault | inr nothing ↦ nothing k includes is-k keeps ])
 
-  held_any : (c : Call V) (F : Type 0) (s t : S) (k key : Bytes) (includes : List Include) → preprocessor_key_of w c ≡ Some k → Keeps w c includes → (F → ⊥) → Calm s t → Step w st c F s (Keyed key true) t → HeldSo c t k key
+  held_any : (c : Call V) (F : Type 0) (s t : S) (k key : Bytes) (includes : List Include) → preprocessor_key_of w c ≡ Some k → AreOwnIncludes w c includes → (F → ⊥) → Calm s t → Step w st c F s (Keyed key true) t → HeldSo c t k key
   held_any c F s t k key includes is-k keeps no_fault calm (stopped why cause is same) = absurd (not_refused is)
   held_any c F s t k key includes is-k keeps no_fault calm (made opened not makes) = makes_held c F s t k key includes is-k keeps no_fault calm makes
   held_any c F s t k key includes is-k keeps no_fault calm (asked opened k' is-k' control o mid asks ends) = go o ends
@@ -241,9 +239,8 @@ module _ {V S : Type 0} (w : World V) (st : Store S) (laws : StoreLaws st) where
 
   makes_only : (c : Call V) (F : Type 0) (s t : S) (r : Answer) (k b : Bytes) → Calm s t → IsAside w k c r → Makes w st c F s r t → Kept s t k b
   makes_only c F s t r k b calm aside (stops why cause is same) = same_only s t k b same
-  makes_only c F s t r k b calm aside (drops key p is) = absurd (aside.enough_memory is)
   makes_only c F s t r k b calm aside (gives key is-plain quiet is stores) =
-      elim stores [ inl p ↦ puts_only c key s t k b calm (aside.not_fresh key is) p | inr not ↦ same_only s t k b not.0 ]
+      elim stores [ inl p ↦ puts_only c key s t k b calm (aside key is) p | inr not ↦ same_only s t k b not.0 ]
 
   ends_only : (c : Call V) (F : Type 0) (o : Asked) (s t : S) (r : Answer) (k b : Bytes) → Calm s t → IsAside w k c r → Ends w st c F o s r t → Kept s t k b
   ends_only c F (Hit key) s t r k b calm aside e = same_only s t k b e.1
@@ -276,19 +273,19 @@ module _ {V S : Type 0} (w : World V) (st : Store S) (laws : StoreLaws st) where
   -- ---- the law of hits
 
   -- what was recorded of the earlier call matches in the later one
-  record_matches : (c d : Call V) (includes : List Include) (keeps : Keeps w c includes) (text : Bytes) → keeps.text ≡ text → SameRecords w c d text → (x : Include) → Contains includes x → matching w d x ≡ true
+  record_matches : (c d : Call V) (includes : List Include) (keeps : AreOwnIncludes w c includes) (text : Bytes) → keeps.text ≡ text → SameRecords w c d text → (x : Include) → Contains includes x → matching w d x ≡ true
   record_matches c d includes keeps text is same x at =
       let ((digest, path), at-d, recorded_so) = gathered_from c.files c.moment keeps.digested includes keeps.includes_are x at in
       let of_path = keeps.recorded.each (digest, path) at-d in
       let read : components path ≡ of_path.path = ap components of_path.written ∙ components-named w c keeps.text of_path.path of_path.named in
       let (here, long) = include_here c.files c.moment (digest, path) of_path.path of_path.node read of_path.file in
-      let is-x : include_of c.moment (digest, path) (metadata_of of_path.node) ≡ x = same_some _ x (sym here ∙ recorded_so) in
+      let is-x : include_of c.moment (digest, path) (metadata_of of_path.node) ≡ x = same_Some _ x (sym here ∙ recorded_so) in
       let (o, file, size, digests) = same of_path.path of_path.node (subst (λ v. IsNamed w c v of_path.path) is of_path.named) of_path.file in
       match_by_digest (setting w d) d.files x of_path.path o (ap (λ i. components i.path) (sym is-x) ∙ read) file (size ∙ sym long ∙ ap (λ i. i.size) is-x)
       (digests ∙ of_path.digest ∙ ap (λ i. Some i.digest) is-x)
 
   -- so the entry of that result alone has its key to be found
-  own_found : (c d : Call V) (key : Bytes) (includes : List Include) (keeps : Keeps w c includes) (text : Bytes) → keeps.text ≡ text → SameRecords w c d text → found w d (added empty key includes) ≡ Some key
+  own_found : (c d : Call V) (key : Bytes) (includes : List Include) (keeps : AreOwnIncludes w c includes) (text : Bytes) → keeps.text ≡ text → SameRecords w c d text → found w d (added empty key includes) ≡ Some key
   own_found c d key includes keeps text is same =
       let all : list_all (matching w d) includes ≡ true = all_pass (matching w d) includes (record_matches c d includes keeps text is same) in
       found_by w d (added empty key includes) (Some (key, includes))
@@ -303,8 +300,8 @@ module _ {V S : Type 0} (w : World V) (st : Store S) (laws : StoreLaws st) where
       let at = run_only between answers after before k bytes (calm_part _ _ _ _ up mid on calm) aside run only in
       finish own bytes own-keeps text at (calm_part _ _ _ _ (le_trans up mid) on (le_refl _) calm)
     where
-      finish : (own : List Include) (bytes : Bytes) → Keeps w c.call own → EntryText (added empty key own) bytes → HoldsOnly st before k bytes → Calm before t → r ≡ Keyed key false
+      finish : (own : List Include) (bytes : Bytes) → AreOwnIncludes w c.call own → EntryText (added empty key own) bytes → HoldsOnly st before k bytes → Calm before t → r ≡ Keyed key false
       finish own bytes own-keeps text at inner =
-          let finds = own_found c.call d.call key own own-keeps keeps.text (same_some own-keeps.text keeps.text (sym own-keeps.is_text ∙ keeps.is_text)) same in
+          let finds = own_found c.call d.call key own own-keeps keeps.text (same_Some own-keeps.text keeps.text (sym own-keeps.is_text ∙ keeps.is_text)) same in
           let (key', x, e, held, text', finds', is) = held_is_answered d before t r k bytes can inner at.0 (λ x h. (added empty key own, subst (EntryText (added empty key own)) (sym (at.1 x h)) text, key, finds)) last in
-          is ∙ ap (λ v. Keyed v false) (same_some key' key (sym finds' ∙ ap (found w d.call) (same_entry e (added empty key own) bytes (subst (EntryText e) (at.1 x held) text') text) ∙ finds))
+          is ∙ ap (λ v. Keyed v false) (same_Some key' key (sym finds' ∙ ap (found w d.call) (same_entry e (added empty key own) bytes (subst (EntryText e) (at.1 x held) text') text) ∙ finds))

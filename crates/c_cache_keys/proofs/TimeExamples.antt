@@ -3,7 +3,9 @@ use Rattle.std.proofs.Common.{◌≡◌, true, false, List, ℕ, ℤ, pos, Optio
 use Rattle.std.specs.Ordering.{int_eq}
 use Rattle.cck_digest.specs.Digest.{digest_text}
 use Rattle.cck_files.specs.FileMap.{FileNode}
-use Rattle.cck_include.specs.Recorded.{Setting, has_date, has_time, has_timestamp, recorded}
+use Rattle.cck_include.specs.Recorded.{has_date, has_time, has_timestamp, recorded}
+use Rattle.cck_include.specs.Setting.{Setting}
+use Rattle.cck_path.specs.Bytes.{Bytes}
 use Rattle.cck_path.specs.Timestamp.{Moment, nanos_of}
 use Rattle.cck_path.specs.Variables.{Variable}
 use Rattle.cck_time.proofs.PartLemmas.{days_told, seconds_told}
@@ -11,7 +13,6 @@ use Rattle.cck_time.specs.TimePart.{date_part, local_day, local_second, stamp_pa
 use Rattle.cck_time.specs.declared.config.PreprocessorCacheModeConfig.{PreprocessorCacheModeConfig}
 use Rattle.jiff.specs.Types.{Fixed, Offset, TimeZone}
 use Rattle.jiff.specs.Words.{offset_at}
-use Rattle.c_cache_keys.specs.Arguments.{Bytes}
 
 abbrev moment_at : ℕ → ℕ → Moment
 moment_at seconds nanoseconds = record { seconds = pos seconds; nanoseconds = nanoseconds }
@@ -21,9 +22,6 @@ apart : (a b : ℤ) → int_eq a b ≡ false → int_eq a a ≡ true → a ≡ b
 apart a b differ same e =
     let both : true ≡ false = sym same ∙ ap (int_eq a) e ∙ differ in
     cc
-
-one_number : (a b : ℤ) → Some a ≡ Some b → a ≡ b
-one_number a b e = cc
 
 -- ---- contents that show no time, and the time of day
 
@@ -89,5 +87,5 @@ module _ (offset : Offset) (hour : offset.seconds ≡ pos 3600) where
 
   seconds_apart : (v : List Variable) (a : Moment) (part : Bytes) → time_part false true (Some (moment_at 1 0)) a zone v ≡ Some part → time_part false true (Some (moment_at 2 0)) a zone v ≡ Some part → ⊥
   seconds_apart v a part p q =
-      let seconds = one_number _ _ (seconds_told zone false (Some (moment_at 1 0)) (Some (moment_at 2 0)) a a v v part p q) in
+      let seconds = seconds_told zone false (Some (moment_at 1 0)) (Some (moment_at 2 0)) a a v v part p q in
       apart (pos 3601) (pos 3602) refl refl (sym first_second ∙ seconds ∙ next_second)

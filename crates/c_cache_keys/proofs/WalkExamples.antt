@@ -5,8 +5,10 @@ use Rattle.std.specs.Prelude.{Contains, IfSome}
 use Rattle.std.specs.Ordering.{eq_by_cmp}
 use Rattle.cck_digest.specs.declared.error.FileError.TheVariants.{NotFound, OtherKind}
 use Rattle.cck_files.specs.FileMap.{FileMap, FileNode, file_at, file_if, file_in, folder_at, folder_if, folder_in}
+use Rattle.cck_path.specs.Bytes.{Bytes}
 use Rattle.cck_path.specs.declared.metadata.FileKind.TheVariants.{File}
 use Rattle.cck_include.specs.Recorded.{recorded}
+use Rattle.cck_markers.proofs.OneList.{some_nothing}
 use Rattle.cck_markers.proofs.OneList.{one_list}
 use Rattle.cck_markers.specs.Marks.{Mark, Name, Refusal, Malformed}
 use Rattle.cck_path.specs.Path as path
@@ -16,9 +18,7 @@ use Rattle.cck_path.specs.Timestamp.{Moment}
 use Rattle.cck_include.specs.Gathered.{is_before}
 use Rattle.c_cache_keys.proofs.Elements.{first_in, later_in, one_of, only_one}
 use Rattle.c_cache_keys.proofs.MarkExamples.{header_mark, header_marks, header_text, header_text_marks, hidden_line_marks, inclusion_marks, input_mark, last_quote_marks, missing_header_marks, no_quote_marks, one_name_marks, short_text_marks, timed_text, timed_text_marks}
-use Rattle.c_cache_keys.proofs.MarksRead.{something}
 use Rattle.c_cache_keys.proofs.TimeExamples.{time_of_day_not_recorded}
-use Rattle.c_cache_keys.specs.Arguments.{Bytes}
 use Rattle.c_cache_keys.specs.Call.{Call}
 use Rattle.c_cache_keys.specs.Walk.{Accepted, Errs, IsAngled, IsGood, IsLooked, IsNamed, IsOld, NotAccepted, Walk, input_path, path_of}
 use Rattle.c_cache_keys.specs.World.{World, setting}
@@ -90,7 +90,7 @@ module _ {V : Type 0} (w : World V) (c : Call V) (cwd_is : c.request.cwd ≡ cod
   looked_at : (x : ℕ) (name other : Bytes) → x ≢ 60 → path_of c (x ∷ name) ≡ in_w other → eq_by_cmp path_cmp (in_w other) (in_w other) ≡ true → eq_by_cmp path_cmp (in_w other) (in_w (codes "a.c")) ≡ false → IsLooked w c (x ∷ name) false
   looked_at x name other apart is same differs =
       record {
-        some = something;
+        some = some_nothing;
         not_angled = not_angled x name apart;
         wanted = λ _. refl;
         other = λ e. differ (in_w other) (in_w (codes "a.c")) same differs (sym is ∙ e ∙ input_meant);

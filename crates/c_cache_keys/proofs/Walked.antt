@@ -4,10 +4,12 @@ use Rattle.std.specs.FinMap.{empty, entries, entries_sorted, get, get-empty}
 use Rattle.std.specs.Global.{Vec}
 use Rattle.std.specs.Prelude.{Contains, string_bytes}
 use Rattle.std.specs.declared.alloc.Global.{Global}
+use Rattle.std.proofs.lemmas.Option.{none-some}
 use Rattle.cck_files.specs.FileMap.{FileMap}
 use Rattle.cck_include.specs.Gathered.{Digested}
 use Rattle.cck_markers.proofs.OneList.{one_list}
 use Rattle.cck_markers.specs.Marks.{Mark, Marks, Name}
+use Rattle.cck_path.specs.Bytes.{Bytes, variables_of}
 use Rattle.cck_path.specs.Path.{Path, components, path_cmp}
 use Rattle.cck_path.specs.Text.{path_text}
 use Rattle.cck_path.specs.Timestamp.{Moment}
@@ -19,14 +21,12 @@ use Rattle.cck_walk.specs.declared.error.WalkError.{WalkError}
 use Rattle.cck_walk.specs.declared.error.WalkError.TheVariants as error
 use Rattle.cck_walk.specs.declared.walk.Walk as walk
 use Rattle.cck_walk.specs.declared.walk.Walk.TheVariants as answer
-use Rattle.c_cache_keys.proofs.Decisions.{AreGathered, IsMeant, gathers, none_regular, one_verdict, told}
-use Rattle.c_cache_keys.proofs.Includes.{components-meant, none_is_some}
+use Rattle.c_cache_keys.proofs.Decisions.{AreGathered, IsMeant, gathers, none_regular, one_decision, told}
+use Rattle.c_cache_keys.proofs.Includes.{components-meant}
 use Rattle.c_cache_keys.proofs.PathEntries.{entry_of, made_from, made_in_order, made_of, of_entry}
 use Rattle.c_cache_keys.proofs.Standings.{IsRegular}
-use Rattle.c_cache_keys.specs.Arguments.{Bytes}
 use Rattle.c_cache_keys.specs.Call.{Call}
-use Rattle.c_cache_keys.specs.Seen.{variables_of}
-use Rattle.c_cache_keys.specs.Walk.{AreRecorded, Decides, IsNamed, Verdict, Walk, input_path}
+use Rattle.c_cache_keys.specs.Walk.{AreRecorded, MarksDecide, IsNamed, Verdict, Walk, input_path}
 use Rattle.c_cache_keys.specs.Walked.{IsWalked, VerdictIsDecided, digested_by, digested_of, verdict_of, walk_context}
 use Rattle.c_cache_keys.specs.World.{World}
 
@@ -47,18 +47,18 @@ abbrev handed : Path × Bytes → Digested
 handed e = (e.1, path_text (e.0))
 
 module _ {V : Type 0} (w : World V) (c : Call V) (text : Bytes) where
-  verdict_told : (d : decision.Decided) → decision.Decides (walk_context w c) text d → Walk w c text (verdict_of d)
-  verdict_told d (marks, are, is) = (marks, are, subst (λ e. Decides w c marks (verdict_of e)) is (told w c marks empty (none_regular w c)))
+  verdict_told : (d : decision.Decided) → decision.TextDecides (walk_context w c) text d → Walk w c text (verdict_of d)
+  verdict_told d (marks, are, is) = (marks, are, subst (λ e. MarksDecide w c marks (verdict_of e)) is (told w c marks empty (none_regular w c)))
 
-  verdict_decided : (verdict : Verdict) → Walk w c text verdict → (d : decision.Decided) × decision.Decides (walk_context w c) text d × (verdict_of d ≡ verdict)
+  verdict_decided : (verdict : Verdict) → Walk w c text verdict → (d : decision.Decided) × decision.TextDecides (walk_context w c) text d × (verdict_of d ≡ verdict)
   verdict_decided verdict (marks, are, decides) =
       let d = decided (walk_context w c) (Some empty) marks in
-      (d, (marks, are, refl), one_verdict w c marks (verdict_of d) verdict (told w c marks empty (none_regular w c)) decides)
+      (d, (marks, are, refl), one_decision w c marks (verdict_of d) verdict (told w c marks empty (none_regular w c)) decides)
 
   module _ (digests : Digests) (marks : List Mark) (are : Marks true text marks) (gathered : AreGathered w c marks empty digests) where
     -- a path with a digest is meant
     meant : (p : Path) (digest : Bytes) → get digests p ≡ Some digest → IsMeant w c marks p × IsRegular w c p digest
-    meant p digest h = elim (gathered.from p digest h) [ inl old ↦ absurd (none_is_some (sym (get-empty path_cmp p) ∙ old)) | inr found ↦ found ]
+    meant p digest h = elim (gathered.from p digest h) [ inl old ↦ absurd (none-some _ (sym (get-empty path_cmp p) ∙ old)) | inr found ↦ found ]
 
     named : (p : Path) → IsMeant w c marks p → IsNamed w c text p
     named p (name, system, at, looked, is) = record { name = name; system = system; marks = marks; are = are; stands = at; looked = looked; is = is }
@@ -92,7 +92,7 @@ module _ {V : Type 0} (w : World V) (c : Call V) (text : Bytes) where
           (digest, made_of handed (entries digests) (p, digest) (entry_of digests p digest at));
     }
 
-  all_recorded : (digests : Digests) → decision.Decides (walk_context w c) text (Accepts digests) → AreRecorded w c text (digested_by digests)
+  all_recorded : (digests : Digests) → decision.TextDecides (walk_context w c) text (Accepts digests) → AreRecorded w c text (digested_by digests)
   all_recorded digests (marks, are, is) = are_recorded digests marks are (gathers w c marks empty digests is)
 
   handed_on : (files : List (Vec ℕ × String Global)) (es : List (Path × Bytes)) → map listed files ≡ map written es → digested_of files ≡ map handed es

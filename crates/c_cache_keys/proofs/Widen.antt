@@ -1,12 +1,12 @@
 -- What is said with the faults of a part of a call holds with those of the whole.
 use Rattle.std.proofs.Common.{inl, inr, Bool, List, Option, Some, None, Ok, Err}
 use Rattle.std.specs.FinMap.{entries}
+use Rattle.cck_path.specs.Bytes.{Bytes}
 use Rattle.cck_entry.specs.Find.{IsLookup}
 use Rattle.cck_entry.specs.Results.{KeyResult}
 use Rattle.cck_include.specs.Include.{Include}
-use Rattle.c_cache_keys.specs.Arguments.{Bytes}
 use Rattle.c_cache_keys.specs.Call.{Answer, Call, Why, Memory, Extra, ExtraFault, Input, InputFault, Store as StoreFails, Damaged, NoText, TextFault, Marker}
-use Rattle.c_cache_keys.specs.Step.{matching, Asked, Asks, Failed, Gives, Hit, Makes, Miss, Reads, StopsMaking, StopsOpening, drops, gives, stops}
+use Rattle.c_cache_keys.specs.Step.{matching, Asked, Asks, Failed, Gives, Hit, Makes, Miss, ReadsAs, StopsMaking, StopsOpening, gives, stops}
 use Rattle.c_cache_keys.specs.Store.{Handed, Store}
 use Rattle.c_cache_keys.specs.World.{World}
 use Rattle.c_cache_keys.specs.declared.store.StoreError.TheVariants as store
@@ -40,7 +40,7 @@ module _ {V : Type 0} (w : World V) (c : Call V) (F G : Type 0) (more : F → G)
   wide_lookup test results None h = elim h [ inl none ↦ inl none | inr fault ↦ inr (more fault) ]
   wide_lookup test results (Some key) h = (h.0, h.1, h.2, elim (h.3) [ inl is ↦ inl is | inr fault ↦ inr (more fault) ])
 
-  wide_reads : (bytes : Bytes) (o : Asked) → Reads w c F bytes o → Reads w c G bytes o
+  wide_reads : (bytes : Bytes) (o : Asked) → ReadsAs w c F bytes o → ReadsAs w c G bytes o
   wide_reads bytes (Hit key) h = (h.0, h.1, wide_lookup (matching w c) (entries h.0) (Some key) h.2)
   wide_reads bytes Miss h = elim h [ inl nothing ↦ inl nothing | inr e ↦ inr (e.0, e.1, wide_lookup (matching w c) (entries e.0) None e.2) ]
   wide_reads bytes (Failed Memory) h = h
@@ -65,7 +65,6 @@ module _ {V : Type 0} (w : World V) (c : Call V) (F G : Type 0) (more : F → G)
 
   pub wide_makes : {S : Type 0} (st : Store S) (s : S) (r : Answer) (t : S) → Makes w st c F s r t → Makes w st c G s r t
   wide_makes st s r t (stops why cause is same) = stops why (wide_making why cause) is same
-  wide_makes st s r t (drops key p is) = drops key p is
   wide_makes st s r t (gives key is-plain quiet is stores) =
       gives key is-plain (λ text k printed erred. more (quiet text k printed erred)) is
       (elim stores [ inl p ↦ inl p | inr not ↦ inr (not.0, elim (not.1) [ inl f ↦ inl (more f) | inr none ↦ inr none ]) ])

@@ -1,16 +1,14 @@
 -- what a command line was parsed into
-use Rattle.std.specs.Prelude.{ℕ, List, [], ◌∷◌, Bool, not, Option, codes, filter, length, nat_le}
+use Rattle.std.specs.Prelude.{List, [], ◌∷◌, Bool, not, Option, codes, filter, length, nat_le}
 use Rattle.std.specs.List.{find}
 use Rattle.std.specs.Option.{option_and_then, option_map, option_map_or}
 use Rattle.std.specs.Str.{bytes_eq}
 use Rattle.cck_file_digest.specs.FolderText.{lossy}
+use Rattle.cck_path.specs.Bytes.{Bytes}
 use Rattle.cck_path.specs.Names.{file_name_of}
 use Rattle.cck_path.specs.Path.{components}
 use Rattle.cck_util.specs.declared.language.Language.{Language}
 use Rattle.c_cache_keys.specs.declared.arguments.ColorMode.{ColorMode}
-
-abbrev pub Bytes : Type 0
-Bytes = List ℕ
 
 -- a file that a compilation writes: under which name, where, and whether it may be left out
 pub record Output : Type 0 where

@@ -4,8 +4,8 @@ use Rattle.std.specs.Option.{option_map, option_map_or}
 use Rattle.cck_digest.specs.Digest.{digest_text}
 use Rattle.cck_file_digest.specs.FileDigest.{text_at}
 use Rattle.cck_files.specs.FileMap.{FileMap}
+use Rattle.cck_path.specs.Bytes.{Bytes}
 use Rattle.cck_path.specs.Path.{Path}
-use Rattle.c_cache_keys.specs.Arguments.{Bytes}
 use Rattle.c_cache_keys.specs.ExtraFiles.{is_hip}
 use Rattle.c_cache_keys.specs.Seen.{arguments_of}
 use Rattle.c_cache_keys.specs.World.{CannotCache, Compilation, NotCompilation, Parsed}

@@ -2,9 +2,10 @@
 use Rattle.std.specs.Prelude.{ℕ, List, [], ◌∷◌, Bool}
 use Rattle.cck_files.specs.Calls.{Rose}
 use Rattle.cck_files.specs.FileMap.{FileMap}
+use Rattle.cck_path.specs.Bytes.{Bytes}
 use Rattle.cck_path.specs.Timestamp.{Moment}
 use Rattle.cck_path.specs.Variables.{Variable}
-use Rattle.c_cache_keys.specs.Arguments.{Arguments, Bytes}
+use Rattle.c_cache_keys.specs.Arguments.{Arguments}
 use Rattle.c_cache_keys.specs.declared.call.CacheControl.{CacheControl}
 
 -- what is asked for, where V is what a compiler is seen as
@@ -38,7 +39,7 @@ abbrev pub calls_of : {V : Type 0} → List (Done V) → List (Call V)
 calls_of [] = []
 calls_of (d ∷ ds) = d.call ∷ calls_of ds
 
--- why a call is refused: for want of memory; a further file has no digest, or a fault came there; the input is no regular file, or
+-- why a call is refused: for lack of memory; a further file has no digest, or a fault came there; the input is no regular file, or
 -- a fault came there; the store failed; what it handed out is no entry; there is no preprocessed text, or a fault came there; a
 -- line marker of that text is malformed
 pub data Why : Type 0 where

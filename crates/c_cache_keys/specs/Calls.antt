@@ -1,12 +1,13 @@
 -- lists of calls, before and after they are made
 use Rattle.std.specs.Prelude.{◌≡◌, ℕ, List, [], ◌∷◌, IfErr, IfOk, Result, string_bytes}
+use Rattle.cck_path.specs.Bytes.{variables_of}
 use Rattle.cck_files.specs.Calls.{Keeps}
 use Rattle.cck_files.specs.FileMap.{FileMap}
 use Rattle.c_cache_keys.specs.Call as seen
 use Rattle.c_cache_keys.specs.Conditions.{request_of}
 use Rattle.c_cache_keys.specs.Hasher.{toolchain_key}
 use Rattle.c_cache_keys.specs.Reasons.{IsReason}
-use Rattle.c_cache_keys.specs.Seen.{answer_of, variables_of}
+use Rattle.c_cache_keys.specs.Seen.{answer_of}
 use Rattle.c_cache_keys.specs.Step.{Step}
 use Rattle.c_cache_keys.specs.Store.{Store}
 use Rattle.c_cache_keys.specs.World.{World}

@@ -1,8 +1,8 @@
 -- A store that keeps nothing keeps what is promised of stores.
 use Rattle.std.proofs.Common.{◌≡◌, ℕ, Some, None, Ok, Err, sym, subst, le_refl}
+use Rattle.cck_path.specs.Bytes.{Bytes}
 use Rattle.cck_files.specs.Calls.{Rose}
 use Rattle.c_cache_keys.specs.Counts.{more_higher, more_rises}
-use Rattle.c_cache_keys.specs.Arguments.{Bytes}
 use Rattle.c_cache_keys.specs.EmptyStore.{empty_store}
 use Rattle.c_cache_keys.specs.Store.{Handed, StoreLaws, more}
 use Rattle.c_cache_keys.specs.declared.store.StoreError.{StoreError}

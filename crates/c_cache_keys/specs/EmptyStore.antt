@@ -1,6 +1,6 @@
 -- a store that keeps nothing, by its count of setbacks
 use Rattle.std.specs.Prelude.{◌≡◌, ℕ, None, Ok, Err}
-use Rattle.c_cache_keys.specs.Arguments.{Bytes}
+use Rattle.cck_path.specs.Bytes.{Bytes}
 use Rattle.c_cache_keys.specs.Store.{Handed, Store, Stored, more}
 use Rattle.c_cache_keys.specs.declared.store.StoreError.TheVariants as store
 

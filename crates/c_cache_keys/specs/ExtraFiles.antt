@@ -6,13 +6,14 @@ use Rattle.std.specs.Str.{bytes_eq, is_utf8}
 use Rattle.cck_digest.specs.declared.error.FileError.{FileError}
 use Rattle.cck_files.specs.FileMap.{FileMap, folder_at}
 use Rattle.cck_file_digest.specs.Folder.{child_names}
+use Rattle.cck_path.specs.Bytes.{Bytes}
 use Rattle.cck_path.specs.Names.{extension_of, file_name_of}
 use Rattle.cck_path.specs.Path.{components}
 use Rattle.cck_path.specs.Text.{join_path}
 use Rattle.cck_path.specs.Variables.{Variable}
 use Rattle.cck_util.specs.declared.language.Language.{Language}
 use Rattle.cck_util.specs.declared.language.Language.TheVariants.{Hip}
-use Rattle.c_cache_keys.specs.Arguments.{Arguments, Bytes}
+use Rattle.c_cache_keys.specs.Arguments.{Arguments}
 use Rattle.c_cache_keys.specs.World.{CannotCache, Compilation, NotCompilation, Parsed}
 
 -- the paths that a variable tells, if it is the one that names further files: what stands between its colons

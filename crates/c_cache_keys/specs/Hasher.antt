@@ -10,9 +10,9 @@ use Rattle.cck_files.specs.FileMap.{FileMap, FileNode}
 use Rattle.cck_include.specs.Gathered.{Digested, gathered}
 use Rattle.cck_include.specs.Include.{Include}
 use Rattle.cck_include.specs.Recorded.{recorded}
+use Rattle.cck_path.specs.Bytes.{Bytes}
 use Rattle.cck_path.specs.Timestamp.{Moment}
 use Rattle.cck_preprocessor_key.specs.PreprocessorKey.{preprocessor_material}
-use Rattle.c_cache_keys.specs.Arguments.{Bytes}
 use Rattle.c_cache_keys.specs.Call.{Answer, Call, Keyed, Refused}
 use Rattle.c_cache_keys.specs.Keys.{extra_texts, input_file, is_preprocessed, preprocessor_key_of, printed, request_parts}
 use Rattle.c_cache_keys.specs.Reasons.{IsInputReason}
@@ -61,7 +61,7 @@ IsKeyOfInput w c extra_hashes key =
     (file : FileNode) × (input_file w c ≡ Some file)
     × (key ≡ option_map (λ recorded. digest_text w.hash (preprocessor_material (request_parts w c.request (input_path c)) extra_hashes recorded)) (recorded (setting w c) file))
 
--- why there is none: the input is no regular file, a fault came, or want of memory
+-- why there is none: the input is no regular file, a fault came, or lack of memory
 abbrev pub IsInputRefusal : {V : Type 0} → World V → Call V → Type 0 → KeyError → Type 0
 IsInputRefusal w c HasFault refusal.Memory = Unit {0}
 IsInputRefusal w c HasFault (refusal.Input e) = IsInputReason w c HasFault e

@@ -6,12 +6,12 @@ use Rattle.cck_entry.specs.Entry.{Entry, EntryText, added}
 use Rattle.cck_files.specs.FileMap.{FileNode, file_at}
 use Rattle.cck_include.specs.Include.{Include}
 use Rattle.cck_include.specs.Recorded.{recorded}
+use Rattle.cck_path.specs.Bytes.{Bytes}
 use Rattle.cck_path.specs.Path.{Path}
-use Rattle.c_cache_keys.specs.Arguments.{Bytes}
 use Rattle.c_cache_keys.specs.Call.{Answer, Call, Done, Fault, Keyed, Refused, calls_of, Why, Memory, Extra, ExtraFault, Input, InputFault, Store as StoreFails, Damaged, NoText, TextFault, Marker}
 use Rattle.c_cache_keys.specs.Keys.{extra_texts, input_file, is_preprocessed, preprocessor_key_of, printed, uses_cache}
 use Rattle.c_cache_keys.specs.Laws.{CanHit}
-use Rattle.c_cache_keys.specs.Step.{Keeps, Run, Step, found}
+use Rattle.c_cache_keys.specs.Step.{AreOwnIncludes, Run, Step, found}
 use Rattle.c_cache_keys.specs.Store.{HoldsOnly, Setback, Store}
 use Rattle.c_cache_keys.specs.Walk.{Errs, IsNamed, Walk}
 use Rattle.c_cache_keys.specs.World.{World, setting}
@@ -22,19 +22,18 @@ SameRecords w c d text =
     (p : Path) (n : FileNode) → IsNamed w c text p → file_at c.files p ≡ Ok n
     → (o : FileNode) × (file_at d.files p ≡ Ok o) × (length o.contents ≡ length n.contents) × (recorded (setting w d) o ≡ recorded (setting w c) n)
 
--- a call isn't refused for want of memory, and isn't answered afresh with this key
-pub record IsAside {V : Type 0} (w : World V) (k : Bytes) (c : Call V) (r : Answer) : Type 0 where
-  pub enough_memory : r ≢ Refused Memory
-  pub not_fresh : (key : Bytes) → r ≡ Keyed key true → preprocessor_key_of w c ≢ Some k
+-- a call isn't answered afresh under this key
+abbrev pub IsAside : {V : Type 0} → World V → Bytes → Call V → Answer → Type 0
+IsAside w k c r = (key : Bytes) → r ≡ Keyed key true → preprocessor_key_of w c ≢ Some k
 
 module _ {V S : Type 0} (w : World V) (st : Store S) where
   -- After a fresh answer, where something can be recorded and no fault and no setback came, the store holds that one result under the
   -- call's key, and nothing else.
   abbrev pub FreshIsHeld : Type 0
   FreshIsHeld =
-      (d : Done V) (s t : S) (k key : Bytes) (includes : List Include) → preprocessor_key_of w d.call ≡ Some k → Keeps w d.call includes
+      (d : Done V) (s t : S) (k key : Bytes) (includes : List Include) → preprocessor_key_of w d.call ≡ Some k → AreOwnIncludes w d.call includes
       → (Fault d → ⊥) → (Setback st s t → ⊥) → Step w st d.call (Fault d) s (Keyed key true) t
-      → (own : List Include) × Keeps w d.call own × (bytes : Bytes) × EntryText (added empty key own) bytes × HoldsOnly st t k bytes
+      → (own : List Include) × AreOwnIncludes w d.call own × (bytes : Bytes) × EntryText (added empty key own) bytes × HoldsOnly st t k bytes
 
   -- Where something is held under the key of a call that can hit, and all of it is entries with a key to be found, such a key is
   -- answered.
@@ -50,7 +49,7 @@ module _ {V S : Type 0} (w : World V) (st : Store S) where
   abbrev pub StoredIsHit : Type 0
   StoredIsHit =
       (c d : Done V) (between : List (Done V)) (answers : List Answer) (s after before t : S) (k key : Bytes) (includes : List Include) (r : Answer)
-      → preprocessor_key_of w c.call ≡ Some k → (keeps : Keeps w c.call includes) → (Fault c → ⊥) → Step w st c.call (Fault c) s (Keyed key true) after
+      → preprocessor_key_of w c.call ≡ Some k → (keeps : AreOwnIncludes w c.call includes) → (Fault c → ⊥) → Step w st c.call (Fault c) s (Keyed key true) after
       → Run w st after between answers before → AllZip (IsAside w k) (calls_of between) answers
       → CanHit w d k r → SameRecords w c.call d.call keeps.text → Step w st d.call (Fault d) before r t
       → (Setback st s t → ⊥)

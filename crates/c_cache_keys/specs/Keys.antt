@@ -7,12 +7,13 @@ use Rattle.cck_digest.specs.declared.error.FileError.{FileError}
 use Rattle.cck_file_digest.specs.FileDigest.{texts}
 use Rattle.cck_files.specs.FileMap.{FileNode, file_at}
 use Rattle.cck_include.specs.Recorded.{recorded}
+use Rattle.cck_path.specs.Bytes.{Bytes}
 use Rattle.cck_path.specs.Path.{components}
 use Rattle.cck_path.specs.Variables.{Variable, first_value}
 use Rattle.cck_preprocessor_key.specs.PreprocessorKey.{RequestParts, preprocessor_material}
 use Rattle.cck_util.specs.Key.{Params, object_key}
 use Rattle.cck_util.specs.Language.{is_preprocessed_first}
-use Rattle.c_cache_keys.specs.Arguments.{Bytes, is_multiarch}
+use Rattle.c_cache_keys.specs.Arguments.{is_multiarch}
 use Rattle.c_cache_keys.specs.Call.{Call, Request}
 use Rattle.c_cache_keys.specs.Walk.{input_path}
 use Rattle.c_cache_keys.specs.World.{World, setting}

@@ -1,8 +1,8 @@
 -- what is said of runs
 use Rattle.std.specs.Prelude.{◌≡◌, ◌≢◌, ◌⊎◌, ◌↔◌, List, [], ◌∷◌, ◌++◌, true, false, Some, Ok}
 use Rattle.std.specs.List.{AllZip}
+use Rattle.cck_path.specs.Bytes.{Bytes}
 use Rattle.cck_entry.specs.Entry.{Entry, EntryText}
-use Rattle.c_cache_keys.specs.Arguments.{Bytes}
 use Rattle.c_cache_keys.specs.Call.{Answer, Call, Damaged, Done, Fault, Keyed, Memory, Refused, calls_of}
 use Rattle.c_cache_keys.specs.Keys.{plain_key, preprocessor_key_of}
 use Rattle.c_cache_keys.specs.Premises.{Premises}
@@ -16,7 +16,7 @@ abbrev pub IsTransparent : {V : Type 0} → World V → Call V → Answer → Ty
 IsTransparent w c (Keyed key fresh) = plain_key w c ≡ Some key
 IsTransparent w c (Refused why) = why ≢ Damaged
 
--- a stored key may be answered: it isn't forbidden, the preprocessor cache is used, and no fault and no want of memory came
+-- a stored key may be answered: it isn't forbidden, the preprocessor cache is used, and no fault and no lack of memory came
 pub record CanHit {V : Type 0} (w : World V) (d : Done V) (k : Bytes) (r : Answer) : Type 0 where
   pub control : d.call.control ≡ Default
   pub key : preprocessor_key_of w d.call ≡ Some k
@@ -79,11 +79,11 @@ module _ {V S : Type 0} (w : World V) (st : Store S) where
       → (handed : Handed) × (mid : S) × st.got s k handed mid
       × ((bytes key : Bytes) (e : Entry) → handed ≡ Ok (Some bytes) → EntryText e bytes → found w d.call e ≡ Some key → r ≡ Keyed key false)
 
-  -- what is held after a call was held before it, or is the call's own pair
+  -- what is held after a call was held before it, or is the call's own pair, whose key was the fresh answer
   abbrev pub KeepsOldOrOwn : Type 0
   KeepsOldOrOwn =
       (d : Done V) (s t : S) (r : Answer) → Step w st d.call (Fault d) s r t → (k bytes : Bytes) → st.held t k bytes
-      → st.held s k bytes ⊎ ((key : Bytes) × OwnPair w d.call key k bytes)
+      → st.held s k bytes ⊎ ((key : Bytes) × (r ≡ Keyed key true) × OwnPair w d.call key k bytes)
 
   -- where nothing stored may be answered, nothing is
   abbrev pub RecacheIsFresh : Type 0

@@ -1,16 +1,16 @@
 -- A store in memory keeps what is promised of stores.
-use Rattle.std.proofs.Common.{◌≡◌, ◌⊎◌, inl, inr, ℕ, ◌≤◌, ◌==◌, Bool, true, false, cond, List, [], refl, sym, ap, ◌∙◌, subst, arith, Some, None, Ok, Err}
+use Rattle.std.proofs.Common.{◌≡◌, ◌⊎◌, inl, inr, ◌≤◌, ◌==◌, Bool, true, false, cond, List, [], refl, sym, ap, ◌∙◌, subst, arith, Some, Ok, Err}
 use Rattle.std.specs.Cmp.Lexicographic.{nat_list_cmp_total}
 use Rattle.std.specs.FinMap.{nat_cmp-IsAntisymmetric, slice_cmp-IsAntisymmetric}
 use Rattle.std.specs.FinMap.Entries.{find, find-put, put}
 use Rattle.std.specs.Ordering.{eq_by_cmp, is_eq}
-use Rattle.std.specs.Cmp.{tied_itself}
-use Rattle.std.specs.declared.cmp.Ordering.{Ordering}
-use Rattle.std.specs.declared.cmp.Ordering.TheVariants.{Equal, Greater, Less}
+use Rattle.std.specs.Cmp.{tied_itself, Equal-is}
+use Rattle.std.proofs.lemmas.Option.{none-some, same_Some}
+use Rattle.cck_path.specs.Bytes.{Bytes}
 use Rattle.cck_entry.specs.Entry.{text_cmp}
 use Rattle.cck_files.specs.Calls.{Rose}
+use Rattle.cck_files.proofs.CallsLemmas.{rose_earlier}
 use Rattle.c_cache_keys.specs.Counts.{more_higher, more_rises}
-use Rattle.c_cache_keys.specs.Arguments.{Bytes}
 use Rattle.c_cache_keys.specs.MapStore.{IsGot, IsPut, State, begun, map_store, set_back}
 use Rattle.c_cache_keys.specs.Store.{Handed, StoreLaws, Stored, more}
 use Rattle.c_cache_keys.specs.declared.store.StoreError.{StoreError}
@@ -25,12 +25,8 @@ begun_higher s = by (s.forget == 1)
     by true = more_higher s.setbacks
     by false = omega arith
 
-rose_before : (a b c : ℕ) → a ≤ b → Rose b c → Rose a c
-rose_before a b c h (inl less) = inl (omega (arith, h, less))
-rose_before a b c h (inr top) = inr top
-
 set_back_rises : (s : State) → Rose s.setbacks (set_back (begun s)).setbacks
-set_back_rises s = rose_before s.setbacks (begun s).setbacks (more (begun s).setbacks) (begun_higher s) (more_rises (begun s).setbacks)
+set_back_rises s = rose_earlier s.setbacks (begun s).setbacks (more (begun s).setbacks) (begun_higher s) (more_rises (begun s).setbacks)
 
 set_back_higher : (s : State) → s.setbacks ≤ (set_back (begun s)).setbacks
 set_back_higher s = let up = begun_higher s in let on = more_higher (begun s).setbacks in omega (arith, up, on)
@@ -53,13 +49,8 @@ begun_calm s t is calm = by (s.forget == 1) is
     by true is = absurd (calm (subst (Rose s.setbacks) (sym is) (more_rises s.setbacks)))
     by false is = refl
 
-equal_to : (o : Ordering) → is_eq o ≡ true → o ≡ Equal
-equal_to Less e = absurd cc
-equal_to Equal e = refl
-equal_to Greater e = absurd cc
-
 same_text : (k key : Bytes) → eq_by_cmp text_cmp k key ≡ true → k ≡ key
-same_text k key e = slice_cmp-IsAntisymmetric nat_cmp-IsAntisymmetric k key (equal_to (text_cmp k key) e)
+same_text k key e = slice_cmp-IsAntisymmetric nat_cmp-IsAntisymmetric k key ((Equal-is (text_cmp k key)).0 e)
 
 found_own : (key bytes : Bytes) (ps : List (Bytes × Bytes)) → find text_cmp key (put text_cmp key bytes ps) ≡ Some bytes
 found_own key bytes ps =
@@ -79,12 +70,6 @@ found_apart k x key bytes ps apart h = find-put text_cmp nat_list_cmp_total k ke
     by : (b : Bool) → eq_by_cmp text_cmp k key ≡ b → cond b (Some bytes) (find text_cmp k ps) ≡ Some x
     by true tied = absurd (apart (same_text k key tied))
     by false tied = h
-
-none_some : {b : Bytes} → None ≡ Some b → ⊥
-none_some e = cc
-
-one_value : (a b : Bytes) → Some a ≡ Some b → a ≡ b
-one_value a b e = cc
 
 -- ---- the laws
 
@@ -141,13 +126,13 @@ map_store_laws = record {
   got_old = got_old;
   got_some = λ s t key bytes g. begun_held s key bytes (sym g.1);
   got_calm = got_calm;
-  got_none = λ s t key g calm b held. none_some (g.1 ∙ ap (find text_cmp key) (begun_calm s t (ap (λ v. v.setbacks) g.2) calm) ∙ held);
+  got_none = λ s t key g calm b held. (none-some _ (g.1 ∙ ap (find text_cmp key) (begun_calm s t (ap (λ v. v.setbacks) g.2) calm) ∙ held));
   got_error = got_error;
   put_count = put_count;
   put_old = put_old;
   put_calm = put_calm;
   put_new = λ s t key bytes a p calm.
       let own = put_new s t key bytes a p calm in
-      (own, λ x h. one_value x bytes (sym h ∙ own));
+      (own, λ x h. same_Some x bytes (sym h ∙ own));
   put_error = put_error;
 }

@@ -5,8 +5,8 @@ use Rattle.std.specs.FinMap.Entries.{find, put}
 use Rattle.std.specs.Global.{Vec}
 use Rattle.std.specs.String.{string_bytes}
 use Rattle.std.specs.declared.alloc.Global.{Global}
+use Rattle.cck_path.specs.Bytes.{Bytes}
 use Rattle.cck_entry.specs.Entry.{text_cmp}
-use Rattle.c_cache_keys.specs.Arguments.{Bytes}
 use Rattle.c_cache_keys.specs.Store.{Handed, Store, Stored, more}
 use Rattle.c_cache_keys.specs.declared.store.StoreError.TheVariants as store
 

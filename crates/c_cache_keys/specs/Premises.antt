@@ -1,14 +1,13 @@
 -- what is asked of the calls, so that a stored key is the plain key
 use Rattle.std.specs.Prelude.{◌≡◌, ◌⊎◌, List, ◌++◌, true, false, Some, Ok, Contains}
-use Rattle.std.specs.Option.{option_map}
 use Rattle.cck_digest.specs.Digest.{digest_text}
 use Rattle.cck_file_digest.specs.FolderText.{digest_material}
 use Rattle.cck_files.specs.FileMap.{FileNode, file_at, folder_at}
 use Rattle.cck_include.specs.Recorded.{file_time_part, has_date, has_time, has_timestamp, is_timed}
+use Rattle.cck_path.specs.Bytes.{Bytes}
 use Rattle.cck_path.specs.Path.{Path, components}
 use Rattle.cck_path.specs.Timestamp.{nanos_of}
-use Rattle.cck_time.specs.TimePart.{local_day, local_second}
-use Rattle.c_cache_keys.specs.Arguments.{Bytes}
+use Rattle.cck_time.specs.TimePart.{AreOfOneSecond, local_day}
 use Rattle.c_cache_keys.specs.Call.{Call}
 use Rattle.c_cache_keys.specs.Keys.{extra_texts, key_material, preprocessor_key_of, printed}
 use Rattle.c_cache_keys.specs.Walk.{Accepted, IsNamed, Walk, input_path}
@@ -44,13 +43,14 @@ module _ {V : Type 0} (w : World V) where
   pub record IsSameFile (c d : Call V) (n o : FileNode) : Type 0 where
     pub contents : n.contents ≡ o.contents
     pub day : has_date n.contents ≡ true → local_day w.zone (nanos_of c.moment) ≡ local_day w.zone (nanos_of d.moment)
-    pub second : has_timestamp n.contents ≡ true → option_map (λ t. local_second w.zone (nanos_of t)) n.modified ≡ option_map (λ t. local_second w.zone (nanos_of t)) o.modified
+    pub second : has_timestamp n.contents ≡ true → AreOfOneSecond w.zone n.modified o.modified
 
-  -- of the input and what the text names, each regular file is as it was
-  abbrev pub SameFiles : Call V → Call V → Bytes → Type 0
-  SameFiles c d text =
-      (p : Path) (n : FileNode) → (p ≡ components (input_path c)) ⊎ IsNamed w c text p → file_at c.files p ≡ Ok n
-      → (o : FileNode) × (file_at d.files p ≡ Ok o) × IsSameFile c d n o
+  -- the input is a regular file, and of it and what the text names each regular file is as it was
+  pub record SameFiles (c d : Call V) (text : Bytes) : Type 0 where
+    pub input : FileNode
+    pub is_input : file_at c.files (components (input_path c)) ≡ Ok input
+    pub same : (p : Path) (n : FileNode) → (p ≡ components (input_path c)) ⊎ IsNamed w c text p → file_at c.files p ≡ Ok n
+        → (o : FileNode) × (file_at d.files p ≡ Ok o) × IsSameFile c d n o
 
   -- the input holds no `__TIME__`
   abbrev pub NoTime : Call V → Type 0

@@ -6,10 +6,10 @@ use Rattle.cck_entry.specs.Entry.{Reads}
 use Rattle.cck_file_digest.specs.FileDigest.{IsFirstRefusal}
 use Rattle.cck_files.specs.Calls.{IsRefusal}
 use Rattle.cck_files.specs.FileMap.{file_at}
+use Rattle.cck_path.specs.Bytes.{Bytes}
 use Rattle.cck_path.specs.Path.{components}
 use Rattle.cck_time.specs.declared.error.Error.{Error}
 use Rattle.cck_time.specs.declared.error.Error.TheVariants as entry
-use Rattle.c_cache_keys.specs.Arguments.{Bytes}
 use Rattle.c_cache_keys.specs.Call.{Call}
 use Rattle.c_cache_keys.specs.Keys.{preprocessor_key_of}
 use Rattle.c_cache_keys.specs.Store.{Store}

@@ -1,5 +1,5 @@
 -- what the program's values are seen as
-use Rattle.std.specs.Prelude.{◌≡◌, ℕ, List, Option, Some, None, Result, Ok, Err, String, map}
+use Rattle.std.specs.Prelude.{◌≡◌, ℕ, Option, Some, None, Result, Ok, Err, String, map}
 use Rattle.std.specs.Global.{Vec}
 use Rattle.std.specs.Option.{option_map}
 use Rattle.std.specs.String.{string_bytes}
@@ -7,8 +7,8 @@ use Rattle.std.specs.declared.alloc.Global.{Global}
 use Rattle.cck_digest.specs.declared.error.FileError.TheVariants as file
 use Rattle.cck_digest.specs.declared.error.UtilError.{UtilError}
 use Rattle.cck_digest.specs.declared.error.UtilError.TheVariants as util
-use Rattle.cck_path.specs.Variables.{Variable}
-use Rattle.c_cache_keys.specs.Arguments.{Arguments, Bytes, Output}
+use Rattle.cck_path.specs.Bytes.{Bytes, lists_of}
+use Rattle.c_cache_keys.specs.Arguments.{Arguments, Output}
 use Rattle.c_cache_keys.specs.Call as calls
 use Rattle.c_cache_keys.specs.Call.{Answer, Keyed, Refused, Why}
 use Rattle.c_cache_keys.specs.World.{CannotCache, Compilation, NotCompilation, Parsed}
@@ -21,12 +21,6 @@ use Rattle.c_cache_keys.specs.declared.error.KeyError.{KeyError}
 use Rattle.c_cache_keys.specs.declared.error.KeyError.TheVariants as key
 use Rattle.c_cache_keys.specs.declared.error.PreprocessError.{PreprocessError}
 use Rattle.c_cache_keys.specs.declared.error.PreprocessError.TheVariants as text
-
-abbrev pub lists_of : List (Vec ℕ) → List Bytes
-lists_of vs = map (λ v. v.items) vs
-
-abbrev pub variables_of : List (Vec ℕ × Vec ℕ) → List Variable
-variables_of vs = map (λ v. (v.0.items, v.1.items)) vs
 
 abbrev pub output_of : String Global × ArtifactDescriptor → Output
 output_of o = record { name = string_bytes (o.0); path = o.1.path.items; optional = o.1.optional }
@@ -60,7 +54,7 @@ parsed_of (parsed.Ok a) = Compilation (arguments_of a)
 parsed_of (parsed.CannotCache reason detail) = CannotCache reason.now (option_map string_bytes detail)
 parsed_of parsed.NotCompilation = NotCompilation
 
--- what is printed, or nothing where nothing is; a fault where one came; or want of memory
+-- what is printed, or nothing where nothing is; a fault where one came; or lack of memory
 abbrev pub IsPrinted : Option Bytes → Type 0 → Result (Vec ℕ) PreprocessError → Type 0
 IsPrinted prints HasFault (Ok printed) = prints ≡ Some printed.items
 IsPrinted prints HasFault (Err text.Fault) = HasFault

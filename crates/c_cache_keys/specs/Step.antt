@@ -2,12 +2,12 @@
 use Rattle.std.specs.Prelude.{◌≡◌, ◌≢◌, ◌⊎◌, List, [], ◌∷◌, Bool, true, false, ⊤, Option, Some, None, Ok, Err, Contains}
 use Rattle.std.specs.FinMap.{empty, entries}
 use Rattle.std.specs.Option.{option_map}
+use Rattle.cck_path.specs.Bytes.{Bytes}
 use Rattle.cck_entry.specs.Entry.{Entry, EntryText, added}
 use Rattle.cck_entry.specs.Find.{IsLookup, found_in}
 use Rattle.cck_include.specs.Gathered.{Digested, gathered}
 use Rattle.cck_include.specs.Include.{Include}
 use Rattle.cck_include.specs.Matching.{matches}
-use Rattle.c_cache_keys.specs.Arguments.{Bytes}
 use Rattle.c_cache_keys.specs.Call.{Answer, Call, Done, Fault, Keyed, Refused, Why, Memory, Extra, ExtraFault, Input, InputFault, Store as StoreFails, Damaged, NoText, TextFault, Marker}
 use Rattle.c_cache_keys.specs.Keys.{extra_texts, input_file, is_preprocessed, plain_key, preprocessor_key_of, printed, uses_cache}
 use Rattle.c_cache_keys.specs.Store.{Handed, Store, Stored}
@@ -50,28 +50,28 @@ module _ {V : Type 0} (w : World V) where
     pub input : uses_cache w c.request ≡ true → input_file w c ≢ None
 
   -- what bytes come to that were handed out. No bytes are the empty entry
-  abbrev pub Reads : Call V → Type 0 → Bytes → Asked → Type 0
-  Reads c F bytes (Hit key) = (e : Entry) × EntryText e bytes × IsLookup (matching c) (entries e) F (Some key)
-  Reads c F bytes Miss = (bytes ≡ []) ⊎ ((e : Entry) × EntryText e bytes × IsLookup (matching c) (entries e) F None)
-  Reads c F bytes (Failed Memory) = ⊤
-  Reads c F bytes (Failed Damaged) = (bytes ≢ []) × ((e : Entry) → EntryText e bytes → ⊥)
-  Reads c F bytes (Failed Extra) = ⊥
-  Reads c F bytes (Failed ExtraFault) = ⊥
-  Reads c F bytes (Failed Input) = ⊥
-  Reads c F bytes (Failed InputFault) = ⊥
-  Reads c F bytes (Failed StoreFails) = ⊥
-  Reads c F bytes (Failed NoText) = ⊥
-  Reads c F bytes (Failed TextFault) = ⊥
-  Reads c F bytes (Failed Marker) = ⊥
+  abbrev pub ReadsAs : Call V → Type 0 → Bytes → Asked → Type 0
+  ReadsAs c F bytes (Hit key) = (e : Entry) × EntryText e bytes × IsLookup (matching c) (entries e) F (Some key)
+  ReadsAs c F bytes Miss = (bytes ≡ []) ⊎ ((e : Entry) × EntryText e bytes × IsLookup (matching c) (entries e) F None)
+  ReadsAs c F bytes (Failed Memory) = ⊤
+  ReadsAs c F bytes (Failed Damaged) = (bytes ≢ []) × ((e : Entry) → EntryText e bytes → ⊥)
+  ReadsAs c F bytes (Failed Extra) = ⊥
+  ReadsAs c F bytes (Failed ExtraFault) = ⊥
+  ReadsAs c F bytes (Failed Input) = ⊥
+  ReadsAs c F bytes (Failed InputFault) = ⊥
+  ReadsAs c F bytes (Failed StoreFails) = ⊥
+  ReadsAs c F bytes (Failed NoText) = ⊥
+  ReadsAs c F bytes (Failed TextFault) = ⊥
+  ReadsAs c F bytes (Failed Marker) = ⊥
 
   abbrev pub Gives : Call V → Type 0 → Handed → Asked → Type 0
   Gives c F (Err store.Fault) o = o ≡ Failed StoreFails
   Gives c F (Err store.Memory) o = o ≡ Failed Memory
   Gives c F (Ok None) o = o ≡ Miss
-  Gives c F (Ok (Some bytes)) o = Reads c F bytes o
+  Gives c F (Ok (Some bytes)) o = ReadsAs c F bytes o
 
   -- these included files are recorded of the call: all regular files that its text names, and there are some
-  pub record Keeps (c : Call V) (includes : List Include) : Type 0 where
+  pub record AreOwnIncludes (c : Call V) (includes : List Include) : Type 0 where
     pub text : Bytes
     pub is_text : printed w c ≡ Some text
     pub accepted : Walk w c text Accepted
@@ -85,12 +85,12 @@ module _ {V : Type 0} (w : World V) where
     pub is_key : preprocessor_key_of w c ≡ Some k
     pub is_plain : plain_key w c ≡ Some key
     pub includes : List Include
-    pub keeps : Keeps c includes
+    pub keeps : AreOwnIncludes c includes
     pub is_text : EntryText (added empty key includes) bytes
 
   -- nothing can be recorded of the call
   abbrev pub NothingNew : Call V → Type 0
-  NothingNew c = (k : Bytes) (includes : List Include) → preprocessor_key_of w c ≡ Some k → Keeps c includes → ⊥
+  NothingNew c = (k : Bytes) (includes : List Include) → preprocessor_key_of w c ≡ Some k → AreOwnIncludes c includes → ⊥
 
   -- why a call is refused while its key is made
   abbrev pub StopsMaking : Call V → Type 0 → Why → Type 0
@@ -128,10 +128,9 @@ module _ {V S : Type 0} (w : World V) (st : Store S) where
   abbrev pub Stores : Call V → Type 0 → Bytes → S → S → Type 0
   Stores c F key s t = Puts c key s t ⊎ ((t ≡ s) × (F ⊎ NothingNew w c))
 
-  -- the key is made afresh: it is refused before a put or for want of memory behind it, or it is the plain key
+  -- the key is made afresh: it is refused and nothing is put, or it is the plain key
   pub data Makes (c : Call V) (F : Type 0) (s : S) (r : Answer) (t : S) : Type 0 where
     stops : (why : Why) → StopsMaking w c F why → r ≡ Refused why → t ≡ s → Makes c F s r t
-    drops : (key : Bytes) → Puts c key s t → r ≡ Refused Memory → Makes c F s r t
     gives : (key : Bytes) → plain_key w c ≡ Some key → NotErring w c F → r ≡ Keyed key true → Stores c F key s t → Makes c F s r t
 
   abbrev pub Ends : Call V → Type 0 → Asked → S → Answer → S → Type 0

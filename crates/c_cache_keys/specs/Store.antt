@@ -1,8 +1,8 @@
 -- stores, by what they hold and what their calls do
 use Rattle.std.specs.Prelude.{◌≡◌, ◌⊎◌, ℕ, ◌+◌, ◌≤◌, nat_lt, if◌then◌else◌, Option, Some, None, Result, Ok, Err}
 use Rattle.std.specs.Global.{Vec}
+use Rattle.cck_path.specs.Bytes.{Bytes}
 use Rattle.cck_files.specs.Calls.{Rose}
-use Rattle.c_cache_keys.specs.Arguments.{Bytes}
 use Rattle.c_cache_keys.specs.declared.store.StoreError.{StoreError}
 
 -- what a store hands out, and what it says to a put

@@ -5,9 +5,9 @@ use Rattle.cck_files.specs.FileMap.{FileNode, file_at, folder_at}
 use Rattle.cck_include.specs.Gathered.{Digested, is_before}
 use Rattle.cck_include.specs.Recorded.{recorded}
 use Rattle.cck_markers.specs.Marks.{Mark, Name, Refusal, Malformed, Marks}
+use Rattle.cck_path.specs.Bytes.{Bytes}
 use Rattle.cck_path.specs.Path.{Path, components, joined, normal, path_cmp}
 use Rattle.cck_path.specs.Text.{join_path, path_text}
-use Rattle.c_cache_keys.specs.Arguments.{Bytes}
 use Rattle.c_cache_keys.specs.Call.{Call}
 use Rattle.c_cache_keys.specs.World.{World, setting}
 
@@ -56,17 +56,17 @@ module _ {V : Type 0} (w : World V) where
   IsGood c p = (folder_at c.files p ≡ Ok tt) ⊎ ((n : FileNode) × (file_at c.files p ≡ Ok n) × IsOld c n × (recorded (setting w c) n ≢ None))
 
   -- the first refusal, malformed marker or path that isn't good decides
-  abbrev pub Decides : Call V → List Mark → Verdict → Type 0
-  Decides c [] v = v ≡ Accepted
-  Decides c (Refusal ∷ marks) v = v ≡ NotAccepted
-  Decides c (Malformed ∷ marks) v = v ≡ Errs
-  Decides c (Name name system ∷ marks) v =
-      ((IsLooked c name system → IsGood c (path_of c name)) × Decides c marks v)
+  abbrev pub MarksDecide : Call V → List Mark → Verdict → Type 0
+  MarksDecide c [] v = v ≡ Accepted
+  MarksDecide c (Refusal ∷ marks) v = v ≡ NotAccepted
+  MarksDecide c (Malformed ∷ marks) v = v ≡ Errs
+  MarksDecide c (Name name system ∷ marks) v =
+      ((IsLooked c name system → IsGood c (path_of c name)) × MarksDecide c marks v)
       ⊎ (IsLooked c name system × (IsGood c (path_of c name) → ⊥) × (v ≡ NotAccepted))
 
   -- the verdict on a text
   abbrev pub Walk : Call V → Bytes → Verdict → Type 0
-  Walk c text v = (marks : List Mark) × Marks true text marks × Decides c marks v
+  Walk c text v = (marks : List Mark) × Marks true text marks × MarksDecide c marks v
 
   -- a recorded digest and a path as it is written: of a regular file that the text names
   pub record IsRecorded (c : Call V) (text : Bytes) (d : Digested) : Type 0 where

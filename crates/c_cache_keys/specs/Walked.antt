@@ -5,6 +5,7 @@ use Rattle.std.specs.FinMap.{entries}
 use Rattle.std.specs.String.{string_bytes}
 use Rattle.std.specs.declared.alloc.Global.{Global}
 use Rattle.cck_include.specs.Gathered.{Digested}
+use Rattle.cck_path.specs.Bytes.{Bytes}
 use Rattle.cck_path.specs.Path.{components}
 use Rattle.cck_path.specs.Text.{path_text}
 use Rattle.cck_walk.specs.Decided.{Accepts, Context, Decided, Digests, IsRefused}
@@ -13,7 +14,6 @@ use Rattle.cck_walk.specs.declared.error.WalkError.{WalkError}
 use Rattle.cck_walk.specs.declared.error.WalkError.TheVariants.{Memory, Marker}
 use Rattle.cck_walk.specs.declared.walk.Walk as walk
 use Rattle.cck_walk.specs.declared.walk.Walk.TheVariants as answer
-use Rattle.c_cache_keys.specs.Arguments.{Bytes}
 use Rattle.c_cache_keys.specs.Call.{Call}
 use Rattle.c_cache_keys.specs.Walk.{Accepted, AreRecorded, Errs, NotAccepted, Verdict, Walk, input_path}
 use Rattle.c_cache_keys.specs.World.{World, setting}
@@ -42,8 +42,8 @@ digested_by digests = map (λ e. (e.1, path_text (e.0))) (entries digests)
 abbrev pub VerdictIsDecided : {V : Type 0} → World V → Type 0
 VerdictIsDecided {V} w =
     (c : Call V) (text : Bytes)
-    → ((verdict : Verdict) → Walk w c text verdict ↔ ((d : Decided) × decision.Decides (walk_context w c) text d × (verdict_of d ≡ verdict)))
-    × ((digests : Digests) → decision.Decides (walk_context w c) text (Accepts digests) → AreRecorded w c text (digested_by digests))
+    → ((verdict : Verdict) → Walk w c text verdict ↔ ((d : Decided) × decision.TextDecides (walk_context w c) text d × (verdict_of d ≡ verdict)))
+    × ((digests : Digests) → decision.TextDecides (walk_context w c) text (Accepts digests) → AreRecorded w c text (digested_by digests))
 
 -- the digests and the paths that a walk recorded
 abbrev pub digested_of : List (Vec ℕ × String Global) → List Digested

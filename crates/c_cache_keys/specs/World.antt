@@ -1,12 +1,13 @@
 -- what the keys are made by, beside a call: the hash, the zone, the options, the base directories and the compiler
 use Rattle.std.specs.Prelude.{◌≡◌, List, Bool, Option, length}
 use Rattle.cck_files.specs.FileMap.{FileMap}
-use Rattle.cck_include.specs.Recorded.{Setting}
+use Rattle.cck_include.specs.Setting.{Setting}
+use Rattle.cck_path.specs.Bytes.{Bytes}
 use Rattle.cck_path.specs.Timestamp.{Moment}
 use Rattle.cck_path.specs.Variables.{Variable}
 use Rattle.cck_time.specs.declared.config.PreprocessorCacheModeConfig.{PreprocessorCacheModeConfig}
 use Rattle.jiff.specs.Types.{TimeZone}
-use Rattle.c_cache_keys.specs.Arguments.{Arguments, Bytes}
+use Rattle.c_cache_keys.specs.Arguments.{Arguments}
 use Rattle.c_cache_keys.specs.Call.{Call}
 use Rattle.c_cache_keys.specs.declared.compiler.CCompilerKind.{CCompilerKind}
 

@@ -3,9 +3,10 @@ ghost use Rattle.std.specs.Prelude.{◌≡◌, ◌&&◌, codes, map, not, IfOk, 
 ghost use Rattle.std.specs.List.{find, list_any};
 ghost use Rattle.std.specs.Option.{option_map};
 ghost use Rattle.std.specs.Str.{bytes_eq};
+ghost use Rattle.cck_path.specs.Bytes.{lists_of};
 ghost use Rattle.cck_file_digest.specs.FolderText.{lossy};
 ghost use Rattle.c_cache_keys.specs.Arguments.{archs, is_arch, is_multiarch, output_name};
-ghost use Rattle.c_cache_keys.specs.Seen.{arguments_of, lists_of};
+ghost use Rattle.c_cache_keys.specs.Seen.{arguments_of};
 
 use crate::error::KeyError;
 use bstr::ByteSlice;
@@ -26,6 +27,8 @@ pub struct ArtifactDescriptor {
 }
 
 /// Whether diagnostics are coloured.
+///
+/// Upstream's `compiler::ColorMode`.
 #[derive(Debug, Copy, Clone, PartialEq, Eq)]
 pub enum ColorMode {
     /// They are not.
@@ -98,7 +101,7 @@ impl ParsedArguments {
 
     /// The architectures that are asked for, each once, in the order in which they first stand.
     ///
-    /// Upstream's `ParsedArguments::archs`. It is refused only for want of memory, as
+    /// Upstream's `ParsedArguments::archs`. It is refused only for lack of memory, as
     /// [`KeyError::Memory`].
     pub fn archs(&self, alloc: Global) -> Result<Vec<&[u8]>, KeyError>
         ensures archs { IfOk result (λ found.
@@ -118,7 +121,7 @@ impl ParsedArguments {
     /// The file name of the output `obj`, to be shown, with U+FFFD for what is no UTF-8; or
     /// `Unknown filename` where there is no such output or its path has no file name.
     ///
-    /// Upstream's `ParsedArguments::output_pretty`. It is refused only for want of memory, as
+    /// Upstream's `ParsedArguments::output_pretty`. It is refused only for lack of memory, as
     /// [`KeyError::Memory`].
     pub fn output_pretty(&self, alloc: Global) -> Result<String, KeyError>
         ensures name { IfOk result (λ name.

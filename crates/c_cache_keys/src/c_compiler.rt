@@ -3,11 +3,11 @@ ghost use Rattle.std.specs.Prelude.{◌≡◌, ◌⊎◌, ◌++◌, Some, IfErr,
 ghost use Rattle.cck_digest.specs.Digest.{digest_text};
 ghost use Rattle.cck_file_digest.specs.Refusals.{IsDigestRefusal};
 ghost use Rattle.cck_files.specs.Calls.{Keeps, Rose};
+ghost use Rattle.cck_path.specs.Bytes.{lists_of, variables_of};
 ghost use Rattle.cck_path.specs.Path.{components};
 ghost use Rattle.c_cache_keys.specs.CCompiler.{IsHip, IsOf, IsOfCompiler, executable_text, found_of};
 ghost use Rattle.c_cache_keys.specs.ExtraFiles.{completed};
 ghost use Rattle.c_cache_keys.specs.Refusals.{IsFileFault};
-ghost use Rattle.c_cache_keys.specs.Seen.{lists_of, variables_of};
 
 use crate::arguments::ParsedArguments;
 use crate::compiler::{CCompilerImpl, CCompilerKind, CompilerArguments};
@@ -33,8 +33,8 @@ pub struct CCompiler<I> {
 }
 
 impl<I: CCompilerImpl> CCompiler<I> {
-    /// A compiler with its executable, which is read for its digest text: that of what stands at the
-    /// path, or, where the compiler has a version, that of this text and the version behind it.
+    /// A compiler with its executable, which is read for its digest text: that of what stands at
+    /// the path, or, where the compiler has a version, that of this text and the version behind it.
     ///
     /// Upstream's `CCompiler::new`. It is refused as [`DigestFiles::file`] is at the path.
     pub fn new<H: HashState, F: Files>(
@@ -80,12 +80,12 @@ impl<I: CCompilerImpl> CCompiler<I> {
     ///
     /// - what stands between the colons of each variable `SCCACHE_EXTRAFILES`, where an empty value
     ///   tells one empty path,
-    /// - for HIP the device libraries, in path order: the direct children with the extension `bc` of
-    ///   one folder. That is the first that is told of: by the argument `--hip-device-lib-path=`, by
-    ///   the variable `HIP_DEVICE_LIB_PATH`, by the argument `--rocm-path=` or the variable
-    ///   `ROCM_PATH`, each with `amdgcn/bitcode` behind it; or it is `/opt/rocm/amdgcn/bitcode`. Of
-    ///   arguments and variables those that are no UTF-8 don't count. Where no folder stands, there
-    ///   are no libraries.
+    /// - for HIP the device libraries, in path order: the direct children with the extension `bc`
+    ///   of one folder. That is the first that is told of: by the argument
+    ///   `--hip-device-lib-path=`, by the variable `HIP_DEVICE_LIB_PATH`, by the argument
+    ///   `--rocm-path=` or the variable `ROCM_PATH`, each with `amdgcn/bitcode` behind it; or it is
+    ///   `/opt/rocm/amdgcn/bitcode`. Of arguments and variables those that are no UTF-8 don't
+    ///   count. Where no folder stands, there are no libraries.
     ///
     /// It is refused as
     ///
@@ -127,7 +127,7 @@ impl<I: CCompilerImpl> CCompiler<I> {
 
     /// The same compiler once more.
     ///
-    /// It is refused only for want of memory, as [`KeyError::Memory`].
+    /// It is refused only for lack of memory, as [`KeyError::Memory`].
     pub fn copy(&self, alloc: Global) -> Result<CCompiler<I>, KeyError>
         ensures compiler { IfOk result (λ copy. I.value copy.compiler ≡ I.value self.now.compiler) }
         ensures executable { IfOk result (λ copy. copy.executable.items ≡ self.now.executable.items) }

@@ -1,12 +1,15 @@
 //! Calls for keys.
 
 /// Whether a stored result may be answered.
+///
+/// Upstream's `compiler::CacheControl`, of which these two are the ones that a call for a key tells
+/// apart.
 #[derive(Debug, Copy, Clone, PartialEq, Eq)]
 pub enum CacheControl {
     /// It may.
     Default,
-    /// It may not: the key is made afresh, and where an entry can be made of it, that replaces what is
-    /// stored.
+    /// It may not: the key is made afresh, and where an entry can be made of it, that replaces what
+    /// is stored.
     ForceRecache,
 }
 

@@ -1,14 +1,15 @@
 //! Calls for keys, one after another on one store.
 ghost use Rattle.std.specs.Prelude.{◌≡◌, IfOk, IsOkUnless, OnErr, length, map};
 ghost use Rattle.std.specs.List.{AllZip};
+ghost use Rattle.cck_path.specs.Bytes.{lists_of};
+ghost use Rattle.jiff.specs.Words.{plain_zone};
 ghost use Rattle.c_cache_keys.specs.Call.{calls_of};
 ghost use Rattle.c_cache_keys.specs.Calls.{AreAnswered, IsAfter, done_all};
 ghost use Rattle.c_cache_keys.specs.Laws.{IsTransparent};
 ghost use Rattle.c_cache_keys.specs.Premises.{Premises};
-ghost use Rattle.c_cache_keys.specs.Seen.{answer_of, lists_of};
+ghost use Rattle.c_cache_keys.specs.Seen.{answer_of};
 ghost use Rattle.c_cache_keys.specs.Step.{IsEmpty, Run};
 ghost use Rattle.c_cache_keys.specs.World.{world_of};
-ghost use Rattle.jiff.specs.Words.{plain_zone};
 
 use crate::call::{CacheControl, HashResult};
 use crate::compiler::CCompilerImpl;
@@ -41,16 +42,17 @@ pub struct Call<I, F> {
 
 /// The keys of these calls in their order, one result a call.
 ///
-/// Over a store that is empty at first each key that is answered, stored or fresh, is the plain key of
-/// its call, and no call is refused for what the store handed out, if the calls meet the premises:
+/// Over a store that is empty at first each key that is answered, stored or fresh, is the plain key
+/// of its call, and no call is refused for what the store handed out, if the calls meet the
+/// premises:
 ///
-/// - no two of the hashed texts share a digest, but they are equal;
-/// - calls that ask the store under one key ask for the same;
+/// - no two different strings that may be hashed share a digest;
+/// - calls that have one preprocessor key ask for the same;
 /// - a preprocessor prints the same text again over the same input and the same included files;
 /// - the options that let a changed file count as unchanged are off.
 ///
-/// This needs nothing of the store but its interface: it may forget, fail and run out of memory at any
-/// time. Of a call only the state of its files changes. Each result is as
+/// This needs nothing of the store but its interface: it may forget, fail and run out of memory at
+/// any time. Of a call only the state of its files changes. Each result is as
 /// [`generate_hash_key`](CCompilerHasher::generate_hash_key) gives it, of the store as the calls
 /// before leave it. The whole is refused only as [`UtilError::Memory`], and then no call was made.
 pub fn run_calls<H: HashState, I: CCompilerImpl, F: Files, S: PreprocessorStore>(

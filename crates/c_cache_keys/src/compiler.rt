@@ -1,5 +1,6 @@
 //! Compilers.
 ghost use Rattle.std.specs.Prelude.{◌≡◌, IfOk, IsOkUnless};
+ghost use Rattle.cck_path.specs.Bytes.{lists_of, variables_of};
 
 use crate::arguments::ParsedArguments;
 use crate::error::{KeyError, PreprocessError};
@@ -50,15 +51,15 @@ pub enum CompilerArguments<T> {
 
 /// A compiler.
 ///
-/// It is seen as a value. That value decides, together with what is handed in, what each call answers,
-/// but for want of memory, and what its preprocessor prints.
+/// It is seen as a value. That value decides, together with what is handed in, what each call
+/// answers, but for lack of memory, and what its preprocessor prints.
 ///
 /// Upstream's `compiler::c::CCompilerImpl`.
 pub trait CCompilerImpl {
     ghost use Rattle.std.specs.Prelude.{map};
     ghost use Rattle.std.specs.Option.{option_map};
     ghost use Rattle.cck_files.specs.Calls.{Keeps, Rose};
-    ghost use Rattle.c_cache_keys.specs.Seen.{IsPrinted, arguments_of, lists_of, parsed_of, variables_of};
+    ghost use Rattle.c_cache_keys.specs.Seen.{IsPrinted, arguments_of, parsed_of};
     ghost use Rattle.c_cache_keys.specs.World.{Compiler};
 
     // What a compiler is seen as.
@@ -87,7 +88,7 @@ pub trait CCompilerImpl {
 
     /// What a command line comes to, in a directory and under variables.
     ///
-    /// It is refused only for want of memory, as [`KeyError::Memory`].
+    /// It is refused only for lack of memory, as [`KeyError::Memory`].
     fn parse_arguments(
         &self,
         alloc: Global,
@@ -126,7 +127,7 @@ pub trait CCompilerImpl {
 
     /// A compiler of the same value.
     ///
-    /// It is refused only for want of memory, as [`KeyError::Memory`].
+    /// It is refused only for lack of memory, as [`KeyError::Memory`].
     fn copy(&self, alloc: Global) -> Result<Self, KeyError>
         ensures same { IfOk result (λ copy. value copy ≡ value self.now) }
         ensures refused { IsOkUnless result KeyError.Memory };

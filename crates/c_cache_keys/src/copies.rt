@@ -3,7 +3,8 @@ ghost use Rattle.std.specs.Prelude.{◌≡◌, IfOk, IsOkUnless, OnOk, map, stri
 ghost use Rattle.std.specs.BTreeMap.{insert_entry};
 ghost use Rattle.std.specs.Option.{option_map};
 ghost use Rattle.std.specs.String.{string_cmp};
-ghost use Rattle.c_cache_keys.specs.Seen.{arguments_of, lists_of, output_of};
+ghost use Rattle.cck_path.specs.Bytes.{lists_of};
+ghost use Rattle.c_cache_keys.specs.Seen.{arguments_of, output_of};
 
 use crate::lists::push_copies;
 use crate::{ArtifactDescriptor, CCompilerHasher, CCompilerImpl, KeyError, ParsedArguments};

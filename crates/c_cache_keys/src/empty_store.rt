@@ -6,8 +6,8 @@ use crate::{PreprocessorStore, StoreError};
 use std::alloc::Global;
 use std::marker::Model;
 
-/// A store that keeps nothing: each get finds nothing, and each put fails, which is a setback. No call
-/// takes memory.
+/// A store that keeps nothing, for a caller who wants keys and no cache of them: each get finds
+/// nothing, and each put fails, which is a setback. No call takes memory.
 #[derive(Debug, Drop)]
 pub struct EmptyStore {
     setbacks: u64,

@@ -28,10 +28,11 @@ pub enum KeyError {
     /// A growth of memory was refused.
     #[error("out of memory")]
     Memory,
-    /// A further file has no digest, for this reason. Want of memory is [`KeyError::Memory`] instead.
+    /// A further file has no digest, for this reason. Lack of memory is [`KeyError::Memory`]
+    /// instead.
     #[error("a further file has no digest: {0}")]
     Extra(UtilError),
-    /// The input can't be read, for this reason. Want of memory is [`KeyError::Memory`] instead.
+    /// The input can't be read, for this reason. Lack of memory is [`KeyError::Memory`] instead.
     #[error("the input can't be read: {0}")]
     Input(UtilError),
     /// The store failed.
@@ -40,7 +41,8 @@ pub enum KeyError {
     /// What the store handed out is no entry.
     #[error("what the store handed out is no entry: {0}")]
     Entry(Error),
-    /// There is no preprocessed text, for this reason. Want of memory is [`KeyError::Memory`] instead.
+    /// There is no preprocessed text, for this reason. Lack of memory is [`KeyError::Memory`]
+    /// instead.
     #[error("there is no preprocessed text: {0}")]
     Preprocess(PreprocessError),
     /// A line marker of the preprocessed text is malformed.
@@ -49,7 +51,7 @@ pub enum KeyError {
 }
 
 impl KeyError {
-    /// The number of the reason, from 1 for want of memory to 7 for a malformed line marker, in the
+    /// The number of the reason, from 1 for lack of memory to 7 for a malformed line marker, in the
     /// order in which the variants stand. It takes no memory.
     pub fn number(&self) -> u8
         ensures { result ≡ number_of self.now }

@@ -4,10 +4,11 @@ ghost use Rattle.std.specs.List.{slice_split};
 ghost use Rattle.std.specs.Option.{option_map, option_or};
 ghost use Rattle.std.specs.Str.{is_utf8};
 ghost use Rattle.cck_files.specs.Calls.{Keeps, Rose};
+ghost use Rattle.cck_path.specs.Bytes.{lists_of, variables_of};
 ghost use Rattle.cck_path.specs.Text.{join_path as joined_text};
 ghost use Rattle.c_cache_keys.specs.ExtraFiles.{flag_value, has_flag, is_hip, is_library, libraries, library_folder, named_files, text_value, with_extra_files};
 ghost use Rattle.c_cache_keys.specs.Refusals.{IsFileFault};
-ghost use Rattle.c_cache_keys.specs.Seen.{arguments_of, lists_of, variables_of};
+ghost use Rattle.c_cache_keys.specs.Seen.{arguments_of};
 
 use crate::arguments::ParsedArguments;
 use crate::error::KeyError;
@@ -162,7 +163,7 @@ fn is_text(bytes: &[u8]) -> bool
 }
 
 // Puts the paths of the device libraries in a folder behind the others. Where it can't be listed,
-// but for a fault or want of memory, there are none.
+// but for a fault or lack of memory, there are none.
 fn push_libraries<F: Files>(
     alloc: Global,
     files: &mut F,

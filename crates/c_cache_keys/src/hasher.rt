@@ -1,13 +1,14 @@
 //! The key of one compilation.
 ghost use Rattle.std.specs.Prelude.{◌≡◌, ◌++◌, ◌∷◌, IfErr, IfOk, IsOkUnless, string_bytes};
+ghost use Rattle.cck_path.specs.Bytes.{lists_of, variables_of};
 ghost use Rattle.cck_files.specs.Calls.{Keeps, Rose};
+ghost use Rattle.jiff.specs.Words.{plain_zone};
 ghost use Rattle.c_cache_keys.specs.Arguments.{output_name};
 ghost use Rattle.c_cache_keys.specs.Conditions.{call_under, given_by, world_under};
 ghost use Rattle.c_cache_keys.specs.Hasher.{toolchain_key};
 ghost use Rattle.c_cache_keys.specs.Reasons.{IsReason};
-ghost use Rattle.c_cache_keys.specs.Seen.{answer_of, arguments_of, lists_of, variables_of};
+ghost use Rattle.c_cache_keys.specs.Seen.{answer_of, arguments_of};
 ghost use Rattle.c_cache_keys.specs.Step.{Step};
-ghost use Rattle.jiff.specs.Words.{plain_zone};
 
 mod asking;
 mod making;
@@ -47,28 +48,30 @@ pub struct CCompilerHasher<I> {
 impl<I: CCompilerImpl> CCompilerHasher<I> {
     /// The key of the compilation, stored or fresh.
     ///
-    /// First the digests of further files are taken, and the key under which a store may be asked, if
-    /// there is one: the language is preprocessed, the options and the variable `SCCACHE_DIRECT` allow
-    /// it, and the arguments don't forbid it. Under that key the store is asked once, unless `control`
-    /// forbids it, and the greatest key of an entry whose included files all are what they were is the
-    /// answer. Else the input is preprocessed, and its text with the compiler and its arguments gives
-    /// the key. Where the text could be walked over and names files, an entry of this one result is
-    /// put; whether that went well doesn't change the answer.
+    /// First the digests of further files are taken, and the key under which a store may be asked,
+    /// if there is one: the language is preprocessed, the options and the variable `SCCACHE_DIRECT`
+    /// allow it, and the arguments don't forbid it. Under that key the store is asked once, unless
+    /// `control` forbids it, and the greatest key of an entry whose included files all are what
+    /// they were is the answer. Else the input is preprocessed, and its text with the compiler and
+    /// its arguments gives the key. Where there is a key to ask under, and the text could be walked
+    /// over and names files, an entry of this one result is put; whether that went well doesn't
+    /// change the answer.
     ///
     /// It is refused as
     ///
     /// - [`KeyError::Extra`] where a further file has no digest,
-    /// - [`KeyError::Input`] where the input is no regular file, and the store could be asked, or no
-    ///   preprocessor is needed,
-    /// - [`KeyError::Store`] where the store failed, and [`KeyError::Entry`] where what it handed out
-    ///   is no entry,
+    /// - [`KeyError::Input`] where the input is no regular file, and the preprocessor cache is
+    ///   used, or no preprocessor is needed,
+    /// - [`KeyError::Store`] where the store failed, and [`KeyError::Entry`] where what it handed
+    ///   out is no entry,
     /// - [`KeyError::Preprocess`] where there is no preprocessed text,
-    /// - [`KeyError::Marker`] where a line marker of the text is malformed,
+    /// - [`KeyError::Marker`] where there is a key to ask the store under, and a line marker of the
+    ///   text is malformed before the text is refused,
     /// - [`KeyError::Memory`].
     ///
     /// A fault of the files can bring about the refusals of a further file, of the input and of the
-    /// preprocessor too, and can keep an entry from being used or put. After a refusal the store holds
-    /// what it held, or that call's own pair of key and entry.
+    /// preprocessor too, and can keep an entry from being used or put. A call that is refused puts
+    /// nothing.
     ///
     /// Upstream's `CCompilerHasher::generate_hash_key`.
     pub fn generate_hash_key<H: HashState, F: Files, S: PreprocessorStore>(
@@ -152,7 +155,7 @@ impl<I: CCompilerImpl> CCompilerHasher<I> {
     /// The file name of the output `obj`, to be shown, or `Unknown filename`, as
     /// [`ParsedArguments::output_pretty`] says.
     ///
-    /// Upstream's `CCompilerHasher::output_pretty`. It is refused only for want of memory, as
+    /// Upstream's `CCompilerHasher::output_pretty`. It is refused only for lack of memory, as
     /// [`KeyError::Memory`].
     pub fn output_pretty(&self, alloc: Global) -> Result<String, KeyError>
         ensures name { IfOk result (λ name.
@@ -162,7 +165,8 @@ impl<I: CCompilerImpl> CCompilerHasher<I> {
         self.parsed_args.output_pretty(alloc)
     }
 
-    // The path of the executable, with U+FFFD for what is no UTF-8, a `-` and the executable's digest.
+    // The path of the executable, with U+FFFD for what is no UTF-8, a `-` and the executable's
+    // digest.
     #[tactic(auto, unfolding(crate::specs::Hasher::toolchain_key))]
     fn weak_toolchain_key(&self, alloc: Global) -> Result<String, KeyError>
         ensures key { IfOk result (λ key. string_bytes key

@@ -1,5 +1,5 @@
-//! Laws about calls and runs, over the definitions alone: each is the contract of a function that does
-//! nothing, and holds for every hash, compiler and store.
+//! Laws about calls and runs, over the definitions alone: each is the contract of a function that
+//! does nothing, and holds for every hash, compiler and store.
 ghost use Rattle.std.specs.Prelude.{ℕ, List};
 ghost use Rattle.cck_time.specs.declared.config.PreprocessorCacheModeConfig.{PreprocessorCacheModeConfig};
 ghost use Rattle.jiff.specs.Types.{TimeZone};
@@ -41,9 +41,9 @@ pub fn nothing_damaged<H: HashState, I: CCompilerImpl, S: PreprocessorStore>()
         NothingDamaged (world_of H.hash I.compiler zone config basedirs) S.store }
 {}
 
-/// **Transparency**: over calls in order on a store that starts empty, under the premises, every key
-/// that is answered, stored or fresh, is the plain key of its call, and no call is refused for what
-/// the store handed out.
+/// **Transparency**: over calls in order on a store that starts empty, under the premises, every
+/// key that is answered, stored or fresh, is the plain key of its call, and no call is refused for
+/// what the store handed out.
 pub fn transparent<H: HashState, I: CCompilerImpl, S: PreprocessorStore>()
     ensures { (zone : TimeZone) (config : PreprocessorCacheModeConfig) (basedirs : List (List ℕ)) →
         Transparent (world_of H.hash I.compiler zone config basedirs) S.store }
@@ -63,7 +63,8 @@ pub fn handed_is_answered<H: HashState, I: CCompilerImpl, S: PreprocessorStore>(
         HandedIsAnswered (world_of H.hash I.compiler zone config basedirs) S.store }
 {}
 
-/// What a store holds after a call it held before, or it is the call's own pair.
+/// What a store holds after a call it held before, or it is the call's own pair, and its key was
+/// answered as a fresh one. So nothing is put by a call that is refused or answers a stored key.
 pub fn keeps_old_or_own<H: HashState, I: CCompilerImpl, S: PreprocessorStore>()
     ensures { (zone : TimeZone) (config : PreprocessorCacheModeConfig) (basedirs : List (List ℕ)) →
         KeepsOldOrOwn (world_of H.hash I.compiler zone config basedirs) S.store }
@@ -75,8 +76,8 @@ pub fn recache_is_fresh<H: HashState, I: CCompilerImpl, S: PreprocessorStore>()
         RecacheIsFresh (world_of H.hash I.compiler zone config basedirs) S.store }
 {}
 
-/// After a fresh answer the store holds that one result under the call's key, where something can be
-/// recorded and no fault and no setback came.
+/// After a fresh answer the store holds that one result under the call's key, where something can
+/// be recorded and no fault and no setback came.
 pub fn fresh_is_held<H: HashState, I: CCompilerImpl, S: PreprocessorStore>()
     ensures { (zone : TimeZone) (config : PreprocessorCacheModeConfig) (basedirs : List (List ℕ)) →
         FreshIsHeld (world_of H.hash I.compiler zone config basedirs) S.store }
@@ -89,22 +90,22 @@ pub fn held_is_answered<H: HashState, I: CCompilerImpl, S: PreprocessorStore>()
         HeldIsAnswered (world_of H.hash I.compiler zone config basedirs) S.store }
 {}
 
-/// After a fresh answer a later call that can hit answers the same key from the store, over the same
-/// recorded files, if no call between put another result there.
+/// After a fresh answer a later call that can hit answers the same key from the store, over the
+/// same recorded files, if no call between put another result there.
 pub fn stored_is_hit<H: HashState, I: CCompilerImpl, S: PreprocessorStore>()
     ensures { (zone : TimeZone) (config : PreprocessorCacheModeConfig) (basedirs : List (List ℕ)) →
         StoredIsHit (world_of H.hash I.compiler zone config basedirs) S.store }
 {}
 
-/// Each refusal without a fault has its cause in the call, or is want of memory; the store's comes
+/// Each refusal without a fault has its cause in the call, or is lack of memory; the store's comes
 /// only with a setback.
 pub fn refusals_have_causes<H: HashState, I: CCompilerImpl, S: PreprocessorStore>()
     ensures { (zone : TimeZone) (config : PreprocessorCacheModeConfig) (basedirs : List (List ℕ)) →
         RefusalsHaveCauses (world_of H.hash I.compiler zone config basedirs) S.store }
 {}
 
-/// The verdict on a text is what its marks decide, read once from the front with the digests that were
-/// found so far, and an accepted text has the digests of all regular files that it names.
+/// The verdict on a text is what its marks decide, read once from the front with the digests that
+/// were found so far, and an accepted text has the digests of all regular files that it names.
 pub fn verdict_is_decided<H: HashState, I: CCompilerImpl>()
     ensures { (zone : TimeZone) (config : PreprocessorCacheModeConfig) (basedirs : List (List ℕ)) →
         VerdictIsDecided (world_of H.hash I.compiler zone config basedirs) }

@@ -1,20 +1,23 @@
 //! The keys of compilations, after sccache's `src/compiler/c.rs`.
 //!
-//! A compilation is told by its *plain key*: the digest of the compiler, its arguments, some variables
-//! and the preprocessed text. To save preprocessing, a store may hold, under a *preprocessor key* that
-//! needs no preprocessed text, plain keys with the files that each of them was made over, and a plain
-//! key is answered from there if all these files still are what they were.
+//! A compilation is told by its *plain key*: the digest of the compiler, its arguments, some
+//! variables and the preprocessed text. To save preprocessing, a store may hold, under a
+//! *preprocessor key* that needs no preprocessed text, plain keys with the files that each of them
+//! was made over, and a plain key is answered from there if all these files still are what they
+//! were.
 //!
-//! [`CCompiler`] is a compiler with its executable, and parses command lines; what it makes of one is a
-//! [`CCompilerHasher`], whose [`generate_hash_key`](CCompilerHasher::generate_hash_key) is one call for
-//! a key. [`run_calls`] makes calls in order. They work over any [`Files`](cck_files::Files), any
-//! compiler ([`CCompilerImpl`]), any store ([`PreprocessorStore`]) and any hash function.
+//! [`CCompiler`] is a compiler with its executable, and parses command lines; what it makes of one
+//! is a [`CCompilerHasher`], whose [`generate_hash_key`](CCompilerHasher::generate_hash_key) is one
+//! call for a key. [`run_calls`] makes calls in order. They work over any
+//! [`Files`](cck_files::Files), any compiler ([`CCompilerImpl`]), any store ([`PreprocessorStore`])
+//! and any hash function. A call answers a [`HashResult`], or a [`KeyError`] that says why there is
+//! no key, be it for a [`PreprocessError`] of the compiler or a [`StoreError`] of the store.
 //!
-//! The promise is a clause of [`run_calls`] and a law over its words, [`laws::transparent`]: over calls
-//! in order on a store that starts empty every answered key is the plain key, where
+//! The promise is a clause of [`run_calls`] and a law over its words, [`laws::transparent`]: over
+//! calls in order on a store that starts empty every answered key is the plain key, where
 //!
-//! - no two of the hashed texts share a digest, but they are equal;
-//! - calls that ask the store under one key ask for the same;
+//! - no two different strings that may be hashed share a digest;
+//! - calls that have one preprocessor key ask for the same;
 //! - a preprocessor prints the same text again over the same input and the same included files;
 //! - the options that let a changed file count as unchanged are off.
 //!
@@ -52,8 +55,8 @@
 //! }
 //! ```
 //!
-//! And a list of calls, each a [`Call`] with its hasher, files, directory, variables and moment; the
-//! result of the first call stands first:
+//! And a list of calls, each a [`Call`] with its hasher, files, directory, variables and moment;
+//! the result of the first call stands first:
 //!
 //! ```rust
 //! let answers = run_calls::<Sha256State, I, F, S>(alloc, &mut store, &zone, config, &[], &mut calls)?;

@@ -1,6 +1,6 @@
 //! Lists of byte strings.
 ghost use Rattle.std.specs.Prelude.{◌≡◌, ◌++◌, IfErr, OnOk};
-ghost use Rattle.c_cache_keys.specs.Seen.{lists_of};
+ghost use Rattle.cck_path.specs.Bytes.{lists_of};
 
 use std::alloc::{AllocError, Global};
 

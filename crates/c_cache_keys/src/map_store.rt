@@ -14,9 +14,9 @@ use std::marker::Model;
 
 /// A store in memory: it keeps the newest bytes of each key.
 ///
-/// One of its following gets and puts may be armed to forget all that is held when it begins, and one
-/// to fail. Each of these is a setback, and so is a growth of memory that is refused; nothing else is.
-/// The count of setbacks is a `u64` and stays at `u64::MAX`.
+/// One of its following gets and puts may be armed to forget all that is held when it begins, and
+/// one to fail. Each of these is a setback, and so is a growth of memory that is refused; nothing
+/// else is. The count of setbacks is a `u64` and stays at `u64::MAX`.
 #[derive(Debug, Drop)]
 pub struct MapStore {
     alloc: Global,
@@ -66,17 +66,17 @@ impl MapStore {
         }
     }
 
-    /// Makes the nth of the following gets and puts, counted from 1, forget all that is held when it
-    /// begins, and that one alone. What was armed before no longer counts, and 0 arms none.
+    /// Makes the nth of the following gets and puts, counted from 1, forget all that is held when
+    /// it begins, and that one alone. What was armed before no longer counts, and 0 arms none.
     pub fn forget_at(&mut self, n: u64)
         ensures { self.new ≡ record self.old { forget = n } }
     {
         self.forget = n;
     }
 
-    /// Makes the nth of the following gets and puts, counted from 1, a
-    /// [`StoreError::Fault`] that hands out and puts nothing, and that one alone. What was armed
-    /// before no longer counts, and 0 arms none. A call that is armed to forget as well forgets first.
+    /// Makes the nth of the following gets and puts, counted from 1, a [`StoreError::Fault`] that
+    /// hands out and puts nothing, and that one alone. What was armed before no longer counts, and
+    /// 0 arms none. A call that is armed to forget as well forgets first.
     pub fn fail_at(&mut self, n: u64)
         ensures { self.new ≡ record self.old { fail = n } }
     {

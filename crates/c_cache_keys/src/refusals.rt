@@ -1,4 +1,4 @@
-//! Why a call for a key is refused, by why a call below it is. Want of memory is
+//! Why a call for a key is refused, by why a call below it is. Lack of memory is
 //! [`KeyError::Memory`], wherever it came.
 ghost use Rattle.std.specs.Prelude.{◌≡◌};
 ghost use Rattle.c_cache_keys.specs.Refusals.{entry_refusal, extra_refusal, input_refusal, key_refusal, text_refusal, walk_refusal};

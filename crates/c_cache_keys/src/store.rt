@@ -19,8 +19,8 @@ pub enum StoreError {
 /// A store of entries by their keys, which may forget, fail and run out of memory.
 ///
 /// A store is seen as what it holds, pairs of a key and bytes, and a count of *setbacks*, which has
-/// 64 bits and stays at its greatest value. Each implementation says what its two calls do. Of these,
-/// whatever the store, it is proved that
+/// 64 bits and stays at its greatest value. Each implementation says what its two calls do. Of
+/// these, whatever the store, it is proved that
 ///
 /// - what is handed out was held under its key, and what is held afterwards was held before or is
 ///   what is put;

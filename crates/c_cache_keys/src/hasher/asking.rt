@@ -20,8 +20,8 @@ use cck_files::Files;
 use std::alloc::Global;
 
 impl<I: CCompilerImpl> CCompilerHasher<I> {
-    /// The stored key that is answered for this call, if there is one: the store is asked where there
-    /// is a key to ask it under and a stored result may be answered.
+    /// The stored key that is answered for this call, if there is one: the store is asked where
+    /// there is a key to ask it under and a stored result may be answered.
     pub(crate) fn find<H: HashState, F: Files, S: PreprocessorStore>(
         &self,
         alloc: Global,

@@ -14,7 +14,8 @@ use std::alloc::Global;
 /// Puts the entry of one result: a key, and the files that it was made over.
 ///
 /// Nothing is put where one of the files is missing or a fault came. It is refused only as
-/// [`KeyError::Memory`], and then nothing is put; that a store couldn't put the entry is no refusal.
+/// [`KeyError::Memory`], and then nothing is put; that a store couldn't put the entry is no
+/// refusal.
 pub(super) fn put_result<F: Files, S: PreprocessorStore>(
     alloc: Global,
     files: &mut F,

@@ -1,7 +1,7 @@
 use Rattle.std.proofs.Common.{◌≡◌, drop}
 use Rattle.std.specs.List.{find}
+use Rattle.cck_path.specs.Bytes.{lists_of}
 use Rattle.c_cache_keys.specs.Arguments.{is_arch}
-use Rattle.c_cache_keys.specs.Seen.{lists_of}
 use Rattle.c_cache_keys.proofs.arguments.first_arch.Given as goal
 
 -- the arguments that are still to come decide the answer

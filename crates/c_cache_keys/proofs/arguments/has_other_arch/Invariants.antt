@@ -1,8 +1,8 @@
 use Rattle.std.proofs.Common.{◌≡◌, ◌&&◌, drop, not}
 use Rattle.std.specs.List.{list_any}
 use Rattle.std.specs.Str.{bytes_eq}
+use Rattle.cck_path.specs.Bytes.{lists_of}
 use Rattle.c_cache_keys.specs.Arguments.{is_arch}
-use Rattle.c_cache_keys.specs.Seen.{lists_of}
 use Rattle.c_cache_keys.proofs.arguments.has_other_arch.Given as goal
 
 -- the arguments that are still to come decide the answer

@@ -1,9 +1,9 @@
 use Rattle.std.proofs.Common.{◌+◌, add-one, arith, ap, refl, ◌∙◌}
 use Rattle.std.proofs.lemmas.List.{take_all}
+use Rattle.cck_path.specs.Bytes.{lists_of}
 use Rattle.jiff.specs.Words.{plain_zone}
 use Rattle.c_cache_keys.proofs.Ran.{after_more, answered_more, rest_more, run_answered, untouched}
 use Rattle.c_cache_keys.proofs.Runs.{transparent}
-use Rattle.c_cache_keys.specs.Seen.{lists_of}
 use Rattle.c_cache_keys.specs.World.{world_of}
 use Rattle.c_cache_keys.proofs.calls.run_calls.Goals as goal
 

@@ -1,6 +1,7 @@
 use Rattle.std.proofs.Common.{◌∙◌, ap, sym}
+use Rattle.cck_path.specs.Bytes.{lists_of, variables_of}
 use Rattle.c_cache_keys.specs.ExtraFiles.{library_folder}
-use Rattle.c_cache_keys.specs.Seen.{arguments_of, lists_of, variables_of}
+use Rattle.c_cache_keys.specs.Seen.{arguments_of}
 use Rattle.c_cache_keys.proofs.ExtraFiles.{added_libraries, added_named}
 use Rattle.c_cache_keys.proofs.extra_files.add_extra_files.Goals as goal
 

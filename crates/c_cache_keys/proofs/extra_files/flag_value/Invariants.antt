@@ -1,6 +1,6 @@
 use Rattle.std.proofs.Common.{◌≡◌, drop}
+use Rattle.cck_path.specs.Bytes.{lists_of}
 use Rattle.c_cache_keys.specs.ExtraFiles.{flag_value}
-use Rattle.c_cache_keys.specs.Seen.{lists_of}
 use Rattle.c_cache_keys.proofs.extra_files.flag_value.Given as goal
 
 -- the arguments that are still to come decide the answer

@@ -1,7 +1,7 @@
 use Rattle.std.proofs.Common.{◌++◌, ◌∙◌, ap, sym}
 use Rattle.std.proofs.lemmas.List.{append-nil}
+use Rattle.cck_path.specs.Bytes.{lists_of}
 use Rattle.cck_files.specs.Calls.{Rose}
-use Rattle.c_cache_keys.specs.Seen.{lists_of}
 use Rattle.c_cache_keys.proofs.ExtraFiles.{libraries_listed, no_libraries}
 use Rattle.c_cache_keys.proofs.extra_files.push_libraries.Goals as goal
 

@@ -1,7 +1,7 @@
 use Rattle.std.proofs.Common.{◌≡◌, ◌++◌, filter, map, take}
+use Rattle.cck_path.specs.Bytes.{lists_of}
 use Rattle.cck_path.specs.Text.{join_path}
 use Rattle.c_cache_keys.specs.ExtraFiles.{is_library}
-use Rattle.c_cache_keys.specs.Seen.{lists_of}
 use Rattle.c_cache_keys.proofs.extra_files.push_listed.Given as goal
 
 -- the libraries so far stand behind the others

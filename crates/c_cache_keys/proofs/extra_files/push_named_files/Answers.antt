@@ -1,6 +1,6 @@
 use Rattle.std.proofs.Common.{◌∙◌, ap, ap₂, sym}
 use Rattle.std.specs.Str.{bytes_eq}
-use Rattle.c_cache_keys.specs.Seen.{lists_of}
+use Rattle.cck_path.specs.Bytes.{lists_of}
 use Rattle.c_cache_keys.proofs.ExtraFiles.{named_here, named_later}
 use Rattle.c_cache_keys.proofs.extra_files.push_named_files.Goals as goal
 use Rattle.c_cache_keys.proofs.extra_files.push_named_files.Goals.{then-eq+in_ok-push_parts, else-eq}

@@ -1,6 +1,6 @@
 use Rattle.std.proofs.Common.{◌≡◌, ◌++◌, take}
+use Rattle.cck_path.specs.Bytes.{lists_of, variables_of}
 use Rattle.c_cache_keys.specs.ExtraFiles.{named_files}
-use Rattle.c_cache_keys.specs.Seen.{lists_of, variables_of}
 use Rattle.c_cache_keys.proofs.extra_files.push_named_files.Given as goal
 
 -- what the variables so far name stands behind the others

@@ -3,7 +3,7 @@ use Rattle.std.specs.Iterator.{Yields}
 use Rattle.std.proofs.lemmas.Iterator.{YieldsList}
 use Rattle.std.proofs.lemmas.Iterator.Consumers.{YieldsList-end}
 use Rattle.std.proofs.lemmas.Iterator.Splits.{YieldsList-from_slice_split}
-use Rattle.c_cache_keys.specs.Seen.{lists_of}
+use Rattle.cck_path.specs.Bytes.{lists_of}
 use Rattle.c_cache_keys.proofs.extra_files.push_parts.Goals as goal
 
 -- at the end all were yielded

@@ -1,5 +1,5 @@
 use Rattle.std.proofs.Common.{◌≡◌, ◌++◌, map}
-use Rattle.c_cache_keys.specs.Seen.{lists_of}
+use Rattle.cck_path.specs.Bytes.{lists_of}
 use Rattle.c_cache_keys.proofs.extra_files.push_parts.Given as goal
 
 -- the parts so far stand behind the others

@@ -1,6 +1,6 @@
 use Rattle.std.proofs.Common.{◌≡◌, drop}
+use Rattle.cck_path.specs.Bytes.{variables_of}
 use Rattle.c_cache_keys.specs.ExtraFiles.{text_value}
-use Rattle.c_cache_keys.specs.Seen.{variables_of}
 use Rattle.c_cache_keys.proofs.extra_files.text_value.Given as goal
 
 -- the variables that are still to come decide the answer

@@ -1,5 +1,5 @@
 use Rattle.std.proofs.Common.{◌≡◌, ◌++◌, take}
-use Rattle.c_cache_keys.specs.Seen.{lists_of}
+use Rattle.cck_path.specs.Bytes.{lists_of}
 use Rattle.c_cache_keys.proofs.lists.push_copies.Given as goal
 
 -- the copies so far stand behind the others

@@ -1,6 +1,6 @@
 use Rattle.std.proofs.Common.{◌≡◌, filter, map, take}
+use Rattle.cck_path.specs.Bytes.{lists_of}
 use Rattle.c_cache_keys.specs.Arguments.{each_once, is_arch}
-use Rattle.c_cache_keys.specs.Seen.{lists_of}
 use Rattle.c_cache_keys.proofs.arguments.ParsedArguments.archs.Given as goal
 
 -- found are those among the arguments so far

@@ -1,8 +1,8 @@
 use Rattle.std.proofs.Common.{◌∙◌, ap, sym, false}
 use Rattle.std.specs.List.{find}
 use Rattle.std.specs.Option.{option_map_or}
+use Rattle.cck_path.specs.Bytes.{lists_of}
 use Rattle.c_cache_keys.specs.Arguments.{archs, is_arch, is_multiarch}
-use Rattle.c_cache_keys.specs.Seen.{lists_of}
 use Rattle.c_cache_keys.proofs.Architectures.{has_other, several}
 use Rattle.c_cache_keys.proofs.arguments.ParsedArguments.is_multiarch.Goals as goal
 

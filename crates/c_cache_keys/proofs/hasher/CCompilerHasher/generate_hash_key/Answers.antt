@@ -1,11 +1,12 @@
 use Rattle.std.proofs.Common.{Some, None, arith}
+use Rattle.cck_path.specs.Bytes.{lists_of, variables_of}
 use Rattle.cck_files.proofs.CallsLemmas.{rose_earlier}
 use Rattle.cck_files.specs.Calls.{Rose}
 use Rattle.jiff.specs.Words.{plain_zone}
 use Rattle.c_cache_keys.proofs.Stepped.{found_as, step_failed, step_hit, step_made, step_starved, step_stopped}
 use Rattle.c_cache_keys.proofs.Reasons.{file_reason, memory_reason, wide_any, wide_reason}
 use Rattle.c_cache_keys.specs.Conditions.{call_under, given_by, world_under}
-use Rattle.c_cache_keys.specs.Seen.{lists_of, variables_of, why_of}
+use Rattle.c_cache_keys.specs.Seen.{why_of}
 use Rattle.c_cache_keys.proofs.hasher.CCompilerHasher.generate_hash_key.Goals as goal
 
 pub returns-in-Err-clause-step : goal.returns-in-Err-clause-step
