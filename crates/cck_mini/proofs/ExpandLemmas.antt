@@ -1,9 +1,10 @@
 -- Expanding piece by piece, and lines one by one.
-use Rattle.std.proofs.Common.{◌≡◌, ℕ, zero, suc, ◌+◌, ◌-◌, ◌<◌, ◌≤◌, [], ◌∷◌, ◌++◌, length, refl, ap, sym, ◌∙◌, append_assoc, drop, take, Option, Some, None, Bool, true, false, nat_lt, arith, cond, length-drop}
+use Rattle.std.proofs.Common.{◌≡◌, ℕ, zero, suc, ◌+◌, ◌-◌, ◌<◌, ◌≤◌, [], ◌∷◌, ◌++◌, length, refl, ap, sym, ◌∙◌, drop, take, Option, Some, None, Bool, true, false, nat_lt, arith, cond, length-drop, ltb-true, ltb-false}
 use Rattle.std.specs.List.{position, position_or_len}
 use Rattle.std.proofs.lemmas.Bool.Decides.{nat_tests}
 use Rattle.std.proofs.lemmas.List.{append-nil, take_all}
-use Rattle.cck_mini.specs.Printed.{Bytes, Macros, macro_at, piece_or, expanded, expanded_behind, lines_in, onto_line, is_lf}
+use Rattle.cck_path.specs.Bytes.{Bytes}
+use Rattle.cck_mini.specs.Printed.{Macros, macro_at, piece_or, expanded, expanded_behind, lines_in, onto_line, is_lf}
 
 pub tail_range : (text : Bytes) (k : ℕ) → drop k text ≡ take (length text - k) (drop k text)
 tail_range text k = let h : length (drop k text) ≤ length text - k = simp length-drop (omega arith) in sym (take_all (length text - k) (drop k text) h)
@@ -28,9 +29,6 @@ unfolding expanded
 piece_plain m [] e h = absurd (omega arith)
 piece_plain m (b ∷ bs) e h = ap (λ found. piece_or found (b ∷ expanded_behind m 0 bs) (λ k. expanded_behind m k bs)) e ∙ ap (λ t. b ∷ expanded_behind m 0 t) (tail_range (b ∷ bs) 1)
 
-pub expand_more : (m : Macros) (before text left piece rest : Bytes) (out : Bytes) → out ++ expanded m left ≡ before ++ expanded m text → expanded m left ≡ piece ++ expanded m rest → (out ++ piece) ++ expanded m rest ≡ before ++ expanded m text
-expand_more m before text left piece rest out h e = append_assoc out piece (expanded m rest) ∙ ap (λ t. out ++ t) (sym e) ∙ h
-
 pub expand_end : (m : Macros) (left out whole : Bytes) → length left ≡ 0 → out ++ expanded m left ≡ whole → out ≡ whole
 unfolding expanded
 expand_end m [] out whole z h = sym (append-nil out) ∙ h
@@ -46,15 +44,9 @@ pub line_none : (s : Bytes) → length s ≤ position_or_len is_lf s → 0 < len
 line_none [] h p = absurd (omega arith)
 line_none (x ∷ xs) h p = line_none_step x xs (is_lf x) refl h (line_none xs)
 
-is_not_under : (a b : ℕ) → nat_lt a b ≡ false → b ≤ a
-is_not_under a b e = grind (arith, nat_tests)
-
-is_under : (a b : ℕ) → nat_lt a b ≡ true → a < b
-is_under a b e = grind (arith, nat_tests)
-
 none_if : (s : Bytes) (b : Bool) → nat_lt (position_or_len is_lf s) (length s) ≡ b → ◌≡◌ {A = Option ℕ} None (cond b (Some (position_or_len is_lf s)) None) → 0 < length s → lines_in s ≡ (s, []) ∷ []
 none_if s true e h p = cc
-none_if s false e h p = line_none s (is_not_under _ _ e) p
+none_if s false e h p = line_none s (ltb-false _ _ e) p
 
 pub line_none_at : (s : Bytes) → ◌≡◌ {A = Option ℕ} None (position is_lf s) → 0 < length s → lines_in s ≡ (s, []) ∷ []
 line_none_at s h p = none_if s (nat_lt (position_or_len is_lf s) (length s)) refl h p
@@ -72,7 +64,7 @@ line_some [] p h lt = absurd (omega arith)
 line_some (x ∷ xs) p h lt = line_some_step x xs (is_lf x) (position_or_len is_lf xs) refl refl (line_some xs (position_or_len is_lf xs) refl) p h lt
 
 some_if : (s : Bytes) (p : ℕ) (b : Bool) → nat_lt (position_or_len is_lf s) (length s) ≡ b → Some p ≡ cond b (Some (position_or_len is_lf s)) None → lines_in s ≡ (take p s, take 1 (drop p s)) ∷ lines_in (drop (suc p) s)
-some_if s p true e h = let q : p ≡ position_or_len is_lf s = cc in let u = is_under _ _ e in line_some s p q (omega arith)
+some_if s p true e h = let q : p ≡ position_or_len is_lf s = cc in let u = ltb-true _ _ e in line_some s p q (omega arith)
 some_if s p false e h = cc
 
 pub line_some_at : (s : Bytes) (p : ℕ) → Some p ≡ position is_lf s → lines_in s ≡ (take p s, take (p + 1 - p) (drop p s)) ∷ lines_in (take (length s - (p + 1)) (drop (p + 1) s))

@@ -1,16 +1,17 @@
 -- A regular file, from what is known of it and its contents.
 use Rattle.std.proofs.Common.{◌≡◌, [], refl, ap, Option, Some, None, Result, Ok, Err}
+use Rattle.std.specs.FinMap.{get}
 use Rattle.cck_digest.specs.declared.error.FileError.{FileError}
 use Rattle.cck_digest.specs.declared.error.FileError.TheVariants as file
 use Rattle.cck_files.specs.Calls.{IsRefusal, IsRefusalOrMemory}
 use Rattle.cck_files.specs.FileMap.{FileMap, FileNode, contents_at, contents_if, contents_in, file_at, file_if, file_in, metadata_at, metadata_in}
+use Rattle.cck_path.specs.Bytes.{Bytes}
 use Rattle.cck_path.specs.Path.{components}
 use Rattle.cck_path.specs.Timestamp.{Moment}
 use Rattle.cck_path.specs.declared.metadata.FileKind.{FileKind}
 use Rattle.cck_path.specs.declared.metadata.FileKind.TheVariants.{File, Folder, Other}
 use Rattle.cck_path.specs.declared.metadata.Metadata.{Metadata}
-use Rattle.std.specs.FinMap.{get}
-use Rattle.cck_mini.specs.Printed.{Bytes, text_at, text_if}
+use Rattle.cck_mini.specs.Printed.{text_at, text_if}
 use Rattle.cck_mini.specs.Refusal.{IsPrintRefusal, print_error}
 
 abbrev modified_in : Result Metadata FileError → Option Moment

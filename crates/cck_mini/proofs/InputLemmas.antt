@@ -1,9 +1,10 @@
 -- A whole text, from its input's file and lines.
 use Rattle.std.proofs.Common.{◌≡◌, ℤ, [], ◌++◌, ap, sym, ◌∙◌, Option, Some, None, IsSomeAnd}
 use Rattle.cck_files.specs.FileMap.{FileMap}
+use Rattle.cck_path.specs.Bytes.{Bytes}
 use Rattle.cck_path.specs.Text.{join_path}
 use Rattle.cck_path.specs.Timestamp.{Moment}
-use Rattle.cck_mini.specs.Printed.{Bytes, Macros, both, input_text, lines_in, lines_text, macros_of, marker, printed, text_at}
+use Rattle.cck_mini.specs.Printed.{Macros, both, input_text, lines_in, lines_text, macros_of, marker, printed, text_at}
 use Rattle.cck_mini.specs.Refusal.{IsPrintRefusal}
 use Rattle.cck_mini.specs.declared.error.PrintError.{PrintError}
 use Rattle.cck_mini.specs.declared.error.PrintError.TheVariants.{Fault, Failed, Memory}

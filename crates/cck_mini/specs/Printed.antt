@@ -5,12 +5,10 @@ use Rattle.std.specs.Fmt.{decimal, signed_decimal}
 use Rattle.std.specs.Int.{int_div_euclid}
 use Rattle.cck_digest.specs.declared.error.FileError.{FileError}
 use Rattle.cck_files.specs.FileMap.{FileMap, FileNode, file_at}
+use Rattle.cck_path.specs.Bytes.{Bytes}
 use Rattle.cck_path.specs.Path.{components}
 use Rattle.cck_path.specs.Text.{join_path}
 use Rattle.cck_path.specs.Timestamp.{Moment}
-
-abbrev pub Bytes : Type 0
-Bytes = List ℕ
 
 -- ---- macros
 
@@ -86,8 +84,8 @@ unfoldable pub marker : ℕ → Bytes → Bytes → Bytes
 marker n path flag = codes "# " ++ decimal n ++ codes " \"" ++ path ++ codes "\"" ++ flag ++ 10 ∷ []
 
 -- empty, or with an LF as its last byte
-unfoldable pub last_is_lf : Bytes → Bool
-last_is_lf text = length text == 0 || slice_index text (length text - 1) == 10
+unfoldable pub is_empty_or_ends_in_lf : Bytes → Bool
+is_empty_or_ends_in_lf text = length text == 0 || slice_index text (length text - 1) == 10
 
 -- ---- files
 
@@ -106,7 +104,7 @@ text_at map path = text_if (file_at map (components path))
 -- an included file between its markers, of which the last has the number of the line behind the inclusion
 unfoldable pub included_text : Macros → Bytes → Bytes → ℕ → Bytes → Bytes
 included_text m contents name n path =
-    marker 1 name (codes " 1") ++ expanded m contents ++ (if last_is_lf contents then [] else 10 ∷ []) ++ marker n path (codes " 2")
+    marker 1 name (codes " 1") ++ expanded m contents ++ (if is_empty_or_ends_in_lf contents then [] else 10 ∷ []) ++ marker n path (codes " 2")
 
 -- ---- the whole text
 

@@ -11,7 +11,7 @@ IsPrintRefusal text HasFault Fault = HasFault
 IsPrintRefusal text HasFault Failed = text ≡ None
 IsPrintRefusal text HasFault Memory = Unit {0}
 
--- a want of memory and a fault stay what they are
+-- a lack of memory and a fault stay what they are
 abbrev pub print_error : FileError → PrintError
 print_error file.NotFound = Failed
 print_error file.OtherKind = Failed

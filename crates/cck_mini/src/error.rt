@@ -37,7 +37,7 @@ impl<T: Drop> From<AllocFailed<T>> for PrintError {
     }
 }
 
-// A want of memory and a fault stay what they are, and else there is no regular file.
+// A lack of memory and a fault stay what they are, and else there is no regular file.
 pub(crate) fn print_error(error: FileError) -> PrintError
     ensures { result ≡ print_error error }
 {

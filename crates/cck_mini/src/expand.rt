@@ -5,17 +5,7 @@ ghost use Rattle.cck_mini.specs.Printed.{expanded, macro_at};
 ghost use Rattle.cck_mini.specs.Seen.{macros_seen};
 
 use crate::error::PrintError;
-
-/// What the three macros stand for in one file.
-#[derive(Debug, Drop)]
-pub(crate) struct Macros {
-    /// What `__DATE__` stands for.
-    pub(crate) date: String,
-    /// What `__TIME__` stands for.
-    pub(crate) time: String,
-    /// What `__TIMESTAMP__` stands for.
-    pub(crate) timestamp: String,
-}
+use crate::macros::Macros;
 
 // Printed bytes, and the text that is left to expand.
 #[derive(Clone, Copy)]
@@ -33,7 +23,7 @@ struct Found<'a> {
 
 /// Prints a text behind `out`, with its macros replaced from left to right.
 ///
-/// It is refused only for want of memory, as [`PrintError::Memory`].
+/// It is refused only for lack of memory, as [`PrintError::Memory`].
 pub(crate) fn expand(out: &mut Vec<u8>, macros: &Macros, text: &[u8]) -> Result<(), PrintError>
     ensures text { OnOk result
         (out.new.items ≡ out.old.items ++ expanded (macros_seen macros.now) text.now) }

@@ -1,7 +1,7 @@
 //! Lines, and the files that they include.
 ghost use Rattle.std.specs.Prelude.{◌≡◌, ◌<◌, ◌∷◌, length, position};
 ghost use Rattle.std.specs.Option.{option_map};
-ghost use Rattle.cck_mini.specs.Printed.{include_name, is_lf, is_quote, last_is_lf, lines_in};
+ghost use Rattle.cck_mini.specs.Printed.{include_name, is_empty_or_ends_in_lf, is_lf, is_quote, lines_in};
 
 /// A line without its LF, the LF if there is one, and the text behind it.
 #[derive(Clone, Copy)]
@@ -42,8 +42,8 @@ fn find_lf(text: &[u8]) -> Option<usize>
     text.iter().position(|byte| *byte == b'\n')
 }
 
-/// The name in a line that includes a file: `#include "NAME"` and nothing else, where the name isn't
-/// empty and has no quote.
+/// The name in a line that includes a file: `#include "NAME"` and nothing else, where the name
+/// isn't empty and has no quote.
 #[tactic(auto, unfolding(crate::specs::Printed::include_name))]
 pub(crate) fn include_name(line: &[u8]) -> Option<&[u8]>
     ensures { option_map (λ n. n.now) result ≡ include_name line.now }
@@ -68,9 +68,9 @@ fn find_quote(text: &[u8]) -> Option<usize>
 }
 
 /// Whether a text is empty or ends in LF.
-#[tactic(auto, unfolding(crate::specs::Printed::last_is_lf))]
-pub(crate) fn last_is_lf(text: &[u8]) -> bool
-    ensures { result ≡ last_is_lf text.now }
+#[tactic(auto, unfolding(crate::specs::Printed::is_empty_or_ends_in_lf))]
+pub(crate) fn is_empty_or_ends_in_lf(text: &[u8]) -> bool
+    ensures { result ≡ is_empty_or_ends_in_lf text.now }
 {
     text.is_empty() || text[text.len() - 1] == b'\n'
 }

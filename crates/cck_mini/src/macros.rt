@@ -6,29 +6,39 @@ ghost use Rattle.cck_mini.specs.Printed.{macros_of, second_of};
 ghost use Rattle.cck_mini.specs.Seen.{macros_seen};
 
 use crate::error::PrintError;
-use crate::expand::Macros;
 use cck_path::Timestamp;
 use std::alloc::Global;
 
 const SECONDS_IN_A_DAY: i128 = 86_400;
 
+/// What the three macros stand for in one file.
+#[derive(Debug, Drop)]
+pub(crate) struct Macros {
+    /// What `__DATE__` stands for.
+    pub(crate) date: String,
+    /// What `__TIME__` stands for.
+    pub(crate) time: String,
+    /// What `__TIMESTAMP__` stands for.
+    pub(crate) timestamp: String,
+}
+
 /// What the macros stand for at a moment, in a file that was modified at this time, in a zone of so
 /// many seconds east of UTC.
 ///
-/// It is refused only for want of memory, as [`PrintError::Memory`].
+/// It is refused only for lack of memory, as [`PrintError::Memory`].
 #[tactic(auto, unfolding(crate::specs::Printed::macros_of))]
 pub(crate) fn macros_for(
     alloc: Global,
-    zone: i32,
+    zone_offset: i32,
     moment: Timestamp,
     modified: Option<Timestamp>,
 ) -> Result<Macros, PrintError>
-    ensures macros { IfOk result (λ m. macros_seen m ≡ macros_of zone moment modified) }
+    ensures macros { IfOk result (λ m. macros_seen m ≡ macros_of zone_offset moment modified) }
     ensures refused { IsOkUnless result PrintError.Memory }
 {
-    let date = day_text(alloc, moment.seconds(), zone)?;
-    let time = second_text(alloc, moment.seconds(), zone)?;
-    let timestamp = modified_text(alloc, modified, zone)?;
+    let date = day_text(alloc, moment.seconds(), zone_offset)?;
+    let time = second_text(alloc, moment.seconds(), zone_offset)?;
+    let timestamp = modified_text(alloc, modified, zone_offset)?;
     Ok(Macros {
         date,
         time,
@@ -37,21 +47,21 @@ pub(crate) fn macros_for(
 }
 
 // The number of a local second.
-fn second_text(alloc: Global, seconds: i64, zone: i32) -> Result<String, PrintError>
-    ensures text { IfOk result (λ text. string_bytes text ≡ signed_decimal (seconds +ℤ zone)) }
+fn second_text(alloc: Global, seconds: i64, zone_offset: i32) -> Result<String, PrintError>
+    ensures text { IfOk result (λ text. string_bytes text ≡ signed_decimal (seconds +ℤ zone_offset)) }
     ensures refused { IsOkUnless result PrintError.Memory }
 {
-    let second = (seconds as i128) + (zone as i128);
+    let second = (seconds as i128) + (zone_offset as i128);
     Ok(format!(in alloc; "{second}")?)
 }
 
 // The number of the local day of a second.
-fn day_text(alloc: Global, seconds: i64, zone: i32) -> Result<String, PrintError>
+fn day_text(alloc: Global, seconds: i64, zone_offset: i32) -> Result<String, PrintError>
     ensures text { IfOk result (λ text. string_bytes text
-        ≡ signed_decimal (int_div_euclid (seconds +ℤ zone) (pos 86400))) }
+        ≡ signed_decimal (int_div_euclid (seconds +ℤ zone_offset) (pos 86400))) }
     ensures refused { IsOkUnless result PrintError.Memory }
 {
-    let second = (seconds as i128) + (zone as i128);
+    let second = (seconds as i128) + (zone_offset as i128);
     let day = second.div_euclid(SECONDS_IN_A_DAY);
     Ok(format!(in alloc; "{day}")?)
 }
@@ -60,13 +70,13 @@ fn day_text(alloc: Global, seconds: i64, zone: i32) -> Result<String, PrintError
 fn modified_text(
     alloc: Global,
     modified: Option<Timestamp>,
-    zone: i32,
+    zone_offset: i32,
 ) -> Result<String, PrintError>
-    ensures text { IfOk result (λ text. string_bytes text ≡ second_of zone modified) }
+    ensures text { IfOk result (λ text. string_bytes text ≡ second_of zone_offset modified) }
     ensures refused { IsOkUnless result PrintError.Memory }
 {
     let Some(time) = modified else {
         return Ok(String::from_str(alloc, "?")?);
     };
-    second_text(alloc, time.seconds(), zone)
+    second_text(alloc, time.seconds(), zone_offset)
 }

@@ -7,20 +7,20 @@ ghost use Rattle.cck_mini.specs.Refusal.{IsPrintRefusal};
 ghost use Rattle.cck_mini.specs.Seen.{macros_seen};
 
 use crate::error::PrintError;
-use crate::expand::{Macros, expand};
+use crate::expand::expand;
 use crate::file::read_file;
-use crate::line::{Line, cut_line, include_name, last_is_lf};
-use crate::macros::macros_for;
+use crate::line::{Line, cut_line, include_name, is_empty_or_ends_in_lf};
+use crate::macros::{Macros, macros_for};
 use cck_files::Files;
 use cck_path::{Timestamp, join_path};
 use itoa::Buffer;
 use std::alloc::Global;
 
-/// The text that is printed at a moment for an input in a folder, in a zone of so many seconds east
-/// of UTC.
+/// The text that is printed at a moment for an input in the folder `cwd`, in a zone of so many
+/// seconds east of UTC.
 ///
-/// It begins with the marker `# 1 "IN"`, where IN is the input as seen from the folder. A line
-/// `#include "NAME"` is printed as the file of that name, as seen from the folder, between markers; an
+/// It begins with the marker `# 1 "IN"`, where IN is the input as seen from `cwd`. A line
+/// `#include "NAME"` is printed as the file of that name, as seen from `cwd`, between markers; an
 /// inclusion within an included file stays as it stands. In all other lines, and in what is
 /// included, the macros are replaced.
 ///
@@ -32,37 +32,38 @@ use std::alloc::Global;
 pub fn print_input<F: Files>(
     alloc: Global,
     files: &mut F,
-    zone: i32,
+    zone_offset: i32,
     moment: Timestamp,
-    folder: &[u8],
+    cwd: &[u8],
     input: &[u8],
 ) -> Result<Vec<u8>, PrintError>
     ensures keeps { Keeps F.file_map F.faults F.is_quiet files.old files.new }
-    ensures answer { let text = printed zone moment (F.file_map files.old) folder.now input.now in
+    ensures answer { let text = printed zone_offset moment (F.file_map files.old) cwd.now input.now in
         MatchResult result (λ out. text ≡ Some out.items)
         (IsPrintRefusal text (Rose (F.faults files.old) (F.faults files.new))) }
 {
-    let path = joined(alloc, folder, input)?;
+    let path = joined(alloc, cwd, input)?;
     let file = read_file(alloc, files, &path)?;
-    let macros = macros_for(alloc, zone, moment, file.modified)?;
+    let macros = macros_for(alloc, zone_offset, moment, file.modified)?;
     let mut out = Vec::new(alloc);
     print_marker(&mut out, 1, &path, b"")?;
     let job = Job {
-        zone,
+        zone_offset,
         moment,
-        folder,
+        cwd,
         path: &path,
     };
     print_lines(alloc, files, &mut out, &job, &macros, &file.contents)?;
     Ok(out)
 }
 
-// What is asked for: a zone and a moment, the folder from which names are seen, and the input's path.
+// What is asked for: a zone and a moment, the working directory from which names are seen, and the
+// input's path.
 #[derive(Debug, Clone, Copy)]
 struct Job<'a> {
-    zone: i32,
+    zone_offset: i32,
     moment: Timestamp,
-    folder: &'a [u8],
+    cwd: &'a [u8],
     path: &'a [u8],
 }
 
@@ -77,7 +78,7 @@ fn print_lines<F: Files>(
 ) -> Result<(), PrintError>
     ensures keeps { Keeps F.file_map F.faults F.is_quiet files.old files.new }
     ensures answer { let map = F.file_map files.old in
-        let text = lines_text job.now.zone job.now.moment map job.now.folder.now job.now.path.now
+        let text = lines_text job.now.zone_offset job.now.moment map job.now.cwd.now job.now.path.now
         (macros_seen macros.now) 2 (lines_in contents.now) in
         MatchResult result (λ _. IsSomeAnd text (λ text. out.new.items ≡ out.old.items ++ text))
         (IsPrintRefusal text (Rose (F.faults files.old) (F.faults files.new))) }
@@ -106,7 +107,7 @@ fn print_line<F: Files>(
     ensures keeps { Keeps F.file_map F.faults F.is_quiet files.old files.new }
     ensures answer { let map = F.file_map files.old in
         let front = line.entry.front.now in
-        let text = line_text job.now.zone job.now.moment map job.now.folder.now job.now.path.now
+        let text = line_text job.now.zone_offset job.now.moment map job.now.cwd.now job.now.path.now
         (macros_seen macros.now) (include_name front) (front, line.entry.ending.now) number in
         MatchResult result (λ _. IsSomeAnd text (λ text. out.new.items ≡ out.old.items ++ text))
         (IsPrintRefusal text (Rose (F.faults files.old) (F.faults files.new))) }
@@ -116,9 +117,9 @@ fn print_line<F: Files>(
         out.extend_from_slice(line.ending)?;
         return Ok(());
     };
-    let named = joined(alloc, job.folder, name)?;
+    let named = joined(alloc, job.cwd, name)?;
     let file = read_file(alloc, files, &named)?;
-    let inside = macros_for(alloc, job.zone, job.moment, file.modified)?;
+    let inside = macros_for(alloc, job.zone_offset, job.moment, file.modified)?;
     print_included(out, &inside, &named, &file.contents, number, job.path)
 }
 
@@ -138,7 +139,7 @@ fn print_included(
 {
     print_marker(out, 1, name, b" 1")?;
     expand(out, macros, contents)?;
-    if !last_is_lf(contents) {
+    if !is_empty_or_ends_in_lf(contents) {
         out.push(b'\n')?;
     }
     print_marker(out, number, path, b" 2")
@@ -162,12 +163,12 @@ fn print_marker(out: &mut Vec<u8>, number: u64, path: &[u8], flag: &[u8]) -> Res
     Ok(())
 }
 
-// A path as seen from a folder.
-fn joined(alloc: Global, folder: &[u8], path: &[u8]) -> Result<Vec<u8>, PrintError>
-    ensures bytes { IfOk result (λ whole. whole.items ≡ join_path folder.now path.now) }
+// A path as seen from the working directory.
+fn joined(alloc: Global, cwd: &[u8], path: &[u8]) -> Result<Vec<u8>, PrintError>
+    ensures bytes { IfOk result (λ whole. whole.items ≡ join_path cwd.now path.now) }
     ensures refused { IsOkUnless result PrintError.Memory }
 {
-    match join_path(alloc, folder, path) {
+    match join_path(alloc, cwd, path) {
         Ok(whole) => Ok(whole),
         Err(_) => Err(PrintError::Memory),
     }

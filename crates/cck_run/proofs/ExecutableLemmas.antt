@@ -6,12 +6,12 @@ use Rattle.cck_digest.specs.Digest.{digest_text}
 use Rattle.cck_file_digest.specs.FileDigest.{text_at}
 use Rattle.cck_file_digest.specs.FolderText.{digest_material, material_of, opening, whole, whole_part}
 use Rattle.cck_files.specs.FileMap.{FileMap}
+use Rattle.cck_path.specs.Bytes.{Bytes}
 use Rattle.cck_path.specs.Path.{Path, components}
-use Rattle.cck_script.specs.Surroundings.{AreFiles, executable, stands}
-use Rattle.cck_script.specs.Words.{Bytes}
+use Rattle.cck_script.specs.Surroundings.{AreFiles, executable, executable_path, stands}
 use Rattle.c_cache_keys.specs.CCompiler.{executable_text}
 
-stands_there : stands [] (components (codes "/usr/bin/cc")) ≡ Some executable
+stands_there : stands [] (components executable_path) ≡ Some executable
 unfolding stands components
 stands_there = refl
 
@@ -22,7 +22,7 @@ text_there hash files p here =
 
 -- the digest text is that of the executable's two bytes
 pub first_digest : (hash : Bytes → Bytes) (files : FileMap) (digest : Bytes) → AreFiles [] files
-    → executable_text hash None files (components (codes "/usr/bin/cc")) ≡ Some digest → digest ≡ digest_text hash (codes "cc")
+    → executable_text hash None files (components executable_path) ≡ Some digest → digest ≡ digest_text hash (codes "cc")
 first_digest hash files digest are e =
-    let there = text_there hash files (components (codes "/usr/bin/cc")) (are.nodes (components (codes "/usr/bin/cc")) ∙ stands_there) in
+    let there = text_there hash files (components executable_path) (are.nodes (components executable_path) ∙ stands_there) in
     cc

@@ -1,10 +1,10 @@
 -- what a `KeyRequest` says
 use Rattle.std.specs.Prelude.{map, string_bytes}
-use Rattle.cck_run.specs.Request.{Request}
+use Rattle.cck_run.specs.Request.{KeyCommand}
 use Rattle.cck_run.specs.declared.request.KeyRequest.TheInside.{Inside}
 
 -- what its fields say, without where it lies in memory
-abbrev pub request_of : Inside → Request
+abbrev pub request_of : Inside → KeyCommand
 request_of r = record {
   compiler_digest = r.compiler_digest.now;
   language = r.language;

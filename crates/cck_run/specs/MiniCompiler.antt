@@ -1,7 +1,8 @@
 -- the small compiler
 use Rattle.std.specs.Prelude.{ℤ, List, [], ◌∷◌, false, nat_eq, None, codes, if◌then◌else◌}
 use Rattle.std.specs.List.{ends_with}
-use Rattle.cck_mini.specs.Printed.{Bytes, printed}
+use Rattle.cck_path.specs.Bytes.{Bytes}
+use Rattle.cck_mini.specs.Printed.{printed}
 use Rattle.cck_util.specs.declared.language.Language.{Language}
 use Rattle.cck_util.specs.declared.language.Language.TheVariants as language
 use Rattle.c_cache_keys.specs.Arguments.{Arguments, Output}

@@ -3,16 +3,16 @@ use Rattle.std.specs.Prelude.{◌≡◌, ℕ, ℤ, ◌++◌, List, [], ◌∷◌
 use Rattle.std.specs.Fmt.{decimal}
 use Rattle.std.specs.List.{AllZip, flat_map}
 use Rattle.std.specs.Option.{unwrap_or}
+use Rattle.cck_path.specs.Bytes.{Bytes}
 use Rattle.jiff.specs.Words.{fixed_zone}
 use Rattle.jiff.specs.Types.{Offset}
 use Rattle.cck_digest.specs.Digest.{digest_text}
-use Rattle.cck_script.specs.Calls.{calls_of}
-use Rattle.cck_script.specs.Surroundings.{AreFiles, variables}
+use Rattle.cck_script.specs.Calls.{asked_calls}
+use Rattle.cck_script.specs.Surroundings.{AreFiles, executable_path, variables, working_directory}
 use Rattle.cck_script.specs.Calls as script
 use Rattle.cck_script.specs.Lines.{Line}
 use Rattle.cck_script.specs.Script.{basedirs_of, fail_of, forget_of, lines_said, zone_of}
-use Rattle.cck_script.specs.Words.{Bytes}
-use Rattle.cck_time.specs.declared.config.PreprocessorCacheModeConfig.{PreprocessorCacheModeConfig}
+use Rattle.cck_time.specs.Config.{activated}
 use Rattle.c_cache_keys.specs.Call.{Answer, Done, Keyed, Refused, Why, Memory, Extra, ExtraFault, Input, InputFault, Store, Damaged, NoText, TextFault, Marker}
 use Rattle.c_cache_keys.specs.ExtraFiles.{completed}
 use Rattle.c_cache_keys.specs.MapStore.{State, map_store}
@@ -50,12 +50,12 @@ control_of true = ForceRecache
 control_of false = Default
 
 -- a call that was made is the one that a script asks for, in a zone of this offset, and no call on its files met a fault
-pub record IsDone (hash : Bytes → Bytes) (zone : ℤ) (asked : script.Call) (done : Done ℤ) : Type 0 where
+pub record IsDone (hash : Bytes → Bytes) (zone : ℤ) (asked : script.AskedCall) (done : Done ℤ) : Type 0 where
   pub compiler : done.call.request.compiler ≡ zone
-  pub executable : done.call.request.executable ≡ codes "/usr/bin/cc"
+  pub executable : done.call.request.executable ≡ executable_path
   pub executable_digest : done.call.request.executable_digest ≡ digest_text hash (codes "cc")
   pub arguments : completed done.call.files (variables asked.earlier) (parsed asked.arguments) ≡ Compilation done.call.request.arguments
-  pub cwd : done.call.request.cwd ≡ codes "/w"
+  pub cwd : done.call.request.cwd ≡ working_directory
   pub env_vars : done.call.request.env_vars ≡ variables asked.earlier
   pub files : AreFiles asked.earlier done.call.files
   pub moment : done.call.moment ≡ asked.moment
@@ -64,20 +64,9 @@ pub record IsDone (hash : Bytes → Bytes) (zone : ℤ) (asked : script.Call) (d
 
 -- ---- the run
 
--- the options: the defaults, with the mode switched on
-abbrev pub options : PreprocessorCacheModeConfig
-options = record {
-  use_preprocessor_cache_mode = true;
-  file_stat_matches = false;
-  use_ctime_for_stat = true;
-  ignore_time_macros = false;
-  skip_system_headers = false;
-  hash_working_directory = true;
-}
-
 -- what the keys of these lines are made by, beside the calls
 abbrev pub run_world : (Bytes → Bytes) → Offset → List Line → World ℤ
-run_world hash zone lines = world_of hash mini_compiler (fixed_zone zone) options (basedirs_of lines)
+run_world hash zone lines = world_of hash mini_compiler (fixed_zone zone) activated (basedirs_of lines)
 
 -- an empty store, armed as these lines say
 abbrev pub armed_by : List Line → State
@@ -90,7 +79,7 @@ pub record Ran (hash : Bytes → Bytes) (lines : List Line) (printed : Bytes) : 
   pub done : List (Done ℤ)
   pub answers : List Answer
   pub end : State
-  pub calls : AllZip (IsDone hash (zone_of lines)) (calls_of lines) done
+  pub calls : AllZip (IsDone hash (zone_of lines)) (asked_calls lines) done
   pub run : Run (run_world hash zone lines) map_store (armed_by lines) done answers end
   pub printed_are : printed ≡ flat_map answer_line answers
 

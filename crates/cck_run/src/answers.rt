@@ -55,7 +55,7 @@ fn push_error(alloc: Global, lines: &mut Vec<u8>, error: KeyError) -> Result<(),
 }
 
 /// The line for a script whose first wrong line has this number: `cck: line N`.
-pub fn wrong_line(alloc: Global, number: u64) -> Result<String, Failed>
+pub fn wrong_text(alloc: Global, number: u64) -> Result<String, Failed>
     ensures { IfOk result (λ line. string_bytes line ≡ wrong_text number) }
 {
     Ok(format!(in alloc; "cck: line {number}\n")?)

@@ -1,12 +1,12 @@
 //! The program, over any reader and any writer.
-ghost use Rattle.std.specs.Prelude.{◌≡◌, ◌≢◌, ℕ, List, None, IfOk, OnOk, IfSome, map, string_bytes};
+ghost use Rattle.std.specs.Prelude.{◌≡◌, ◌≢◌, None, IfOk, OnOk, IfSome, map, string_bytes};
 ghost use Rattle.std.specs.Io.KnownBytes.{Appends};
-ghost use Rattle.cck_run.specs.Engine.{key_line, usage_line};
-ghost use Rattle.cck_run.specs.Request.{AskNoKey, AskNothing, Request, run_words, words_of};
-ghost use Rattle.cck_run.specs.Run.{IsRunPrinted, wrong_text};
 ghost use Rattle.cck_script.specs.Script.{wrong_line};
+ghost use Rattle.cck_run.specs.Engine.{key_line, usage_line};
+ghost use Rattle.cck_run.specs.Request.{AskNoKey, AskNothing, KeyCommand, run_words, words_of};
+ghost use Rattle.cck_run.specs.Run.{IsRunPrinted, wrong_text};
 
-use crate::answers::wrong_line;
+use crate::answers::wrong_text;
 use crate::failed::Failed;
 use crate::request::{KeyRequest, asks_to_run, bytes_of};
 use crate::run::run_script;
@@ -57,19 +57,20 @@ fn print_answer<H: HashState, R: Read, W: Write>(
     ensures usage { AskNoKey (map string_bytes words.now) → IfOk result (λ status.
         (status ≡ Status.Usage) × Appends (W.contents writer.old) (W.contents writer.new) usage_line) }
     ensures unread { AskNoKey (map string_bytes words.now) → reader.new ≡ reader.old }
-    ensures key { (request : Request) → map string_bytes words.now ≡ words_of request → IfOk result (λ status.
+    ensures key { (request : KeyCommand) → map string_bytes words.now ≡ words_of request → IfOk result (λ status.
         (status ≡ Status.Done) × IfSome (R.remaining reader.old) (λ text.
         Appends (W.contents writer.old) (W.contents writer.new) (key_line H.hash request text))) }
 {
-    let (printed, status) = match KeyRequest::from_words(words) {
-        None => (print(writer, USAGE), Status::Usage),
-        Some(request) => (
-            print_key::<H, R, W>(alloc, &request, reader, writer),
-            Status::Done,
-        ),
-    };
-    printed?;
-    Ok(status)
+    match KeyRequest::from_words(words) {
+        None => {
+            print(writer, USAGE)?;
+            Ok(Status::Usage)
+        }
+        Some(request) => {
+            print_key::<H, R, W>(alloc, &request, reader, writer)?;
+            Ok(Status::Done)
+        }
+    }
 }
 
 // Reads all there is as a script, and prints the lines of its calls' answers, or the number of its
@@ -93,7 +94,7 @@ fn print_run<H: HashState, R: Read, W: Write>(
             Ok(Status::Done)
         }
         Err(ScriptError::Line(number)) => {
-            let line = wrong_line(alloc, number)?;
+            let line = wrong_text(alloc, number)?;
             print(writer, line.as_bytes())?;
             Ok(Status::Usage)
         }
@@ -116,10 +117,10 @@ pub fn refuse<W: Write>(writer: &mut W) -> Status
 ///   gave and a line's end are written, with [`Status::Done`]. No read is tried again.
 /// - `run`: the reader is read to its end as a script. If a line is wrong, `cck: line N` with the
 ///   number of the first such line is written, with [`Status::Usage`], and nothing is run. Else its
-///   calls are made in their order, and one line a call is written, with [`Status::Done`]: `hit KEY`
-///   for a stored key, `miss KEY` for a fresh one, `error N` for a refusal.
-/// - Where a read, a write or a growth of memory failed: [`Status::Refused`], after one try to write
-///   `cck: refused`. How much was read and written before is not said.
+///   calls are made in their order, and one line per call is written, with [`Status::Done`]:
+///   `hit KEY` for a stored key, `miss KEY` for a fresh one, `error N` for a refusal.
+/// - Where a read, a write or a growth of memory outside a call failed: [`Status::Refused`], after
+///   one try to write `cck: refused`. How much was read and written before is not said.
 pub fn engine<H: HashState, R: Read, W: Write>(
     alloc: Global,
     words: &[String],
@@ -129,7 +130,7 @@ pub fn engine<H: HashState, R: Read, W: Write>(
     ensures usage { AskNothing (map string_bytes words.now) → result ≢ Status.Refused →
         (result ≡ Status.Usage) × Appends (W.contents writer.old) (W.contents writer.new) usage_line }
     ensures unread { AskNothing (map string_bytes words.now) → reader.new ≡ reader.old }
-    ensures key { (request : Request) → map string_bytes words.now ≡ words_of request → result ≢ Status.Refused →
+    ensures key { (request : KeyCommand) → map string_bytes words.now ≡ words_of request → result ≢ Status.Refused →
         (result ≡ Status.Done) × IfSome (R.remaining reader.old) (λ text.
         Appends (W.contents writer.old) (W.contents writer.new) (key_line H.hash request text)) }
     ensures wrong { map string_bytes words.now ≡ run_words → result ≢ Status.Refused →

@@ -1,9 +1,9 @@
 //! The program `cck`: the keys of sccache's C compiler cache, from the command line.
 //!
 //! `cck key DIGEST LANGUAGE [ARG..]` reads a preprocessed text from standard input and prints the
-//! key of the object that a compiler with this digest makes of it. `cck run` reads a script of calls
-//! from standard input ([`cck_script`]), makes them in their order over files and a store in memory,
-//! and prints the answer of each on a line of its own. All that is printed, errors too,
+//! key of the object that a compiler with this digest makes of it. `cck run` reads a script of
+//! calls from standard input ([`cck_script`]), makes them in their order over files and a store in
+//! memory, and prints the answer of each on a line of its own. All that is printed, errors too,
 //! goes to standard output. `main` only hands the words and the standard streams to
 //! [`engine`](engine::engine), which is what the theorems speak of.
 #![tactic(auto)]
@@ -29,7 +29,7 @@ fn main(rt: HostRuntime) -> ExitCode {
     let mut writer = rt.stdout();
     let words = match env::args(&rt) {
         Ok(all) => all.skip(1).collect::<Vec<String>>(alloc).ok(),
-        // A word that is no UTF-8 asks for nothing, as no word does.
+        // Words that are no UTF-8 ask for nothing, as an empty command line does.
         Err(error) if error.kind() != ErrorKind::OutOfMemory => Some(Vec::new(alloc)),
         Err(_) => None,
     };

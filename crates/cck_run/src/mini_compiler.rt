@@ -1,6 +1,7 @@
 //! The compiler of `run`.
 ghost use Rattle.std.specs.Prelude.{◌≡◌, IfOk, IsOkUnless, map};
-ghost use Rattle.c_cache_keys.specs.Seen.{arguments_of, lists_of, output_of};
+ghost use Rattle.cck_path.specs.Bytes.{lists_of};
+ghost use Rattle.c_cache_keys.specs.Seen.{arguments_of, output_of};
 ghost use Rattle.cck_run.specs.MiniCompiler.{compilation_of, language_of, outputs as outputs_seen};
 
 use c_cache_keys::{
@@ -17,8 +18,8 @@ use std::collections::BTreeMap;
 /// A compiler whose preprocessor is [`print_input`].
 ///
 /// It is of GCC's family, compiles C alone, and has neither a version nor an assembler of its own.
-/// The first argument of a command line is its input, and is preprocessed already if it ends in `.i`;
-/// all others are common arguments. Its output `obj` is `out.o`.
+/// The first argument of a command line is its input, and is preprocessed already if it ends in
+/// `.i`; all others are common arguments. Its output `obj` is `out.o`.
 #[derive(Debug, Drop)]
 pub struct MiniCompiler {
     /// The offset of the zone that it prints times in, in seconds east of UTC.

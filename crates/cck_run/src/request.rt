@@ -9,15 +9,18 @@ use std::marker::Model;
 /// The key that a command line asks for, but for the text that is read.
 #[derive(Drop)]
 pub struct KeyRequest<'a> {
+    /// The compiler's digest.
     pub compiler_digest: &'a str,
+    /// The language.
     pub language: Language,
+    /// The arguments of the command line, which may be none.
     pub arguments: &'a [String],
 }
 
 impl<'a> Model for KeyRequest<'a> {
-    ghost use Rattle.cck_run.specs.Request.{Request};
+    ghost use Rattle.cck_run.specs.Request.{KeyCommand};
 
-    ghost Value = { Request };
+    ghost Value = { KeyCommand };
 
     ghost use Rattle.cck_run.specs.KeyRequest.{request_of};
 
@@ -56,7 +59,7 @@ pub fn asks_to_run(words: &[String]) -> bool
     command.as_str() == "run"
 }
 
-/// The words as bytes. It is refused only for want of memory, as [`UtilError::Memory`].
+/// The words as bytes. It is refused only for lack of memory, as [`UtilError::Memory`].
 pub fn bytes_of(alloc: Global, words: &[String]) -> Result<Vec<Vec<u8>>, UtilError>
     ensures bytes { IfOk result (λ all. map (λ bytes. bytes.items) all.items ≡ map string_bytes words.now) }
     ensures refused { IsOkUnless result UtilError.Memory }

@@ -1,16 +1,17 @@
 //! The calls of a script, made one after another.
 ghost use Rattle.std.specs.Prelude.{◌≡◌, ◌∷◌, [], List, ℤ, IfOk};
 ghost use Rattle.std.specs.Option.{option_to_list, unwrap_or};
+ghost use Rattle.cck_path.specs.Bytes.{lists_of};
 ghost use Rattle.jiff.specs.Words.{fixed_zone, plain_zone};
 ghost use Rattle.jiff.specs.Types.{Offset as PlainOffset};
 ghost use Rattle.cck_script.specs.Calls.{call_behind, call_said};
 ghost use Rattle.cck_script.specs.Lines.{Line};
 ghost use Rattle.cck_script.specs.Seen.{line_of, lines_of};
 ghost use Rattle.cck_script.specs.Surroundings.{AreAfter};
-ghost use Rattle.c_cache_keys.specs.Seen.{lists_of};
+ghost use Rattle.cck_time.specs.Config.{activated};
 ghost use Rattle.c_cache_keys.specs.World.{world_of};
 ghost use Rattle.cck_run.specs.MiniCompiler.{mini_compiler};
-ghost use Rattle.cck_run.specs.Run.{Ran, control_of, options as run_options};
+ghost use Rattle.cck_run.specs.Run.{Ran, control_of};
 ghost use Rattle.cck_run.specs.Made.{AreMade, IsReady, IsRunCompiler};
 
 use crate::answers::add_answer_lines;
@@ -79,7 +80,7 @@ fn follow_line<H: HashState>(
         → AreAfter (line_of command.now ∷ earlier) after) }
     ensures made { IfOk result (λ after. (zone : ℤ) (earlier : List Line) → IsRunCompiler H.hash zone setting.now.compiler
         → AreAfter earlier surroundings
-        → AreMade H.hash zone (world_of H.hash mini_compiler (plain_zone setting.now.zone) run_options (lists_of setting.now.basedirs.items))
+        → AreMade H.hash zone (world_of H.hash mini_compiler (plain_zone setting.now.zone) activated (lists_of setting.now.basedirs.items))
         (option_to_list (call_said earlier (line_of command.now))) store.old store.new printed.old.items printed.new.items) }
 {
     let mut after = match command.call() {
@@ -103,7 +104,7 @@ fn make_call<H: HashState>(
     ensures after { IfOk result (λ after. (earlier : List Line) → AreAfter earlier surroundings → AreAfter earlier after) }
     ensures made { IfOk result (λ after. (zone : ℤ) (earlier : List Line) → IsRunCompiler H.hash zone setting.now.compiler
         → AreAfter earlier surroundings
-        → AreMade H.hash zone (world_of H.hash mini_compiler (plain_zone setting.now.zone) run_options (lists_of setting.now.basedirs.items))
+        → AreMade H.hash zone (world_of H.hash mini_compiler (plain_zone setting.now.zone) activated (lists_of setting.now.basedirs.items))
         (call_behind earlier asked.now ∷ []) store.old store.new printed.old.items printed.new.items) }
 {
     let mut calls = Vec::new(alloc);

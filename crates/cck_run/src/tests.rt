@@ -14,6 +14,8 @@ const KEY: &[u8] = b"91b9a91cd88e3ab823de7b286a3506b5c6e6311b760752ce90b0ea613ea
 
 const USAGE: &[u8] = b"cck: usage: cck key DIGEST LANGUAGE [ARG..] | cck run\n";
 
+const REFUSED: &[u8] = b"cck: refused\n";
+
 // The words of a line, parted by single spaces; none of an empty one.
 fn words_of(alloc: Global, line: &str) -> Result<Vec<String>, AllocError> {
     let mut words = Vec::new(alloc);
@@ -86,19 +88,19 @@ impl Read for FailingReader<'_> {
     }
 }
 
-// Keeps what is written, for so many writes, and then fails.
+// Fails for so many writes, and keeps what is written after them.
 #[derive(Drop)]
 struct FailingWriter {
     kept: Vec<u8>,
-    passing: usize,
+    failing: usize,
 }
 
 impl Write for FailingWriter {
     fn write(&mut self, bytes: &[u8]) -> io::Result<usize> {
-        if self.passing == 0 {
+        if self.failing > 0 {
+            self.failing -= 1;
             return Err(io::Error::from(io::ErrorKind::BrokenPipe));
         }
-        self.passing -= 1;
         self.kept.extend_from_slice(bytes)?;
         Ok(bytes.len())
     }
@@ -123,7 +125,7 @@ fn a_failed_read_is_refused(rt: HostRuntime) -> Result<(), AllocError> {
         if passing < 12 {
             assert_eq!(rt; status, Status::Refused, "at {passing}");
             assert_eq!(rt; status.code(), 1);
-            assert_eq!(rt; writer.as_slice(), b"cck: refused\n".as_slice());
+            assert_eq!(rt; writer.as_slice(), REFUSED);
         } else {
             assert_eq!(rt; status, Status::Done, "at {passing}");
             assert_eq!(rt; writer.as_slice(), KEY);
@@ -132,19 +134,22 @@ fn a_failed_read_is_refused(rt: HostRuntime) -> Result<(), AllocError> {
     Ok(())
 }
 
+// After a write that failed the refusal is written, and that is tried once.
 #[test]
 fn a_failed_write_is_refused(rt: HostRuntime) -> Result<(), AllocError> {
     let alloc = rt.alloc();
     for line in ["key abcd c a b c", "keys"] {
-        let words = words_of(alloc, line)?;
-        let mut reader = b"hello world".as_slice();
-        let mut writer = FailingWriter {
-            kept: Vec::new(alloc),
-            passing: 0,
-        };
-        let status = engine::<Sha256State, _, _>(alloc, &words, &mut reader, &mut writer);
-        assert_eq!(rt; status, Status::Refused, "at {line:?}");
-        assert_eq!(rt; writer.kept.len(), 0);
+        for (failing, kept) in [(1, REFUSED), (2, b"".as_slice())] {
+            let words = words_of(alloc, line)?;
+            let mut reader = b"hello world".as_slice();
+            let mut writer = FailingWriter {
+                kept: Vec::new(alloc),
+                failing,
+            };
+            let status = engine::<Sha256State, _, _>(alloc, &words, &mut reader, &mut writer);
+            assert_eq!(rt; status, Status::Refused, "at {line:?}, {failing}");
+            assert_eq!(rt; writer.kept.as_slice(), kept, "at {line:?}, {failing}");
+        }
     }
     Ok(())
 }

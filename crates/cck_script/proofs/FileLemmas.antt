@@ -1,20 +1,16 @@
 -- Files, as one line more says what stands at a path.
 use Rattle.std.proofs.Common.{◌≡◌, List, [], ◌∷◌, refl, ap, sym, ◌∙◌, Bool, true, false, Option, Some, None, cond}
 use Rattle.std.specs.FinMap as finite
-use Rattle.std.specs.Prelude.{codes}
 use Rattle.std.specs.Option.{option_map, unwrap_or}
 use Rattle.std.specs.Ordering.{eq_by_cmp}
-use Rattle.std.proofs.lemmas.Map.Views.{tells_apart}
 use Rattle.cck_files.specs.FileMap.{FileMap, FileNode}
 use Rattle.cck_files.specs.FileState.{no_files, with_place, without_place}
-use Rattle.cck_path.specs.Path.{Path, components, normal, path_cmp, path_cmp_total, path_cmp-IsAntisymmetric}
-use Rattle.cck_script.specs.Surroundings.{AreFiles, executable, if_names, place_said, stands, stands_first}
+use Rattle.cck_path.specs.Bytes.{Bytes}
+use Rattle.cck_path.specs.Path.{Path, components, normal, path_cmp, path_cmp_total}
+use Rattle.cck_path.proofs.TestLemmas.{tied}
+use Rattle.cck_script.specs.Surroundings.{AreFiles, executable, executable_path, if_names, place_said, stands, stands_first}
 use Rattle.cck_script.specs.Lines.{Line}
 use Rattle.cck_script.specs.Script.{first_or}
-use Rattle.cck_script.specs.Words.{Bytes}
-
-tied : (p q : Path) → eq_by_cmp path_cmp p q ≡ true → p ≡ q
-tied = tells_apart path_cmp-IsAntisymmetric
 
 -- what a line that names a path puts over what stood there
 abbrev over : Path → Path → Option FileNode → Option FileNode → Option FileNode
@@ -74,7 +70,7 @@ files_stay lines line files e are = record {
 }
 
 -- no files, and then the executable
-pub files_first : (named : Bytes) (n : FileNode) → named ≡ codes "/usr/bin/cc" → n ≡ executable → AreFiles [] (with_place no_files (components named) n (normal (components named)))
+pub files_first : (named : Bytes) (n : FileNode) → named ≡ executable_path → n ≡ executable → AreFiles [] (with_place no_files (components named) n (normal (components named)))
 unfolding stands
 files_first named n e same = record {
   nodes = λ p. finite.get-insert path_cmp_total finite.empty (components named) n p

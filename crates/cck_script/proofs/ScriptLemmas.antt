@@ -1,9 +1,10 @@
 -- The lines of a script, one after another.
 use Rattle.std.proofs.Common.{◌≡◌, ℕ, ◌+◌, List, [], ◌∷◌, ◌++◌, map, ap, sym, ◌∙◌, append_assoc, Option, Some}
 use Rattle.std.specs.List.{filter_map}
+use Rattle.cck_path.specs.Bytes.{Bytes}
 use Rattle.cck_script.specs.Lines.{Line, Reading, Wrong, Skipped, Says, read}
 use Rattle.cck_script.specs.Script.{line_in, wrong_from}
-use Rattle.cck_script.specs.Words.{Bytes, cut}
+use Rattle.cck_script.specs.Words.{cut}
 use Rattle.cck_script.proofs.WordLemmas.{parts_left, split_cut}
 
 -- what the lines are that are left behind an LF, if there is one

@@ -1,15 +1,15 @@
 -- Files and variables, as one line more is followed.
 use Rattle.std.proofs.Common.{ℕ, Option, ◌≡◌, List, [], ◌∷◌, refl, ◌∙◌, ap, Result, Ok, Err, OnOk, false, Some, None}
+use Rattle.std.specs.Global.{Vec}
 use Rattle.cck_files.specs.FileMap.{FileNode}
 use Rattle.cck_files.specs.FileState.{with_place, without_place}
+use Rattle.cck_path.specs.Bytes.{Bytes, variables_of}
 use Rattle.cck_path.specs.Path.{components, normal}
 use Rattle.cck_path.specs.Timestamp.{Moment}
-use Rattle.std.specs.Global.{Vec}
 use Rattle.cck_script.specs.Surroundings.{AreAfter, is_clear, place_said, variable_said, variables, with_variable}
 use Rattle.cck_script.specs.Lines.{Line}
 use Rattle.cck_script.specs.Lines as line
-use Rattle.cck_script.specs.Seen.{line_of, variables_of}
-use Rattle.cck_script.specs.Words.{Bytes}
+use Rattle.cck_script.specs.Seen.{line_of}
 use Rattle.cck_script.specs.declared.command.Command.{Command}
 use Rattle.cck_script.specs.declared.command.Command.TheVariants as command
 use Rattle.cck_script.specs.declared.surroundings.Surroundings.{Surroundings}

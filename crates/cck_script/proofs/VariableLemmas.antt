@@ -1,20 +1,20 @@
 -- Variables, as one more is set.
-use Rattle.std.proofs.Common.{◌||◌, subst, is_some, true≢false, ◌≡◌, ℕ, ◌<◌, ◌+◌, List, [], ◌∷◌, ◌++◌, refl, ap, sym, ◌∙◌, drop, get_or, length, map, set, take, Bool, true, false, Option, Some, None, cond, take-append-drop}
+use Rattle.std.proofs.Common.{◌||◌, subst, is_some, ◌≡◌, ℕ, ◌<◌, ◌+◌, List, [], ◌∷◌, ◌++◌, refl, ap, sym, ◌∙◌, drop, get_or, length, map, set, take, Bool, true, false, Option, Some, None, cond, take-append-drop}
 use Rattle.std.proofs.lemmas.List.{append-nil, drop-set, take-set}
 use Rattle.std.specs.Global.{Vec}
 use Rattle.std.specs.List.{list_any}
 use Rattle.std.specs.Option.{unwrap_or}
 use Rattle.std.specs.Str.{bytes_eq}
-use Rattle.std.proofs.lemmas.Bool.Decides.{same_from_decides}
 use Rattle.std.proofs.lemmas.List.Folds.{list_any-append}
 use Rattle.std.proofs.lemmas.Slice.Eq.{bytes_eq-Decides}
-use Rattle.std.proofs.Math.Bool.{or_comm}
+use Rattle.std.proofs.Math.Bool.{or_comm, or-false}
+use Rattle.std.proofs.lemmas.Bool.{or_parts}
+use Rattle.cck_path.specs.Bytes.{Bytes, variables_of}
 use Rattle.cck_path.specs.Variables.{Variable}
+use Rattle.cck_path.proofs.TestLemmas.{bytes_eq-sym}
 use Rattle.cck_script.specs.Surroundings.{IsPlaceOf, if_same, is_clear, set_by, names, new_name, sets, since_clear, value_of, variable_said, variables, with_variable}
 use Rattle.cck_script.specs.Lines.{Line}
 use Rattle.cck_script.specs.Lines as line
-use Rattle.cck_script.specs.Seen.{variables_of}
-use Rattle.cck_script.specs.Words.{Bytes}
 
 -- what is done to the variables that are left, behind those so far
 abbrev pub IsSetBehind : Bytes → List (Vec ℕ × Vec ℕ) → ℕ → Type 0
@@ -33,21 +33,6 @@ set_here vs at d name value new place is e =
 
 -- ---- the variables after some lines, as one more is set
 
-sym_eq : (a b : Bytes) → bytes_eq a b ≡ bytes_eq b a
-sym_eq a b = let d = bytes_eq-Decides b a in same_from_decides (bytes_eq a b) (bytes_eq b a) (bytes_eq-Decides a b) ((λ e. sym (d.0 e)), (λ e. d.1 (sym e)))
-
-or_none : (a : Bool) → (a || false) ≡ a
-or_none true = refl
-or_none false = refl
-
-not_left : (a b : Bool) → (a || b) ≡ false → a ≡ false
-not_left true b e = e
-not_left false b e = refl
-
-not_right : (a b : Bool) → (a || b) ≡ false → b ≡ false
-not_right true b e = absurd (true≢false e)
-not_right false b e = e
-
 -- a name stands among others
 abbrev named : Bytes → List Bytes → Bool
 named n ns = list_any (bytes_eq n) ns
@@ -60,8 +45,8 @@ AreDistinct (n ∷ ns) = (named n ns ≡ false) × AreDistinct ns
 distinct_more : (ns : List Bytes) (n : Bytes) → AreDistinct ns → named n ns ≡ false → AreDistinct (ns ++ n ∷ [])
 distinct_more [] n d h = (refl, tt)
 distinct_more (m ∷ ms) n d h = (
-  (list_any-append (bytes_eq m) ms (n ∷ []) ∙ (λ i. d.0 i || (sym_eq m n i || false)) ∙ or_none (bytes_eq n m) ∙ not_left (bytes_eq n m) (named n ms) h),
-  distinct_more ms n d.1 (not_right (bytes_eq n m) (named n ms) h),
+  (list_any-append (bytes_eq m) ms (n ∷ []) ∙ (λ i. d.0 i || (bytes_eq-sym m n i || false)) ∙ or-false (bytes_eq n m) ∙ (or_parts (bytes_eq n m) (named n ms) h).0),
+  distinct_more ms n d.1 (or_parts (bytes_eq n m) (named n ms) h).1,
 )
 
 known_set : (n : Bytes) (set : Variable) (earlier : List Line) (b : Bool) → bytes_eq set.0 n ≡ b → list_any (sets set.0) earlier ≡ true
@@ -77,8 +62,8 @@ new_set : (n : Bytes) (set : Variable) (earlier : List Line) (b : Bool) → list
     → named n (names earlier ++ cond b [] (set.0 ∷ [])) ≡ (is_some (cond (bytes_eq set.0 n) (Some set.1) None) || list_any (sets n) earlier)
 new_set n set earlier true e h = ap (named n) (append-nil (names earlier)) ∙ h ∙ known_set n set earlier (bytes_eq set.0 n) refl e
 new_set n set earlier false e h =
-    list_any-append (bytes_eq n) (names earlier) (set.0 ∷ []) ∙ (λ i. h i || (sym_eq n set.0 i || false)) ∙ or_comm (list_any (sets n) earlier) (bytes_eq set.0 n || false)
-    ∙ ap (λ t. t || list_any (sets n) earlier) (or_none (bytes_eq set.0 n) ∙ sym (test_of (bytes_eq set.0 n) set.1))
+    list_any-append (bytes_eq n) (names earlier) (set.0 ∷ []) ∙ (λ i. h i || (bytes_eq-sym n set.0 i || false)) ∙ or_comm (list_any (sets n) earlier) (bytes_eq set.0 n || false)
+    ∙ ap (λ t. t || list_any (sets n) earlier) (or-false (bytes_eq set.0 n) ∙ sym (test_of (bytes_eq set.0 n) set.1))
 
 named_more : (n : Bytes) (o : Option Variable) (earlier : List Line) → named n (names earlier) ≡ list_any (sets n) earlier
     → named n (names earlier ++ new_name o earlier) ≡ (is_some (if_same n o) || list_any (sets n) earlier)
@@ -121,7 +106,7 @@ module _ (n v : Bytes) (f : Bytes → Bytes) where
 
   others_stay : (ms : List Bytes) → named n ms ≡ false → map old_pair ms ≡ map new_pair ms
   others_stay [] h = refl
-  others_stay (m ∷ ms) h = (λ i. (m, after_other m (not_left (bytes_eq n m) (named n ms) h) i) ∷ others_stay ms (not_right (bytes_eq n m) (named n ms) h) i)
+  others_stay (m ∷ ms) h = (λ i. (m, after_other m (or_parts (bytes_eq n m) (named n ms) h).0 i) ∷ others_stay ms (or_parts (bytes_eq n m) (named n ms) h).1 i)
 
   set_at : (m : Bytes) (ms : List Bytes) (b : Bool) → bytes_eq n m ≡ b → named m ms ≡ false
       → with_variable n v (map old_pair ms) ≡ map new_pair (ms ++ cond (named n ms) [] (n ∷ []))
@@ -133,7 +118,7 @@ module _ (n v : Bytes) (f : Bytes → Bytes) where
   set_among : (ms : List Bytes) → AreDistinct ms → with_variable n v (map old_pair ms) ≡ map new_pair (ms ++ cond (named n ms) [] (n ∷ []))
   set_among [] d = (λ i. (n, after_set n ((bytes_eq-Decides n n).1 refl) i) ∷ [])
   set_among (m ∷ ms) d =
-      ap (λ b. cond b ((m, v) ∷ map old_pair ms) ((m, f m) ∷ with_variable n v (map old_pair ms))) (sym_eq m n)
+      ap (λ b. cond b ((m, v) ∷ map old_pair ms) ((m, f m) ∷ with_variable n v (map old_pair ms))) (bytes_eq-sym m n)
       ∙ set_at m ms (bytes_eq n m) refl d.0 (set_among ms d.1)
 
 -- a variable that a line sets

@@ -1,12 +1,11 @@
 -- Parts of a text and words of a line, one after another.
-use Rattle.std.proofs.Common.{◌≡◌, ℕ, ◌+◌, ◌<◌, ◌≤◌, ◌==◌, List, [], ◌∷◌, ◌++◌, length, refl, ap, sym, ◌∙◌, append_assoc, Option, Some, None, Bool, true, false, nat_lt, arith, length-drop, cond}
+use Rattle.std.proofs.Common.{◌≡◌, ℕ, ◌+◌, ◌<◌, ◌≤◌, ◌==◌, List, [], ◌∷◌, ◌++◌, length, refl, ap, sym, ◌∙◌, append_assoc, Option, Some, None, Bool, true, false, nat_lt, arith, length-drop, cond, ltb-true, ltb-false}
 use Rattle.std.specs.Global.{Vec}
 use Rattle.std.specs.List.{slice_split, position_or_len, onto_first}
-use Rattle.std.proofs.lemmas.Bool.Decides.{nat_tests}
 use Rattle.std.proofs.lemmas.List.Splits.{slice_split_first}
 use Rattle.std.proofs.lemmas.List.{map-append}
-use Rattle.cck_script.specs.Seen.{lists_of}
-use Rattle.cck_script.specs.Words.{Bytes, cut, cut_at, word, with_rest, next_word, with_word, all_words}
+use Rattle.cck_path.specs.Bytes.{Bytes, lists_of}
+use Rattle.cck_script.specs.Words.{cut, cut_at, word, with_rest, next_word, with_word, all_words}
 
 -- the parts that are left behind a separator, if there is one
 abbrev pub parts_left : ℕ → Option Bytes → List Bytes
@@ -17,12 +16,6 @@ parts_left c (Some s) = slice_split (λ b. b == c) s
 abbrev pub left_size : Option Bytes → ℕ
 left_size None = 0
 left_size (Some s) = length s + 1
-
-is_under : (a b : ℕ) → nat_lt a b ≡ true → a < b
-is_under a b e = grind (arith, nat_tests)
-
-is_not_under : (a b : ℕ) → nat_lt a b ≡ false → b ≤ a
-is_not_under a b e = grind (arith, nat_tests)
 
 module _ (c : ℕ) where
   abbrev is_end : ℕ → Bool
@@ -37,8 +30,8 @@ module _ (c : ℕ) where
   none_split (x ∷ xs) h = none_step x xs (is_end x) refl (none_split xs) h
 
   split_if : (s : List ℕ) (b : Bool) → nat_lt (position_or_len is_end s) (length s) ≡ b → slice_split is_end s ≡ (cut_at (cond b (Some (position_or_len is_end s)) None) s).0 ∷ parts_left c ((cut_at (cond b (Some (position_or_len is_end s)) None) s).1)
-  split_if s true e = slice_split_first is_end s 0 (is_under _ _ e)
-  split_if s false e = none_split s (is_not_under _ _ e)
+  split_if s true e = slice_split_first is_end s 0 (ltb-true _ _ e)
+  split_if s false e = none_split s (ltb-false _ _ e)
 
   -- a text is its first part, and the parts behind the first separator
   pub split_cut : (s : List ℕ) → slice_split is_end s ≡ (cut c s).0 ∷ parts_left c ((cut c s).1)
@@ -46,7 +39,7 @@ module _ (c : ℕ) where
   split_cut s = split_if s (nat_lt (position_or_len is_end s) (length s)) refl
 
   cut_falls : (s : List ℕ) (b : Bool) → nat_lt (position_or_len is_end s) (length s) ≡ b → left_size ((cut_at (cond b (Some (position_or_len is_end s)) None) s).1) < left_size (Some s)
-  cut_falls s true e = let h = is_under _ _ e in simp length-drop (omega arith)
+  cut_falls s true e = let h = ltb-true _ _ e in simp length-drop (omega arith)
   cut_falls s false e = omega arith
 
   -- less is left behind a part than before it

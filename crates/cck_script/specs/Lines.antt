@@ -2,9 +2,10 @@
 use Rattle.std.specs.Prelude.{ℕ, ℤ, ◌==◌, List, [], ◌∷◌, if◌then◌else◌, codes, Option, Some, None}
 use Rattle.std.specs.Option.{option_map}
 use Rattle.std.specs.Str.{bytes_eq}
+use Rattle.cck_path.specs.Bytes.{Bytes}
 use Rattle.cck_path.specs.Timestamp.{Moment}
 use Rattle.cck_script.specs.Numbers.{file_time, ordinal, time, zone_offset}
-use Rattle.cck_script.specs.Words.{Bytes, and_then, last_text, next_word, words}
+use Rattle.cck_script.specs.Words.{and_then, last_text, next_word, words}
 
 -- what a line says; the words behind a moment are the arguments of a call, the input first
 pub data Line : Type 0 where

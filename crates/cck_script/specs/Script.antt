@@ -1,8 +1,8 @@
 -- a script: its lines, and what holds for the whole run
 use Rattle.std.specs.Prelude.{◌≡◌, ℕ, ◌+◌, ◌==◌, ℤ, pos, List, [], ◌∷◌, map, reverse, Option, Some, None, unwrap_or}
 use Rattle.std.specs.List.{filter_map, slice_split}
+use Rattle.cck_path.specs.Bytes.{Bytes}
 use Rattle.cck_script.specs.Lines.{Line, Zone, Basedir, StoreForget, StoreFail, Reading, Wrong, Skipped, Says, read}
-use Rattle.cck_script.specs.Words.{Bytes}
 use Rattle.cck_script.specs.declared.error.ScriptError.{ScriptError}
 use Rattle.cck_script.specs.declared.error.ScriptError.TheVariants as error
 
@@ -31,7 +31,7 @@ line_in (Says line) = Some line
 unfoldable pub lines_said : Bytes → List Line
 lines_said text = filter_map line_in (readings text)
 
--- a refusal: a wrong line, before which none is wrong, or want of memory
+-- a refusal: a wrong line, before which none is wrong, or lack of memory
 abbrev pub IsScriptRefusal : Bytes → ScriptError → Type 0
 IsScriptRefusal text error.Memory = Unit {0}
 IsScriptRefusal text (error.Line n) = wrong_line text ≡ Some n

@@ -1,21 +1,13 @@
 -- what the program's values are seen as
-use Rattle.std.specs.Prelude.{ℕ, List, map}
-use Rattle.std.specs.Global.{Vec}
-use Rattle.cck_path.specs.Variables.{Variable}
+use Rattle.std.specs.Prelude.{List, map}
+use Rattle.cck_path.specs.Bytes.{lists_of}
 use Rattle.cck_script.specs.Lines.{Line, Reading}
 use Rattle.cck_script.specs.Lines as line
-use Rattle.cck_script.specs.Words.{Bytes}
 use Rattle.cck_script.specs.declared.command.Command.{Command}
 use Rattle.cck_script.specs.declared.command.Command.TheVariants as command
 use Rattle.cck_script.specs.declared.line.Reading as reading
 use Rattle.cck_script.specs.declared.line.Reading.TheVariants as read
 use Rattle.cck_script.specs.declared.script.Script.{Script}
-
-abbrev pub lists_of : List (Vec ℕ) → List Bytes
-lists_of vs = map (λ v. v.items) vs
-
-abbrev pub variables_of : List (Vec ℕ × Vec ℕ) → List Variable
-variables_of vs = map (λ v. (v.0.items, v.1.items)) vs
 
 -- what a command says
 abbrev pub line_of : Command → Line

@@ -7,14 +7,13 @@ use Rattle.std.specs.Option.{option_map}
 use Rattle.std.specs.Ordering.{eq_by_cmp}
 use Rattle.std.specs.Str.{bytes_eq}
 use Rattle.cck_files.specs.FileMap.{FileMap, FileNode}
+use Rattle.cck_path.specs.Bytes.{Bytes, variables_of}
 use Rattle.cck_path.specs.Path.{Path, components, normal, path_cmp}
 use Rattle.cck_path.specs.Timestamp.{Moment}
 use Rattle.cck_path.specs.Variables.{Variable as NamedValue}
 use Rattle.cck_path.specs.declared.metadata.FileKind.TheVariants as kind
 use Rattle.cck_script.specs.Lines.{Line, File, Folder, Gone, Variable, Clear}
 use Rattle.cck_script.specs.Script.{first_or}
-use Rattle.cck_script.specs.Seen.{variables_of}
-use Rattle.cck_script.specs.Words.{Bytes}
 use Rattle.cck_script.specs.declared.surroundings.Surroundings.{Surroundings}
 
 -- ---- what stands at a path. Lines are given from the last to the first
@@ -31,9 +30,17 @@ epoch = record { seconds = pos 0; nanoseconds = 0 }
 abbrev pub executable : FileNode
 executable = file_node (codes "cc") (Some epoch) (Some epoch)
 
+-- the path at which it stands
+abbrev pub executable_path : Bytes
+executable_path = codes "/usr/bin/cc"
+
+-- the folder in which calls are made
+abbrev pub working_directory : Bytes
+working_directory = codes "/w"
+
 -- what stands at a path before any line
 abbrev pub stands_first : Path → Option FileNode
-stands_first p = if eq_by_cmp path_cmp p (components (codes "/usr/bin/cc")) then Some executable else None
+stands_first p = if eq_by_cmp path_cmp p (components executable_path) then Some executable else None
 
 -- the path that a line names, and what stands there after it
 abbrev pub place_said : Line → Option (Bytes × Option FileNode)

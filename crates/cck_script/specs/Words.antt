@@ -1,10 +1,8 @@
 -- the words of a line and the text behind them
 use Rattle.std.specs.Prelude.{ℕ, ◌+◌, ◌==◌, List, [], ◌∷◌, Bool, true, false, if◌then◌else◌, take, drop, position, Option, Some, None, Ok, Err}
 use Rattle.std.specs.List.{slice_split}
+use Rattle.cck_path.specs.Bytes.{Bytes}
 use Rattle.cck_path.specs.Escape.{Meaning, unescaped}
-
-abbrev pub Bytes : Type 0
-Bytes = List ℕ
 
 -- what an escaped text stands for, if it stands for anything
 abbrev pub text_of : Meaning → Option Bytes

@@ -11,8 +11,8 @@ pub enum ScriptError {
     /// A growth of memory was refused.
     #[error("out of memory")]
     Memory,
-    /// The line of this number is wrong, and no earlier one is. Every line counts, from 1, a skipped
-    /// one too.
+    /// The line of this number is wrong, and no earlier one is. Every line counts, from 1, a
+    /// skipped one too.
     #[error("line {0} is wrong")]
     Line(u64),
 }

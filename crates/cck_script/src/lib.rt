@@ -1,16 +1,19 @@
 //! Scripts: what is to be compiled, over which files and variables, line by line.
 //!
 //! A script is a text of lines. Some lines put files or set variables, and a line `compile` or
-//! `recache` asks for a call over the files and variables as they then are. [`Script::parse`] reads a
-//! text once, and tells the number of the first wrong line. [`Surroundings`] are files and variables
-//! that follow a script line by line: a call ([`Command::call`]) is made over them as they are at its
-//! line, so that one map of files does for all calls.
+//! `recache` asks for a call over the files and variables as they then are. [`Script::parse`] reads
+//! a text once, and tells the number of the first wrong line. [`Script::options`] are what holds
+//! for the whole run ([`RunOptions`]). [`Surroundings`] are files and variables that follow a
+//! script line by line: a call ([`Command::call`], a [`ScriptCall`]) is made over them as they are
+//! at its line, so that one map of files does for all calls. They begin with [`first_files`]: the
+//! compiler at [`EXECUTABLE`], and the working directory is [`WORKING_DIRECTORY`].
 //!
 //! | line | meaning |
 //! |---|---|
 //! | `zone S` | the run's zone is S seconds east of UTC, from -86399 to 86399 |
 //! | `basedir TEXT` | one base directory more for the run |
-//! | `store forget N`, `store fail N` | the Nth call of the store forgets, or fails |
+//! | `store forget N` | the store drops all that it holds at the start of its Nth get or put |
+//! | `store fail N` | the Nth get or put of the store fails |
 //! | `file PATH MODIFIED CHANGED TEXT` | a regular file with this text and these times, or `-` for no time |
 //! | `dir PATH` | a folder without times |
 //! | `gone PATH` | nothing stands at this path alone |

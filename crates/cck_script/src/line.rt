@@ -1,8 +1,9 @@
 //! One line of a script.
-ghost use Rattle.std.specs.Prelude.{◌≡◌, Option, Some, None, IfOk};
+ghost use Rattle.std.specs.Prelude.{◌≡◌, IfOk};
 ghost use Rattle.std.specs.Option.{option_map};
+ghost use Rattle.cck_path.specs.Bytes.{lists_of};
 ghost use Rattle.cck_script.specs.Lines.{Clear, Compile, Recache, basedir_line, call_line, command_line, ended, file_line, folder_line, gone_line, read, store_line, variable_line, zone_line};
-ghost use Rattle.cck_script.specs.Seen.{line_of, lists_of, reading_of};
+ghost use Rattle.cck_script.specs.Seen.{line_of, reading_of};
 
 use crate::command::Command;
 use crate::number::{file_time, ordinal, time, zone_offset};

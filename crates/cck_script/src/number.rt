@@ -20,12 +20,7 @@ fn with_digit(value: Option<u64>, byte: u8) -> Option<u64>
     requires { IsTrue (is_digit byte) }
     ensures { (n : ℕ) → value ≡ capped n → result ≡ capped (n * 10 + (byte - 48)) }
 {
-    let Some(known) = value else {
-        return None;
-    };
-    let Some(tens) = known.checked_mul(10) else {
-        return None;
-    };
+    let tens = value?.checked_mul(10)?;
     tens.checked_add((byte - b'0') as u64)
 }
 
@@ -104,9 +99,6 @@ pub(crate) fn file_time(text: &[u8]) -> Option<Option<Timestamp>>
 {
     match text {
         [b'-'] => Some(None),
-        _ => match time(text) {
-            Some(moment) => Some(Some(moment)),
-            None => None,
-        },
+        _ => Some(Some(time(text)?)),
     }
 }

@@ -1,8 +1,9 @@
 //! A script, read.
 ghost use Rattle.std.specs.Prelude.{◌≡◌, ◌++◌, None, IfOk, IsOkUnless, MatchResult, OnOk, map};
 ghost use Rattle.std.specs.Option.{option_to_list, unwrap_or};
+ghost use Rattle.cck_path.specs.Bytes.{lists_of};
 ghost use Rattle.cck_script.specs.Script.{IsScriptRefusal, basedir_said, basedirs_of, fail_of, fail_said, forget_of, forget_said, lines_said, wrong_line, zone_of, zone_said};
-ghost use Rattle.cck_script.specs.Seen.{line_of, lines_of, lists_of};
+ghost use Rattle.cck_script.specs.Seen.{line_of, lines_of};
 
 use crate::command::Command;
 use crate::error::ScriptError;
@@ -25,9 +26,9 @@ pub struct RunOptions {
     pub zone_offset: i32,
     /// The base directories, in the order of their lines.
     pub basedirs: Vec<Vec<u8>>,
-    /// Which call of the store forgets, counted from 1.
+    /// At the start of which get or put the store drops all that it holds, counted from 1.
     pub forget_at: Option<u64>,
-    /// Which call of the store fails, counted from 1.
+    /// Which get or put of the store fails, counted from 1.
     pub fail_at: Option<u64>,
 }
 
@@ -67,7 +68,7 @@ impl Script {
     /// What holds for the whole run. Of several lines `zone`, `store forget` or `store fail` the
     /// last one counts.
     ///
-    /// It is refused only for want of memory, as [`UtilError::Memory`].
+    /// It is refused only for lack of memory, as [`UtilError::Memory`].
     pub fn options(&self, alloc: Global) -> Result<RunOptions, UtilError>
         ensures zone { IfOk result (λ o. o.zone_offset ≡ zone_of (lines_of self.now)) }
         ensures basedirs { IfOk result (λ o.

@@ -1,10 +1,11 @@
 //! What stands and holds where a call is made: files and variables.
 ghost use Rattle.std.specs.Prelude.{◌≡◌, ◌∷◌, [], List, IfOk, IsOkUnless, MatchOption, OnOk};
 ghost use Rattle.cck_files.specs.FileState.{with_place};
+ghost use Rattle.cck_path.specs.Bytes.{variables_of};
 ghost use Rattle.cck_path.specs.Path.{components, normal};
 ghost use Rattle.cck_script.specs.Surroundings.{AreAfter, AreFiles, IsNew, IsPlaceOf, file_node, with_variable};
 ghost use Rattle.cck_script.specs.Lines.{Line};
-ghost use Rattle.cck_script.specs.Seen.{line_of, variables_of};
+ghost use Rattle.cck_script.specs.Seen.{line_of};
 
 use crate::command::Command;
 use cck_digest::UtilError;
@@ -24,7 +25,7 @@ const EXECUTABLE_CONTENTS: &[u8] = b"cc";
 /// The files before any line: [`EXECUTABLE`] alone, with the contents `cc` and both times at
 /// 1970-01-01T00:00:00Z. No call on them is armed to fail.
 ///
-/// It is refused only for want of memory, as [`UtilError::Memory`].
+/// It is refused only for lack of memory, as [`UtilError::Memory`].
 pub fn first_files(alloc: Global) -> Result<MapFiles, UtilError>
     ensures files { IfOk result (λ files. AreFiles [] files.files) }
     ensures quiet { IfOk result (λ files. (files.faults ≡ 0) × (files.armed ≡ 0)) }
@@ -46,8 +47,8 @@ pub fn first_files(alloc: Global) -> Result<MapFiles, UtilError>
 /// The files and variables after the first lines of a script.
 ///
 /// A path has what the last of the lines says that names it, and the executable's path else what it
-/// has at first. Each path leads to itself, without its `.` and `..`. A variable stands where it was
-/// set first since the last line `clear`, with the value that it was given last.
+/// has at first. Each path leads to itself, without its `.` and `..`. A variable stands where it
+/// was set first since the last line `clear`, with the value that it was given last.
 #[derive(Debug, Drop)]
 pub struct Surroundings {
     /// The files, on which no call is armed to fail.
@@ -59,7 +60,7 @@ pub struct Surroundings {
 impl Surroundings {
     /// The files and variables before any line: those of [`first_files`], and none.
     ///
-    /// It is refused only for want of memory, as [`UtilError::Memory`].
+    /// It is refused only for lack of memory, as [`UtilError::Memory`].
     pub fn new(alloc: Global) -> Result<Surroundings, UtilError>
         ensures first { IfOk result (AreAfter []) }
         ensures refused { IsOkUnless result UtilError.Memory }
@@ -73,7 +74,7 @@ impl Surroundings {
     /// Does what one line more says. A line that asks for a call, or that holds for the whole run,
     /// changes nothing here.
     ///
-    /// It is refused only for want of memory, as [`UtilError::Memory`]; what it has done then is
+    /// It is refused only for lack of memory, as [`UtilError::Memory`]; what it has done then is
     /// open.
     pub fn follow(&mut self, alloc: Global, command: &Command) -> Result<(), UtilError>
         ensures after { OnOk result ((lines : List Line) → AreAfter lines self.old

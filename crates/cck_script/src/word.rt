@@ -1,8 +1,8 @@
 //! The words of a line, and the parts of a text.
-ghost use Rattle.std.specs.Prelude.{◌≡◌, ◌==◌, ◌∷◌, ◌++◌, Option, Some, None, IfOk, length, position};
+ghost use Rattle.std.specs.Prelude.{◌≡◌, ◌==◌, Some, IfOk, position};
 ghost use Rattle.std.specs.Option.{option_map};
+ghost use Rattle.cck_path.specs.Bytes.{lists_of};
 ghost use Rattle.cck_path.specs.Escape.{unescaped};
-ghost use Rattle.cck_script.specs.Seen.{lists_of};
 ghost use Rattle.cck_script.specs.Words.{cut, last_text, next_word, text_of, word, words};
 
 use cck_digest::UtilError;

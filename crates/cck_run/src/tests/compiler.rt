@@ -8,6 +8,7 @@ use cck_path::{FileKind, Timestamp};
 use cck_util::Language;
 use std::alloc::Global;
 use std::process::Abort;
+use std::test::Fail;
 
 fn list(alloc: Global, items: &[&[u8]]) -> Result<Vec<Vec<u8>>, KeyError> {
     let mut list = Vec::new(alloc);
@@ -25,36 +26,28 @@ fn expect_compilation(
     line: &[&[u8]],
     language: Language,
     common_args: &[&[u8]],
-) -> Result<Option<ParsedArguments>, KeyError> {
+) -> Result<ParsedArguments, Fail> {
     let compiler = MiniCompiler { zone_offset: 0 };
     match compiler.parse_arguments(alloc, &list(alloc, line)?, b"/w", &[])? {
         CompilerArguments::Ok(parsed) => {
             assert_eq!(rt; parsed.language, language);
             assert_eq!(rt; parsed.common_args, list(alloc, common_args)?);
-            Ok(Some(parsed))
+            Ok(parsed)
         }
-        _ => {
-            assert!(rt; false);
-            Ok(None)
-        }
+        _ => Err(Fail::new("no compilation")),
     }
 }
 
 #[test]
-fn command_lines(rt: HostRuntime) -> Result<(), KeyError> {
+fn command_lines(rt: HostRuntime) -> Result<(), Fail> {
     let alloc = rt.alloc();
     expect_compilation(&rt, alloc, &[b"a.c"], Language::C, &[])?;
     expect_compilation(&rt, alloc, &[b"i"], Language::C, &[])?;
     expect_compilation(&rt, alloc, &[b".i"], Language::CPreprocessed, &[])?;
     let line: &[&[u8]] = &[b"a.i", b"-c", b"b.c"];
     let parsed = expect_compilation(&rt, alloc, line, Language::CPreprocessed, &[b"-c", b"b.c"])?;
-    match parsed {
-        Some(parsed) => {
-            assert_eq!(rt; parsed.input.as_slice(), b"a.i".as_slice());
-            assert_eq!(rt; parsed.output_pretty(alloc)?.as_str(), "out.o");
-        }
-        None => assert!(rt; false),
-    }
+    assert_eq!(rt; parsed.input.as_slice(), b"a.i".as_slice());
+    assert_eq!(rt; parsed.output_pretty(alloc)?.as_str(), "out.o");
     Ok(())
 }
 
@@ -83,11 +76,11 @@ fn file(alloc: Global, contents: &[u8]) -> Result<Node, KeyError> {
 }
 
 #[test]
-fn texts(rt: HostRuntime) -> Result<(), KeyError> {
+fn texts(rt: HostRuntime) -> Result<(), Fail> {
     let alloc = rt.alloc();
     let mut files = MapFiles::new(alloc);
     if files.put(b"/w/a.c", file(alloc, b"__TIME__ ?\n")?).is_err() {
-        return Err(KeyError::Memory);
+        return Err(Fail::from(KeyError::Memory));
     }
     let compiler = MiniCompiler { zone_offset: 60 }.copy(alloc)?;
     let moment = Timestamp::new(5, 0);
@@ -99,9 +92,6 @@ fn texts(rt: HostRuntime) -> Result<(), KeyError> {
         (b"b.c", None),
     ] {
         let parsed = expect_compilation(&rt, alloc, &[input], Language::C, &[])?;
-        let Some(parsed) = parsed else {
-            return Ok(());
-        };
         match compiler.preprocess(alloc, &mut files, b"/cc", &parsed, b"/w", &[], moment) {
             Ok(printed) => assert_eq!(rt; Some(printed.as_slice()), text),
             Err(error) => {
@@ -114,15 +104,12 @@ fn texts(rt: HostRuntime) -> Result<(), KeyError> {
 }
 
 #[test]
-fn a_fault(rt: HostRuntime) -> Result<(), KeyError> {
+fn a_fault(rt: HostRuntime) -> Result<(), Fail> {
     let alloc = rt.alloc();
     let mut files = MapFiles::new(alloc);
     files.fail_at(1);
     let compiler = MiniCompiler { zone_offset: 0 };
     let parsed = expect_compilation(&rt, alloc, &[b"a.c"], Language::C, &[])?;
-    let Some(parsed) = parsed else {
-        return Ok(());
-    };
     let moment = Timestamp::new(5, 0);
     match compiler.preprocess(alloc, &mut files, b"/cc", &parsed, b"/w", &[], moment) {
         Ok(_) => assert!(rt; false),

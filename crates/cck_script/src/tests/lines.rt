@@ -3,7 +3,7 @@ use super::*;
 use cck_path::Timestamp;
 
 // Lines that lack a word, have one too many, or have an empty one.
-const WRONG_WORDS: [&[u8]; 35] = [
+const WRONG_WORDS: [&[u8]; 39] = [
     b"zone",
     b"zone ",
     b"zone 1 2",
@@ -14,6 +14,7 @@ const WRONG_WORDS: [&[u8]; 35] = [
     b"store fail ",
     b"store fail 1 2",
     b"store forget 1 ",
+    b"store forget 1 2",
     b"store drop 1",
     b"store Fail 1",
     b"file",
@@ -38,16 +39,23 @@ const WRONG_WORDS: [&[u8]; 35] = [
     b"compile 1",
     b"compile 1 ",
     b"compile 1 a.c ",
+    b"recache",
+    b"recache 1",
+    b"recache 1  a.c",
     b"recache 1 a.c  -O2",
 ];
 
 // Lines of no known name, and lines with a wrong escape.
-const WRONG_NAMES: [&[u8]; 16] = [
+const WRONG_NAMES: [&[u8]; 26] = [
     b" clear",
     b"\tclear",
     b"clear\r",
     b"Clear",
     b"clears",
+    b"Compile 1 a.c",
+    b"compile\t1 a.c",
+    b"basedirs /b",
+    b"\\x23",
     b"\\x23 a comment",
     b"files p 1 1",
     b"\\",
@@ -55,9 +63,15 @@ const WRONG_NAMES: [&[u8]; 16] = [
     b"basedir a\\q",
     b"var A \\x0",
     b"var \\xg0 b",
+    b"var A \\",
     b"dir a\\",
+    b"dir \\xgg",
+    b"gone a\\",
+    b"file \\ 1 1",
     b"file p 1 1 \\x",
+    b"file p 1 1 \\x0",
     b"compile 1 a.c -D\\",
+    b"compile 1 a.c \\z",
     b"zone \\x3",
 ];
 

@@ -1,50 +1,60 @@
 //! Numbers, times and offsets, with their bounds.
 use super::*;
 
-// The last time of a file and of a call, the last offset, and the last number of a store call.
-const GREATEST: [&[u8]; 4] = [
+// The bounds of a call's moment and of an offset, and the greatest number of a store call.
+const BOUNDS: [&[u8]; 5] = [
     b"compile 9223372036854775807 a.c",
     b"compile -9223372036854775808 a.c",
     b"zone 86399",
+    b"zone -86399",
     b"store fail 18446744073709551615",
 ];
 
-// What is above them.
-const TOO_GREAT: [&[u8]; 8] = [
+// What is outside them, and times of a file that are.
+const OUTSIDE: [&[u8]; 11] = [
     b"compile 9223372036854775808 a.c",
     b"compile -9223372036854775809 a.c",
+    b"file p 9223372036854775808 1",
+    b"file p 1 -9223372036854775809",
     b"file p 18446744073709551616 1",
     b"file p 1 -18446744073709551616",
     b"zone 86400",
     b"zone -86400",
     b"store fail 18446744073709551616",
+    b"store forget 18446744073709551616",
     b"store forget 100000000000000000000000000000000",
 ];
 
 // What writes no number, or one that is too small.
-const NO_NUMBER: [&[u8]; 13] = [
+const NO_NUMBER: [&[u8]; 19] = [
     b"zone -",
     b"zone +1",
     b"zone --1",
+    b"zone 1s",
     b"zone 1x",
     b"zone 0x1",
     b"zone 1.5",
     b"store fail 0",
     b"store fail -0",
     b"store fail -1",
+    b"store forget 0",
     b"store forget -",
     b"compile - a.c",
     b"compile 1- a.c",
+    b"recache - a.c",
+    b"recache x a.c",
     b"file p -- 1",
+    b"file p x 1",
+    b"file p 1 1.5",
 ];
 
 #[test]
 fn bounds(rt: HostRuntime) {
     let alloc = rt.alloc();
-    for line in GREATEST {
+    for line in BOUNDS {
         assert!(rt; Script::parse(alloc, line).is_ok(), "{line:?}");
     }
-    for line in TOO_GREAT {
+    for line in OUTSIDE {
         expect_wrong(&rt, alloc, line, 1);
     }
     for line in NO_NUMBER {

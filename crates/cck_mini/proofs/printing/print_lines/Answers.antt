@@ -1,6 +1,7 @@
 use Rattle.std.proofs.Common.{ℕ, ◌+◌, List, Option, ap, arith}
+use Rattle.cck_path.specs.Bytes.{Bytes}
 use Rattle.cck_files.proofs.CallsLemmas.{keeps_all}
-use Rattle.cck_mini.specs.Printed.{Bytes, include_name, line_text, lines_in, lines_text}
+use Rattle.cck_mini.specs.Printed.{include_name, line_text, lines_in, lines_text}
 use Rattle.cck_mini.specs.Seen.{macros_seen}
 use Rattle.cck_mini.proofs.LineLemmas.{line_more}
 use Rattle.cck_mini.proofs.printing.print_lines.Goals as goal
@@ -11,8 +12,8 @@ loop-left-preserved g c =
     let map = F.file_map c.args.files.now in
     let m = macros_seen c.args.macros.now in
     let front = c.cut_line-line.result.front.now in
-    let line = line_text c.args.job.now.zone c.args.job.now.moment map c.args.job.now.folder.now c.args.job.now.path.now m (include_name front) (front, c.cut_line-line.result.ending.now) c.loop-left.number in
-    let text : ℕ → List (Bytes × Bytes) → Option Bytes = lines_text c.args.job.now.zone c.args.job.now.moment map c.args.job.now.folder.now c.args.job.now.path.now m in
+    let line = line_text c.args.job.now.zone_offset c.args.job.now.moment map c.args.job.now.cwd.now c.args.job.now.path.now m (include_name front) (front, c.cut_line-line.result.ending.now) c.loop-left.number in
+    let text : ℕ → List (Bytes × Bytes) → Option Bytes = lines_text c.args.job.now.zone_offset c.args.job.now.moment map c.args.job.now.cwd.now c.args.job.now.path.now m in
     record {
       keeps = keeps_all c.args.files.now c.loop-left.files c.print_line.new.files c.loop-left.invariant.keeps c.in_ok-print_line.ensures.keeps;
       bound = omega (arith, c.loop-left.invariant.bound, c.cut_line-line.ensures.less);

@@ -8,7 +8,7 @@ use Rattle.cck_mini.proofs.printing.print_lines.Given as goal
 abbrev pub invariant-loop-left : goal.invariant-loop-left
 invariant-loop-left g l =
     let F = g.F.Files in
-    let text = lines_text l.job.zone l.job.moment (F.file_map l.fn.files) l.job.folder.now l.job.path.now (macros_seen l.macros) in
+    let text = lines_text l.job.zone_offset l.job.moment (F.file_map l.fn.files) l.job.cwd.now l.job.path.now (macros_seen l.macros) in
     record {
       keeps : Keeps F.file_map F.faults F.is_quiet l.fn.files l.files;
       bound : l.number + length l.left ≤ length l.contents + 2;

@@ -1,10 +1,11 @@
-use Rattle.std.proofs.Common.{◌≡◌, ◌∙◌, ap, codes, rules}
+use Rattle.std.proofs.Common.{◌≡◌, ◌∙◌, ap, rules}
+use Rattle.cck_script.specs.Surroundings.{executable_path}
 use Rattle.cck_run.proofs.ExecutableLemmas.{first_digest}
 use Rattle.cck_run.proofs.run.compiler_of.Goals as goal
 
 pub returns : goal.returns
 returns g c =
-    let path : c.in_ok-executable.executable.items ≡ codes "/usr/bin/cc" = search rules in
+    let path : c.in_ok-executable.executable.items ≡ executable_path = search rules in
     record {
       zone_is = search rules;
       executable = ap (λ e. e.items) c.in_ok-new.ensures.executable ∙ path;

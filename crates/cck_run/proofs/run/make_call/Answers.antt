@@ -1,6 +1,6 @@
 use Rattle.std.proofs.Common.{◌∙◌, ◌∷◌, ◌++◌, [], ap}
+use Rattle.cck_path.specs.Bytes.{lists_of}
 use Rattle.cck_script.specs.Calls.{call_behind}
-use Rattle.c_cache_keys.specs.Seen.{lists_of}
 use Rattle.cck_run.proofs.MadeLemmas.{after_call, call_made, only_call}
 use Rattle.cck_run.proofs.run.make_call.Goals as goal
 

@@ -1,11 +1,12 @@
 use Rattle.std.proofs.Common.{drop, map}
+use Rattle.cck_path.specs.Bytes.{lists_of}
 use Rattle.jiff.specs.Words.{plain_zone}
 use Rattle.cck_script.specs.Script.{zone_of}
 use Rattle.cck_script.specs.Seen.{line_of, lines_of}
-use Rattle.c_cache_keys.specs.Seen.{lists_of}
 use Rattle.c_cache_keys.specs.World.{world_of}
+use Rattle.cck_time.specs.Config.{activated}
 use Rattle.cck_run.specs.MiniCompiler.{mini_compiler}
-use Rattle.cck_run.specs.Run.{armed_by, options}
+use Rattle.cck_run.specs.Run.{armed_by}
 use Rattle.cck_run.proofs.MadeLemmas.{AreSoFar}
 use Rattle.cck_run.proofs.run.run_script.Given as goal
 
@@ -13,5 +14,5 @@ use Rattle.cck_run.proofs.run.run_script.Given as goal
 abbrev pub invariant-loop-command : goal.invariant-loop-command
 invariant-loop-command g l =
     let lines = lines_of l.fn.script in
-    AreSoFar g.H.HashState.hash (zone_of lines) (world_of g.H.HashState.hash mini_compiler (plain_zone l.setting.zone) options (lists_of l.setting.basedirs.items)) lines
+    AreSoFar g.H.HashState.hash (zone_of lines) (world_of g.H.HashState.hash mini_compiler (plain_zone l.setting.zone) activated (lists_of l.setting.basedirs.items)) lines
     (map line_of (drop l.command-index l.command-items)) l.surroundings (armed_by lines) l.store l.printed.items

@@ -1,5 +1,5 @@
 use Rattle.std.proofs.Common.{◌≡◌, Some, option_map}
-use Rattle.cck_script.specs.Seen.{lists_of}
+use Rattle.cck_path.specs.Bytes.{lists_of}
 use Rattle.cck_script.proofs.WordLemmas.{left_size, put_before, words_left}
 use Rattle.cck_script.proofs.word.words_in.Given as goal
 

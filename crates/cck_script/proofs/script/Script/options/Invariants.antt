@@ -1,7 +1,8 @@
 use Rattle.std.proofs.Common.{◌≡◌, ◌++◌, drop, map}
 use Rattle.std.specs.List.{filter_map}
+use Rattle.cck_path.specs.Bytes.{lists_of}
 use Rattle.cck_script.specs.Script.{basedir_said, basedirs_of, fail_of, fail_said, forget_of, forget_said, last_or, zone_of, zone_said}
-use Rattle.cck_script.specs.Seen.{line_of, lines_of, lists_of}
+use Rattle.cck_script.specs.Seen.{line_of, lines_of}
 use Rattle.cck_script.proofs.script.Script.options.Given as goal
 
 abbrev pub invariant-loop-command : goal.invariant-loop-command

@@ -1,6 +1,6 @@
 use Rattle.std.proofs.Common.{ap}
+use Rattle.cck_path.specs.Bytes.{variables_of}
 use Rattle.cck_script.specs.Surroundings.{variables}
-use Rattle.cck_script.specs.Seen.{variables_of}
 use Rattle.cck_script.proofs.surroundings.Surroundings.new.Goals as goal
 
 pub returns-clause-first : goal.returns-clause-first
