@@ -1,8 +1,8 @@
 #!/bin/sh
 # Refuses each request for memory in turn: runs the tests of a crate with the first allocation of
-# each refused, then with the second, and so on, until a run meets no refusal or as many runs were
-# made as are asked for (40). Each test then has to pass or to end in want of memory, said as its
-# type says it. Run by hand: fail_alloc.sh CRATE [RUNS]. Its last line counts the runs.
+# each refused, then with the second, and so on, as many runs as are asked for (40). Each test then
+# has to pass or to end for lack of memory, said as its type says it. Run by hand:
+# fail_alloc.sh CRATE [RUNS]. Its last line counts the runs.
 set -eu
 cd "$(dirname "$0")/../crates/$1"
 runs=${2:-40}
@@ -18,8 +18,7 @@ while [ "$n" -lt "$runs" ]; do
     memory=$(echo "$said" | grep -c -e '^    [Ee]rror: Memory$' -e '^    [Ee]rror: AllocError$' \
         -e '^    Error: Io(Write)$' -e '^      left: Err(Memory)$' \
         -e '^      left: Refused$' -e '^      left: \[\]$' || true)
-    echo "$1: allocation $n refused: $tests tests, $failed of them ended, $memory in want of memory"
+    echo "$1: allocation $n refused: $tests tests, $failed of them ended, $memory for lack of memory"
     [ -n "$tests" ] && [ "$failed" -eq "$memory" ] || { echo "$said"; exit 1; }
-    [ "$failed" -gt 0 ] || break
 done
-echo "$1: $n runs, each with tests that passed or ended in want of memory"
+echo "$1: $n runs, each with tests that passed or ended for lack of memory"

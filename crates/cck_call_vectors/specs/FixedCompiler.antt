@@ -2,11 +2,12 @@
 use Rattle.std.specs.Prelude.{List, false, Option, Some, None, Result, Ok, Err}
 use Rattle.cck_digest.specs.declared.error.FileError.{FileError}
 use Rattle.cck_files.specs.FileMap.{FileMap, contents_at}
+use Rattle.cck_path.specs.Bytes.{Bytes}
 use Rattle.cck_path.specs.Path.{components}
 use Rattle.cck_path.specs.Text.{join_path}
 use Rattle.cck_path.specs.Timestamp.{Moment}
 use Rattle.cck_path.specs.Variables.{Variable}
-use Rattle.c_cache_keys.specs.Arguments.{Arguments, Bytes}
+use Rattle.c_cache_keys.specs.Arguments.{Arguments}
 use Rattle.c_cache_keys.specs.World.{Compiler, NotCompilation}
 use Rattle.c_cache_keys.specs.declared.compiler.CCompilerKind.TheVariants.{Gcc}
 

@@ -32,7 +32,7 @@ pub(crate) fn variables(
     Ok(all)
 }
 
-// Puts a file with these times of its contents and of its status.
+// Puts a file with these times of modification and of change.
 pub(crate) fn put_dated(
     alloc: Global,
     files: &mut MapFiles,

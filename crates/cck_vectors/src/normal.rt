@@ -46,8 +46,8 @@ fn put_part(text: &mut Vec<u8>, root: usize, part: &[u8]) -> Result<(), UtilErro
     Ok(())
 }
 
-// A plain slow program for what `normalize_path` answers: it goes over the bytes once, and keeps the
-// text so far and the part that is being read.
+// A plain slow program for what `normalize_path` answers: it goes over the bytes once, and keeps
+// the text so far and the part that is being read.
 fn normal_by_bytes(alloc: Global, path: &[u8]) -> Result<Vec<u8>, UtilError> {
     let mut text = Vec::new(alloc);
     let mut part: Vec<u8> = Vec::new(alloc);

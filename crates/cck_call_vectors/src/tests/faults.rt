@@ -37,9 +37,9 @@ fn is_armed(files: &mut NotingFiles) -> bool {
 }
 
 // The first call for a key with this call on its files failing, and one more without. It answers
-// whether the one that should fail was met. The input's times are asked for first, and it is read to
-// its end. Then the compiler asks for a path, which may fail, and for the input. What fails behind
-// that keeps the text from being stored at most.
+// whether the one that should fail was met. The input's times are asked for first, and it is read
+// to its end. Then the compiler asks for a path, which may fail, and for the input. What fails
+// behind that keeps the text from being stored at most.
 fn fails_first(rt: &impl Abort, alloc: Global, call: u64) -> Result<bool, Fail> {
     let mut files = sample(alloc)?;
     let mut store = MapStore::new(alloc);
@@ -66,8 +66,8 @@ fn fails_first(rt: &impl Abort, alloc: Global, call: u64) -> Result<bool, Fail> 
     Ok(was_met)
 }
 
-// The same of the second call for a key. What fails behind the reading of the input makes the header
-// count as another one, so the key is made afresh.
+// The same of the second call for a key. What fails behind the reading of the input makes the
+// header count as another one, so the key is made afresh.
 fn fails_second(rt: &impl Abort, alloc: Global, call: u64) -> Result<bool, Fail> {
     let mut files = sample(alloc)?;
     let mut store = MapStore::new(alloc);
@@ -136,6 +136,7 @@ fn a_put_that_fails(rt: HostRuntime) -> Result<(), Fail> {
     store.fail_at(2);
     expect(&rt, alloc, &mut files, &mut store, true)?;
     assert_eq!(rt; store.held(AT), None);
+    // A call asks once and puts once, so the third is of no call any more.
     store.fail_at(3);
     expect(&rt, alloc, &mut files, &mut store, true)?;
     expect_own(&rt, alloc, &store)?;

@@ -89,7 +89,8 @@ pub(super) fn put(
     files.files.put(path, node)
 }
 
-// The source and its header, with the calls counted on the path that is asked for by a preprocessor.
+// The source and its header, with the calls counted on the path that is asked for by a
+// preprocessor.
 pub(super) fn sample(alloc: Global) -> Result<NotingFiles, UtilError> {
     let mut files = NotingFiles {
         files: MapFiles::new(alloc),

@@ -98,6 +98,7 @@ fn a_store_that_fails_once(rt: HostRuntime) -> Result<(), Fail> {
     assert_eq!(rt; shown(&answers[1]), (true, 0));
     assert_eq!(rt; shown(&answers[2]), (true, 0));
     expect_key(&rt, &answers[1], PLAIN);
+    expect_key(&rt, &answers[2], PLAIN);
     Ok(())
 }
 

@@ -75,6 +75,23 @@ fn what_is_no_entry(rt: HostRuntime) -> Result<(), Fail> {
     Ok(())
 }
 
+// The first byte names the format, and nothing follows it.
+#[test]
+fn what_is_a_beginning_of_an_entry(rt: HostRuntime) -> Result<(), Fail> {
+    let alloc = rt.alloc();
+    let mut files = sample(alloc)?;
+    let mut store = MapStore::new(alloc);
+    put_in_store(alloc, &mut store, &[1])?;
+    let hasher = hasher(alloc)?;
+    let error = key(alloc, &hasher, &mut files, &mut store)
+        .err()
+        .ok_or("a refusal")?;
+    assert_eq!(rt; error, KeyError::Entry(Error::Deserialization));
+    assert_eq!(rt; error.number(), 5);
+    assert_eq!(rt; store.held(AT), Some([1].as_slice()));
+    Ok(())
+}
+
 #[test]
 fn no_bytes_are_no_results(rt: HostRuntime) -> Result<(), Fail> {
     let alloc = rt.alloc();
@@ -130,8 +147,8 @@ fn an_input_with_the_time(rt: HostRuntime) -> Result<(), Fail> {
     Ok(())
 }
 
-// Its key is `T(b'abcd\x00' + b'13' + b'cPreprocessed' + b'#include "a.h"\nint x;\n')`, with `T` as in
-// `given`.
+// Its key is `T(b'abcd\x00' + b'13' + b'cPreprocessed' + b'#include "a.h"\nint x;\n')`, with `T` as
+// in `given`.
 #[test]
 fn no_preprocessor_is_needed(rt: HostRuntime) -> Result<(), Fail> {
     let alloc = rt.alloc();

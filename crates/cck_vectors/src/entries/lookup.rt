@@ -184,8 +184,8 @@ const MODIFIED_ALONE: [u8; 67] = [
     2, 0, 0, 0, 0, 0, 0, 0, b'/', b'h', // its path
     1, 0, 0, 0, 0, 0, 0, 0, b'd', // its digest
     3, 0, 0, 0, 0, 0, 0, 0, // its size
-    1, 5, 0, 0, 0, 0, 0, 0, 0, 7, 0, 0, 0, // the time of its contents
-    0, // no time of its status
+    1, 5, 0, 0, 0, 0, 0, 0, 0, 7, 0, 0, 0, // the time of modification
+    0, // no time of change
 ];
 
 #[test]
