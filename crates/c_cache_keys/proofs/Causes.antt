@@ -7,9 +7,9 @@ use Rattle.c_cache_keys.specs.Call.{Call, Fault, Refused, Why, Memory, Extra, Ex
 use Rattle.c_cache_keys.specs.Hits.{Cause, RefusalsHaveCauses}
 use Rattle.c_cache_keys.specs.Keys.{preprocessor_key_of}
 use Rattle.c_cache_keys.specs.Step.{Asked, Asks, Ends, Failed, Gives, Hit, Makes, Miss, ReadsAs, Step, StopsMaking, StopsOpening, asked, gives, made, stopped, stops}
-use Rattle.c_cache_keys.specs.Store.{Handed, Store, StoreLaws}
+use Rattle.cck_store.specs.Store.{Handed, Store, StoreLaws}
 use Rattle.c_cache_keys.specs.World.{World}
-use Rattle.c_cache_keys.specs.declared.store.StoreError.TheVariants as store
+use Rattle.cck_store.specs.declared.store.StoreError.TheVariants as store
 
 same_why : {v w : Why} → Refused v ≡ Refused w → v ≡ w
 same_why e = cc

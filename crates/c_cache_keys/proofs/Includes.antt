@@ -12,7 +12,7 @@ use Rattle.std.proofs.lemmas.Option.{same_Some}
 use Rattle.cck_digest.specs.declared.error.FileError.{FileError}
 use Rattle.cck_entry.proofs.EntryLemmas.{entries_of_empty}
 use Rattle.cck_entry.proofs.LawLemmas.{added_to_all_or_nothing}
-use Rattle.cck_entry.specs.Entry.{added, is_over, text_cmp}
+use Rattle.cck_entry.specs.Entry.{added, is_over}
 use Rattle.cck_files.proofs.FileLemmas.{kind_of_file}
 use Rattle.cck_files.specs.FileMap.{FileMap, FileNode, contents_of_kind, file_at, file_in, metadata_at, metadata_in, metadata_of}
 use Rattle.cck_include.specs.Gathered.{Digested, all_of, gathered, include_at, include_of, include_said}
@@ -25,6 +25,7 @@ use Rattle.cck_path.proofs.NormalLemmas.{components-normal}
 use Rattle.cck_path.proofs.JoinLemmas.{components-join}
 use Rattle.cck_path.specs.Path.{Path, components, joined, normal}
 use Rattle.cck_path.specs.Text.{join_path, path_text}
+use Rattle.cck_path.specs.TextOrder.{text_cmp}
 use Rattle.cck_path.specs.Timestamp.{Moment}
 use Rattle.cck_path.specs.declared.metadata.FileKind.{FileKind}
 use Rattle.cck_path.specs.declared.metadata.FileKind.TheVariants.{File, Folder, Other}

@@ -7,6 +7,7 @@ use Rattle.std.specs.Global.{Vec}
 use Rattle.std.specs.Option.{option_map}
 use Rattle.std.specs.declared.alloc.Global.{Global}
 use Rattle.std.proofs.lemmas.Option.{same_Some}
+use Rattle.cck_compiler.specs.Seen.{IsPrinted}
 use Rattle.cck_digest.specs.declared.error.FileError.{FileError}
 use Rattle.cck_digest.specs.declared.error.FileError.TheVariants as file
 use Rattle.cck_files.specs.Calls.{IsRefusalOrMemory}
@@ -32,16 +33,16 @@ use Rattle.c_cache_keys.specs.Call.{Call, Refused, Memory}
 use Rattle.c_cache_keys.specs.Hasher.{IsPrintedFor, IsPut, made_of}
 use Rattle.c_cache_keys.specs.Keys.{extra_texts, input_file, is_preprocessed, key_material, params, plain_key, preprocessor_key_of, printed, text_of, told, uses_cache}
 use Rattle.c_cache_keys.specs.Refusals.{input_refusal, text_refusal, walk_refusal}
-use Rattle.c_cache_keys.specs.Seen.{IsPrinted, why_of}
+use Rattle.c_cache_keys.specs.Seen.{why_of}
 use Rattle.c_cache_keys.specs.Step.{AreOwnIncludes, Makes, NotErring, NothingNew, StopsMaking, gives, stops}
-use Rattle.c_cache_keys.specs.Store.{Store}
+use Rattle.cck_store.specs.Store.{Store}
 use Rattle.c_cache_keys.specs.Walk.{Accepted, AreRecorded, MarksDecide, Errs, IsNamed, IsRecorded, NotAccepted, Verdict, Walk, input_path}
 use Rattle.c_cache_keys.specs.Walked.{IsWalked, digested_of}
 use Rattle.c_cache_keys.specs.World.{World}
-use Rattle.c_cache_keys.specs.declared.error.KeyError.{KeyError}
-use Rattle.c_cache_keys.specs.declared.error.KeyError.TheVariants as key
-use Rattle.c_cache_keys.specs.declared.error.PreprocessError.{PreprocessError}
-use Rattle.c_cache_keys.specs.declared.error.PreprocessError.TheVariants as text
+use Rattle.cck_compiler.specs.declared.error.KeyError.{KeyError}
+use Rattle.cck_compiler.specs.declared.error.KeyError.TheVariants as key
+use Rattle.cck_compiler.specs.declared.error.PreprocessError.{PreprocessError}
+use Rattle.cck_compiler.specs.declared.error.PreprocessError.TheVariants as text
 
 -- ---- what is recorded
 

@@ -29,8 +29,8 @@ use Rattle.c_cache_keys.specs.Seen.{why_of}
 use Rattle.c_cache_keys.specs.Step.{StopsOpening}
 use Rattle.c_cache_keys.specs.Walk.{input_path}
 use Rattle.c_cache_keys.specs.World.{World, setting}
-use Rattle.c_cache_keys.specs.declared.error.KeyError.{KeyError}
-use Rattle.c_cache_keys.specs.declared.error.KeyError.TheVariants as key
+use Rattle.cck_compiler.specs.declared.error.KeyError.{KeyError}
+use Rattle.cck_compiler.specs.declared.error.KeyError.TheVariants as key
 use Rattle.c_cache_keys.specs.declared.hasher.opening.Opening.{Opening}
 
 pub some_none : {A : Type 0} {x : A} {o : Option A} → o ≡ Some x → o ≡ None → ⊥

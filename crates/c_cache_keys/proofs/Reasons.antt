@@ -20,13 +20,13 @@ use Rattle.c_cache_keys.specs.Call.{Call}
 use Rattle.c_cache_keys.specs.Hasher.{IsInputRefusal}
 use Rattle.c_cache_keys.specs.Reasons.{IsFileReason, IsReason}
 use Rattle.c_cache_keys.specs.Refusals.{extra_refusal, input_refusal, text_refusal, walk_refusal}
-use Rattle.c_cache_keys.specs.Store.{Store}
+use Rattle.cck_store.specs.Store.{Store}
 use Rattle.c_cache_keys.specs.Walk.{input_path}
 use Rattle.c_cache_keys.specs.World.{World}
-use Rattle.c_cache_keys.specs.declared.error.KeyError.{KeyError}
-use Rattle.c_cache_keys.specs.declared.error.KeyError.TheVariants as key
-use Rattle.c_cache_keys.specs.declared.error.PreprocessError.{PreprocessError}
-use Rattle.c_cache_keys.specs.declared.error.PreprocessError.TheVariants as text
+use Rattle.cck_compiler.specs.declared.error.KeyError.{KeyError}
+use Rattle.cck_compiler.specs.declared.error.KeyError.TheVariants as key
+use Rattle.cck_compiler.specs.declared.error.PreprocessError.{PreprocessError}
+use Rattle.cck_compiler.specs.declared.error.PreprocessError.TheVariants as text
 
 -- ---- a fault of a part is one of the whole
 

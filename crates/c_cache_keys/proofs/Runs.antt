@@ -14,9 +14,9 @@ use Rattle.c_cache_keys.specs.Keys.{plain_key}
 use Rattle.c_cache_keys.specs.Laws.{FreshIsPlain, HitIsPlain, IsTransparent, KeepsOldOrOwn, NothingDamaged, Runs, RunsJoin, RunsTransparent, StaysSound, Transparent, joined_lists}
 use Rattle.c_cache_keys.specs.Premises.{IsBefore, Premises}
 use Rattle.c_cache_keys.specs.Step.{Asked, Asks, Ends, Failed, Gives, Hit, Makes, Miss, OwnPair, Puts, Run, Sound, Step, StopsMaking, StopsOpening, asked, gives, made, matching, stopped, stops}
-use Rattle.c_cache_keys.specs.Store.{Handed, Store, StoreLaws}
+use Rattle.cck_store.specs.Store.{Handed, Store, StoreLaws}
 use Rattle.c_cache_keys.specs.World.{HasSize, World}
-use Rattle.c_cache_keys.specs.declared.store.StoreError.TheVariants as store
+use Rattle.cck_store.specs.declared.store.StoreError.TheVariants as store
 
 module _ {V S : Type 0} (w : World V) (st : Store S) where
   pub run_joined : (s mid t : S) (first second : List (Done V)) (before after : List Answer) → Run w st s first before mid → Run w st mid second after t → Run w st s (first ++ second) (before ++ after) t

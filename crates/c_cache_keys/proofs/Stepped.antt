@@ -9,10 +9,10 @@ use Rattle.c_cache_keys.specs.Call.{Answer, Call, Keyed, Refused, Why, Memory}
 use Rattle.c_cache_keys.specs.Hasher.{IsFound, IsOpening, asked_of}
 use Rattle.c_cache_keys.specs.Seen.{why_of}
 use Rattle.c_cache_keys.specs.Step.{Failed, Hit, Makes, Miss, Step, StopsOpening, asked, made, stopped}
-use Rattle.c_cache_keys.specs.Store.{Store}
+use Rattle.cck_store.specs.Store.{Store}
 use Rattle.c_cache_keys.specs.World.{World}
-use Rattle.c_cache_keys.specs.declared.error.KeyError.{KeyError}
-use Rattle.c_cache_keys.specs.declared.error.KeyError.TheVariants as key
+use Rattle.cck_compiler.specs.declared.error.KeyError.{KeyError}
+use Rattle.cck_compiler.specs.declared.error.KeyError.TheVariants as key
 use Rattle.c_cache_keys.specs.declared.hasher.opening.Opening.{Opening}
 
 hit_miss : {key : Bytes} → Hit key ≡ Miss → ⊥

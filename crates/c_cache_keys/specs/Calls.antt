@@ -9,11 +9,11 @@ use Rattle.c_cache_keys.specs.Hasher.{toolchain_key}
 use Rattle.c_cache_keys.specs.Reasons.{IsReason}
 use Rattle.c_cache_keys.specs.Seen.{answer_of}
 use Rattle.c_cache_keys.specs.Step.{Step}
-use Rattle.c_cache_keys.specs.Store.{Store}
+use Rattle.cck_store.specs.Store.{Store}
 use Rattle.c_cache_keys.specs.World.{World}
 use Rattle.c_cache_keys.specs.declared.call.HashResult.{HashResult}
 use Rattle.c_cache_keys.specs.declared.calls.Call.{Call}
-use Rattle.c_cache_keys.specs.declared.error.KeyError.{KeyError}
+use Rattle.cck_compiler.specs.declared.error.KeyError.{KeyError}
 
 -- of a call only the state of its files changes, as by calls on files
 pub record IsAfter {I F : Type 0} (file_map : F → FileMap) (faults : F → ℕ) (is_quiet : F → Type 0) (before after : Call I F) : Type 0 where

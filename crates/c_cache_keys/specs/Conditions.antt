@@ -1,5 +1,7 @@
 -- what a call is made under, and the call and the world that a hasher makes of it
 use Rattle.std.specs.Prelude.{List, string_bytes}
+use Rattle.cck_compiler.specs.Compiler.{Compiler}
+use Rattle.cck_compiler.specs.Seen.{arguments_of}
 use Rattle.cck_files.specs.FileMap.{FileMap}
 use Rattle.cck_path.specs.Bytes.{Bytes, lists_of, variables_of}
 use Rattle.cck_path.specs.Timestamp.{Moment}
@@ -8,8 +10,7 @@ use Rattle.cck_time.specs.declared.config.PreprocessorCacheModeConfig.{Preproces
 use Rattle.jiff.specs.Types.{TimeZone}
 use Rattle.jiff.specs.Words.{plain_zone}
 use Rattle.c_cache_keys.specs.Call.{Call, Request}
-use Rattle.c_cache_keys.specs.Seen.{arguments_of}
-use Rattle.c_cache_keys.specs.World.{Compiler, World, world_of}
+use Rattle.c_cache_keys.specs.World.{World, world_of}
 use Rattle.c_cache_keys.specs.declared.call.CacheControl.{CacheControl}
 use Rattle.c_cache_keys.specs.declared.conditions.Conditions.{Conditions}
 use Rattle.c_cache_keys.specs.declared.hasher.CCompilerHasher.{CCompilerHasher}

@@ -18,12 +18,12 @@ use Rattle.c_cache_keys.specs.Keys.{extra_texts, input_file, is_preprocessed, pr
 use Rattle.c_cache_keys.specs.Reasons.{IsInputReason}
 use Rattle.c_cache_keys.specs.Seen.{why_of}
 use Rattle.c_cache_keys.specs.Step.{Asked, Asks, Failed, Hit, Miss, Opened}
-use Rattle.c_cache_keys.specs.Store.{Store, Stored}
+use Rattle.cck_store.specs.Store.{Store, Stored}
 use Rattle.c_cache_keys.specs.Walk.{input_path}
 use Rattle.c_cache_keys.specs.World.{World, setting}
 use Rattle.c_cache_keys.specs.declared.call.CacheControl.TheVariants.{Default, ForceRecache}
-use Rattle.c_cache_keys.specs.declared.error.KeyError.{KeyError}
-use Rattle.c_cache_keys.specs.declared.error.KeyError.TheVariants as refusal
+use Rattle.cck_compiler.specs.declared.error.KeyError.{KeyError}
+use Rattle.cck_compiler.specs.declared.error.KeyError.TheVariants as refusal
 use Rattle.c_cache_keys.specs.declared.hasher.opening.Opening.{Opening}
 
 -- a path as text, a `-` and a digest

@@ -12,7 +12,7 @@ use Rattle.c_cache_keys.specs.Call.{Answer, Call, Done, Fault, Keyed, Refused, c
 use Rattle.c_cache_keys.specs.Keys.{extra_texts, input_file, is_preprocessed, preprocessor_key_of, printed, uses_cache}
 use Rattle.c_cache_keys.specs.Laws.{CanHit}
 use Rattle.c_cache_keys.specs.Step.{AreOwnIncludes, Run, Step, found}
-use Rattle.c_cache_keys.specs.Store.{HoldsOnly, Setback, Store}
+use Rattle.cck_store.specs.Store.{HoldsOnly, Setback, Store}
 use Rattle.c_cache_keys.specs.Walk.{Errs, IsNamed, Walk}
 use Rattle.c_cache_keys.specs.World.{World, setting}
 

@@ -13,7 +13,7 @@ use Rattle.cck_path.specs.Variables.{Variable, first_value}
 use Rattle.cck_preprocessor_key.specs.PreprocessorKey.{RequestParts, preprocessor_material}
 use Rattle.cck_util.specs.Key.{Params, object_key}
 use Rattle.cck_util.specs.Language.{is_preprocessed_first}
-use Rattle.c_cache_keys.specs.Arguments.{is_multiarch}
+use Rattle.cck_compiler.specs.Arguments.{is_multiarch}
 use Rattle.c_cache_keys.specs.Call.{Call, Request}
 use Rattle.c_cache_keys.specs.Walk.{input_path}
 use Rattle.c_cache_keys.specs.World.{World, setting}

@@ -7,7 +7,7 @@ use Rattle.c_cache_keys.specs.Call.{Answer, Call, Damaged, Done, Fault, Keyed, M
 use Rattle.c_cache_keys.specs.Keys.{plain_key, preprocessor_key_of}
 use Rattle.c_cache_keys.specs.Premises.{Premises}
 use Rattle.c_cache_keys.specs.Step.{IsEmpty, OwnPair, Run, Sound, Step, found}
-use Rattle.c_cache_keys.specs.Store.{Handed, Store}
+use Rattle.cck_store.specs.Store.{Handed, Store}
 use Rattle.c_cache_keys.specs.World.{World}
 use Rattle.c_cache_keys.specs.declared.call.CacheControl.TheVariants.{Default, ForceRecache}
 

@@ -12,12 +12,12 @@ use Rattle.cck_time.specs.declared.error.Error.{Error}
 use Rattle.cck_time.specs.declared.error.Error.TheVariants as entry
 use Rattle.c_cache_keys.specs.Call.{Call}
 use Rattle.c_cache_keys.specs.Keys.{preprocessor_key_of}
-use Rattle.c_cache_keys.specs.Store.{Store}
+use Rattle.cck_store.specs.Store.{Store}
 use Rattle.c_cache_keys.specs.Walk.{input_path}
 use Rattle.c_cache_keys.specs.World.{World}
-use Rattle.c_cache_keys.specs.declared.error.KeyError.{KeyError}
-use Rattle.c_cache_keys.specs.declared.error.KeyError.TheVariants as refusal
-use Rattle.c_cache_keys.specs.declared.error.PreprocessError.TheVariants as text
+use Rattle.cck_compiler.specs.declared.error.KeyError.{KeyError}
+use Rattle.cck_compiler.specs.declared.error.KeyError.TheVariants as refusal
+use Rattle.cck_compiler.specs.declared.error.PreprocessError.TheVariants as text
 
 -- Here and below F says that a fault came.
 module _ {V : Type 0} (w : World V) (c : Call V) (F : Type 0) where

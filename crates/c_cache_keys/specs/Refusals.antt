@@ -1,5 +1,4 @@
 -- why a call for a key is refused, by why a call below it is
-use Rattle.std.specs.Prelude.{◌≡◌}
 use Rattle.cck_digest.specs.declared.error.FileError.{FileError}
 use Rattle.cck_digest.specs.declared.error.FileError.TheVariants as file
 use Rattle.cck_digest.specs.declared.error.UtilError.{UtilError}
@@ -8,10 +7,10 @@ use Rattle.cck_time.specs.declared.error.Error.{Error}
 use Rattle.cck_time.specs.declared.error.Error.TheVariants as entry
 use Rattle.cck_walk.specs.declared.error.WalkError.{WalkError}
 use Rattle.cck_walk.specs.declared.error.WalkError.TheVariants as walk
-use Rattle.c_cache_keys.specs.declared.error.KeyError.{KeyError}
-use Rattle.c_cache_keys.specs.declared.error.KeyError.TheVariants.{Memory, Extra, Input, Entry, Preprocess, Marker}
-use Rattle.c_cache_keys.specs.declared.error.PreprocessError.{PreprocessError}
-use Rattle.c_cache_keys.specs.declared.error.PreprocessError.TheVariants as text
+use Rattle.cck_compiler.specs.declared.error.KeyError.{KeyError}
+use Rattle.cck_compiler.specs.declared.error.KeyError.TheVariants.{Memory, Extra, Input, Entry, Preprocess, Marker}
+use Rattle.cck_compiler.specs.declared.error.PreprocessError.{PreprocessError}
+use Rattle.cck_compiler.specs.declared.error.PreprocessError.TheVariants as text
 
 abbrev pub extra_refusal : UtilError → KeyError
 extra_refusal util.Memory = Memory
@@ -36,7 +35,3 @@ entry_refusal other = Entry other
 abbrev pub walk_refusal : WalkError → KeyError
 walk_refusal walk.Memory = Memory
 walk_refusal walk.Marker = Marker
-
--- the refusal is that of a fault at a further file
-abbrev pub IsFileFault : KeyError → Type 0 → Type 0
-IsFileFault e HasFault = (e ≡ Extra (util.File file.Fault)) × HasFault

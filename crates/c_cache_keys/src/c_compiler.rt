@@ -1,19 +1,18 @@
 //! Compilers with their executables.
 ghost use Rattle.std.specs.Prelude.{◌≡◌, ◌⊎◌, ◌++◌, Some, IfErr, IfOk, IsOkUnless, string_bytes};
+ghost use Rattle.cck_compiler.specs.KeyError.{IsFileFault};
 ghost use Rattle.cck_digest.specs.Digest.{digest_text};
 ghost use Rattle.cck_file_digest.specs.Refusals.{IsDigestRefusal};
 ghost use Rattle.cck_files.specs.Calls.{Keeps, Rose};
 ghost use Rattle.cck_path.specs.Bytes.{lists_of, variables_of};
 ghost use Rattle.cck_path.specs.Path.{components};
 ghost use Rattle.c_cache_keys.specs.CCompiler.{IsHip, IsOf, IsOfCompiler, executable_text, found_of};
-ghost use Rattle.c_cache_keys.specs.ExtraFiles.{completed};
-ghost use Rattle.c_cache_keys.specs.Refusals.{IsFileFault};
+ghost use Rattle.cck_compiler.specs.ExtraFiles.{completed};
 
-use crate::arguments::ParsedArguments;
-use crate::compiler::{CCompilerImpl, CCompilerKind, CompilerArguments};
-use crate::error::KeyError;
-use crate::extra_files::add_extra_files;
 use crate::hasher::CCompilerHasher;
+use cck_compiler::{
+    CCompilerImpl, CCompilerKind, CompilerArguments, KeyError, ParsedArguments, add_extra_files,
+};
 use cck_digest::{Digest, HashState, UtilError};
 use cck_file_digest::DigestFiles;
 use cck_files::Files;

@@ -12,13 +12,12 @@ ghost use Rattle.c_cache_keys.specs.Step.{IsEmpty, Run};
 ghost use Rattle.c_cache_keys.specs.World.{world_of};
 
 use crate::call::{CacheControl, HashResult};
-use crate::compiler::CCompilerImpl;
-use crate::error::KeyError;
 use crate::hasher::CCompilerHasher;
-use crate::store::PreprocessorStore;
+use cck_compiler::{CCompilerImpl, KeyError};
 use cck_digest::{HashState, UtilError};
 use cck_files::Files;
 use cck_path::Timestamp;
+use cck_store::PreprocessorStore;
 use cck_time::PreprocessorCacheModeConfig;
 use jiff::tz::TimeZone;
 use std::alloc::Global;

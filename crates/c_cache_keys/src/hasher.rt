@@ -1,13 +1,14 @@
 //! The key of one compilation.
 ghost use Rattle.std.specs.Prelude.{◌≡◌, ◌++◌, ◌∷◌, IfErr, IfOk, IsOkUnless, string_bytes};
+ghost use Rattle.cck_compiler.specs.Seen.{arguments_of};
 ghost use Rattle.cck_path.specs.Bytes.{lists_of, variables_of};
 ghost use Rattle.cck_files.specs.Calls.{Keeps, Rose};
 ghost use Rattle.jiff.specs.Words.{plain_zone};
-ghost use Rattle.c_cache_keys.specs.Arguments.{output_name};
+ghost use Rattle.cck_compiler.specs.Arguments.{output_name};
 ghost use Rattle.c_cache_keys.specs.Conditions.{call_under, given_by, world_under};
 ghost use Rattle.c_cache_keys.specs.Hasher.{toolchain_key};
 ghost use Rattle.c_cache_keys.specs.Reasons.{IsReason};
-ghost use Rattle.c_cache_keys.specs.Seen.{answer_of, arguments_of};
+ghost use Rattle.c_cache_keys.specs.Seen.{answer_of};
 ghost use Rattle.c_cache_keys.specs.Step.{Step};
 
 mod asking;
@@ -15,16 +16,14 @@ mod making;
 mod opening;
 mod storing;
 
-use crate::arguments::{ColorMode, ParsedArguments};
 use crate::call::{CacheControl, HashResult};
-use crate::compiler::CCompilerImpl;
 use crate::conditions::Conditions;
-use crate::error::KeyError;
-use crate::store::PreprocessorStore;
 use bstr::ByteSlice;
+use cck_compiler::{CCompilerImpl, ColorMode, KeyError, ParsedArguments};
 use cck_digest::HashState;
 use cck_files::Files;
 use cck_path::Timestamp;
+use cck_store::PreprocessorStore;
 use cck_time::PreprocessorCacheModeConfig;
 use cck_util::Language;
 use jiff::tz::TimeZone;
@@ -163,6 +162,29 @@ impl<I: CCompilerImpl> CCompilerHasher<I> {
         ensures refused { IsOkUnless result KeyError.Memory }
     {
         self.parsed_args.output_pretty(alloc)
+    }
+
+    /// The same compilation, in memory of its own.
+    ///
+    /// [`KeyError::Memory`] is the only refusal.
+    pub fn copy(&self, alloc: Global) -> Result<CCompilerHasher<I>, KeyError>
+        ensures compiler { IfOk result (λ copy. I.value copy.compiler ≡ I.value self.now.compiler) }
+        ensures executable { IfOk result (λ copy. copy.executable.items ≡ self.now.executable.items) }
+        ensures digest { IfOk result (λ copy.
+            string_bytes copy.executable_digest ≡ string_bytes self.now.executable_digest) }
+        ensures arguments { IfOk result (λ copy.
+            arguments_of copy.parsed_args ≡ arguments_of self.now.parsed_args) }
+        ensures refused { IsOkUnless result KeyError.Memory }
+    {
+        let executable = self.executable.to_vec(alloc)?;
+        let executable_digest = self.executable_digest.clone()?;
+        let parsed_args = self.parsed_args.copy(alloc)?;
+        Ok(CCompilerHasher {
+            compiler: self.compiler.copy(alloc)?,
+            executable,
+            executable_digest,
+            parsed_args,
+        })
     }
 
     // The path of the executable, with U+FFFD for what is no UTF-8, a `-` and the executable's

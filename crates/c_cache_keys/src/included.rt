@@ -3,7 +3,7 @@ ghost use Rattle.std.specs.Prelude.{◌≡◌, IfOk, IsOkUnless};
 ghost use Rattle.cck_include.specs.Gathered.{digested_in};
 ghost use Rattle.c_cache_keys.specs.Walked.{digested_of};
 
-use crate::KeyError;
+use cck_compiler::KeyError;
 use std::alloc::Global;
 
 /// The digests and the paths that a walk recorded, in their order, as

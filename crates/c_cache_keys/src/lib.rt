@@ -24,7 +24,7 @@
 //! What a text was made of is read from its line markers by [`process_preprocessed_file`], and
 //! [`laws::verdict_is_decided`] says that this is what calls speak of.
 //!
-//! Two stores stand here: [`MapStore`] in memory, and [`EmptyStore`], which keeps nothing.
+//! Two stores are at hand: [`MapStore`] in memory, and [`EmptyStore`], which keeps nothing.
 //!
 //! One call, from a command line to a key:
 //!
@@ -63,37 +63,24 @@
 //! ```
 #![tactic(auto)]
 
-mod arguments;
 mod c_compiler;
 mod call;
 mod calls;
-mod compiler;
 mod conditions;
-mod copies;
-mod empty_store;
-mod error;
-mod extra_files;
 mod hasher;
 mod included;
 pub mod laws;
-mod lists;
-mod map_store;
 mod refusals;
-mod store;
 
-pub use arguments::{ArtifactDescriptor, ColorMode, ParsedArguments};
 pub use c_compiler::CCompiler;
 pub use call::{CacheControl, HashResult};
 pub use calls::{Call, run_calls};
+pub use cck_compiler::{
+    ArtifactDescriptor, CCompilerImpl, CCompilerKind, ColorMode, CompilerArguments, KeyError,
+    ParsedArguments, PreprocessError,
+};
+pub use cck_store::{EmptyStore, MapStore, PreprocessorStore, StoreError};
 pub use cck_walk::{
     LineAction, Records, Walk, WalkError, process_preprocessed_file, process_preprocessor_line,
 };
-pub use compiler::{CCompilerImpl, CCompilerKind, CompilerArguments};
-pub use empty_store::EmptyStore;
-pub use error::{KeyError, PreprocessError};
 pub use hasher::CCompilerHasher;
-pub use map_store::MapStore;
-pub use store::{PreprocessorStore, StoreError};
-
-#[cfg(test)]
-mod tests;

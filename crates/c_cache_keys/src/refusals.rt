@@ -3,7 +3,7 @@
 ghost use Rattle.std.specs.Prelude.{◌≡◌};
 ghost use Rattle.c_cache_keys.specs.Refusals.{entry_refusal, extra_refusal, input_refusal, key_refusal, text_refusal, walk_refusal};
 
-use crate::error::{KeyError, PreprocessError};
+use cck_compiler::{KeyError, PreprocessError};
 use cck_digest::{FileError, UtilError};
 use cck_time::Error;
 use cck_walk::WalkError;

@@ -13,7 +13,8 @@ use Rattle.std.proofs.lemmas.List.{reverse-append}
 use Rattle.std.proofs.lemmas.Bool.{and_parts}
 use Rattle.cck_include.specs.Include.{Include}
 use Rattle.cck_path.proofs.TestLemmas.{true_from_T, less_is}
-use Rattle.cck_entry.specs.Entry.{Entry, text_cmp}
+use Rattle.cck_path.specs.TextOrder.{text_cmp}
+use Rattle.cck_entry.specs.Entry.{Entry}
 use Rattle.cck_entry.specs.Find.{found_in, IsGreatest}
 use Rattle.cck_entry.specs.Results.{KeyResult}
 

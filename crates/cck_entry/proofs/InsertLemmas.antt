@@ -20,8 +20,8 @@ use Rattle.std.proofs.lemmas.List.Sums.{sum_by-cons}
 use Rattle.std.proofs.lemmas.Bool.{ltb-false, or_parts}
 use Rattle.cck_include.specs.declared.include.IncludeEntry.{IncludeEntry}
 use Rattle.cck_include.specs.Include.{Include, include_in, includes_in}
+use Rattle.cck_path.specs.TextOrder.{text_cmp}
 use Rattle.cck_entry.specs.Results.{KeyResult, result_in}
-use Rattle.cck_entry.specs.Entry.{text_cmp}
 use Rattle.cck_entry.specs.Entry.{Entry, entry_in, include_count, added, within_results, within_includes, is_over}
 use Rattle.cck_entry.proofs.EntryLemmas.{entries_in, empty_in, entries_of_empty}
 

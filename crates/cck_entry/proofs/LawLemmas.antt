@@ -10,7 +10,8 @@ use Rattle.std.specs.declared.cmp.Ordering.{Ordering}
 use Rattle.std.specs.declared.cmp.Ordering.TheVariants.{Equal, Greater, Less}
 use Rattle.std.proofs.lemmas.Option.{same_Some}
 use Rattle.cck_include.specs.Include.{Include}
-use Rattle.cck_entry.specs.Entry.{Entry, EntryText, added, include_count, is_over, text_cmp}
+use Rattle.cck_path.specs.TextOrder.{text_cmp}
+use Rattle.cck_entry.specs.Entry.{Entry, EntryText, added, include_count, is_over}
 use Rattle.cck_entry.specs.Results.{KeyResult}
 use Rattle.cck_entry.specs.Laws.{AddedIsLimited, AddedToAllOrNothing, OneTextOneEntry}
 use Rattle.cck_entry.specs.Reading.{entry_at}

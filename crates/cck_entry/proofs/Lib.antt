@@ -5,7 +5,6 @@ pub mod FieldLemmas
 pub mod GreatestLemmas
 pub mod IncludeLoop
 pub mod InsertLemmas
-pub mod LastLemmas
 pub mod LawLemmas
 pub mod LookupLemmas
 pub mod ResultLoop

@@ -1,13 +1,11 @@
 -- entries: finite maps from keys to the files that were included
 use Rattle.std.specs.Prelude.{◌≡◌, ◌≢◌, ◌⊎◌, ◌||◌, ℕ, ◌+◌, ◌<◌, ◌^◌, ℤ, List, [], ◌∷◌, length, map, Bool, Option, Result, Ok, Err, String, refl, nat_lt, if◌then◌else◌}
-use Rattle.std.specs.Cmp.Lexicographic.{slice_cmp}
 use Rattle.std.specs.Coded.{Coded, code_by, coded×, coded_list, coded_option, coded_ℕ, coded_ℤ}
 use Rattle.std.specs.FinMap.{FinMap, code, empty, entries, from_sorted, insert, len}
 use Rattle.std.specs.Global.{Vec}
 use Rattle.std.specs.List.{AllByRecursion}
-use Rattle.std.specs.Ordering.{nat_cmp}
 use Rattle.std.specs.declared.alloc.Global.{Global}
-use Rattle.std.specs.declared.cmp.Ordering.{Ordering}
+use Rattle.cck_path.specs.TextOrder.{text_cmp}
 use Rattle.cck_path.specs.Timestamp.{Moment}
 use Rattle.cck_time.specs.declared.error.Error.{Error}
 use Rattle.cck_time.specs.declared.error.Error.TheVariants.{Deserialization, Io, Memory, UnknownFormat}
@@ -15,10 +13,6 @@ use Rattle.cck_entry.specs.Results.{FitsResult, KeyResult, result_in}
 use Rattle.cck_include.specs.Include.{Include}
 use Rattle.cck_entry.specs.Writing.{entry_bytes}
 use Rattle.cck_include.specs.declared.include.IncludeEntry.{IncludeEntry}
-
--- texts in the order of their bytes
-abbrev pub text_cmp : List ℕ → List ℕ → Ordering
-text_cmp = slice_cmp nat_cmp
 
 -- an entry has, for each key, a list of includes
 abbrev pub Entry : Type 0

@@ -3,7 +3,8 @@ use Rattle.std.specs.Prelude.{◌≡◌, ◌≢◌, ◌⊎◌, ℕ, Bool, true, 
 use Rattle.std.specs.FinMap.{entries, get}
 use Rattle.std.specs.List.{find, list_all}
 use Rattle.std.specs.declared.cmp.Ordering.TheVariants.{Less}
-use Rattle.cck_entry.specs.Entry.{Entry, text_cmp}
+use Rattle.cck_path.specs.TextOrder.{text_cmp}
+use Rattle.cck_entry.specs.Entry.{Entry}
 use Rattle.cck_entry.specs.Results.{KeyResult}
 use Rattle.cck_include.specs.Include.{Include}
 

@@ -3,6 +3,7 @@ pub mod ComponentLemmas
 pub mod DurationLemmas
 pub mod EscapeLemmas
 pub mod JoinLemmas
+pub mod LastLemmas
 pub mod MomentLemmas
 pub mod NameLemmas
 pub mod NormalLemmas

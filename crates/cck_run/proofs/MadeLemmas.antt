@@ -20,7 +20,7 @@ use Rattle.cck_time.specs.declared.config.PreprocessorCacheModeConfig.{Preproces
 use Rattle.c_cache_keys.proofs.Runs.{run_joined}
 use Rattle.c_cache_keys.specs.Call.{Answer}
 use Rattle.c_cache_keys.specs.Calls.{IsAfter, done_all, done_in}
-use Rattle.c_cache_keys.specs.MapStore.{State, map_store}
+use Rattle.cck_store.specs.MapStore.{State, map_store}
 use Rattle.c_cache_keys.specs.Step.{Run}
 use Rattle.c_cache_keys.specs.World.{World, world_of}
 use Rattle.c_cache_keys.specs.declared.c_compiler.CCompiler.{CCompiler}

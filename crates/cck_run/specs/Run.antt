@@ -3,6 +3,7 @@ use Rattle.std.specs.Prelude.{◌≡◌, ℕ, ℤ, ◌++◌, List, [], ◌∷◌
 use Rattle.std.specs.Fmt.{decimal}
 use Rattle.std.specs.List.{AllZip, flat_map}
 use Rattle.std.specs.Option.{unwrap_or}
+use Rattle.cck_compiler.specs.Compiler.{Compilation}
 use Rattle.cck_path.specs.Bytes.{Bytes}
 use Rattle.jiff.specs.Words.{fixed_zone}
 use Rattle.jiff.specs.Types.{Offset}
@@ -14,10 +15,10 @@ use Rattle.cck_script.specs.Lines.{Line}
 use Rattle.cck_script.specs.Script.{basedirs_of, fail_of, forget_of, lines_said, zone_of}
 use Rattle.cck_time.specs.Config.{activated}
 use Rattle.c_cache_keys.specs.Call.{Answer, Done, Keyed, Refused, Why, Memory, Extra, ExtraFault, Input, InputFault, Store, Damaged, NoText, TextFault, Marker}
-use Rattle.c_cache_keys.specs.ExtraFiles.{completed}
-use Rattle.c_cache_keys.specs.MapStore.{State, map_store}
+use Rattle.cck_compiler.specs.ExtraFiles.{completed}
+use Rattle.cck_store.specs.MapStore.{State, map_store}
 use Rattle.c_cache_keys.specs.Step.{Run}
-use Rattle.c_cache_keys.specs.World.{Compilation, World, world_of}
+use Rattle.c_cache_keys.specs.World.{World, world_of}
 use Rattle.c_cache_keys.specs.declared.call.CacheControl.{CacheControl}
 use Rattle.c_cache_keys.specs.declared.call.CacheControl.TheVariants.{Default, ForceRecache}
 use Rattle.cck_run.specs.MiniCompiler.{mini_compiler, parsed}

@@ -1,7 +1,7 @@
 //! The compiler of `run`.
 ghost use Rattle.std.specs.Prelude.{◌≡◌, IfOk, IsOkUnless, map};
+ghost use Rattle.cck_compiler.specs.Seen.{arguments_of, output_of};
 ghost use Rattle.cck_path.specs.Bytes.{lists_of};
-ghost use Rattle.c_cache_keys.specs.Seen.{arguments_of, output_of};
 ghost use Rattle.cck_run.specs.MiniCompiler.{compilation_of, language_of, outputs as outputs_seen};
 
 use c_cache_keys::{

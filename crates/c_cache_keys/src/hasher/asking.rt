@@ -9,14 +9,13 @@ ghost use Rattle.c_cache_keys.specs.Step.{Asks};
 use super::CCompilerHasher;
 use super::opening::Opening;
 use crate::call::CacheControl;
-use crate::compiler::CCompilerImpl;
 use crate::conditions::Conditions;
-use crate::error::KeyError;
 use crate::refusals::entry_refusal;
-use crate::store::{PreprocessorStore, StoreError};
+use cck_compiler::{CCompilerImpl, KeyError};
 use cck_digest::HashState;
 use cck_entry::PreprocessorCacheEntry;
 use cck_files::Files;
+use cck_store::{PreprocessorStore, StoreError};
 use std::alloc::Global;
 
 impl<I: CCompilerImpl> CCompilerHasher<I> {

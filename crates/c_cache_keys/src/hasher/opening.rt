@@ -1,6 +1,7 @@
 //! What a call begins with: the digests of further files, and the key that a store is asked under.
 ghost use Rattle.std.specs.Prelude.{◌≡◌, ◌&&◌, IfErr, MatchResult, None, if◌then◌else◌, is_none, map, option_map, string_bytes};
 ghost use Rattle.std.specs.Str.{str_eq_ignore_ascii_case};
+ghost use Rattle.cck_compiler.specs.Seen.{arguments_of};
 ghost use Rattle.cck_path.specs.Bytes.{variables_of};
 ghost use Rattle.cck_files.specs.Calls.{Keeps, Rose};
 ghost use Rattle.cck_util.specs.Language.{is_preprocessed_first};
@@ -8,15 +9,13 @@ ghost use Rattle.c_cache_keys.specs.Conditions.{call_under, given_of, world_unde
 ghost use Rattle.c_cache_keys.specs.Hasher.{IsInputRefusal, IsKeyOfInput, IsOpening};
 ghost use Rattle.c_cache_keys.specs.Keys.{is_direct, is_off};
 ghost use Rattle.c_cache_keys.specs.Reasons.{IsFileReason};
-ghost use Rattle.c_cache_keys.specs.Seen.{arguments_of, why_of};
+ghost use Rattle.c_cache_keys.specs.Seen.{why_of};
 ghost use Rattle.c_cache_keys.specs.Step.{StopsOpening};
 
 use super::CCompilerHasher;
-use crate::compiler::CCompilerImpl;
 use crate::conditions::Conditions;
-use crate::error::KeyError;
-use crate::lists::push_copies;
 use crate::refusals::{extra_refusal, key_refusal};
+use cck_compiler::{CCompilerImpl, KeyError, push_copies};
 use cck_digest::HashState;
 use cck_file_digest::hash_all;
 use cck_files::Files;

@@ -3,11 +3,11 @@ ghost use Rattle.cck_files.specs.Calls.{Keeps, Rose};
 ghost use Rattle.cck_include.specs.Gathered.{digested_in};
 ghost use Rattle.c_cache_keys.specs.Hasher.{IsPut};
 
-use crate::error::KeyError;
-use crate::store::PreprocessorStore;
+use cck_compiler::KeyError;
 use cck_entry::PreprocessorCacheEntry;
 use cck_files::Files;
 use cck_path::Timestamp;
+use cck_store::PreprocessorStore;
 use cck_time::Error;
 use std::alloc::Global;
 

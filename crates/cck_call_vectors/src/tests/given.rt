@@ -102,7 +102,7 @@ pub(super) fn sample(alloc: Global) -> Result<NotingFiles, UtilError> {
     Ok(files)
 }
 
-fn arguments(alloc: Global, language: Language) -> Result<ParsedArguments, AllocError> {
+pub(super) fn arguments(alloc: Global, language: Language) -> Result<ParsedArguments, AllocError> {
     Ok(ParsedArguments {
         input: b"a.c".to_vec(alloc)?,
         double_dash_input: false,

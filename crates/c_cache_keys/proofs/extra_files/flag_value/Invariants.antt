@@ -1,8 +1,0 @@
-use Rattle.std.proofs.Common.{◌≡◌, drop}
-use Rattle.cck_path.specs.Bytes.{lists_of}
-use Rattle.c_cache_keys.specs.ExtraFiles.{flag_value}
-use Rattle.c_cache_keys.proofs.extra_files.flag_value.Given as goal
-
--- the arguments that are still to come decide the answer
-abbrev pub invariant-loop-arg : goal.invariant-loop-arg
-invariant-loop-arg l = flag_value l.flag (lists_of (drop l.arg-index l.args)) ≡ flag_value l.flag (lists_of l.args)

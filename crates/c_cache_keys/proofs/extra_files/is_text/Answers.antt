@@ -1,6 +1,0 @@
-use Rattle.std.proofs.Common.{◌∙◌}
-use Rattle.c_cache_keys.proofs.ExtraFiles.{text_test}
-use Rattle.c_cache_keys.proofs.extra_files.is_text.Goals as goal
-
-pub returns : goal.returns
-returns c = c.is_ok.ensures.value ∙ text_test c.from_utf8.result c.args.bytes.now _ c.from_utf8.ensures.cases

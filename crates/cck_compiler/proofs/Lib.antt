@@ -1,0 +1,6 @@
+pub mod Architectures
+pub mod ArgumentExamples
+pub mod CopyLemmas
+pub mod ExtraFiles
+pub mod FileExamples
+pub mod Outputs

@@ -1,0 +1,189 @@
+//! What a command line of a compiler was parsed into.
+ghost use Rattle.std.specs.Prelude.{◌≡◌, ◌&&◌, codes, map, not, IfOk, IsOkUnless, string_bytes};
+ghost use Rattle.std.specs.List.{find, list_any};
+ghost use Rattle.std.specs.Option.{option_map};
+ghost use Rattle.std.specs.Str.{bytes_eq};
+ghost use Rattle.cck_path.specs.Bytes.{lists_of};
+ghost use Rattle.cck_file_digest.specs.FolderText.{lossy};
+ghost use Rattle.cck_compiler.specs.Arguments.{archs, is_arch, is_multiarch, output_name};
+ghost use Rattle.cck_compiler.specs.Seen.{arguments_of};
+
+use crate::error::KeyError;
+use bstr::ByteSlice;
+use cck_path::file_name;
+use cck_util::Language;
+use std::alloc::Global;
+use std::collections::BTreeMap;
+
+/// A file that a compilation writes.
+///
+/// Upstream's `compiler::ArtifactDescriptor`.
+#[derive(Debug, PartialEq, Eq, Drop)]
+pub struct ArtifactDescriptor {
+    /// Its path.
+    pub path: Vec<u8>,
+    /// Whether it may be left out.
+    pub optional: bool,
+}
+
+/// Whether diagnostics are coloured.
+///
+/// Upstream's `compiler::ColorMode`.
+#[derive(Debug, Copy, Clone, PartialEq, Eq)]
+pub enum ColorMode {
+    /// They are not.
+    Off,
+    /// They are.
+    On,
+    /// Where they go to a terminal.
+    Auto,
+}
+
+/// A command line of a compiler, parsed.
+///
+/// Upstream's `compiler::c::ParsedArguments`.
+#[derive(Debug, PartialEq, Eq, Drop)]
+pub struct ParsedArguments {
+    /// The file that is compiled.
+    pub input: Vec<u8>,
+    /// Whether a `--` stands before the input.
+    pub double_dash_input: bool,
+    /// The language of the input.
+    pub language: Language,
+    /// The flag that asks for a compilation, as `-c`.
+    pub compilation_flag: Vec<u8>,
+    /// The file of dependencies, if one is asked for.
+    pub depfile: Option<Vec<u8>>,
+    /// The outputs by their names, as `obj`.
+    pub outputs: BTreeMap<String, ArtifactDescriptor>,
+    /// The arguments about dependencies.
+    pub dependency_args: Vec<Vec<u8>>,
+    /// The arguments that only the preprocessor looks at.
+    pub preprocessor_args: Vec<Vec<u8>>,
+    /// The arguments that preprocessor and compiler look at.
+    pub common_args: Vec<Vec<u8>>,
+    /// The arguments about architectures, each behind its `-arch`.
+    pub arch_args: Vec<Vec<u8>>,
+    /// The arguments that stand in no key.
+    pub unhashed_args: Vec<Vec<u8>>,
+    /// Further files that a compilation elsewhere needs.
+    pub extra_dist_files: Vec<Vec<u8>>,
+    /// Further files or folders whose digests stand in the keys.
+    pub extra_hash_files: Vec<Vec<u8>>,
+    /// Whether the assembler is a program of its own.
+    pub uses_external_assembler: bool,
+    /// Whether includes are shown in Visual C's form.
+    pub msvc_show_includes: bool,
+    /// Whether Visual C was told the language.
+    pub msvc_explicit_language: bool,
+    /// Whether a profile is written.
+    pub profile_generate: bool,
+    /// Whether diagnostics are coloured.
+    pub color_mode: ColorMode,
+    /// Whether includes may not be left in a text that is preprocessed for elsewhere.
+    pub suppress_rewrite_includes_only: bool,
+    /// The argument that keeps the request out of the preprocessor cache, if there is one.
+    pub too_hard_for_preprocessor_cache_mode: Option<Vec<u8>>,
+}
+
+impl ParsedArguments {
+    /// Whether two architectures or more are asked for. It takes no memory.
+    ///
+    /// Upstream's `ParsedArguments::is_multiarch`.
+    pub fn is_multiarch(&self) -> bool
+        ensures { result ≡ is_multiarch (arguments_of self.now) }
+    {
+        match first_arch(&self.arch_args) {
+            Some(first) => has_other_arch(&self.arch_args, first),
+            None => false,
+        }
+    }
+
+    /// The architectures that are asked for, each once, in the order in which they first stand.
+    ///
+    /// Upstream's `ParsedArguments::archs`. It is refused only for lack of memory, as
+    /// [`KeyError::Memory`].
+    pub fn archs(&self, alloc: Global) -> Result<Vec<&[u8]>, KeyError>
+        ensures archs { IfOk result (λ found.
+            map (λ arch. arch.now) found.items ≡ archs (arguments_of self.now)) }
+        ensures refused { IsOkUnless result KeyError.Memory }
+    {
+        let mut found: Vec<&[u8]> = Vec::new(alloc);
+        for arg in &self.arch_args {
+            let arch = arg.as_slice();
+            if is_arch(arch) && !found.contains(&arch) {
+                found.push(arch)?;
+            }
+        }
+        Ok(found)
+    }
+
+    /// The file name of the output `obj`, to be shown, with U+FFFD for what is no UTF-8; or
+    /// `Unknown filename` where there is no such output or its path has no file name.
+    ///
+    /// Upstream's `ParsedArguments::output_pretty`. It is refused only for lack of memory, as
+    /// [`KeyError::Memory`].
+    pub fn output_pretty(&self, alloc: Global) -> Result<String, KeyError>
+        ensures name { IfOk result (λ name.
+            string_bytes name ≡ output_name (arguments_of self.now)) }
+        ensures refused { IsOkUnless result KeyError.Memory }
+    {
+        let Some(output) = self.outputs.get("obj") else {
+            return unknown_name(alloc);
+        };
+        match file_name(&output.path) {
+            Some(name) => shown_name(alloc, name),
+            None => unknown_name(alloc),
+        }
+    }
+}
+
+// Whether an argument names an architecture.
+fn is_arch(arg: &[u8]) -> bool
+    ensures { result ≡ is_arch arg.now }
+{
+    arg != b"-arch".as_slice()
+}
+
+// The first of the arguments that names an architecture.
+fn first_arch(args: &[Vec<u8>]) -> Option<&[u8]>
+    ensures { option_map (λ arch. arch.now) result ≡ find is_arch (lists_of args.now) }
+{
+    for arg in args {
+        if is_arch(arg) {
+            return Some(arg.as_slice());
+        }
+    }
+    None
+}
+
+// Whether an argument names another architecture than this one.
+fn has_other_arch(args: &[Vec<u8>], arch: &[u8]) -> bool
+    ensures { result
+        ≡ list_any (λ arg. is_arch arg && not (bytes_eq arg arch.now)) (lists_of args.now) }
+{
+    for arg in args {
+        if is_arch(arg) && arg.as_slice() != arch {
+            return true;
+        }
+    }
+    false
+}
+
+// A name as text.
+#[tactic(auto, unfolding(cck_file_digest::specs::FolderText::lossy))]
+fn shown_name(alloc: Global, name: &[u8]) -> Result<String, KeyError>
+    ensures text { IfOk result (λ text. string_bytes text ≡ lossy name.now) }
+    ensures refused { IsOkUnless result KeyError.Memory }
+{
+    let text = name.to_str_lossy(alloc)?;
+    Ok(format!(in alloc; "{text}")?)
+}
+
+// What is shown where there is no name.
+fn unknown_name(alloc: Global) -> Result<String, KeyError>
+    ensures text { IfOk result (λ text. string_bytes text ≡ codes "Unknown filename") }
+    ensures refused { IsOkUnless result KeyError.Memory }
+{
+    Ok(String::from_str(alloc, "Unknown filename")?)
+}

@@ -1,0 +1,118 @@
+//! Copies of parsed command lines.
+ghost use Rattle.std.specs.Prelude.{◌≡◌, IfOk, IsOkUnless, OnOk, map, string_bytes};
+ghost use Rattle.std.specs.BTreeMap.{insert_entry};
+ghost use Rattle.std.specs.Option.{option_map};
+ghost use Rattle.std.specs.String.{string_cmp};
+ghost use Rattle.cck_path.specs.Bytes.{lists_of};
+ghost use Rattle.cck_compiler.specs.Seen.{arguments_of, output_of};
+
+use crate::arguments::{ArtifactDescriptor, ParsedArguments};
+use crate::error::KeyError;
+use crate::lists::push_copies;
+use std::alloc::Global;
+use std::collections::BTreeMap;
+
+impl ArtifactDescriptor {
+    /// The same file, in memory of its own.
+    ///
+    /// [`KeyError::Memory`] is the only refusal.
+    pub fn copy(&self, alloc: Global) -> Result<ArtifactDescriptor, KeyError>
+        ensures path { IfOk result (λ copy. copy.path.items ≡ self.now.path.items) }
+        ensures optional { IfOk result (λ copy. copy.optional ≡ self.now.optional) }
+        ensures refused { IsOkUnless result KeyError.Memory }
+    {
+        Ok(ArtifactDescriptor {
+            path: self.path.to_vec(alloc)?,
+            optional: self.optional,
+        })
+    }
+}
+
+impl ParsedArguments {
+    /// The same command line, in memory of its own.
+    ///
+    /// [`KeyError::Memory`] is the only refusal.
+    pub fn copy(&self, alloc: Global) -> Result<ParsedArguments, KeyError>
+        ensures value { IfOk result (λ copy. arguments_of copy ≡ arguments_of self.now) }
+        ensures refused { IsOkUnless result KeyError.Memory }
+    {
+        Ok(ParsedArguments {
+            input: self.input.to_vec(alloc)?,
+            double_dash_input: self.double_dash_input,
+            language: self.language,
+            compilation_flag: self.compilation_flag.to_vec(alloc)?,
+            depfile: copy_option(alloc, &self.depfile)?,
+            outputs: copy_outputs(alloc, &self.outputs)?,
+            dependency_args: copy_lists(alloc, &self.dependency_args)?,
+            preprocessor_args: copy_lists(alloc, &self.preprocessor_args)?,
+            common_args: copy_lists(alloc, &self.common_args)?,
+            arch_args: copy_lists(alloc, &self.arch_args)?,
+            unhashed_args: copy_lists(alloc, &self.unhashed_args)?,
+            extra_dist_files: copy_lists(alloc, &self.extra_dist_files)?,
+            extra_hash_files: copy_lists(alloc, &self.extra_hash_files)?,
+            uses_external_assembler: self.uses_external_assembler,
+            msvc_show_includes: self.msvc_show_includes,
+            msvc_explicit_language: self.msvc_explicit_language,
+            profile_generate: self.profile_generate,
+            color_mode: self.color_mode,
+            suppress_rewrite_includes_only: self.suppress_rewrite_includes_only,
+            too_hard_for_preprocessor_cache_mode: copy_option(
+                alloc,
+                &self.too_hard_for_preprocessor_cache_mode,
+            )?,
+        })
+    }
+}
+
+// The same bytes, or none.
+fn copy_option(alloc: Global, bytes: &Option<Vec<u8>>) -> Result<Option<Vec<u8>>, KeyError>
+    ensures value { IfOk result (λ copy.
+        option_map (λ v. v.items) copy ≡ option_map (λ v. v.items) bytes.now) }
+    ensures refused { IsOkUnless result KeyError.Memory }
+{
+    match bytes {
+        Some(bytes) => Ok(Some(bytes.to_vec(alloc)?)),
+        None => Ok(None),
+    }
+}
+
+// The same byte strings.
+fn copy_lists(alloc: Global, lists: &[Vec<u8>]) -> Result<Vec<Vec<u8>>, KeyError>
+    ensures value { IfOk result (λ copies. lists_of copies.items ≡ lists_of lists.now) }
+    ensures refused { IsOkUnless result KeyError.Memory }
+{
+    let mut copies = Vec::new(alloc);
+    push_copies(alloc, &mut copies, lists)?;
+    Ok(copies)
+}
+
+// The same outputs by their names.
+fn copy_outputs(
+    alloc: Global,
+    outputs: &BTreeMap<String, ArtifactDescriptor>,
+) -> Result<BTreeMap<String, ArtifactDescriptor>, KeyError>
+    ensures value { IfOk result (λ copies.
+        map output_of copies.entries ≡ map output_of outputs.now.entries) }
+    ensures refused { IsOkUnless result KeyError.Memory }
+{
+    let mut copies = BTreeMap::new(alloc);
+    for (name, output) in outputs {
+        let name = String::from_str(alloc, name)?;
+        put_output(&mut copies, name, output.copy(alloc)?)?;
+    }
+    Ok(copies)
+}
+
+// Puts an output under a name.
+fn put_output(
+    outputs: &mut BTreeMap<String, ArtifactDescriptor>,
+    name: String,
+    output: ArtifactDescriptor,
+) -> Result<(), KeyError>
+    ensures put { OnOk result
+        (outputs.new.entries ≡ insert_entry string_cmp outputs.old.entries name output) }
+    ensures refused { IsOkUnless result KeyError.Memory }
+{
+    outputs.insert(name, output)?;
+    Ok(())
+}

@@ -1,0 +1,228 @@
+//! Files that no command line names, but whose digests stand in the keys.
+ghost use Rattle.std.specs.Prelude.{◌≡◌, ◌++◌, ◌==◌, ◌⊎◌, true, None, Some, drop, filter, if◌then◌else◌, length, map, IfErr, IfOk, IsOkUnless, OnOk};
+ghost use Rattle.std.specs.List.{slice_split};
+ghost use Rattle.std.specs.Option.{option_map, option_or};
+ghost use Rattle.std.specs.Str.{is_utf8};
+ghost use Rattle.cck_compiler.specs.KeyError.{IsFileFault};
+ghost use Rattle.cck_files.specs.Calls.{Keeps, Rose};
+ghost use Rattle.cck_path.specs.Bytes.{lists_of, variables_of};
+ghost use Rattle.cck_path.specs.Text.{join_path as joined_text};
+ghost use Rattle.cck_compiler.specs.ExtraFiles.{flag_value, has_flag, is_hip, is_library, libraries, library_folder, named_files, text_value, with_extra_files};
+ghost use Rattle.cck_compiler.specs.Seen.{arguments_of};
+
+use crate::arguments::ParsedArguments;
+use crate::error::KeyError;
+use cck_digest::{FileError, UtilError};
+use cck_file_digest::sorted_names;
+use cck_files::Files;
+use cck_path::{extension, join_path};
+use cck_util::Language;
+use std::alloc::{AllocError, Global};
+
+/// Puts the paths of further files behind those that the arguments have: what stands between the
+/// colons of every variable `SCCACHE_EXTRAFILES` and, for HIP, the device libraries.
+pub fn add_extra_files<F: Files>(
+    alloc: Global,
+    files: &mut F,
+    args: &mut ParsedArguments,
+    vars: &[(Vec<u8>, Vec<u8>)],
+) -> Result<(), KeyError>
+    ensures keeps { Keeps F.file_map F.faults F.is_quiet files.old files.new }
+    ensures added { OnOk result (arguments_of args.new
+        ≡ with_extra_files (F.file_map files.old) (variables_of vars.now) (arguments_of args.old)) }
+    ensures refused { IfErr result (λ e. (e ≡ KeyError.Memory)
+        ⊎ ((is_hip args.old.language ≡ true) × IsFileFault e (Rose (F.faults files.old) (F.faults files.new)))) }
+{
+    push_named_files(alloc, &mut args.extra_hash_files, vars)?;
+    if is_hip(args.language) {
+        let folder = library_folder(alloc, &args.common_args, vars)?;
+        push_libraries(alloc, files, &mut args.extra_hash_files, &folder)?;
+    }
+    Ok(())
+}
+
+// Whether a language is HIP.
+fn is_hip(language: Language) -> bool
+    ensures { result ≡ is_hip language }
+{
+    matches!(language, Language::Hip)
+}
+
+// Puts the paths that the variables name behind the others.
+#[tactic(auto, unfolding(crate::specs::ExtraFiles::named_files))]
+fn push_named_files(
+    alloc: Global,
+    all: &mut Vec<Vec<u8>>,
+    vars: &[(Vec<u8>, Vec<u8>)],
+) -> Result<(), AllocError>
+    ensures { OnOk result
+        (lists_of all.new.items ≡ lists_of all.old.items ++ named_files (variables_of vars.now)) }
+{
+    for (name, value) in vars {
+        if name.as_slice() == b"SCCACHE_EXTRAFILES".as_slice() {
+            push_parts(alloc, all, value)?;
+        }
+    }
+    Ok(())
+}
+
+// Puts what stands between the colons behind the others.
+fn push_parts(alloc: Global, all: &mut Vec<Vec<u8>>, value: &[u8]) -> Result<(), AllocError>
+    ensures { OnOk result
+        (lists_of all.new.items ≡ lists_of all.old.items ++ slice_split (λ c. c == 58) value.now) }
+{
+    for part in value.split(|byte| *byte == b':') {
+        all.push(part.to_vec(alloc)?)?;
+    }
+    Ok(())
+}
+
+// The folder of the device libraries.
+#[tactic(auto, unfolding(crate::specs::ExtraFiles::library_folder))]
+fn library_folder(
+    alloc: Global,
+    args: &[Vec<u8>],
+    vars: &[(Vec<u8>, Vec<u8>)],
+) -> Result<Vec<u8>, KeyError>
+    ensures folder { IfOk result (λ folder.
+        folder.items ≡ library_folder (lists_of args.now) (variables_of vars.now)) }
+    ensures refused { IsOkUnless result KeyError.Memory }
+{
+    if let Some(folder) = told(
+        args,
+        b"--hip-device-lib-path=",
+        vars,
+        b"HIP_DEVICE_LIB_PATH",
+    ) {
+        return Ok(folder.to_vec(alloc)?);
+    }
+    match told(args, b"--rocm-path=", vars, b"ROCM_PATH") {
+        Some(release) => joined(alloc, release, b"amdgcn/bitcode"),
+        None => Ok(b"/opt/rocm/amdgcn/bitcode".to_vec(alloc)?),
+    }
+}
+
+// What follows a flag or, without it, what a variable says.
+fn told<'a>(
+    args: &'a [Vec<u8>],
+    flag: &[u8],
+    vars: &'a [(Vec<u8>, Vec<u8>)],
+    name: &[u8],
+) -> Option<&'a [u8]>
+    ensures { option_map (λ value. value.now) result
+        ≡ option_or (flag_value flag.now (lists_of args.now)) (text_value name.now (variables_of vars.now)) }
+{
+    match flag_value(args, flag) {
+        Some(value) => Some(value),
+        None => text_value(vars, name),
+    }
+}
+
+// What follows a flag, in the first argument that is text and begins with it.
+#[tactic(auto, unfolding(crate::specs::ExtraFiles::flag_value))]
+fn flag_value<'a>(args: &'a [Vec<u8>], flag: &[u8]) -> Option<&'a [u8]>
+    ensures { option_map (λ value. value.now) result ≡ flag_value flag.now (lists_of args.now) }
+{
+    for arg in args {
+        if let Some(value) = behind_flag(arg, flag) {
+            return Some(value);
+        }
+    }
+    None
+}
+
+// What follows a flag in an argument, if that is text and begins with it.
+fn behind_flag<'a>(arg: &'a [u8], flag: &[u8]) -> Option<&'a [u8]>
+    ensures { option_map (λ value. value.now) result
+        ≡ (if has_flag flag.now arg.now then Some (drop (length flag.now) arg.now) else None) }
+{
+    if !is_text(arg) {
+        return None;
+    }
+    arg.strip_prefix(flag)
+}
+
+// The value of the first variable of a name whose value is text.
+#[tactic(auto, unfolding(crate::specs::ExtraFiles::text_value))]
+fn text_value<'a>(vars: &'a [(Vec<u8>, Vec<u8>)], name: &[u8]) -> Option<&'a [u8]>
+    ensures { option_map (λ value. value.now) result ≡ text_value name.now (variables_of vars.now) }
+{
+    for (known, value) in vars {
+        if known.as_slice() == name && is_text(value) {
+            return Some(value.as_slice());
+        }
+    }
+    None
+}
+
+// Whether these bytes are text.
+fn is_text(bytes: &[u8]) -> bool
+    ensures { result ≡ is_utf8 bytes.now }
+{
+    str::from_utf8(bytes).is_ok()
+}
+
+// Puts the paths of the device libraries in a folder behind the others. Where it can't be listed,
+// but for a fault or lack of memory, there are none.
+fn push_libraries<F: Files>(
+    alloc: Global,
+    files: &mut F,
+    all: &mut Vec<Vec<u8>>,
+    folder: &[u8],
+) -> Result<(), KeyError>
+    ensures keeps { Keeps F.file_map F.faults F.is_quiet files.old files.new }
+    ensures pushed { OnOk result (lists_of all.new.items
+        ≡ lists_of all.old.items ++ libraries (F.file_map files.old) folder.now) }
+    ensures refused { IfErr result (λ e. (e ≡ KeyError.Memory)
+        ⊎ IsFileFault e (Rose (F.faults files.old) (F.faults files.new))) }
+{
+    match sorted_names(alloc, files, folder) {
+        Ok(names) => push_listed(alloc, all, folder, &names),
+        Err(error) => match error {
+            FileError::Memory => Err(KeyError::Memory),
+            FileError::Fault => Err(KeyError::Extra(UtilError::File(FileError::Fault))),
+            _ => Ok(()),
+        },
+    }
+}
+
+// Puts the paths of those of these names in a folder that are libraries behind the others.
+fn push_listed(
+    alloc: Global,
+    all: &mut Vec<Vec<u8>>,
+    folder: &[u8],
+    names: &[Vec<u8>],
+) -> Result<(), KeyError>
+    ensures pushed { OnOk result (lists_of all.new.items
+        ≡ lists_of all.old.items ++ map (joined_text folder.now) (filter is_library (lists_of names.now))) }
+    ensures refused { IsOkUnless result KeyError.Memory }
+{
+    for name in names {
+        if is_library(name) {
+            all.push(joined(alloc, folder, name)?)?;
+        }
+    }
+    Ok(())
+}
+
+// Whether the extension of a name is `bc`.
+#[tactic(auto, unfolding(crate::specs::ExtraFiles::is_library))]
+fn is_library(name: &[u8]) -> bool
+    ensures { result ≡ is_library name.now }
+{
+    match extension(name) {
+        Some(extension) => extension == b"bc".as_slice(),
+        None => false,
+    }
+}
+
+// A path as seen from another.
+fn joined(alloc: Global, base: &[u8], path: &[u8]) -> Result<Vec<u8>, KeyError>
+    ensures bytes { IfOk result (λ whole. whole.items ≡ joined_text base.now path.now) }
+    ensures refused { IsOkUnless result KeyError.Memory }
+{
+    match join_path(alloc, base, path) {
+        Ok(whole) => Ok(whole),
+        Err(_) => Err(KeyError::Memory),
+    }
+}

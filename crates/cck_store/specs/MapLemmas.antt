@@ -1,0 +1,138 @@
+-- A store in memory keeps what is promised of stores.
+use Rattle.std.proofs.Common.{◌≡◌, ◌⊎◌, inl, inr, ◌≤◌, ◌==◌, Bool, true, false, cond, List, [], refl, sym, ap, ◌∙◌, subst, arith, Some, Ok, Err}
+use Rattle.std.specs.Cmp.Lexicographic.{nat_list_cmp_total}
+use Rattle.std.specs.FinMap.{nat_cmp-IsAntisymmetric, slice_cmp-IsAntisymmetric}
+use Rattle.std.specs.FinMap.Entries.{find, find-put, put}
+use Rattle.std.specs.Ordering.{eq_by_cmp, is_eq}
+use Rattle.std.specs.Cmp.{tied_itself, Equal-is}
+use Rattle.std.proofs.lemmas.Option.{none-some, same_Some}
+use Rattle.cck_path.specs.Bytes.{Bytes}
+use Rattle.cck_files.specs.Calls.{Rose}
+use Rattle.cck_files.proofs.CallsLemmas.{rose_earlier}
+use Rattle.cck_path.specs.TextOrder.{text_cmp}
+use Rattle.cck_store.specs.Counts.{more_higher, more_rises}
+use Rattle.cck_store.specs.MapStore.{IsGot, IsPut, State, begun, map_store, set_back}
+use Rattle.cck_store.specs.Store.{Handed, StoreLaws, Stored, more}
+use Rattle.cck_store.specs.declared.store.StoreError.{StoreError}
+use Rattle.cck_store.specs.declared.store.StoreError.TheVariants as store
+
+-- ---- counts
+
+begun_higher : (s : State) → s.setbacks ≤ (begun s).setbacks
+begun_higher s = by (s.forget == 1)
+  where
+    by : (b : Bool) → s.setbacks ≤ cond b (more s.setbacks) s.setbacks
+    by true = more_higher s.setbacks
+    by false = omega arith
+
+set_back_rises : (s : State) → Rose s.setbacks (set_back (begun s)).setbacks
+set_back_rises s = rose_earlier s.setbacks (begun s).setbacks (more (begun s).setbacks) (begun_higher s) (more_rises (begun s).setbacks)
+
+set_back_higher : (s : State) → s.setbacks ≤ (set_back (begun s)).setbacks
+set_back_higher s = let up = begun_higher s in let on = more_higher (begun s).setbacks in omega (arith, up, on)
+
+-- ---- what is held
+
+-- what is held when a call has begun was held before
+begun_held : (s : State) (k x : Bytes) → find text_cmp k (begun s).pairs ≡ Some x → find text_cmp k s.pairs ≡ Some x
+begun_held s k x h = by (s.forget == 1) h
+  where
+    by : (b : Bool) → find text_cmp k (cond b [] s.pairs) ≡ Some x → find text_cmp k s.pairs ≡ Some x
+    by true h = absurd cc
+    by false h = h
+
+-- without a setback all of it is
+begun_calm : (s : State) (t : State) → t.setbacks ≡ (begun s).setbacks → (Rose s.setbacks t.setbacks → ⊥) → (begun s).pairs ≡ s.pairs
+begun_calm s t is calm = by (s.forget == 1) is
+  where
+    by : (b : Bool) → t.setbacks ≡ cond b (more s.setbacks) s.setbacks → cond b [] s.pairs ≡ s.pairs
+    by true is = absurd (calm (subst (Rose s.setbacks) (sym is) (more_rises s.setbacks)))
+    by false is = refl
+
+same_text : (k key : Bytes) → eq_by_cmp text_cmp k key ≡ true → k ≡ key
+same_text k key e = slice_cmp-IsAntisymmetric nat_cmp-IsAntisymmetric k key ((Equal-is (text_cmp k key)).0 e)
+
+found_own : (key bytes : Bytes) (ps : List (Bytes × Bytes)) → find text_cmp key (put text_cmp key bytes ps) ≡ Some bytes
+found_own key bytes ps =
+    find-put text_cmp nat_list_cmp_total key key bytes ps
+    ∙ ap (λ o. cond (is_eq o) (Some bytes) (find text_cmp key ps)) (tied_itself nat_list_cmp_total key)
+
+found_other : (k x key bytes : Bytes) (ps : List (Bytes × Bytes)) → find text_cmp k (put text_cmp key bytes ps) ≡ Some x → (find text_cmp k ps ≡ Some x) ⊎ ((k ≡ key) × (x ≡ bytes))
+found_other k x key bytes ps h = by (eq_by_cmp text_cmp k key) refl (sym (find-put text_cmp nat_list_cmp_total k key bytes ps) ∙ h)
+  where
+    by : (b : Bool) → eq_by_cmp text_cmp k key ≡ b → cond b (Some bytes) (find text_cmp k ps) ≡ Some x → (find text_cmp k ps ≡ Some x) ⊎ ((k ≡ key) × (x ≡ bytes))
+    by true tied is = inr (same_text k key tied, cc)
+    by false tied is = inl is
+
+found_apart : (k x key bytes : Bytes) (ps : List (Bytes × Bytes)) → (k ≡ key → ⊥) → find text_cmp k ps ≡ Some x → find text_cmp k (put text_cmp key bytes ps) ≡ Some x
+found_apart k x key bytes ps apart h = find-put text_cmp nat_list_cmp_total k key bytes ps ∙ by (eq_by_cmp text_cmp k key) refl
+  where
+    by : (b : Bool) → eq_by_cmp text_cmp k key ≡ b → cond b (Some bytes) (find text_cmp k ps) ≡ Some x
+    by true tied = absurd (apart (same_text k key tied))
+    by false tied = h
+
+-- ---- the laws
+
+module _ (s t : State) where
+  got_count : (key : Bytes) (a : Handed) → IsGot s key a t → s.setbacks ≤ t.setbacks
+  got_count key (Err store.Fault) g = rw (g.1) (set_back_higher s)
+  got_count key (Err store.Memory) g = rw (g.1) (set_back_higher s)
+  got_count key (Ok found) g = rw (g.2) (begun_higher s)
+
+  got_old : (key : Bytes) (a : Handed) → IsGot s key a t → (k x : Bytes) → find text_cmp k t.pairs ≡ Some x → find text_cmp k s.pairs ≡ Some x
+  got_old key (Err store.Fault) g k x h = begun_held s k x (ap (λ v. find text_cmp k v.pairs) (sym g.1) ∙ h)
+  got_old key (Err store.Memory) g k x h = begun_held s k x (ap (λ v. find text_cmp k v.pairs) (sym g.1) ∙ h)
+  got_old key (Ok found) g k x h = begun_held s k x (ap (λ v. find text_cmp k v.pairs) (sym g.2) ∙ h)
+
+  got_calm : (key : Bytes) (a : Handed) → IsGot s key a t → (Rose s.setbacks t.setbacks → ⊥) → (k x : Bytes) → find text_cmp k s.pairs ≡ Some x → find text_cmp k t.pairs ≡ Some x
+  got_calm key (Err store.Fault) g calm k x h = absurd (calm (subst (λ v. Rose s.setbacks v.setbacks) (sym g.1) (set_back_rises s)))
+  got_calm key (Err store.Memory) g calm k x h = absurd (calm (subst (λ v. Rose s.setbacks v.setbacks) (sym g.1) (set_back_rises s)))
+  got_calm key (Ok found) g calm k x h = ap (λ v. find text_cmp k v.pairs) g.2 ∙ ap (find text_cmp k) (begun_calm s t (ap (λ v. v.setbacks) g.2) calm) ∙ h
+
+  put_count : (key bytes : Bytes) (a : Stored) → IsPut s key bytes a t → s.setbacks ≤ t.setbacks
+  put_count key bytes (Err store.Fault) p = rw (p.1) (set_back_higher s)
+  put_count key bytes (Err store.Memory) p = rw (p.1) (set_back_higher s)
+  put_count key bytes (Ok done) p = rw (p.1) (begun_higher s)
+
+  put_old : (key bytes : Bytes) (a : Stored) → IsPut s key bytes a t → (k x : Bytes) → find text_cmp k t.pairs ≡ Some x → (find text_cmp k s.pairs ≡ Some x) ⊎ ((k ≡ key) × (x ≡ bytes))
+  put_old key bytes (Err store.Fault) p k x h = inl (begun_held s k x (ap (λ v. find text_cmp k v.pairs) (sym p.1) ∙ h))
+  put_old key bytes (Err store.Memory) p k x h = inl (begun_held s k x (ap (λ v. find text_cmp k v.pairs) (sym p.1) ∙ h))
+  put_old key bytes (Ok done) p k x h =
+      elim (found_other k x key bytes (begun s).pairs (ap (λ v. find text_cmp k v.pairs) (sym p.1) ∙ h)) [ inl old ↦ inl (begun_held s k x old) | inr own ↦ inr own ]
+
+  put_calm : (key bytes : Bytes) (a : Stored) → IsPut s key bytes a t → (Rose s.setbacks t.setbacks → ⊥) → (k x : Bytes) → (k ≡ key → ⊥) → find text_cmp k s.pairs ≡ Some x → find text_cmp k t.pairs ≡ Some x
+  put_calm key bytes (Err store.Fault) p calm k x apart h = absurd (calm (subst (λ v. Rose s.setbacks v.setbacks) (sym p.1) (set_back_rises s)))
+  put_calm key bytes (Err store.Memory) p calm k x apart h = absurd (calm (subst (λ v. Rose s.setbacks v.setbacks) (sym p.1) (set_back_rises s)))
+  put_calm key bytes (Ok done) p calm k x apart h =
+      ap (λ v. find text_cmp k v.pairs) p.1
+      ∙ found_apart k x key bytes (begun s).pairs apart (ap (find text_cmp k) (begun_calm s t (ap (λ v. v.setbacks) p.1) calm) ∙ h)
+
+  put_new : (key bytes : Bytes) (a : Stored) → IsPut s key bytes a t → (Rose s.setbacks t.setbacks → ⊥) → find text_cmp key t.pairs ≡ Some bytes
+  put_new key bytes (Err store.Fault) p calm = absurd (calm (subst (λ v. Rose s.setbacks v.setbacks) (sym p.1) (set_back_rises s)))
+  put_new key bytes (Err store.Memory) p calm = absurd (calm (subst (λ v. Rose s.setbacks v.setbacks) (sym p.1) (set_back_rises s)))
+  put_new key bytes (Ok done) p calm = ap (λ v. find text_cmp key v.pairs) p.1 ∙ found_own key bytes (begun s).pairs
+
+  got_error : (key : Bytes) (e : StoreError) → IsGot s key (Err e) t → Rose s.setbacks t.setbacks
+  got_error key store.Fault g = subst (λ v. Rose s.setbacks v.setbacks) (sym g.1) (set_back_rises s)
+  got_error key store.Memory g = subst (λ v. Rose s.setbacks v.setbacks) (sym g.1) (set_back_rises s)
+
+  put_error : (key bytes : Bytes) (e : StoreError) → IsPut s key bytes (Err e) t → Rose s.setbacks t.setbacks
+  put_error key bytes store.Fault p = subst (λ v. Rose s.setbacks v.setbacks) (sym p.1) (set_back_rises s)
+  put_error key bytes store.Memory p = subst (λ v. Rose s.setbacks v.setbacks) (sym p.1) (set_back_rises s)
+
+pub map_store_laws : StoreLaws map_store
+map_store_laws = record {
+  got_count = got_count;
+  got_old = got_old;
+  got_some = λ s t key bytes g. begun_held s key bytes (sym g.1);
+  got_calm = got_calm;
+  got_none = λ s t key g calm b held. (none-some _ (g.1 ∙ ap (find text_cmp key) (begun_calm s t (ap (λ v. v.setbacks) g.2) calm) ∙ held));
+  got_error = got_error;
+  put_count = put_count;
+  put_old = put_old;
+  put_calm = put_calm;
+  put_new = λ s t key bytes a p calm.
+      let own = put_new s t key bytes a p calm in
+      (own, λ x h. same_Some x bytes (sym h ∙ own));
+  put_error = put_error;
+}

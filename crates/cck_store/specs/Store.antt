@@ -1,0 +1,52 @@
+-- stores, by what they hold and what their calls do
+use Rattle.std.specs.Prelude.{◌≡◌, ◌⊎◌, ℕ, ◌+◌, ◌≤◌, nat_lt, if◌then◌else◌, Option, Some, None, Result, Ok, Err}
+use Rattle.std.specs.Global.{Vec}
+use Rattle.cck_path.specs.Bytes.{Bytes}
+use Rattle.cck_files.specs.Calls.{Rose}
+use Rattle.cck_store.specs.declared.store.StoreError.{StoreError}
+
+-- what a store hands out, and what it says to a put
+abbrev pub Handed : Type 0
+Handed = Result (Option Bytes) StoreError
+
+abbrev pub Stored : Type 0
+Stored = Result (Unit {0}) StoreError
+
+abbrev pub handed_in : Result (Option (Vec ℕ)) StoreError → Handed
+handed_in (Err e) = Err e
+handed_in (Ok None) = Ok None
+handed_in (Ok (Some bytes)) = Ok (Some bytes.items)
+
+-- which bytes are held under a key, how many setbacks came, and what a get and a put do, with their answers
+pub record Store (S : Type 0) : Type 1 where
+  pub held : S → Bytes → Bytes → Type 0
+  pub setbacks : S → ℕ
+  pub got : S → Bytes → Handed → S → Type 0
+  pub put : S → Bytes → Bytes → Stored → S → Type 0
+
+-- one more, up to the greatest number of 64 bits
+unfoldable pub more : ℕ → ℕ
+more n = if nat_lt n 18446744073709551615 then n + 1 else n
+
+-- a setback came between two states
+abbrev pub Setback : {S : Type 0} → Store S → S → S → Type 0
+Setback st s t = Rose (st.setbacks s) (st.setbacks t)
+
+-- under the key these bytes are held, and no other
+abbrev pub HoldsOnly : {S : Type 0} → Store S → S → Bytes → Bytes → Type 0
+HoldsOnly st s key bytes = st.held s key bytes × ((others : Bytes) → st.held s key others → others ≡ bytes)
+
+-- What is promised of a store: it never hands out what wasn't put under the key. It may forget, fail and run out of memory, and each
+-- time counts as a setback. Without one a get changes nothing and finds what is held, and a put changes what its own key holds.
+pub record StoreLaws {S : Type 0} (st : Store S) : Type 0 where
+  pub got_count : (s t : S) (key : Bytes) (answer : Handed) → st.got s key answer t → st.setbacks s ≤ st.setbacks t
+  pub got_old : (s t : S) (key : Bytes) (answer : Handed) → st.got s key answer t → (k b : Bytes) → st.held t k b → st.held s k b
+  pub got_some : (s t : S) (key bytes : Bytes) → st.got s key (Ok (Some bytes)) t → st.held s key bytes
+  pub got_calm : (s t : S) (key : Bytes) (answer : Handed) → st.got s key answer t → (Setback st s t → ⊥) → (k b : Bytes) → st.held s k b → st.held t k b
+  pub got_none : (s t : S) (key : Bytes) → st.got s key (Ok None) t → (Setback st s t → ⊥) → (b : Bytes) → st.held s key b → ⊥
+  pub got_error : (s t : S) (key : Bytes) (e : StoreError) → st.got s key (Err e) t → Setback st s t
+  pub put_count : (s t : S) (key bytes : Bytes) (answer : Stored) → st.put s key bytes answer t → st.setbacks s ≤ st.setbacks t
+  pub put_old : (s t : S) (key bytes : Bytes) (answer : Stored) → st.put s key bytes answer t → (k b : Bytes) → st.held t k b → st.held s k b ⊎ ((k ≡ key) × (b ≡ bytes))
+  pub put_calm : (s t : S) (key bytes : Bytes) (answer : Stored) → st.put s key bytes answer t → (Setback st s t → ⊥) → (k b : Bytes) → (k ≡ key → ⊥) → st.held s k b → st.held t k b
+  pub put_new : (s t : S) (key bytes : Bytes) (answer : Stored) → st.put s key bytes answer t → (Setback st s t → ⊥) → HoldsOnly st t key bytes
+  pub put_error : (s t : S) (key bytes : Bytes) (e : StoreError) → st.put s key bytes (Err e) t → Setback st s t

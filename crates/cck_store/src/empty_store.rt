@@ -1,0 +1,59 @@
+//! A store that keeps nothing.
+ghost use Rattle.std.specs.Prelude.{◌≡◌};
+
+use crate::store::{PreprocessorStore, StoreError, one_more};
+use std::alloc::Global;
+use std::marker::Model;
+
+/// A store that keeps nothing, for a caller who wants keys and no cache of them: each get finds
+/// nothing, and each put fails, which is a setback. No call takes memory.
+#[derive(Debug, Drop)]
+pub struct EmptyStore {
+    setbacks: u64,
+}
+
+impl Model for EmptyStore {
+    ghost use Rattle.std.specs.Prelude.{ℕ};
+
+    ghost Value = { ℕ };
+
+    ghost view = { λ a. a.setbacks };
+
+    ghost inverse = { λ n. record { setbacks = n } };
+}
+
+impl EmptyStore {
+    /// The store, without a setback so far.
+    pub fn new() -> EmptyStore
+        ensures { result ≡ 0 }
+    {
+        EmptyStore { setbacks: 0 }
+    }
+}
+
+impl PreprocessorStore for EmptyStore {
+    ghost use Rattle.cck_store.specs.EmptyStore.{empty_store};
+    ghost use Rattle.cck_store.specs.EmptyLemmas.{empty_store_laws};
+
+    ghost store = { empty_store };
+
+    fn get_preprocessor_cache_entry(
+        &mut self,
+        _: Global,
+        _: &str,
+    ) -> Result<Option<Vec<u8>>, StoreError> {
+        Ok(None)
+    }
+
+    fn put_preprocessor_cache_entry(
+        &mut self,
+        _: Global,
+        _: &str,
+        _: &[u8],
+    ) -> Result<(), StoreError> {
+        self.setbacks = one_more(self.setbacks);
+        Err(StoreError::Fault)
+    }
+
+    ghost laws = { empty_store_laws };
+}

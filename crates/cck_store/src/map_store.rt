@@ -1,0 +1,179 @@
+//! A store in memory.
+ghost use Rattle.std.specs.Prelude.{◌≡◌, ◌==◌, [], if◌then◌else◌, OnErr, OnOk};
+ghost use Rattle.std.specs.FinMap.Entries.{find, put};
+ghost use Rattle.std.specs.Option.{option_map};
+ghost use Rattle.cck_path.specs.TextOrder.{text_cmp};
+ghost use Rattle.cck_store.specs.MapStore.{begun, set_back};
+ghost use Rattle.cck_store.specs.Store.{more};
+
+use crate::store::{PreprocessorStore, StoreError, one_more};
+use std::alloc::{AllocError, Global};
+use std::collections::BTreeMap;
+use std::marker::Model;
+
+/// A store in memory: it keeps the newest bytes of each key.
+///
+/// One of its following gets and puts may be armed to forget all that is held when it begins, and
+/// one to fail. Each of these is a setback, and so is a growth of memory that is refused; nothing
+/// else is. The count of setbacks is a `u64` and stays at `u64::MAX`.
+#[derive(Debug, Drop)]
+pub struct MapStore {
+    alloc: Global,
+    pairs: BTreeMap<String, Vec<u8>>,
+    setbacks: u64,
+    forget: u64,
+    fail: u64,
+}
+
+impl Model for MapStore {
+    ghost use Rattle.std.specs.Prelude.{map};
+    ghost use Rattle.std.specs.BTreeMap.{IsOrdered};
+    ghost use Rattle.std.specs.String.{string_cmp};
+    ghost use Rattle.cck_store.specs.MapStore.{State, coded_state, pair_of};
+
+    ghost Value = { State };
+
+    ghost coded = { coded_state };
+
+    ghost view = { λ a. record { pairs = map pair_of a.pairs.entries; setbacks = a.setbacks; forget = a.forget; fail = a.fail } };
+
+    ghost invariant = { λ a. IsOrdered string_cmp a.pairs };
+}
+
+impl MapStore {
+    /// A store that holds nothing, without a setback so far, and with no call armed. It keeps the
+    /// allocator, and takes no memory.
+    pub fn new(alloc: Global) -> MapStore
+        ensures { result ≡ record { pairs = []; setbacks = 0; forget = 0; fail = 0 } }
+    {
+        MapStore {
+            alloc,
+            pairs: BTreeMap::new(alloc),
+            setbacks: 0,
+            forget: 0,
+            fail: 0,
+        }
+    }
+
+    /// The bytes that are held under a key, if there are any. It is no get, and takes no memory.
+    pub fn held(&self, key: &str) -> Option<&[u8]>
+        ensures { option_map (λ b. b.now) result ≡ find text_cmp key.now self.now.pairs }
+    {
+        match self.pairs.get(key) {
+            Some(bytes) => Some(bytes.as_slice()),
+            None => None,
+        }
+    }
+
+    /// Makes the nth of the following gets and puts, counted from 1, forget all that is held when
+    /// it begins, and that one alone. What was armed before no longer counts, and 0 arms none.
+    pub fn forget_at(&mut self, n: u64)
+        ensures { self.new ≡ record self.old { forget = n } }
+    {
+        self.forget = n;
+    }
+
+    /// Makes the nth of the following gets and puts, counted from 1, a [`StoreError::Fault`] that
+    /// hands out and puts nothing, and that one alone. What was armed before no longer counts, and
+    /// 0 arms none. A call that is armed to forget as well forgets first.
+    pub fn fail_at(&mut self, n: u64)
+        ensures { self.new ≡ record self.old { fail = n } }
+    {
+        self.fail = n;
+    }
+
+    // Holds a copy of these bytes under a key, in place of what it has.
+    fn keep(&mut self, key: &str, bytes: &[u8]) -> Result<(), AllocError>
+        ensures kept { OnOk result (self.new ≡ record self.old {
+          pairs = put text_cmp key.now bytes.now self.old.pairs;
+        }) }
+        ensures refused { OnErr result (self.new ≡ self.old) }
+    {
+        let key = String::from_str(self.alloc, key)?;
+        let bytes = bytes.to_vec(self.alloc)?;
+        match self.pairs.insert(key, bytes) {
+            Ok(_) => Ok(()),
+            Err(_) => Err(AllocError),
+        }
+    }
+
+    // Counts a setback.
+    fn set_back(&mut self)
+        ensures { self.new ≡ set_back self.old }
+    {
+        self.setbacks = one_more(self.setbacks);
+    }
+
+    // Forgets all, where the call that begins is the one that does.
+    fn forget_if_told(&mut self)
+        ensures { self.new ≡ record self.old {
+          pairs = if self.old.forget == 1 then [] else self.old.pairs;
+          setbacks = if self.old.forget == 1 then more self.old.setbacks else self.old.setbacks;
+        } }
+    {
+        if self.forget == 1 {
+            self.pairs.clear();
+            self.set_back();
+        }
+    }
+
+    // Begins a get or a put, and says whether it fails.
+    fn begin(&mut self) -> bool
+        ensures fails { result ≡ (self.old.fail == 1) }
+        ensures after { self.new ≡ (if self.old.fail == 1 then set_back (begun self.old) else begun self.old) }
+    {
+        self.forget_if_told();
+        let fails = self.fail == 1;
+        self.forget = self.forget.saturating_sub(1);
+        self.fail = self.fail.saturating_sub(1);
+        if fails {
+            self.set_back();
+        }
+        fails
+    }
+}
+
+impl PreprocessorStore for MapStore {
+    ghost use Rattle.cck_store.specs.MapStore.{map_store};
+    ghost use Rattle.cck_store.specs.MapLemmas.{map_store_laws};
+
+    ghost store = { map_store };
+
+    fn get_preprocessor_cache_entry(
+        &mut self,
+        alloc: Global,
+        key: &str,
+    ) -> Result<Option<Vec<u8>>, StoreError> {
+        if self.begin() {
+            return Err(StoreError::Fault);
+        }
+        let Some(bytes) = self.held(key) else {
+            return Ok(None);
+        };
+        match bytes.to_vec(alloc) {
+            Ok(copy) => Ok(Some(copy)),
+            Err(_) => {
+                self.set_back();
+                Err(StoreError::Memory)
+            }
+        }
+    }
+
+    fn put_preprocessor_cache_entry(
+        &mut self,
+        alloc: Global,
+        key: &str,
+        bytes: &[u8],
+    ) -> Result<(), StoreError> {
+        if self.begin() {
+            return Err(StoreError::Fault);
+        }
+        if self.keep(key, bytes).is_err() {
+            self.set_back();
+            return Err(StoreError::Memory);
+        }
+        Ok(())
+    }
+
+    ghost laws = { map_store_laws };
+}
