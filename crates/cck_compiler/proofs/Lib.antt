@@ -3,4 +3,5 @@ pub mod ArgumentExamples
 pub mod CopyLemmas
 pub mod ExtraFiles
 pub mod FileExamples
+pub mod ListLemmas
 pub mod Outputs

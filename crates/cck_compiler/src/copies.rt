@@ -3,12 +3,11 @@ ghost use Rattle.std.specs.Prelude.{◌≡◌, IfOk, IsOkUnless, OnOk, map, stri
 ghost use Rattle.std.specs.BTreeMap.{insert_entry};
 ghost use Rattle.std.specs.Option.{option_map};
 ghost use Rattle.std.specs.String.{string_cmp};
-ghost use Rattle.cck_path.specs.Bytes.{lists_of};
 ghost use Rattle.cck_compiler.specs.Seen.{arguments_of, output_of};
 
 use crate::arguments::{ArtifactDescriptor, ParsedArguments};
 use crate::error::KeyError;
-use crate::lists::push_copies;
+use crate::lists::copy_lists;
 use std::alloc::Global;
 use std::collections::BTreeMap;
 
@@ -74,16 +73,6 @@ fn copy_option(alloc: Global, bytes: &Option<Vec<u8>>) -> Result<Option<Vec<u8>>
         Some(bytes) => Ok(Some(bytes.to_vec(alloc)?)),
         None => Ok(None),
     }
-}
-
-// The same byte strings.
-fn copy_lists(alloc: Global, lists: &[Vec<u8>]) -> Result<Vec<Vec<u8>>, KeyError>
-    ensures value { IfOk result (λ copies. lists_of copies.items ≡ lists_of lists.now) }
-    ensures refused { IsOkUnless result KeyError.Memory }
-{
-    let mut copies = Vec::new(alloc);
-    push_copies(alloc, &mut copies, lists)?;
-    Ok(copies)
 }
 
 // The same outputs by their names.

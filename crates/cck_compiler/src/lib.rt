@@ -30,7 +30,7 @@ pub use arguments::{ArtifactDescriptor, ColorMode, ParsedArguments};
 pub use compiler::{CCompilerImpl, CCompilerKind, CompilerArguments};
 pub use error::{KeyError, PreprocessError};
 pub use extra_files::add_extra_files;
-pub use lists::push_copies;
+pub use lists::{copy_lists, push_copies};
 
 #[cfg(test)]
 mod tests;

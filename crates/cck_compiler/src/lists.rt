@@ -1,7 +1,8 @@
-//! Lists of byte strings.
-ghost use Rattle.std.specs.Prelude.{◌≡◌, ◌++◌, IfErr, OnOk};
+//! Lists of byte strings, copied.
+ghost use Rattle.std.specs.Prelude.{◌≡◌, ◌++◌, IfOk, IsOkUnless, OnOk};
 ghost use Rattle.cck_path.specs.Bytes.{lists_of};
 
+use crate::error::KeyError;
 use std::alloc::{AllocError, Global};
 
 /// Puts copies of these behind the others. After a refusal some of them may stand there.
@@ -16,4 +17,14 @@ pub fn push_copies(
         all.push(bytes.to_vec(alloc)?)?;
     }
     Ok(())
+}
+
+/// The same byte strings, in memory of their own.
+///
+/// It is refused only for lack of memory, as [`KeyError::Memory`].
+pub fn copy_lists(alloc: Global, lists: &[Vec<u8>]) -> Result<Vec<Vec<u8>>, KeyError>
+    ensures same { IfOk result (λ copies. lists_of copies.items ≡ lists_of lists.now) }
+    ensures refused { IsOkUnless result KeyError.Memory }
+{
+    Ok(lists.to_vec(alloc)?)
 }

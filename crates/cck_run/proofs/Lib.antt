@@ -1,3 +1,0 @@
-pub mod CopyLemmas
-pub mod ExecutableLemmas
-pub mod MadeLemmas

@@ -1,7 +1,0 @@
-pub mod Engine
-pub mod KeyRequest
-pub mod Made
-pub mod MiniCompiler
-pub mod Request
-pub mod Run
-pub mod Status

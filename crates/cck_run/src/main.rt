@@ -2,22 +2,16 @@
 //!
 //! `cck key DIGEST LANGUAGE [ARG..]` reads a preprocessed text from standard input and prints the
 //! key of the object that a compiler with this digest makes of it. `cck run` reads a script of
-//! calls from standard input ([`cck_script`]), makes them in their order over files and a store in
-//! memory, and prints the answer of each on a line of its own. All that is printed, errors too,
-//! goes to standard output. `main` only hands the words and the standard streams to
-//! [`engine`](engine::engine), which is what the theorems speak of.
+//! calls from standard input, makes them in their order over files and a store in memory, and
+//! prints the answer of each on a line of its own. All that is printed, errors too, goes to
+//! standard output. `main` only hands the words and the standard streams to [`engine`], which is
+//! what the theorems speak of.
 #![tactic(auto)]
 
-mod answers;
-mod engine;
-mod failed;
-mod mini_compiler;
-mod request;
-mod run;
-mod status;
 #[cfg(test)]
 mod tests;
 
+use cck_command::{engine, refuse};
 use cck_util::Sha256State;
 use std::env;
 use std::io::ErrorKind;
@@ -34,10 +28,8 @@ fn main(rt: HostRuntime) -> ExitCode {
         Err(_) => None,
     };
     let status = match words {
-        Some(words) => {
-            engine::engine::<Sha256State, _, _>(alloc, &words, &mut reader, &mut writer)
-        }
-        None => engine::refuse(&mut writer),
+        Some(words) => engine::<Sha256State, _, _>(alloc, &words, &mut reader, &mut writer),
+        None => refuse(&mut writer),
     };
     ExitCode::from(status.code())
 }

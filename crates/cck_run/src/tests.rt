@@ -3,8 +3,7 @@ mod compiler;
 mod run;
 mod scripts;
 
-use crate::engine::engine;
-use crate::status::Status;
+use cck_command::{Status, engine};
 use cck_util::Sha256State;
 use std::alloc::{AllocError, Global};
 use std::io;

@@ -1,8 +1,8 @@
 //! The compiler of `run`.
-use crate::mini_compiler::MiniCompiler;
 use c_cache_keys::{
     CCompilerImpl, CCompilerKind, CompilerArguments, KeyError, ParsedArguments, PreprocessError,
 };
+use cck_command::MiniCompiler;
 use cck_files::{MapFiles, Node};
 use cck_path::{FileKind, Timestamp};
 use cck_util::Language;

@@ -1,7 +1,6 @@
 //! Scripts, through the engine.
 use super::words_of;
-use crate::engine::engine;
-use crate::status::Status;
+use cck_command::{Status, engine};
 use cck_util::Sha256State;
 use std::alloc::{AllocError, Global};
 use std::process::Abort;

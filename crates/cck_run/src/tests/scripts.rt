@@ -1,8 +1,7 @@
 //! Scripts of wrong lines, long scripts, and readers and writers that fail on a script.
 use super::run::{FILES, KEY, expect_run};
 use super::{FailingReader, FailingWriter, REFUSED, words_of};
-use crate::engine::engine;
-use crate::status::Status;
+use cck_command::{Status, engine};
 use cck_util::Sha256State;
 use std::alloc::AllocError;
 

@@ -1,0 +1,2 @@
+pub mod ExecutableLemmas
+pub mod MadeLemmas

@@ -1,0 +1,170 @@
+-- Calls of a script, made line by line.
+use Rattle.std.proofs.Common.{◌≡◌, ◌+◌, ◌<◌, ◌^◌, ℤ, List, [], ◌∷◌, ◌++◌, append_assoc, refl, ap, subst, sym, ◌∙◌, arith, ℕ, zero, suc, take, drop, length}
+use Rattle.std.specs.List.{AllZip, flat_map}
+use Rattle.std.specs.Option.{option_to_list}
+use Rattle.std.proofs.Math.Seq.{take-nil}
+use Rattle.std.proofs.lemmas.Grind.{flat_map-append}
+use Rattle.std.proofs.lemmas.List.{append-nil, length_push}
+use Rattle.cck_path.specs.Bytes.{Bytes}
+use Rattle.jiff.specs.Types.{Offset, TimeZone}
+use Rattle.jiff.specs.Words.{fixed_zone}
+use Rattle.cck_files.specs.FileState.{FileState, IsQuiet, fault_count}
+use Rattle.cck_script.specs.Calls.{call_said, asked_behind, asked_calls}
+use Rattle.cck_script.specs.Calls as script
+use Rattle.cck_script.specs.Lines.{Line}
+use Rattle.cck_script.specs.Script.{basedirs_of, zone_of}
+use Rattle.cck_script.specs.Surroundings.{AreAfter}
+use Rattle.cck_script.specs.declared.surroundings.Surroundings.{Surroundings}
+use Rattle.cck_time.specs.Config.{activated}
+use Rattle.cck_time.specs.declared.config.PreprocessorCacheModeConfig.{PreprocessorCacheModeConfig}
+use Rattle.c_cache_keys.proofs.Runs.{run_joined}
+use Rattle.c_cache_keys.specs.Call.{Answer}
+use Rattle.c_cache_keys.specs.Calls.{IsAfter, done_all, done_in}
+use Rattle.cck_store.specs.MapStore.{State, map_store}
+use Rattle.c_cache_keys.specs.Step.{Run}
+use Rattle.c_cache_keys.specs.World.{World, world_of}
+use Rattle.c_cache_keys.specs.declared.c_compiler.CCompiler.{CCompiler}
+use Rattle.c_cache_keys.specs.declared.calls.Call.{Call}
+use Rattle.cck_command.specs.MiniCompiler.{mini_compiler}
+use Rattle.cck_command.specs.Made.{AreMade, IsReady, IsRunCompiler}
+use Rattle.cck_command.specs.Run.{IsDone, Ran, answer_line, armed_by}
+use Rattle.cck_command.specs.declared.mini_compiler.MiniCompiler.{MiniCompiler}
+
+-- ---- one call
+
+abbrev pub IsCallAfter : Call MiniCompiler FileState → Call MiniCompiler FileState → Type 0
+IsCallAfter = IsAfter (λ (s : FileState). s.files) fault_count IsQuiet
+
+calm : (c : CCompiler MiniCompiler) (asked : script.AskedCall) (old new : Call MiniCompiler FileState) → IsReady c asked old → IsCallAfter old new → (fault_count old.files ≡ 0) × (fault_count new.files ≡ 0)
+calm c asked old new ready after =
+    let before : fault_count old.files ≡ 0 = rw ready.no_fault refl in
+    let room : fault_count old.files + 1 < 2 ^ 64 = rw before (omega arith) in
+    (before, after.keeps.stays_calm (ready.unarmed, room) ∙ before)
+
+one_done : (hash : Bytes → Bytes) (zone : ℤ) (c : CCompiler MiniCompiler) (asked : script.AskedCall) (old new : Call MiniCompiler FileState) → IsRunCompiler hash zone c → IsReady c asked old
+    → IsCallAfter old new → IsDone hash zone asked (done_in (λ (m : MiniCompiler). m.zone_offset) (λ s. s.files) fault_count old new.files)
+one_done hash zone c asked old new of ready after = record {
+  compiler = ready.zone_is ∙ of.zone_is;
+  executable = ready.executable ∙ of.executable;
+  executable_digest = ready.executable_digest ∙ of.executable_digest;
+  arguments = ready.arguments;
+  cwd = ready.cwd;
+  env_vars = ready.env_vars;
+  files = ready.files;
+  moment = ready.moment;
+  control = ready.control;
+  no_fault = calm c asked old new ready after;
+}
+
+-- a call that was ready is the one that was asked for
+pub call_made : (hash : Bytes → Bytes) (zone : ℤ) (plain : TimeZone) (config : PreprocessorCacheModeConfig) (basedirs known : List Bytes) (c : CCompiler MiniCompiler) (asked : script.AskedCall)
+    (old : Call MiniCompiler FileState) (olds news : List (Call MiniCompiler FileState)) (start end : State) (answers : List Answer) (before after : Bytes)
+    → config ≡ activated → known ≡ basedirs → IsRunCompiler hash zone c → IsReady c asked old → olds ≡ old ∷ [] → AllZip IsCallAfter olds news
+    → Run (world_of hash mini_compiler plain config known) map_store start (done_all (λ (m : MiniCompiler). m.zone_offset) (λ s. s.files) fault_count olds news) answers end
+    → after ≡ before ++ flat_map answer_line answers → AreMade hash zone (world_of hash mini_compiler plain activated basedirs) (asked ∷ []) start end before after
+call_made hash zone plain config basedirs known c asked old olds [] start end answers before after p q of ready one is run e = let none = rw one at is in absurd none
+call_made hash zone plain config basedirs known c asked old olds (new ∷ news) start end answers before after p q of ready one is run e =
+    let all = rw one at is in
+    record {
+      done = done_in (λ (m : MiniCompiler). m.zone_offset) (λ s. s.files) fault_count old new.files ∷ [];
+      answers = answers;
+      calls = (one_done hash zone c asked old new of ready all.0, tt);
+      run = rw (p, q, one) at run;
+      printed_are = e;
+    }
+
+last_taken : {A : Type 0} (n : ℕ) (new made : A) (rest : List A) → take n (new ∷ []) ≡ rest ++ made ∷ [] → new ≡ made
+last_taken zero new made [] e = absurd cc
+last_taken zero new made (r ∷ rest) e = absurd cc
+last_taken (suc n) new made [] e = cc
+last_taken (suc n) new made (r ∷ rest) e = let more : take n [] ≡ rest ++ made ∷ [] = cc in let none : 0 ≡ length rest + 1 = ap length (sym (take-nil n) ∙ more) ∙ length_push rest made in absurd (omega (arith, none))
+
+-- the one call of a list, once it is made and taken from its end
+pub only_call : (old made : Call MiniCompiler FileState) (olds news items rest : List (Call MiniCompiler FileState)) (n : ℕ) → olds ≡ old ∷ [] → items ≡ old ∷ [] → AllZip IsCallAfter olds news
+    → take n (news ++ drop (length news) items) ≡ rest ++ made ∷ [] → IsCallAfter old made
+only_call old made olds [] items rest n one held is e = let none = rw one at is in absurd none
+only_call old made olds (new ∷ m ∷ ns) items rest n one held is e = let none = rw one at is in absurd (none.1)
+only_call old made olds (new ∷ []) items rest n one held is e =
+    let taken = rw held at e in
+    let all = rw one at is in
+    subst (IsCallAfter old) (last_taken n new made rest taken) all.0
+
+pub compiler_in : (hash : Bytes → Bytes) (zone known : ℤ) (c : CCompiler MiniCompiler) → known ≡ zone → IsRunCompiler hash known c → IsRunCompiler hash zone c
+compiler_in hash zone known c e of = subst (λ z. IsRunCompiler hash z c) e of
+
+-- a call leaves the files and the variables what they are
+pub after_call : (c : CCompiler MiniCompiler) (asked : script.AskedCall) (old new : Call MiniCompiler FileState) → IsReady c asked old → IsCallAfter old new
+    → AreAfter asked.earlier (record { files = new.files; variables = new.vars })
+after_call c asked old new ready after =
+    let none = calm c asked old new ready after in
+    let before : fault_count old.files ≡ 0 = none.0 in
+    let room : fault_count old.files + 1 < 2 ^ 64 = rw before (omega arith) in
+    let faults : fault_count new.files ≡ 0 = none.1 in
+    let vars = ap (λ (made : Call MiniCompiler FileState). made.vars) after.same in
+    record {
+      files = rw after.keeps.same_map ready.files;
+      no_faults = omega (arith, faults);
+      unarmed = (after.keeps.stays_quiet (ready.unarmed, room)).0;
+      variables_are = rw vars ready.env_vars;
+    }
+
+-- ---- calls one after another
+
+zip_joined : {A B : Type 0} (R : A → B → Type 0) (xs more : List A) (ys others : List B) → AllZip R xs ys → AllZip R more others → AllZip R (xs ++ more) (ys ++ others)
+zip_joined R [] more [] others p q = q
+zip_joined R [] more (y ∷ ys) others p q = absurd p
+zip_joined R (x ∷ xs) more [] others p q = absurd p
+zip_joined R (x ∷ xs) more (y ∷ ys) others p q = (p.0, zip_joined R xs more ys others p.1 q)
+
+module _ (hash : Bytes → Bytes) (zone : ℤ) (w : World ℤ) where
+  pub none_made : (s : State) (printed : Bytes) → AreMade hash zone w [] s s printed printed
+  none_made s printed = record { done = []; answers = []; calls = tt; run = refl; printed_are = sym (append-nil printed) }
+
+  made_joined : (xs ys : List script.AskedCall) (s m t : State) (a b c : Bytes) → AreMade hash zone w xs s m a b → AreMade hash zone w ys m t b c → AreMade hash zone w (xs ++ ys) s t a c
+  made_joined xs ys s m t a b c front back = record {
+    done = front.done ++ back.done;
+    answers = front.answers ++ back.answers;
+    calls = zip_joined (IsDone hash zone) xs ys front.done back.done front.calls back.calls;
+    run = run_joined w map_store s m t front.done back.done front.answers back.answers front.run back.run;
+    printed_are = back.printed_are ∙ ap (λ l. l ++ flat_map answer_line back.answers) front.printed_are
+        ∙ append_assoc a (flat_map answer_line front.answers) (flat_map answer_line back.answers)
+        ∙ ap (λ l. a ++ l) (sym (flat_map-append answer_line front.answers back.answers));
+  }
+
+  -- the lines so far were followed and their calls made, and the lines that are left ask for the others
+  pub record AreSoFar (lines left : List Line) (now : Surroundings) (start store : State) (printed : Bytes) : Type 0 where
+    pub earlier : List Line
+    pub asked : List script.AskedCall
+    pub after : AreAfter earlier now
+    pub split : asked_calls lines ≡ asked ++ asked_behind earlier left
+    pub made : AreMade hash zone w asked start store [] printed
+
+  -- one line more
+  pub one_line_more : (lines left behind : List Line) (line : Line) (now then : Surroundings) (start store next : State) (printed more : Bytes)
+      → AreSoFar lines left now start store printed → left ≡ line ∷ behind
+      → ((earlier : List Line) → AreAfter earlier now → AreAfter (line ∷ earlier) then)
+      → ((earlier : List Line) → AreAfter earlier now → AreMade hash zone w (option_to_list (call_said earlier line)) store next printed more)
+      → AreSoFar lines behind then start next more
+  one_line_more lines left behind line now then start store next printed more so is follow make = record {
+    earlier = line ∷ so.earlier;
+    asked = so.asked ++ option_to_list (call_said so.earlier line);
+    after = follow so.earlier so.after;
+    split = so.split ∙ ap (λ l. so.asked ++ asked_behind so.earlier l) is
+        ∙ sym (append_assoc so.asked (option_to_list (call_said so.earlier line)) (asked_behind (line ∷ so.earlier) behind));
+    made = made_joined so.asked (option_to_list (call_said so.earlier line)) start store next [] printed more so.made (make so.earlier so.after);
+  }
+
+-- what is printed of a run, where no line is left
+pub ran : (hash : Bytes → Bytes) (lines : List Line) (now : Surroundings) (printed : Bytes) (zone : Offset) (plain : TimeZone) (basedirs : List Bytes) (end : State)
+    → zone.seconds ≡ zone_of lines → plain ≡ fixed_zone zone → basedirs ≡ basedirs_of lines
+    → AreSoFar hash (zone_of lines) (world_of hash mini_compiler plain activated basedirs) lines [] now (armed_by lines) end printed → Ran hash lines printed
+ran hash lines now printed zone plain basedirs end is p q so = record {
+  zone = zone;
+  zone_is = is;
+  done = so.made.done;
+  answers = so.made.answers;
+  end = end;
+  calls = rw (so.split ∙ append-nil so.asked) so.made.calls;
+  run = rw (p, q) at so.made.run;
+  printed_are = so.made.printed_are;
+}

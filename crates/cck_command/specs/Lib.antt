@@ -1,0 +1,7 @@
+pub mod KeyRequest
+pub mod Made
+pub mod MiniCompiler
+pub mod Program
+pub mod Request
+pub mod Run
+pub mod Status

@@ -1,0 +1,93 @@
+-- what `run` makes of a script
+use Rattle.std.specs.Prelude.{◌≡◌, ℕ, ℤ, ◌++◌, List, [], ◌∷◌, Bool, true, false, codes}
+use Rattle.std.specs.Fmt.{decimal}
+use Rattle.std.specs.List.{AllZip, flat_map}
+use Rattle.std.specs.Option.{unwrap_or}
+use Rattle.cck_compiler.specs.Compiler.{Compilation}
+use Rattle.cck_path.specs.Bytes.{Bytes}
+use Rattle.jiff.specs.Words.{fixed_zone}
+use Rattle.jiff.specs.Types.{Offset}
+use Rattle.cck_digest.specs.Digest.{digest_text}
+use Rattle.cck_script.specs.Calls.{asked_calls}
+use Rattle.cck_script.specs.Surroundings.{AreFiles, executable_path, variables, working_directory}
+use Rattle.cck_script.specs.Calls as script
+use Rattle.cck_script.specs.Lines.{Line}
+use Rattle.cck_script.specs.Script.{basedirs_of, fail_of, forget_of, lines_said, zone_of}
+use Rattle.cck_time.specs.Config.{activated}
+use Rattle.c_cache_keys.specs.Call.{Answer, Done, Keyed, Refused, Why, Memory, Extra, ExtraFault, Input, InputFault, Store, Damaged, NoText, TextFault, Marker}
+use Rattle.cck_compiler.specs.ExtraFiles.{completed}
+use Rattle.cck_store.specs.MapStore.{State, map_store}
+use Rattle.c_cache_keys.specs.Step.{Run}
+use Rattle.c_cache_keys.specs.World.{World, world_of}
+use Rattle.c_cache_keys.specs.declared.call.CacheControl.{CacheControl}
+use Rattle.c_cache_keys.specs.declared.call.CacheControl.TheVariants.{Default, ForceRecache}
+use Rattle.cck_command.specs.MiniCompiler.{mini_compiler, parsed}
+
+-- ---- answers
+
+-- the number of a refusal
+abbrev pub error_number : Why → ℕ
+error_number Memory = 1
+error_number Extra = 2
+error_number ExtraFault = 2
+error_number Input = 3
+error_number InputFault = 3
+error_number Store = 4
+error_number Damaged = 5
+error_number NoText = 6
+error_number TextFault = 6
+error_number Marker = 7
+
+-- the line of an answer: a stored key, a fresh one, or a refusal
+abbrev pub answer_line : Answer → Bytes
+answer_line (Keyed key false) = codes "hit " ++ key ++ 10 ∷ []
+answer_line (Keyed key true) = codes "miss " ++ key ++ 10 ∷ []
+answer_line (Refused why) = codes "error " ++ decimal (error_number why) ++ 10 ∷ []
+
+-- ---- calls
+
+abbrev pub control_of : Bool → CacheControl
+control_of true = ForceRecache
+control_of false = Default
+
+-- a call that was made is the one that a script asks for, in a zone of this offset, and no call on its files met a fault
+pub record IsDone (hash : Bytes → Bytes) (zone : ℤ) (asked : script.AskedCall) (done : Done ℤ) : Type 0 where
+  pub compiler : done.call.request.compiler ≡ zone
+  pub executable : done.call.request.executable ≡ executable_path
+  pub executable_digest : done.call.request.executable_digest ≡ digest_text hash (codes "cc")
+  pub arguments : completed done.call.files (variables asked.earlier) (parsed asked.arguments) ≡ Compilation done.call.request.arguments
+  pub cwd : done.call.request.cwd ≡ working_directory
+  pub env_vars : done.call.request.env_vars ≡ variables asked.earlier
+  pub files : AreFiles asked.earlier done.call.files
+  pub moment : done.call.moment ≡ asked.moment
+  pub control : done.call.control ≡ control_of asked.is_recache
+  pub no_fault : (done.faults_before ≡ 0) × (done.faults_after ≡ 0)
+
+-- ---- the run
+
+-- what the keys of these lines are made by, beside the calls
+abbrev pub run_world : (Bytes → Bytes) → Offset → List Line → World ℤ
+run_world hash zone lines = world_of hash mini_compiler (fixed_zone zone) activated (basedirs_of lines)
+
+-- an empty store, armed as these lines say
+abbrev pub armed_by : List Line → State
+armed_by lines = record { pairs = []; setbacks = 0; forget = unwrap_or (forget_of lines) 0; fail = unwrap_or (fail_of lines) 0 }
+
+-- this is printed for a run over the calls of these lines
+pub record Ran (hash : Bytes → Bytes) (lines : List Line) (printed : Bytes) : Type 0 where
+  pub zone : Offset
+  pub zone_is : zone.seconds ≡ zone_of lines
+  pub done : List (Done ℤ)
+  pub answers : List Answer
+  pub end : State
+  pub calls : AllZip (IsDone hash (zone_of lines)) (asked_calls lines) done
+  pub run : Run (run_world hash zone lines) map_store (armed_by lines) done answers end
+  pub printed_are : printed ≡ flat_map answer_line answers
+
+-- what is printed for this text, a script without a wrong line
+abbrev pub IsRunPrinted : (Bytes → Bytes) → Bytes → (Bytes → Type 0) → Type 0
+IsRunPrinted hash text IsPrinted = (printed : Bytes) × Ran hash (lines_said text) printed × IsPrinted printed
+
+-- what is printed for a script whose first wrong line has this number
+abbrev pub wrong_text : ℕ → Bytes
+wrong_text number = codes "cck: line " ++ decimal number ++ 10 ∷ []

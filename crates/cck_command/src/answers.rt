@@ -1,0 +1,62 @@
+//! The lines that answers and wrong scripts are printed as.
+ghost use Rattle.std.specs.Prelude.{◌≡◌, ◌++◌, IfOk, OnOk, map, string_bytes};
+ghost use Rattle.std.specs.List.{flat_map};
+ghost use Rattle.c_cache_keys.specs.Call.{Keyed, Refused};
+ghost use Rattle.c_cache_keys.specs.Seen.{answer_of, why_of};
+ghost use Rattle.cck_command.specs.Run.{answer_line, wrong_text};
+
+use crate::failed::Failed;
+use c_cache_keys::{HashResult, KeyError};
+use std::alloc::Global;
+
+/// Puts the lines of answers behind the others, in their order: `hit KEY` for a stored key,
+/// `miss KEY` for a fresh one, and `error N` for a refusal of the number N.
+pub fn add_answer_lines(
+    alloc: Global,
+    lines: &mut Vec<u8>,
+    answers: &[Result<HashResult, KeyError>],
+) -> Result<(), Failed>
+    ensures { OnOk result (lines.new.items
+        ≡ lines.old.items ++ flat_map answer_line (map answer_of answers.now)) }
+{
+    for answer in answers {
+        match answer {
+            Ok(found) => push_key(lines, found)?,
+            Err(error) => push_error(alloc, lines, *error)?,
+        }
+    }
+    Ok(())
+}
+
+// Puts the line of a key behind the others.
+fn push_key(lines: &mut Vec<u8>, found: &HashResult) -> Result<(), Failed>
+    ensures { OnOk result
+        (lines.new.items ≡ lines.old.items ++ answer_line (Keyed (string_bytes found.now.key) found.now.is_locally_preprocessed)) }
+{
+    if found.is_locally_preprocessed {
+        lines.extend_from_slice(b"miss ")?;
+    } else {
+        lines.extend_from_slice(b"hit ")?;
+    }
+    lines.extend_from_slice(found.key.as_bytes())?;
+    lines.push(b'\n')?;
+    Ok(())
+}
+
+// Puts the line of a refusal behind the others.
+fn push_error(alloc: Global, lines: &mut Vec<u8>, error: KeyError) -> Result<(), Failed>
+    ensures { OnOk result
+        (lines.new.items ≡ lines.old.items ++ answer_line (Refused (why_of error))) }
+{
+    let number = error.number();
+    let line = format!(in alloc; "error {number}\n")?;
+    lines.extend_from_slice(line.as_bytes())?;
+    Ok(())
+}
+
+/// The line for a script whose first wrong line has this number: `cck: line N`.
+pub fn wrong_text(alloc: Global, number: u64) -> Result<String, Failed>
+    ensures { IfOk result (λ line. string_bytes line ≡ wrong_text number) }
+{
+    Ok(format!(in alloc; "cck: line {number}\n")?)
+}

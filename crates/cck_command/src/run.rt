@@ -1,0 +1,215 @@
+//! The calls of a script, made one after another.
+ghost use Rattle.std.specs.Prelude.{◌≡◌, ◌∷◌, [], List, ℤ, IfOk};
+ghost use Rattle.std.specs.Option.{option_to_list, unwrap_or};
+ghost use Rattle.cck_path.specs.Bytes.{lists_of};
+ghost use Rattle.jiff.specs.Words.{fixed_zone, plain_zone};
+ghost use Rattle.jiff.specs.Types.{Offset as PlainOffset};
+ghost use Rattle.cck_script.specs.Calls.{call_behind, call_said};
+ghost use Rattle.cck_script.specs.Lines.{Line};
+ghost use Rattle.cck_script.specs.Seen.{line_of, lines_of};
+ghost use Rattle.cck_script.specs.Surroundings.{AreAfter};
+ghost use Rattle.cck_time.specs.Config.{activated};
+ghost use Rattle.c_cache_keys.specs.World.{world_of};
+ghost use Rattle.cck_command.specs.MiniCompiler.{mini_compiler};
+ghost use Rattle.cck_command.specs.Run.{Ran, control_of};
+ghost use Rattle.cck_command.specs.Made.{AreMade, IsReady, IsRunCompiler};
+
+use crate::answers::add_answer_lines;
+use crate::failed::Failed;
+use crate::mini_compiler::MiniCompiler;
+use c_cache_keys::{CCompiler, CacheControl, Call, CompilerArguments, MapStore, run_calls};
+use cck_files::MapFiles;
+use cck_script::{
+    Command, EXECUTABLE, Script, ScriptCall, Surroundings, WORKING_DIRECTORY, first_files,
+};
+use cck_time::PreprocessorCacheModeConfig;
+use cck_util::HashState;
+use jiff::tz::{Offset, TimeZone};
+use std::alloc::Global;
+
+/// Makes the calls of a script in their order, on a store that holds nothing at first, and answers
+/// the lines of their answers.
+///
+/// There is one map of files and one list of variables, which follow the script line by line, and
+/// each call is made over them as they are at its line.
+pub fn run_script<H: HashState>(alloc: Global, script: &Script) -> Result<Vec<u8>, Failed>
+    ensures { IfOk result (λ printed. Ran H.hash (lines_of script.now) printed.items) }
+{
+    let options = script.options(alloc)?;
+    let mut store = store_of(alloc, options.forget_at, options.fail_at);
+    let compiler = compiler_of::<H>(alloc, options.zone_offset)?;
+    let zone = zone_at(options.zone_offset)?;
+    let setting = Setting {
+        compiler,
+        zone,
+        basedirs: options.basedirs,
+    };
+    let mut surroundings = Surroundings::new(alloc)?;
+    let mut printed = Vec::new(alloc);
+    for command in script.commands() {
+        surroundings = follow_line::<H>(
+            alloc,
+            &setting,
+            &mut store,
+            surroundings,
+            command,
+            &mut printed,
+        )?;
+    }
+    Ok(printed)
+}
+
+// What all calls of a run are made under.
+#[derive(Drop)]
+struct Setting {
+    compiler: CCompiler<MiniCompiler>,
+    zone: TimeZone<'static>,
+    basedirs: Vec<Vec<u8>>,
+}
+
+// Makes the call that a line asks for, if it asks for one, and then does what the line says.
+fn follow_line<H: HashState>(
+    alloc: Global,
+    setting: &Setting,
+    store: &mut MapStore,
+    surroundings: Surroundings,
+    command: &Command,
+    printed: &mut Vec<u8>,
+) -> Result<Surroundings, Failed>
+    ensures after { IfOk result (λ after. (earlier : List Line) → AreAfter earlier surroundings
+        → AreAfter (line_of command.now ∷ earlier) after) }
+    ensures made { IfOk result (λ after. (zone : ℤ) (earlier : List Line) → IsRunCompiler H.hash zone setting.now.compiler
+        → AreAfter earlier surroundings
+        → AreMade H.hash zone (world_of H.hash mini_compiler (plain_zone setting.now.zone) activated (lists_of setting.now.basedirs.items))
+        (option_to_list (call_said earlier (line_of command.now))) store.old store.new printed.old.items printed.new.items) }
+{
+    let mut after = match command.call() {
+        Some(asked) => make_call::<H>(alloc, setting, store, surroundings, &asked, printed)?,
+        None => surroundings,
+    };
+    after.follow(alloc, command)?;
+    Ok(after)
+}
+
+// Makes a call over these files and variables, prints its answer behind the others, and gives the
+// files and variables back.
+fn make_call<H: HashState>(
+    alloc: Global,
+    setting: &Setting,
+    store: &mut MapStore,
+    surroundings: Surroundings,
+    asked: &ScriptCall<'_>,
+    printed: &mut Vec<u8>,
+) -> Result<Surroundings, Failed>
+    ensures after { IfOk result (λ after. (earlier : List Line) → AreAfter earlier surroundings → AreAfter earlier after) }
+    ensures made { IfOk result (λ after. (zone : ℤ) (earlier : List Line) → IsRunCompiler H.hash zone setting.now.compiler
+        → AreAfter earlier surroundings
+        → AreMade H.hash zone (world_of H.hash mini_compiler (plain_zone setting.now.zone) activated (lists_of setting.now.basedirs.items))
+        (call_behind earlier asked.now ∷ []) store.old store.new printed.old.items printed.new.items) }
+{
+    let mut calls = Vec::new(alloc);
+    calls.push(ready_call(alloc, &setting.compiler, surroundings, asked)?)?;
+    let config = PreprocessorCacheModeConfig::activated();
+    let answers = run_calls::<H, MiniCompiler, MapFiles, MapStore>(
+        alloc,
+        store,
+        &setting.zone,
+        config,
+        &setting.basedirs,
+        &mut calls,
+    )?;
+    add_answer_lines(alloc, printed, &answers)?;
+    // There is the one call that was put.
+    let Some(made) = calls.pop() else {
+        return Err(Failed);
+    };
+    let Call { files, vars, .. } = made;
+    Ok(Surroundings {
+        files,
+        variables: vars,
+    })
+}
+
+// The call that a script asks for, over these files and variables, ready to be made.
+fn ready_call(
+    alloc: Global,
+    compiler: &CCompiler<MiniCompiler>,
+    surroundings: Surroundings,
+    asked: &ScriptCall<'_>,
+) -> Result<Call<MiniCompiler, MapFiles>, Failed>
+    ensures { IfOk result (λ made. (earlier : List Line) → AreAfter earlier surroundings
+        → IsReady compiler.now (call_behind earlier asked.now) made) }
+{
+    let Surroundings {
+        mut files,
+        variables,
+    } = surroundings;
+    let parsed = compiler.parse_arguments(
+        alloc,
+        &mut files,
+        asked.arguments,
+        WORKING_DIRECTORY,
+        &variables,
+    )?;
+    // The first argument is the input, so it is a compilation.
+    let CompilerArguments::Ok(hasher) = parsed else {
+        return Err(Failed);
+    };
+    Ok(Call {
+        hasher,
+        files,
+        cwd: WORKING_DIRECTORY.to_vec(alloc)?,
+        vars: variables,
+        moment: asked.moment,
+        control: control_of(asked.is_recache),
+    })
+}
+
+// The zone of an offset of so many seconds.
+fn zone_at(seconds: i32) -> Result<TimeZone<'static>, Failed>
+    ensures { IfOk result (λ zone. (offset : PlainOffset) × (offset.seconds ≡ seconds)
+        × (plain_zone zone ≡ fixed_zone offset)) }
+{
+    match Offset::from_seconds(seconds) {
+        Ok(offset) => Ok(TimeZone::fixed(offset)),
+        Err(_) => Err(Failed),
+    }
+}
+
+// A store that holds nothing, with these calls armed.
+fn store_of(alloc: Global, forget_at: Option<u64>, fail_at: Option<u64>) -> MapStore
+    ensures { result ≡ record { pairs = []; setbacks = 0; forget = unwrap_or forget_at 0; fail = unwrap_or fail_at 0 } }
+{
+    let mut store = MapStore::new(alloc);
+    if let Some(n) = forget_at {
+        store.forget_at(n);
+    }
+    if let Some(n) = fail_at {
+        store.fail_at(n);
+    }
+    store
+}
+
+// The compiler, with the digest of its executable as it is before any line.
+fn compiler_of<H: HashState>(
+    alloc: Global,
+    zone_offset: i32,
+) -> Result<CCompiler<MiniCompiler>, Failed>
+    ensures { IfOk result (IsRunCompiler H.hash zone_offset) }
+{
+    let mut files = first_files(alloc)?;
+    let executable = EXECUTABLE.to_vec(alloc)?;
+    let compiler = MiniCompiler { zone_offset };
+    Ok(CCompiler::new::<H, MapFiles>(alloc, compiler, executable, &mut files)?)
+}
+
+// Whether a stored result may be answered.
+fn control_of(is_recache: bool) -> CacheControl
+    ensures { result ≡ control_of is_recache }
+{
+    if is_recache {
+        CacheControl::ForceRecache
+    } else {
+        CacheControl::Default
+    }
+}

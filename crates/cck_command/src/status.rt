@@ -1,0 +1,27 @@
+//! The exit statuses of the program.
+ghost use Rattle.std.specs.Prelude.{◌≡◌};
+ghost use Rattle.cck_command.specs.Status.{status_code};
+
+/// How a run of the program ended.
+#[derive(Debug, Clone, Copy, PartialEq, Eq)]
+pub enum Status {
+    /// All that was asked for was printed.
+    Done,
+    /// Input, output or memory failed.
+    Refused,
+    /// The words ask for nothing, or a line of the script is wrong.
+    Usage,
+}
+
+impl Status {
+    /// The exit status: 0, 1 or 2, as the variants stand.
+    pub fn code(self) -> u8
+        ensures { result ≡ status_code self }
+    {
+        match self {
+            Status::Done => 0,
+            Status::Refused => 1,
+            Status::Usage => 2,
+        }
+    }
+}

@@ -1,5 +1,0 @@
-use Rattle.cck_run.proofs.CopyLemmas.{same_lists}
-use Rattle.cck_run.proofs.mini_compiler.copy_lists.Goals as goal
-
-pub returns-clause-same : goal.returns-clause-same
-returns-clause-same c = same_lists _ _ c.in_ok-to_vec.ensures.ok
