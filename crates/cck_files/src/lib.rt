@@ -25,8 +25,6 @@ mod child;
 mod files;
 mod map_files;
 mod node;
-#[cfg(test)]
-mod tests;
 
 pub use files::Files;
 pub use map_files::MapFiles;

@@ -38,8 +38,6 @@ pub mod laws;
 mod line;
 mod mark;
 mod search;
-#[cfg(test)]
-mod tests;
 
 pub use line::{Line, read_line};
 pub use mark::{Mark, Markers};

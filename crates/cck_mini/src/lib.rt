@@ -24,8 +24,6 @@ mod file;
 mod line;
 mod macros;
 mod printing;
-#[cfg(test)]
-mod tests;
 
 pub use error::PrintError;
 pub use printing::print_input;

@@ -17,7 +17,5 @@
 #![tactic(auto)]
 
 mod path_map;
-#[cfg(test)]
-mod tests;
 
 pub use path_map::{Entry, PathMap};

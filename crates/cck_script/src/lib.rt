@@ -45,8 +45,6 @@ mod line;
 mod number;
 mod script;
 mod surroundings;
-#[cfg(test)]
-mod tests;
 mod word;
 
 pub use call::ScriptCall;

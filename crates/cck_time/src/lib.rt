@@ -26,8 +26,6 @@ mod config;
 mod error;
 pub mod laws;
 mod part;
-#[cfg(test)]
-mod tests;
 
 pub use config::PreprocessorCacheModeConfig;
 pub use error::Error;

@@ -1,13 +1,7 @@
 //! Digests of known bytes. The expected digests are those that another program, Python's `hashlib`,
 //! computes for the bytes that the definitions give.
+use crate::given::digest_text;
 use cck_util::{Digest, HashState, Sha256State, UtilError, hash_len_prefixed, hex};
-use std::alloc::Global;
-
-pub(crate) fn digest_text(alloc: Global, bytes: &[u8]) -> Result<String, UtilError> {
-    let mut digest = Digest::<Sha256State>::new();
-    digest.update(bytes);
-    digest.finish(alloc)
-}
 
 #[test]
 fn hex_digits(rt: HostRuntime) -> Result<(), UtilError> {

@@ -1,8 +1,16 @@
-//! Words, variables and files in memory, as the tests of several subjects are given them.
-use cck_util::{FileKind, MapFiles, Node, Timestamp, UtilError};
+//! Words, variables, files in memory and digests, as the tests of several subjects are given them.
+use cck_util::{Digest, FileKind, MapFiles, Node, Sha256State, Timestamp, UtilError};
 use std::alloc::{AllocError, Global};
 
-pub(crate) fn words(alloc: Global, words: &[&[u8]]) -> Result<Vec<Vec<u8>>, AllocError> {
+/// The text of the digest of these bytes.
+pub fn digest_text(alloc: Global, bytes: &[u8]) -> Result<String, UtilError> {
+    let mut digest = Digest::<Sha256State>::new();
+    digest.update(bytes);
+    digest.finish(alloc)
+}
+
+/// Copies of these words.
+pub fn words(alloc: Global, words: &[&[u8]]) -> Result<Vec<Vec<u8>>, AllocError> {
     let mut all = Vec::new(alloc);
     for word in words {
         all.push(word.to_vec(alloc)?)?;
@@ -10,7 +18,8 @@ pub(crate) fn words(alloc: Global, words: &[&[u8]]) -> Result<Vec<Vec<u8>>, Allo
     Ok(all)
 }
 
-pub(crate) fn texts(alloc: Global, texts: &[&str]) -> Result<Vec<String>, AllocError> {
+/// Copies of these texts.
+pub fn texts(alloc: Global, texts: &[&str]) -> Result<Vec<String>, AllocError> {
     let mut all = Vec::new(alloc);
     for text in texts {
         all.push(String::from_str(alloc, text)?)?;
@@ -18,7 +27,8 @@ pub(crate) fn texts(alloc: Global, texts: &[&str]) -> Result<Vec<String>, AllocE
     Ok(all)
 }
 
-pub(crate) fn variables(
+/// Variables of the environment: a name and a value each.
+pub fn variables(
     alloc: Global,
     pairs: &[(&str, &str)],
 ) -> Result<Vec<(Vec<u8>, Vec<u8>)>, AllocError> {
@@ -32,8 +42,8 @@ pub(crate) fn variables(
     Ok(all)
 }
 
-// Puts a file with these times of modification and of change.
-pub(crate) fn put_dated(
+/// Puts a file with these times of modification and of change.
+pub fn put_dated(
     alloc: Global,
     files: &mut MapFiles,
     path: &[u8],
@@ -50,7 +60,8 @@ pub(crate) fn put_dated(
     files.put(path, node)
 }
 
-pub(crate) fn put_file(
+/// Puts a file without times.
+pub fn put_file(
     alloc: Global,
     files: &mut MapFiles,
     path: &[u8],
@@ -75,20 +86,18 @@ fn put_empty(
     files.put(path, node)
 }
 
-pub(crate) fn put_folder(
-    alloc: Global,
-    files: &mut MapFiles,
-    path: &[u8],
-) -> Result<(), UtilError> {
+/// Puts a folder.
+pub fn put_folder(alloc: Global, files: &mut MapFiles, path: &[u8]) -> Result<(), UtilError> {
     put_empty(alloc, files, path, FileKind::Folder)
 }
 
-pub(crate) fn put_other(alloc: Global, files: &mut MapFiles, path: &[u8]) -> Result<(), UtilError> {
+/// Puts what is neither a file nor a folder.
+pub fn put_other(alloc: Global, files: &mut MapFiles, path: &[u8]) -> Result<(), UtilError> {
     put_empty(alloc, files, path, FileKind::Other)
 }
 
-// Files with these contents at these paths.
-pub(crate) fn files_of(alloc: Global, files: &[(&[u8], &[u8])]) -> Result<MapFiles, UtilError> {
+/// Files with these contents at these paths.
+pub fn files_of(alloc: Global, files: &[(&[u8], &[u8])]) -> Result<MapFiles, UtilError> {
     let mut map = MapFiles::new(alloc);
     for (path, contents) in files {
         put_file(alloc, &mut map, path, contents)?;

@@ -1,6 +1,7 @@
-//! What the libraries answer to given bytes, run from outside as another crate runs them.
+//! What `cck_util` answers to given bytes, run from outside as another crate runs it.
 //!
-//! There are only tests here, by subject. The expected answers follow from the rules by hand, or
+//! There are tests here, by subject, and [`given`], which hands words, variables and files to tests,
+//! to those of the crates above too. The expected answers follow from the rules by hand, or
 //! are another program's; tests whose names begin with `test_` or `simple_` are named as sccache's
 //! and written from the rules.
 //!
@@ -9,26 +10,21 @@
 //! - `paths`, `normal`, `escape`, `texts`, `times` and `variables`: paths, byte texts, moments and
 //!   variables; normal paths also against a slow program.
 //! - `key`: keys of objects.
-//! - `files`, `folders` and `wrapper`: files in memory, their digests and those of folders, and
-//!   the compilers behind wrappers.
-//! - `recorded`, `entries` and `preprocessor_key`: recorded digests, entries with their look-up,
-//!   and the keys of requests.
+//!
+//! ```rust
+//! let mut files = files_of(alloc, &[(b"/w/a.c", b"int x;")])?;
+//! put_folder(alloc, &mut files, b"/w/d")?;
+//! let env_vars = variables(alloc, &[("PATH", "/bin"), ("CPATH", "/s")])?;
+//! ```
 #![tactic(auto)]
 
 #[cfg(test)]
 mod digest;
 #[cfg(test)]
-mod entries;
-#[cfg(test)]
 mod escape;
 #[cfg(test)]
-mod files;
-#[cfg(test)]
 mod finder;
-#[cfg(test)]
-mod folders;
-#[cfg(test)]
-mod given;
+pub mod given;
 #[cfg(test)]
 mod key;
 #[cfg(test)]
@@ -36,11 +32,7 @@ mod normal;
 #[cfg(test)]
 mod paths;
 #[cfg(test)]
-mod preprocessor_key;
-#[cfg(test)]
 mod readers;
-#[cfg(test)]
-mod recorded;
 #[cfg(test)]
 mod strip;
 #[cfg(test)]
@@ -49,5 +41,3 @@ mod texts;
 mod times;
 #[cfg(test)]
 mod variables;
-#[cfg(test)]
-mod wrapper;

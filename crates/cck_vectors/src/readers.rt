@@ -1,5 +1,5 @@
 //! Digests of what readers give, and of readers that fail.
-use crate::digest::digest_text;
+use crate::given::digest_text;
 use cck_util::{Digest, Sha256State, UtilError, read_all, read_to_end};
 use std::alloc::Global;
 use std::io;

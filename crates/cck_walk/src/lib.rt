@@ -36,8 +36,6 @@ mod judge;
 mod line;
 mod name;
 mod records;
-#[cfg(test)]
-mod tests;
 mod walk;
 
 pub use error::WalkError;
