@@ -1,15 +1,15 @@
 -- Each refusal has its cause.
 use Rattle.std.proofs.Common.{◌≡◌, inl, inr, sym, subst, Some, None, Ok, Err}
 use Rattle.cck_path.specs.Bytes.{Bytes}
+use Rattle.cck_store.specs.Store.{Handed, Store, StoreLaws}
+use Rattle.cck_store.specs.declared.store.StoreError.TheVariants as store
 use Rattle.c_cache_keys.proofs.Stepped.{failed_miss}
 use Rattle.c_cache_keys.proofs.Stored.{not_refused}
 use Rattle.c_cache_keys.specs.Call.{Call, Fault, Refused, Why, Memory, Extra, ExtraFault, Input, InputFault, Store as StoreFails, Damaged, NoText, TextFault, Marker}
 use Rattle.c_cache_keys.specs.Hits.{Cause, RefusalsHaveCauses}
 use Rattle.c_cache_keys.specs.Keys.{preprocessor_key_of}
 use Rattle.c_cache_keys.specs.Step.{Asked, Asks, Ends, Failed, Gives, Hit, Makes, Miss, ReadsAs, Step, StopsMaking, StopsOpening, asked, gives, made, stopped, stops}
-use Rattle.cck_store.specs.Store.{Handed, Store, StoreLaws}
 use Rattle.c_cache_keys.specs.World.{World}
-use Rattle.cck_store.specs.declared.store.StoreError.TheVariants as store
 
 same_why : {v w : Why} → Refused v ≡ Refused w → v ≡ w
 same_why e = cc

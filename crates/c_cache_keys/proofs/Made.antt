@@ -8,6 +8,10 @@ use Rattle.std.specs.Option.{option_map}
 use Rattle.std.specs.declared.alloc.Global.{Global}
 use Rattle.std.proofs.lemmas.Option.{same_Some}
 use Rattle.cck_compiler.specs.Seen.{IsPrinted}
+use Rattle.cck_compiler.specs.declared.error.KeyError.{KeyError}
+use Rattle.cck_compiler.specs.declared.error.KeyError.TheVariants as key
+use Rattle.cck_compiler.specs.declared.error.PreprocessError.{PreprocessError}
+use Rattle.cck_compiler.specs.declared.error.PreprocessError.TheVariants as text
 use Rattle.cck_digest.specs.declared.error.FileError.{FileError}
 use Rattle.cck_digest.specs.declared.error.FileError.TheVariants as file
 use Rattle.cck_files.specs.Calls.{IsRefusalOrMemory}
@@ -18,6 +22,7 @@ use Rattle.cck_markers.proofs.OneList.{one_list}
 use Rattle.cck_path.specs.Bytes.{Bytes}
 use Rattle.cck_path.specs.Path.{components}
 use Rattle.cck_path.specs.Text.{path_text}
+use Rattle.cck_store.specs.Store.{Store}
 use Rattle.cck_util.specs.Key.{object_key}
 use Rattle.cck_walk.specs.declared.error.WalkError.{WalkError}
 use Rattle.cck_walk.specs.declared.error.WalkError.TheVariants as failed
@@ -35,14 +40,9 @@ use Rattle.c_cache_keys.specs.Keys.{extra_texts, input_file, is_preprocessed, ke
 use Rattle.c_cache_keys.specs.Refusals.{input_refusal, text_refusal, walk_refusal}
 use Rattle.c_cache_keys.specs.Seen.{why_of}
 use Rattle.c_cache_keys.specs.Step.{AreOwnIncludes, Makes, NotErring, NothingNew, StopsMaking, gives, stops}
-use Rattle.cck_store.specs.Store.{Store}
 use Rattle.c_cache_keys.specs.Walk.{Accepted, AreRecorded, MarksDecide, Errs, IsNamed, IsRecorded, NotAccepted, Verdict, Walk, input_path}
 use Rattle.c_cache_keys.specs.Walked.{IsWalked, digested_of}
 use Rattle.c_cache_keys.specs.World.{World}
-use Rattle.cck_compiler.specs.declared.error.KeyError.{KeyError}
-use Rattle.cck_compiler.specs.declared.error.KeyError.TheVariants as key
-use Rattle.cck_compiler.specs.declared.error.PreprocessError.{PreprocessError}
-use Rattle.cck_compiler.specs.declared.error.PreprocessError.TheVariants as text
 
 -- ---- what is recorded
 

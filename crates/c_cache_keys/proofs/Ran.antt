@@ -2,17 +2,17 @@
 use Rattle.std.proofs.Common.{◌≡◌, ℕ, zero, suc, ◌<◌, List, [], ◌∷◌, ◌++◌, length, map, take, drop, get_or, Result, refl, ap, subst, arith}
 use Rattle.std.proofs.Math.ListN.{set}
 use Rattle.std.specs.List.{AllZip}
+use Rattle.cck_compiler.specs.declared.error.KeyError.{KeyError}
 use Rattle.cck_files.specs.Calls.{Keeps}
 use Rattle.cck_files.specs.FileMap.{FileMap}
 use Rattle.cck_files.proofs.CallsLemmas.{keeps_itself}
+use Rattle.cck_store.specs.Store.{Store}
 use Rattle.c_cache_keys.specs.Calls.{AreAnswered, IsAfter, IsAnswered, done_all}
 use Rattle.c_cache_keys.specs.Seen.{answer_of}
 use Rattle.c_cache_keys.specs.Step.{Run}
-use Rattle.cck_store.specs.Store.{Store}
 use Rattle.c_cache_keys.specs.World.{World}
 use Rattle.c_cache_keys.specs.declared.call.HashResult.{HashResult}
 use Rattle.c_cache_keys.specs.declared.calls.Call.{Call}
-use Rattle.cck_compiler.specs.declared.error.KeyError.{KeyError}
 
 module _ {I F V : Type 0} (value : I → V) (file_map : F → FileMap) (faults : F → ℕ) where
   module _ {S : Type 0} (w : World V) (st : Store S) where

@@ -2,6 +2,10 @@
 use Rattle.std.proofs.Common.{◌≡◌, Ok, Err, map, subst, sym, List, Result}
 use Rattle.std.specs.Prelude.{IfErr, IsOkUnless}
 use Rattle.std.specs.FinMap.{get}
+use Rattle.cck_compiler.specs.declared.error.KeyError.{KeyError}
+use Rattle.cck_compiler.specs.declared.error.KeyError.TheVariants as key
+use Rattle.cck_compiler.specs.declared.error.PreprocessError.{PreprocessError}
+use Rattle.cck_compiler.specs.declared.error.PreprocessError.TheVariants as text
 use Rattle.cck_digest.specs.declared.error.FileError.{FileError}
 use Rattle.cck_digest.specs.declared.error.FileError.TheVariants as file
 use Rattle.cck_digest.specs.declared.error.UtilError.{UtilError}
@@ -14,19 +18,15 @@ use Rattle.cck_files.specs.Calls.{IsRefusalOrMemory}
 use Rattle.cck_files.specs.FileMap.{FileMap, contents_at, file_at}
 use Rattle.cck_path.specs.Bytes.{Bytes}
 use Rattle.cck_path.specs.Path.{Path, components}
+use Rattle.cck_store.specs.Store.{Store}
 use Rattle.cck_walk.specs.declared.error.WalkError.{WalkError}
 use Rattle.cck_walk.specs.declared.error.WalkError.TheVariants as walk
 use Rattle.c_cache_keys.specs.Call.{Call}
 use Rattle.c_cache_keys.specs.Hasher.{IsInputRefusal}
 use Rattle.c_cache_keys.specs.Reasons.{IsFileReason, IsReason}
 use Rattle.c_cache_keys.specs.Refusals.{extra_refusal, input_refusal, text_refusal, walk_refusal}
-use Rattle.cck_store.specs.Store.{Store}
 use Rattle.c_cache_keys.specs.Walk.{input_path}
 use Rattle.c_cache_keys.specs.World.{World}
-use Rattle.cck_compiler.specs.declared.error.KeyError.{KeyError}
-use Rattle.cck_compiler.specs.declared.error.KeyError.TheVariants as key
-use Rattle.cck_compiler.specs.declared.error.PreprocessError.{PreprocessError}
-use Rattle.cck_compiler.specs.declared.error.PreprocessError.TheVariants as text
 
 -- ---- a fault of a part is one of the whole
 

@@ -7,6 +7,8 @@ use Rattle.std.proofs.lemmas.List.Elements.{Contains-append_left, Contains-appen
 use Rattle.cck_path.specs.Bytes.{Bytes}
 use Rattle.cck_entry.specs.Entry.{Entry, EntryText}
 use Rattle.cck_include.specs.Include.{Include}
+use Rattle.cck_store.specs.Store.{Handed, Store, StoreLaws}
+use Rattle.cck_store.specs.declared.store.StoreError.TheVariants as store
 use Rattle.c_cache_keys.proofs.Elements.{first_in}
 use Rattle.c_cache_keys.proofs.HitPlain.{hit_plain}
 use Rattle.c_cache_keys.specs.Call.{Answer, Call, Damaged, Done, Fault, Keyed, Refused, calls_of}
@@ -14,9 +16,7 @@ use Rattle.c_cache_keys.specs.Keys.{plain_key}
 use Rattle.c_cache_keys.specs.Laws.{FreshIsPlain, HitIsPlain, IsTransparent, KeepsOldOrOwn, NothingDamaged, Runs, RunsJoin, RunsTransparent, StaysSound, Transparent, joined_lists}
 use Rattle.c_cache_keys.specs.Premises.{IsBefore, Premises}
 use Rattle.c_cache_keys.specs.Step.{Asked, Asks, Ends, Failed, Gives, Hit, Makes, Miss, OwnPair, Puts, Run, Sound, Step, StopsMaking, StopsOpening, asked, gives, made, matching, stopped, stops}
-use Rattle.cck_store.specs.Store.{Handed, Store, StoreLaws}
 use Rattle.c_cache_keys.specs.World.{HasSize, World}
-use Rattle.cck_store.specs.declared.store.StoreError.TheVariants as store
 
 module _ {V S : Type 0} (w : World V) (st : Store S) where
   pub run_joined : (s mid t : S) (first second : List (Done V)) (before after : List Answer) → Run w st s first before mid → Run w st mid second after t → Run w st s (first ++ second) (before ++ after) t

@@ -1,18 +1,18 @@
 -- One call, from its parts.
 use Rattle.std.proofs.Common.{◌≡◌, ℕ, ◌≤◌, false, inl, inr, ap, refl, subst, arith, Option, Ok, String}
 use Rattle.std.specs.declared.alloc.Global.{Global}
+use Rattle.cck_compiler.specs.declared.error.KeyError.{KeyError}
+use Rattle.cck_compiler.specs.declared.error.KeyError.TheVariants as key
 use Rattle.cck_path.specs.Bytes.{Bytes}
 use Rattle.cck_files.proofs.CallsLemmas.{rose_earlier, rose_later}
 use Rattle.cck_files.specs.Calls.{Rose}
+use Rattle.cck_store.specs.Store.{Store}
 use Rattle.c_cache_keys.proofs.Widen.{wide_asks, wide_makes}
 use Rattle.c_cache_keys.specs.Call.{Answer, Call, Keyed, Refused, Why, Memory}
 use Rattle.c_cache_keys.specs.Hasher.{IsFound, IsOpening, asked_of}
 use Rattle.c_cache_keys.specs.Seen.{why_of}
 use Rattle.c_cache_keys.specs.Step.{Failed, Hit, Makes, Miss, Step, StopsOpening, asked, made, stopped}
-use Rattle.cck_store.specs.Store.{Store}
 use Rattle.c_cache_keys.specs.World.{World}
-use Rattle.cck_compiler.specs.declared.error.KeyError.{KeyError}
-use Rattle.cck_compiler.specs.declared.error.KeyError.TheVariants as key
 use Rattle.c_cache_keys.specs.declared.hasher.opening.Opening.{Opening}
 
 hit_miss : {key : Bytes} → Hit key ≡ Miss → ⊥

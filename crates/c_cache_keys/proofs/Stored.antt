@@ -16,6 +16,7 @@ use Rattle.cck_include.specs.Include.{Include}
 use Rattle.cck_include.specs.Recorded.{recorded}
 use Rattle.cck_path.specs.Bytes.{Bytes}
 use Rattle.cck_path.specs.Path.{components}
+use Rattle.cck_store.specs.Store.{Handed, HoldsOnly, Setback, Store, StoreLaws}
 use Rattle.c_cache_keys.proofs.Elements.{all_pass}
 use Rattle.c_cache_keys.proofs.HitPlain.{components-named}
 use Rattle.c_cache_keys.proofs.Includes.{entries-added, gathered_from, include_here, match_by_digest}
@@ -25,7 +26,6 @@ use Rattle.c_cache_keys.specs.Hits.{FreshIsHeld, HeldIsAnswered, IsAside, SameRe
 use Rattle.c_cache_keys.specs.Keys.{input_file, input_recorded, preprocessor_key_of}
 use Rattle.c_cache_keys.specs.Laws.{HandedIsAnswered, RecacheIsFresh}
 use Rattle.c_cache_keys.specs.Step.{Asked, Ends, Failed, Gives, Hit, AreOwnIncludes, Makes, Miss, Puts, ReadsAs, Run, Step, Stores, StopsOpening, asked, found, gives, made, matching, stopped, stops}
-use Rattle.cck_store.specs.Store.{Handed, HoldsOnly, Setback, Store, StoreLaws}
 use Rattle.c_cache_keys.specs.Walk.{IsNamed}
 use Rattle.c_cache_keys.specs.World.{World, setting}
 use Rattle.c_cache_keys.specs.declared.call.CacheControl.{CacheControl}

@@ -5,11 +5,11 @@ use Rattle.cck_path.specs.Bytes.{Bytes}
 use Rattle.cck_entry.specs.Find.{IsLookup}
 use Rattle.cck_entry.specs.Results.{KeyResult}
 use Rattle.cck_include.specs.Include.{Include}
+use Rattle.cck_store.specs.Store.{Handed, Store}
+use Rattle.cck_store.specs.declared.store.StoreError.TheVariants as store
 use Rattle.c_cache_keys.specs.Call.{Answer, Call, Why, Memory, Extra, ExtraFault, Input, InputFault, Store as StoreFails, Damaged, NoText, TextFault, Marker}
 use Rattle.c_cache_keys.specs.Step.{matching, Asked, Asks, Failed, Gives, Hit, Makes, Miss, ReadsAs, StopsMaking, StopsOpening, gives, stops}
-use Rattle.cck_store.specs.Store.{Handed, Store}
 use Rattle.c_cache_keys.specs.World.{World}
-use Rattle.cck_store.specs.declared.store.StoreError.TheVariants as store
 
 module _ {V : Type 0} (w : World V) (c : Call V) (F G : Type 0) (more : F → G) where
   pub wide_opening : (why : Why) → StopsOpening w c F why → StopsOpening w c G why

@@ -3,15 +3,15 @@ use Rattle.std.specs.Prelude.{◌≡◌, ◌++◌, true, Option, string_bytes}
 use Rattle.std.specs.Option.{option_map, option_map_or}
 use Rattle.cck_compiler.specs.Compiler.{CannotCache, Compilation, NotCompilation, Parsed}
 use Rattle.cck_compiler.specs.Seen.{arguments_of}
+use Rattle.cck_compiler.specs.ExtraFiles.{is_hip}
+use Rattle.cck_compiler.specs.declared.compiler.CompilerArguments.{CompilerArguments}
+use Rattle.cck_compiler.specs.declared.compiler.CompilerArguments.TheVariants as parsed
 use Rattle.cck_digest.specs.Digest.{digest_text}
 use Rattle.cck_file_digest.specs.FileDigest.{text_at}
 use Rattle.cck_files.specs.FileMap.{FileMap}
 use Rattle.cck_path.specs.Bytes.{Bytes}
 use Rattle.cck_path.specs.Path.{Path}
-use Rattle.cck_compiler.specs.ExtraFiles.{is_hip}
 use Rattle.c_cache_keys.specs.declared.c_compiler.CCompiler.{CCompiler}
-use Rattle.cck_compiler.specs.declared.compiler.CompilerArguments.{CompilerArguments}
-use Rattle.cck_compiler.specs.declared.compiler.CompilerArguments.TheVariants as parsed
 use Rattle.c_cache_keys.specs.declared.hasher.CCompilerHasher.{CCompilerHasher}
 
 -- the digest text of an executable: that of what stands at its path, or, of a compiler with a version, that of this text and the version

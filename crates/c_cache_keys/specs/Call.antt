@@ -1,11 +1,11 @@
 -- calls: what is asked for, and what it is asked over
 use Rattle.std.specs.Prelude.{ℕ, List, [], ◌∷◌, Bool}
+use Rattle.cck_compiler.specs.Arguments.{Arguments}
 use Rattle.cck_files.specs.Calls.{Rose}
 use Rattle.cck_files.specs.FileMap.{FileMap}
 use Rattle.cck_path.specs.Bytes.{Bytes}
 use Rattle.cck_path.specs.Timestamp.{Moment}
 use Rattle.cck_path.specs.Variables.{Variable}
-use Rattle.cck_compiler.specs.Arguments.{Arguments}
 use Rattle.c_cache_keys.specs.declared.call.CacheControl.{CacheControl}
 
 -- what is asked for, where V is what a compiler is seen as

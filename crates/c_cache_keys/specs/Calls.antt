@@ -1,19 +1,19 @@
 -- lists of calls, before and after they are made
 use Rattle.std.specs.Prelude.{◌≡◌, ℕ, List, [], ◌∷◌, IfErr, IfOk, Result, string_bytes}
+use Rattle.cck_compiler.specs.declared.error.KeyError.{KeyError}
 use Rattle.cck_path.specs.Bytes.{variables_of}
 use Rattle.cck_files.specs.Calls.{Keeps}
 use Rattle.cck_files.specs.FileMap.{FileMap}
+use Rattle.cck_store.specs.Store.{Store}
 use Rattle.c_cache_keys.specs.Call as seen
 use Rattle.c_cache_keys.specs.Conditions.{request_of}
 use Rattle.c_cache_keys.specs.Hasher.{toolchain_key}
 use Rattle.c_cache_keys.specs.Reasons.{IsReason}
 use Rattle.c_cache_keys.specs.Seen.{answer_of}
 use Rattle.c_cache_keys.specs.Step.{Step}
-use Rattle.cck_store.specs.Store.{Store}
 use Rattle.c_cache_keys.specs.World.{World}
 use Rattle.c_cache_keys.specs.declared.call.HashResult.{HashResult}
 use Rattle.c_cache_keys.specs.declared.calls.Call.{Call}
-use Rattle.cck_compiler.specs.declared.error.KeyError.{KeyError}
 
 -- of a call only the state of its files changes, as by calls on files
 pub record IsAfter {I F : Type 0} (file_map : F → FileMap) (faults : F → ℕ) (is_quiet : F → Type 0) (before after : Call I F) : Type 0 where

@@ -3,6 +3,8 @@ use Rattle.std.specs.Prelude.{◌≡◌, ◌⊎◌, List, true, ◌∷◌, ◌++
 use Rattle.std.specs.FinMap.{empty}
 use Rattle.std.specs.Option.{option_map}
 use Rattle.std.specs.declared.alloc.Global.{Global}
+use Rattle.cck_compiler.specs.declared.error.KeyError.{KeyError}
+use Rattle.cck_compiler.specs.declared.error.KeyError.TheVariants as refusal
 use Rattle.cck_digest.specs.Digest.{digest_text}
 use Rattle.cck_entry.specs.Entry.{EntryText, added}
 use Rattle.cck_file_digest.specs.FolderText.{lossy}
@@ -13,17 +15,15 @@ use Rattle.cck_include.specs.Recorded.{recorded}
 use Rattle.cck_path.specs.Bytes.{Bytes}
 use Rattle.cck_path.specs.Timestamp.{Moment}
 use Rattle.cck_preprocessor_key.specs.PreprocessorKey.{preprocessor_material}
+use Rattle.cck_store.specs.Store.{Store, Stored}
 use Rattle.c_cache_keys.specs.Call.{Answer, Call, Keyed, Refused}
 use Rattle.c_cache_keys.specs.Keys.{extra_texts, input_file, is_preprocessed, preprocessor_key_of, printed, request_parts}
 use Rattle.c_cache_keys.specs.Reasons.{IsInputReason}
 use Rattle.c_cache_keys.specs.Seen.{why_of}
 use Rattle.c_cache_keys.specs.Step.{Asked, Asks, Failed, Hit, Miss, Opened}
-use Rattle.cck_store.specs.Store.{Store, Stored}
 use Rattle.c_cache_keys.specs.Walk.{input_path}
 use Rattle.c_cache_keys.specs.World.{World, setting}
 use Rattle.c_cache_keys.specs.declared.call.CacheControl.TheVariants.{Default, ForceRecache}
-use Rattle.cck_compiler.specs.declared.error.KeyError.{KeyError}
-use Rattle.cck_compiler.specs.declared.error.KeyError.TheVariants as refusal
 use Rattle.c_cache_keys.specs.declared.hasher.opening.Opening.{Opening}
 
 -- a path as text, a `-` and a digest

@@ -8,11 +8,11 @@ use Rattle.cck_include.specs.Include.{Include}
 use Rattle.cck_include.specs.Recorded.{recorded}
 use Rattle.cck_path.specs.Bytes.{Bytes}
 use Rattle.cck_path.specs.Path.{Path}
+use Rattle.cck_store.specs.Store.{HoldsOnly, Setback, Store}
 use Rattle.c_cache_keys.specs.Call.{Answer, Call, Done, Fault, Keyed, Refused, calls_of, Why, Memory, Extra, ExtraFault, Input, InputFault, Store as StoreFails, Damaged, NoText, TextFault, Marker}
 use Rattle.c_cache_keys.specs.Keys.{extra_texts, input_file, is_preprocessed, preprocessor_key_of, printed, uses_cache}
 use Rattle.c_cache_keys.specs.Laws.{CanHit}
 use Rattle.c_cache_keys.specs.Step.{AreOwnIncludes, Run, Step, found}
-use Rattle.cck_store.specs.Store.{HoldsOnly, Setback, Store}
 use Rattle.c_cache_keys.specs.Walk.{Errs, IsNamed, Walk}
 use Rattle.c_cache_keys.specs.World.{World, setting}
 

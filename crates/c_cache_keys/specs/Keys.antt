@@ -2,6 +2,7 @@
 use Rattle.std.specs.Prelude.{List, ◌++◌, Bool, true, ◌&&◌, ◌||◌, not, is_none, if◌then◌else◌, Option, Some, None, Result, Ok, Err, codes, map}
 use Rattle.std.specs.Option.{option_map, option_map_or, option_and_then}
 use Rattle.std.specs.Str.{str_eq_ignore_ascii_case}
+use Rattle.cck_compiler.specs.Arguments.{is_multiarch}
 use Rattle.cck_digest.specs.Digest.{digest_text}
 use Rattle.cck_digest.specs.declared.error.FileError.{FileError}
 use Rattle.cck_file_digest.specs.FileDigest.{texts}
@@ -13,7 +14,6 @@ use Rattle.cck_path.specs.Variables.{Variable, first_value}
 use Rattle.cck_preprocessor_key.specs.PreprocessorKey.{RequestParts, preprocessor_material}
 use Rattle.cck_util.specs.Key.{Params, object_key}
 use Rattle.cck_util.specs.Language.{is_preprocessed_first}
-use Rattle.cck_compiler.specs.Arguments.{is_multiarch}
 use Rattle.c_cache_keys.specs.Call.{Call, Request}
 use Rattle.c_cache_keys.specs.Walk.{input_path}
 use Rattle.c_cache_keys.specs.World.{World, setting}

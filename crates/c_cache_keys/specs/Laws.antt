@@ -3,11 +3,11 @@ use Rattle.std.specs.Prelude.{◌≡◌, ◌≢◌, ◌⊎◌, ◌↔◌, List, 
 use Rattle.std.specs.List.{AllZip}
 use Rattle.cck_path.specs.Bytes.{Bytes}
 use Rattle.cck_entry.specs.Entry.{Entry, EntryText}
+use Rattle.cck_store.specs.Store.{Handed, Store}
 use Rattle.c_cache_keys.specs.Call.{Answer, Call, Damaged, Done, Fault, Keyed, Memory, Refused, calls_of}
 use Rattle.c_cache_keys.specs.Keys.{plain_key, preprocessor_key_of}
 use Rattle.c_cache_keys.specs.Premises.{Premises}
 use Rattle.c_cache_keys.specs.Step.{IsEmpty, OwnPair, Run, Sound, Step, found}
-use Rattle.cck_store.specs.Store.{Handed, Store}
 use Rattle.c_cache_keys.specs.World.{World}
 use Rattle.c_cache_keys.specs.declared.call.CacheControl.TheVariants.{Default, ForceRecache}
 

@@ -1,5 +1,8 @@
 -- the reason that a refusal gives
 use Rattle.std.specs.Prelude.{◌≡◌, ◌≢◌, map, Some, Ok, Err}
+use Rattle.cck_compiler.specs.declared.error.KeyError.{KeyError}
+use Rattle.cck_compiler.specs.declared.error.KeyError.TheVariants as refusal
+use Rattle.cck_compiler.specs.declared.error.PreprocessError.TheVariants as text
 use Rattle.cck_digest.specs.declared.error.UtilError.{UtilError}
 use Rattle.cck_digest.specs.declared.error.UtilError.TheVariants as util
 use Rattle.cck_entry.specs.Entry.{Reads}
@@ -8,16 +11,13 @@ use Rattle.cck_files.specs.Calls.{IsRefusal}
 use Rattle.cck_files.specs.FileMap.{file_at}
 use Rattle.cck_path.specs.Bytes.{Bytes}
 use Rattle.cck_path.specs.Path.{components}
+use Rattle.cck_store.specs.Store.{Store}
 use Rattle.cck_time.specs.declared.error.Error.{Error}
 use Rattle.cck_time.specs.declared.error.Error.TheVariants as entry
 use Rattle.c_cache_keys.specs.Call.{Call}
 use Rattle.c_cache_keys.specs.Keys.{preprocessor_key_of}
-use Rattle.cck_store.specs.Store.{Store}
 use Rattle.c_cache_keys.specs.Walk.{input_path}
 use Rattle.c_cache_keys.specs.World.{World}
-use Rattle.cck_compiler.specs.declared.error.KeyError.{KeyError}
-use Rattle.cck_compiler.specs.declared.error.KeyError.TheVariants as refusal
-use Rattle.cck_compiler.specs.declared.error.PreprocessError.TheVariants as text
 
 -- Here and below F says that a fault came.
 module _ {V : Type 0} (w : World V) (c : Call V) (F : Type 0) where

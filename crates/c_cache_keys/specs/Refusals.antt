@@ -1,4 +1,8 @@
 -- why a call for a key is refused, by why a call below it is
+use Rattle.cck_compiler.specs.declared.error.KeyError.{KeyError}
+use Rattle.cck_compiler.specs.declared.error.KeyError.TheVariants.{Memory, Extra, Input, Entry, Preprocess, Marker}
+use Rattle.cck_compiler.specs.declared.error.PreprocessError.{PreprocessError}
+use Rattle.cck_compiler.specs.declared.error.PreprocessError.TheVariants as text
 use Rattle.cck_digest.specs.declared.error.FileError.{FileError}
 use Rattle.cck_digest.specs.declared.error.FileError.TheVariants as file
 use Rattle.cck_digest.specs.declared.error.UtilError.{UtilError}
@@ -7,10 +11,6 @@ use Rattle.cck_time.specs.declared.error.Error.{Error}
 use Rattle.cck_time.specs.declared.error.Error.TheVariants as entry
 use Rattle.cck_walk.specs.declared.error.WalkError.{WalkError}
 use Rattle.cck_walk.specs.declared.error.WalkError.TheVariants as walk
-use Rattle.cck_compiler.specs.declared.error.KeyError.{KeyError}
-use Rattle.cck_compiler.specs.declared.error.KeyError.TheVariants.{Memory, Extra, Input, Entry, Preprocess, Marker}
-use Rattle.cck_compiler.specs.declared.error.PreprocessError.{PreprocessError}
-use Rattle.cck_compiler.specs.declared.error.PreprocessError.TheVariants as text
 
 abbrev pub extra_refusal : UtilError → KeyError
 extra_refusal util.Memory = Memory

@@ -8,13 +8,13 @@ use Rattle.cck_entry.specs.Find.{IsLookup, found_in}
 use Rattle.cck_include.specs.Gathered.{Digested, gathered}
 use Rattle.cck_include.specs.Include.{Include}
 use Rattle.cck_include.specs.Matching.{matches}
+use Rattle.cck_store.specs.Store.{Handed, Store, Stored}
+use Rattle.cck_store.specs.declared.store.StoreError.TheVariants as store
 use Rattle.c_cache_keys.specs.Call.{Answer, Call, Done, Fault, Keyed, Refused, Why, Memory, Extra, ExtraFault, Input, InputFault, Store as StoreFails, Damaged, NoText, TextFault, Marker}
 use Rattle.c_cache_keys.specs.Keys.{extra_texts, input_file, is_preprocessed, plain_key, preprocessor_key_of, printed, uses_cache}
-use Rattle.cck_store.specs.Store.{Handed, Store, Stored}
 use Rattle.c_cache_keys.specs.Walk.{Accepted, AreRecorded, Errs, Walk}
 use Rattle.c_cache_keys.specs.World.{World, setting}
 use Rattle.c_cache_keys.specs.declared.call.CacheControl.TheVariants.{Default, ForceRecache}
-use Rattle.cck_store.specs.declared.store.StoreError.TheVariants as store
 
 -- what asking the store comes to: a key that may be answered, none, or a refusal
 pub data Asked : Type 0 where

@@ -1,13 +1,13 @@
 //! Compilers with their executables.
 ghost use Rattle.std.specs.Prelude.{◌≡◌, ◌⊎◌, ◌++◌, Some, IfErr, IfOk, IsOkUnless, string_bytes};
 ghost use Rattle.cck_compiler.specs.KeyError.{IsFileFault};
+ghost use Rattle.cck_compiler.specs.ExtraFiles.{completed};
 ghost use Rattle.cck_digest.specs.Digest.{digest_text};
 ghost use Rattle.cck_file_digest.specs.Refusals.{IsDigestRefusal};
 ghost use Rattle.cck_files.specs.Calls.{Keeps, Rose};
 ghost use Rattle.cck_path.specs.Bytes.{lists_of, variables_of};
 ghost use Rattle.cck_path.specs.Path.{components};
 ghost use Rattle.c_cache_keys.specs.CCompiler.{IsHip, IsOf, IsOfCompiler, executable_text, found_of};
-ghost use Rattle.cck_compiler.specs.ExtraFiles.{completed};
 
 use crate::hasher::CCompilerHasher;
 use cck_compiler::{
@@ -75,16 +75,8 @@ impl<I: CCompilerImpl> CCompiler<I> {
     /// What a command line comes to, in a directory and under variables.
     ///
     /// A compilation is what the compiler says of it, with more files whose digests stand in the
-    /// keys. Behind those that the compiler tells come
-    ///
-    /// - what stands between the colons of each variable `SCCACHE_EXTRAFILES`, where an empty value
-    ///   tells one empty path,
-    /// - for HIP the device libraries, in path order: the direct children with the extension `bc`
-    ///   of one folder. That is the first that is told of: by the argument
-    ///   `--hip-device-lib-path=`, by the variable `HIP_DEVICE_LIB_PATH`, by the argument
-    ///   `--rocm-path=` or the variable `ROCM_PATH`, each with `amdgcn/bitcode` behind it; or it is
-    ///   `/opt/rocm/amdgcn/bitcode`. Of arguments and variables those that are no UTF-8 don't
-    ///   count. Where no folder stands, there are no libraries.
+    /// keys, which [`add_extra_files`] puts behind those that the compiler tells: what the
+    /// variables `SCCACHE_EXTRAFILES` name and, for HIP, the device libraries.
     ///
     /// It is refused as
     ///

@@ -1,10 +1,10 @@
 //! The key of one compilation.
 ghost use Rattle.std.specs.Prelude.{◌≡◌, ◌++◌, ◌∷◌, IfErr, IfOk, IsOkUnless, string_bytes};
 ghost use Rattle.cck_compiler.specs.Seen.{arguments_of};
+ghost use Rattle.cck_compiler.specs.Arguments.{output_name};
 ghost use Rattle.cck_path.specs.Bytes.{lists_of, variables_of};
 ghost use Rattle.cck_files.specs.Calls.{Keeps, Rose};
 ghost use Rattle.jiff.specs.Words.{plain_zone};
-ghost use Rattle.cck_compiler.specs.Arguments.{output_name};
 ghost use Rattle.c_cache_keys.specs.Conditions.{call_under, given_by, world_under};
 ghost use Rattle.c_cache_keys.specs.Hasher.{toolchain_key};
 ghost use Rattle.c_cache_keys.specs.Reasons.{IsReason};

@@ -24,7 +24,9 @@
 //! What a text was made of is read from its line markers by [`process_preprocessed_file`], and
 //! [`laws::verdict_is_decided`] says that this is what calls speak of.
 //!
-//! Two stores are at hand: [`MapStore`] in memory, and [`EmptyStore`], which keeps nothing.
+//! What compilers and stores are, and the walk, is passed on from `cck_compiler`, `cck_store` and
+//! `cck_walk`; two stores are at hand: [`MapStore`] in memory, and [`EmptyStore`], which keeps
+//! nothing.
 //!
 //! One call, from a command line to a key:
 //!

@@ -1,6 +1,8 @@
 -- a compiler by the text that it prints
 use Rattle.std.specs.Prelude.{List, false, Option, Some, None, Result, Ok, Err}
 use Rattle.cck_compiler.specs.Compiler.{Compiler, NotCompilation}
+use Rattle.cck_compiler.specs.Arguments.{Arguments}
+use Rattle.cck_compiler.specs.declared.compiler.CCompilerKind.TheVariants.{Gcc}
 use Rattle.cck_digest.specs.declared.error.FileError.{FileError}
 use Rattle.cck_files.specs.FileMap.{FileMap, contents_at}
 use Rattle.cck_path.specs.Bytes.{Bytes}
@@ -8,8 +10,6 @@ use Rattle.cck_path.specs.Path.{components}
 use Rattle.cck_path.specs.Text.{join_path}
 use Rattle.cck_path.specs.Timestamp.{Moment}
 use Rattle.cck_path.specs.Variables.{Variable}
-use Rattle.cck_compiler.specs.Arguments.{Arguments}
-use Rattle.cck_compiler.specs.declared.compiler.CCompilerKind.TheVariants.{Gcc}
 
 -- the text, where the input has contents
 abbrev pub with_input : Bytes → Result Bytes FileError → Option Bytes

@@ -4,7 +4,8 @@
 //! path. Together they show whether a call for a key preprocessed: `FixedCompiler` asks for the
 //! path [`PREPROCESSED`] each time.
 //!
-//! The tests call [`generate_hash_key`](c_cache_keys::CCompilerHasher::generate_hash_key) with
+//! The tests call [`generate_hash_key`](c_cache_keys::CCompilerHasher::generate_hash_key),
+//! [`run_calls`](c_cache_keys::run_calls) and what [`CCompiler`](c_cache_keys::CCompiler) has with
 //! SHA-256, a store and files in memory. Their expected keys are another program's.
 #![tactic(auto)]
 

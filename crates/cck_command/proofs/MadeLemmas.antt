@@ -6,6 +6,7 @@ use Rattle.std.proofs.Math.Seq.{take-nil}
 use Rattle.std.proofs.lemmas.Grind.{flat_map-append}
 use Rattle.std.proofs.lemmas.List.{append-nil, length_push}
 use Rattle.cck_path.specs.Bytes.{Bytes}
+use Rattle.cck_store.specs.MapStore.{State, map_store}
 use Rattle.jiff.specs.Types.{Offset, TimeZone}
 use Rattle.jiff.specs.Words.{fixed_zone}
 use Rattle.cck_files.specs.FileState.{FileState, IsQuiet, fault_count}
@@ -20,7 +21,6 @@ use Rattle.cck_time.specs.declared.config.PreprocessorCacheModeConfig.{Preproces
 use Rattle.c_cache_keys.proofs.Runs.{run_joined}
 use Rattle.c_cache_keys.specs.Call.{Answer}
 use Rattle.c_cache_keys.specs.Calls.{IsAfter, done_all, done_in}
-use Rattle.cck_store.specs.MapStore.{State, map_store}
 use Rattle.c_cache_keys.specs.Step.{Run}
 use Rattle.c_cache_keys.specs.World.{World, world_of}
 use Rattle.c_cache_keys.specs.declared.c_compiler.CCompiler.{CCompiler}

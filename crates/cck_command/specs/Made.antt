@@ -3,18 +3,18 @@ use Rattle.std.specs.Prelude.{◌≡◌, ℤ, ◌++◌, List, codes, string_byte
 use Rattle.std.specs.List.{AllZip, flat_map}
 use Rattle.cck_compiler.specs.Compiler.{Compilation}
 use Rattle.cck_compiler.specs.Seen.{arguments_of}
+use Rattle.cck_compiler.specs.ExtraFiles.{completed}
 use Rattle.cck_path.specs.Bytes.{Bytes, variables_of}
 use Rattle.cck_digest.specs.Digest.{digest_text}
 use Rattle.cck_files.specs.FileState.{FileState}
 use Rattle.cck_script.specs.Calls as script
 use Rattle.cck_script.specs.Surroundings.{AreFiles, executable_path, variables, working_directory}
 use Rattle.c_cache_keys.specs.Call.{Answer, Done}
-use Rattle.cck_compiler.specs.ExtraFiles.{completed}
-use Rattle.cck_store.specs.MapStore.{State, map_store}
 use Rattle.c_cache_keys.specs.Step.{Run}
 use Rattle.c_cache_keys.specs.World.{World}
 use Rattle.c_cache_keys.specs.declared.c_compiler.CCompiler.{CCompiler}
 use Rattle.c_cache_keys.specs.declared.calls.Call.{Call}
+use Rattle.cck_store.specs.MapStore.{State, map_store}
 use Rattle.cck_command.specs.MiniCompiler.{parsed}
 use Rattle.cck_command.specs.Run.{IsDone, answer_line, control_of}
 use Rattle.cck_command.specs.declared.mini_compiler.MiniCompiler.{MiniCompiler}

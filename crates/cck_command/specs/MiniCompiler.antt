@@ -2,13 +2,13 @@
 use Rattle.std.specs.Prelude.{ℤ, List, [], ◌∷◌, false, nat_eq, None, codes, if◌then◌else◌}
 use Rattle.std.specs.List.{ends_with}
 use Rattle.cck_compiler.specs.Compiler.{Compilation, Compiler, NotCompilation, Parsed}
+use Rattle.cck_compiler.specs.Arguments.{Arguments, Output}
+use Rattle.cck_compiler.specs.declared.arguments.ColorMode.TheVariants.{Auto}
+use Rattle.cck_compiler.specs.declared.compiler.CCompilerKind.TheVariants.{Gcc}
 use Rattle.cck_path.specs.Bytes.{Bytes}
 use Rattle.cck_mini.specs.Printed.{printed}
 use Rattle.cck_util.specs.declared.language.Language.{Language}
 use Rattle.cck_util.specs.declared.language.Language.TheVariants as language
-use Rattle.cck_compiler.specs.Arguments.{Arguments, Output}
-use Rattle.cck_compiler.specs.declared.arguments.ColorMode.TheVariants.{Auto}
-use Rattle.cck_compiler.specs.declared.compiler.CCompilerKind.TheVariants.{Gcc}
 
 -- the language of an input: preprocessed C if it ends in `.i`, and else C
 abbrev pub language_of : Bytes → Language

@@ -4,7 +4,9 @@ use Rattle.std.specs.Fmt.{decimal}
 use Rattle.std.specs.List.{AllZip, flat_map}
 use Rattle.std.specs.Option.{unwrap_or}
 use Rattle.cck_compiler.specs.Compiler.{Compilation}
+use Rattle.cck_compiler.specs.ExtraFiles.{completed}
 use Rattle.cck_path.specs.Bytes.{Bytes}
+use Rattle.cck_store.specs.MapStore.{State, map_store}
 use Rattle.jiff.specs.Words.{fixed_zone}
 use Rattle.jiff.specs.Types.{Offset}
 use Rattle.cck_digest.specs.Digest.{digest_text}
@@ -15,8 +17,6 @@ use Rattle.cck_script.specs.Lines.{Line}
 use Rattle.cck_script.specs.Script.{basedirs_of, fail_of, forget_of, lines_said, zone_of}
 use Rattle.cck_time.specs.Config.{activated}
 use Rattle.c_cache_keys.specs.Call.{Answer, Done, Keyed, Refused, Why, Memory, Extra, ExtraFault, Input, InputFault, Store, Damaged, NoText, TextFault, Marker}
-use Rattle.cck_compiler.specs.ExtraFiles.{completed}
-use Rattle.cck_store.specs.MapStore.{State, map_store}
 use Rattle.c_cache_keys.specs.Step.{Run}
 use Rattle.c_cache_keys.specs.World.{World, world_of}
 use Rattle.c_cache_keys.specs.declared.call.CacheControl.{CacheControl}

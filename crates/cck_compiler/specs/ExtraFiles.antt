@@ -3,7 +3,6 @@ use Rattle.std.specs.Prelude.{◌==◌, List, [], ◌∷◌, ◌++◌, length, t
 use Rattle.std.specs.List.{find, flat_map, slice_split}
 use Rattle.std.specs.Option.{option_and_then, option_map, option_map_or, unwrap_or}
 use Rattle.std.specs.Str.{bytes_eq, is_utf8}
-use Rattle.cck_compiler.specs.Compiler.{CannotCache, Compilation, NotCompilation, Parsed}
 use Rattle.cck_digest.specs.declared.error.FileError.{FileError}
 use Rattle.cck_files.specs.FileMap.{FileMap, folder_at}
 use Rattle.cck_file_digest.specs.Folder.{child_names}
@@ -14,6 +13,7 @@ use Rattle.cck_path.specs.Text.{join_path}
 use Rattle.cck_path.specs.Variables.{Variable}
 use Rattle.cck_util.specs.declared.language.Language.{Language}
 use Rattle.cck_util.specs.declared.language.Language.TheVariants.{Hip}
+use Rattle.cck_compiler.specs.Compiler.{CannotCache, Compilation, NotCompilation, Parsed}
 use Rattle.cck_compiler.specs.Arguments.{Arguments}
 
 -- the paths that a variable tells, if it is the one that names further files: what stands between its colons

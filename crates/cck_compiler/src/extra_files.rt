@@ -3,10 +3,10 @@ ghost use Rattle.std.specs.Prelude.{◌≡◌, ◌++◌, ◌==◌, ◌⊎◌, tr
 ghost use Rattle.std.specs.List.{slice_split};
 ghost use Rattle.std.specs.Option.{option_map, option_or};
 ghost use Rattle.std.specs.Str.{is_utf8};
-ghost use Rattle.cck_compiler.specs.KeyError.{IsFileFault};
 ghost use Rattle.cck_files.specs.Calls.{Keeps, Rose};
 ghost use Rattle.cck_path.specs.Bytes.{lists_of, variables_of};
 ghost use Rattle.cck_path.specs.Text.{join_path as joined_text};
+ghost use Rattle.cck_compiler.specs.KeyError.{IsFileFault};
 ghost use Rattle.cck_compiler.specs.ExtraFiles.{flag_value, has_flag, is_hip, is_library, libraries, library_folder, named_files, text_value, with_extra_files};
 ghost use Rattle.cck_compiler.specs.Seen.{arguments_of};
 
@@ -19,8 +19,24 @@ use cck_path::{extension, join_path};
 use cck_util::Language;
 use std::alloc::{AllocError, Global};
 
-/// Puts the paths of further files behind those that the arguments have: what stands between the
-/// colons of every variable `SCCACHE_EXTRAFILES` and, for HIP, the device libraries.
+/// Puts the paths of further files behind those that the arguments have:
+///
+/// - what stands between the colons of each variable `SCCACHE_EXTRAFILES`, where an empty value
+///   tells one empty path,
+/// - for HIP the device libraries, in path order: the direct children with the extension `bc` of
+///   one folder. That is the first that is told of: by the argument `--hip-device-lib-path=`, by
+///   the variable `HIP_DEVICE_LIB_PATH`, by the argument `--rocm-path=` or the variable
+///   `ROCM_PATH`, each with `amdgcn/bitcode` behind it; or it is `/opt/rocm/amdgcn/bitcode`. Of
+///   arguments and variables those that are no UTF-8 don't count. Where no folder stands, there
+///   are no libraries.
+///
+/// It is refused as
+///
+/// - [`KeyError::Extra`] of a fault only where the count of faults rose, for HIP,
+/// - [`KeyError::Memory`].
+///
+/// After a refusal some of the paths may have been put there. This is what upstream's
+/// `CCompiler::parse_arguments` does with what a compiler parsed.
 pub fn add_extra_files<F: Files>(
     alloc: Global,
     files: &mut F,

@@ -224,22 +224,33 @@ fn act_alone_on_each(
     Ok(())
 }
 
+// Records `x` and `y`, and reads their names and one that is refused.
+fn record_once(
+    rt: &impl Abort,
+    alloc: Global,
+    files: &mut MapFiles,
+    records: &mut Records,
+) -> Result<(), WalkError> {
+    let first: [&[u8]; 2] = [b"# 1 \"x\"", b"# 1 \"y\""];
+    act_on_each(alloc, files, records, &first)?;
+    assert_eq!(rt; records.len(), 2);
+    let again: [&[u8]; 3] = [b"# 1 \"x\"", b"# 1 \"z/../x\" 3", b"# 1 \"./y\""];
+    act_alone_on_each(rt, alloc, records, &again)?;
+    assert_eq!(rt; records.len(), 2);
+    // Nor does a refusal change what was recorded.
+    let wanted = LineAction::Break((6, 5, false));
+    expect_action(rt, alloc, files, records, b"# 1 \"z\"", wanted)?;
+    assert_eq!(rt; records.len(), 2);
+    Ok(())
+}
+
 // A path that was recorded isn't looked at once more, however it is written.
 #[test]
 fn recorded_once(rt: HostRuntime) -> Result<(), Fail> {
     let alloc = rt.alloc();
     let mut records = Records::new(alloc);
     let mut files = files_at(alloc, &[b"x", b"y"])?;
-    let first: [&[u8]; 2] = [b"# 1 \"x\"", b"# 1 \"y\""];
-    act_on_each(alloc, &mut files, &mut records, &first)?;
-    assert_eq!(rt; records.len(), 2);
-    let again: [&[u8]; 3] = [b"# 1 \"x\"", b"# 1 \"z/../x\" 3", b"# 1 \"./y\""];
-    act_alone_on_each(&rt, alloc, &mut records, &again)?;
-    assert_eq!(rt; records.len(), 2);
-    // Nor does a refusal change what was recorded.
-    let wanted = LineAction::Break((6, 5, false));
-    expect_action(&rt, alloc, &mut files, &mut records, b"# 1 \"z\"", wanted)?;
-    assert_eq!(rt; records.len(), 2);
+    record_once(&rt, alloc, &mut files, &mut records)?;
     assert_eq!(rt; records.get(b"x"), Some(DIGEST));
     assert_eq!(rt; records.get(b"y//."), Some(DIGEST));
     assert!(rt; records.get(b"z").is_none());

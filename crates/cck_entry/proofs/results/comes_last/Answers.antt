@@ -2,8 +2,8 @@ use Rattle.std.proofs.Common.{◌∙◌, sym}
 use Rattle.std.specs.String.{string_bytes, string_cmp_total}
 use Rattle.std.specs.Ordering.{is_lt}
 use Rattle.cck_path.specs.TextOrder.{text_cmp}
-use Rattle.cck_entry.specs.Results.{result_in}
 use Rattle.cck_path.proofs.LastLemmas.{decided_by_last, list_all-map}
+use Rattle.cck_entry.specs.Results.{result_in}
 use Rattle.cck_entry.proofs.results.comes_last.Goals as goal
 
 pub returns-in-Some : goal.returns-in-Some

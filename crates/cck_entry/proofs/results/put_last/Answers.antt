@@ -3,8 +3,8 @@ use Rattle.std.specs.String.{string_bytes, string_cmp_total}
 use Rattle.std.specs.Ordering.{is_lt}
 use Rattle.std.proofs.lemmas.List.{map_push}
 use Rattle.cck_path.specs.TextOrder.{text_cmp}
-use Rattle.cck_entry.specs.Results.{result_in}
 use Rattle.cck_path.proofs.LastLemmas.{insert_last, list_all-map}
+use Rattle.cck_entry.specs.Results.{result_in}
 use Rattle.cck_entry.proofs.results.put_last.Goals as goal
 
 pub returns-clause-ok : goal.returns-clause-ok
