@@ -8,6 +8,7 @@ pub mod HitPlain
 pub mod IncludedLemmas
 pub mod Includes
 pub mod KeySame
+pub mod LookedExamples
 pub mod Made
 pub mod MarkExamples
 pub mod MarksRead
@@ -15,6 +16,7 @@ pub mod NameTests
 pub mod Opened
 pub mod PathEntries
 pub mod Ran
+pub mod ReasonExamples
 pub mod Reasons
 pub mod RecordedSame
 pub mod Runs

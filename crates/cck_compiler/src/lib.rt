@@ -31,6 +31,3 @@ pub use compiler::{CCompilerImpl, CCompilerKind, CompilerArguments};
 pub use error::{KeyError, PreprocessError};
 pub use extra_files::add_extra_files;
 pub use lists::{copy_lists, push_copies};
-
-#[cfg(test)]
-mod tests;

@@ -43,8 +43,6 @@ pub mod laws;
 mod lookup;
 mod reading;
 mod results;
-#[cfg(test)]
-mod tests;
 mod writing;
 
 pub use cck_include::{IncludeEntry, gather, includes_match, recorded_digest};

@@ -37,6 +37,19 @@ fn with_results(
     Ok(entry)
 }
 
+// Adds a result with so many includes of `/h`.
+fn add_many(
+    alloc: Global,
+    files: &mut MapFiles,
+    entry: &mut PreprocessorCacheEntry,
+    key: &str,
+    count: usize,
+) -> Result<(), Fail> {
+    let many = included(alloc, b"/h", count)?;
+    entry.add_result(files, moment(), key, &many)?;
+    Ok(())
+}
+
 // The entry has so many results, and so many includes.
 fn expect_counts(rt: &impl Abort, entry: &PreprocessorCacheEntry, results: usize, includes: usize) {
     assert_eq!(rt; entry.result_count(), results);
@@ -49,9 +62,58 @@ fn more_than_a_hundred_results(rt: HostRuntime) -> Result<(), Fail> {
     let mut files = files_of(alloc, &[(b"/h", b"")])?;
     let mut entry = with_results(alloc, &mut files, 101)?;
     expect_counts(&rt, &entry, 101, 0);
-    let one = included(alloc, b"/h", 1)?;
-    entry.add_result(&mut files, moment(), "more", &one)?;
+    add_many(alloc, &mut files, &mut entry, "more", 1)?;
     expect_counts(&rt, &entry, 1, 1);
+    Ok(())
+}
+
+// A key that stands already starts over too.
+#[test]
+fn more_than_a_hundred_results_with_the_key(rt: HostRuntime) -> Result<(), Fail> {
+    let alloc = rt.alloc();
+    let mut files = MapFiles::new(alloc);
+    let mut entry = with_results(alloc, &mut files, 101)?;
+    entry.add_result(&mut files, moment(), "7", &[])?;
+    expect_counts(&rt, &entry, 1, 0);
+    Ok(())
+}
+
+// What the key had before counts too, and one result may have more than 10000 alone.
+#[test]
+fn more_than_ten_thousand_includes(rt: HostRuntime) -> Result<(), Fail> {
+    let alloc = rt.alloc();
+    let mut files = files_of(alloc, &[(b"/h", b"")])?;
+    let mut entry = PreprocessorCacheEntry::new(alloc);
+    add_many(alloc, &mut files, &mut entry, "a", 9_999)?;
+    add_many(alloc, &mut files, &mut entry, "b", 1)?;
+    expect_counts(&rt, &entry, 2, 10_000);
+    add_many(alloc, &mut files, &mut entry, "a", 1)?;
+    expect_counts(&rt, &entry, 1, 1);
+    add_many(alloc, &mut files, &mut entry, "d", 10_001)?;
+    expect_counts(&rt, &entry, 1, 10_001);
+    Ok(())
+}
+
+#[test]
+fn a_key_is_replaced(rt: HostRuntime) -> Result<(), Fail> {
+    let alloc = rt.alloc();
+    let mut files = files_of(alloc, &[(b"/h", b"")])?;
+    let mut entry = with_results(alloc, &mut files, 3)?;
+    add_many(alloc, &mut files, &mut entry, "1", 5)?;
+    add_many(alloc, &mut files, &mut entry, "2", 2)?;
+    expect_counts(&rt, &entry, 3, 7);
+    add_many(alloc, &mut files, &mut entry, "1", 0)?;
+    expect_counts(&rt, &entry, 3, 2);
+    Ok(())
+}
+
+#[test]
+fn entries_compared(rt: HostRuntime) -> Result<(), Fail> {
+    let alloc = rt.alloc();
+    let mut files = MapFiles::new(alloc);
+    let two = with_results(alloc, &mut files, 2)?;
+    let three = with_results(alloc, &mut files, 3)?;
+    assert!(rt; two != three);
     Ok(())
 }
 
@@ -60,13 +122,11 @@ fn ten_thousand_includes(rt: HostRuntime) -> Result<(), Fail> {
     let alloc = rt.alloc();
     let mut files = files_of(alloc, &[(b"/h", b"")])?;
     let mut entry = PreprocessorCacheEntry::new(alloc);
-    let many = included(alloc, b"/h", 10_000)?;
-    entry.add_result(&mut files, moment(), "many", &many)?;
+    add_many(alloc, &mut files, &mut entry, "many", 10_000)?;
     expect_counts(&rt, &entry, 1, 10_000);
-    entry.add_result(&mut files, moment(), "nothing", &[])?;
+    add_many(alloc, &mut files, &mut entry, "nothing", 0)?;
     expect_counts(&rt, &entry, 2, 10_000);
-    let one = included(alloc, b"/h", 1)?;
-    entry.add_result(&mut files, moment(), "one", &one)?;
+    add_many(alloc, &mut files, &mut entry, "one", 1)?;
     expect_counts(&rt, &entry, 1, 1);
     Ok(())
 }

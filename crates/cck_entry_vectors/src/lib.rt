@@ -7,11 +7,14 @@
 //! - `time_parts`: what files can show at a moment, in a zone, and the options.
 //! - `recorded`: recorded digests.
 //! - `preprocessor_key`: the keys of requests.
+//! - `format`: entries and their bytes.
 //! - `entries`: results that are added to entries, within which limits, and the look-up.
 #![tactic(auto)]
 
 #[cfg(test)]
 mod entries;
+#[cfg(test)]
+mod format;
 #[cfg(test)]
 mod options;
 #[cfg(test)]

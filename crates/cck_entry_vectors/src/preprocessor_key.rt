@@ -219,22 +219,20 @@ fn test_preprocessor_cache_entry_hash_key_multiarch(rt: HostRuntime) -> Result<(
 }
 
 // The keys of `src/main.c` in two checkouts.
+fn key_in_checkout(alloc: Global, input_file: &[u8], basedirs: &[Vec<u8>]) -> Result<String, Fail> {
+    let mut files = files_of(alloc, &[(input_file, b"int x;")])?;
+    let request = Request {
+        input_file,
+        basedirs,
+        ..plain()
+    };
+    let key = key_at(alloc, &mut files, request, 0)?;
+    Ok(key.ok_or("a key")?)
+}
+
 fn keys_of_checkouts(alloc: Global, basedirs: &[Vec<u8>]) -> Result<(String, String), Fail> {
-    let first = b"/home/user1/project/src/main.c".as_slice();
-    let second = b"/home/user2/project/src/main.c".as_slice();
-    let mut files = files_of(alloc, &[(first, b"int x;"), (second, b"int x;")])?;
-    let in_first = Request {
-        input_file: first,
-        basedirs,
-        ..plain()
-    };
-    let in_second = Request {
-        input_file: second,
-        basedirs,
-        ..plain()
-    };
-    let one = key_at(alloc, &mut files, in_first, 0)?.ok_or("a key")?;
-    let other = key_at(alloc, &mut files, in_second, 0)?.ok_or("a key")?;
+    let one = key_in_checkout(alloc, b"/home/user1/project/src/main.c", basedirs)?;
+    let other = key_in_checkout(alloc, b"/home/user2/project/src/main.c", basedirs)?;
     Ok((one, other))
 }
 
@@ -328,17 +326,26 @@ fn a_variable_twice(rt: HostRuntime) -> Result<(), Fail> {
 }
 
 #[test]
-fn macros_of_time_in_the_input(rt: HostRuntime) -> Result<(), Fail> {
+fn the_time_of_day_in_the_input(rt: HostRuntime) -> Result<(), Fail> {
     let alloc = rt.alloc();
     let mut files = files_of(alloc, &[(b"/w/a.c", b"a __TIME__ b")])?;
     assert!(rt; key_at(alloc, &mut files, plain(), 0)?.is_none());
+    Ok(())
+}
 
+// The key at this second, of an input that shows the date.
+fn dated_key(alloc: Global, second: i64) -> Result<String, Fail> {
     let mut files = files_of(alloc, &[(b"/w/a.c", b"a __DATE__ b")])?;
-    let first = key_at(alloc, &mut files, plain(), 0)?.ok_or("a key")?;
-    let same = key_at(alloc, &mut files, plain(), 86_399)?.ok_or("a key")?;
-    assert_eq!(rt; first, same);
-    let second = key_at(alloc, &mut files, plain(), 86_400)?.ok_or("a key")?;
-    assert_ne!(rt; first, second);
+    let key = key_at(alloc, &mut files, plain(), second)?;
+    Ok(key.ok_or("a key")?)
+}
+
+#[test]
+fn the_date_in_the_input(rt: HostRuntime) -> Result<(), Fail> {
+    let alloc = rt.alloc();
+    let first = dated_key(alloc, 0)?;
+    assert_eq!(rt; first, dated_key(alloc, 86_399)?);
+    assert_ne!(rt; first, dated_key(alloc, 86_400)?);
     Ok(())
 }
 

@@ -228,20 +228,23 @@ fn large(alloc: Global, at: usize, name: &[u8]) -> Result<MapFiles, UtilError> {
     Ok(files)
 }
 
+// What is recorded of a large file with this macro at this place.
+fn recorded_of_large(alloc: Global, at: usize, word: &[u8]) -> Result<Option<String>, Fail> {
+    let mut files = large(alloc, at, word)?;
+    Ok(recorded(alloc, &mut files, b"/h", activated())?)
+}
+
 // A file is read by 131072 bytes at a time.
 #[test]
 fn a_macro_across_two_reads(rt: HostRuntime) -> Result<(), Fail> {
     let alloc = rt.alloc();
-    let mut files = large(alloc, 131_068, b"__DATE__")?;
-    let found = recorded(alloc, &mut files, b"/h", activated())?;
+    let found = recorded_of_large(alloc, 131_068, b"__DATE__")?;
     let contents = "94a7b9c3ce18a0273bb05a5b17dd0ebe64acf0f1a2b0b6f674eb9cd8c18f9170";
     expect(&rt, alloc, found, contents, SECOND_DAY)?;
-    let mut files = large(alloc, 262_140, b"__TIMESTAMP__")?;
-    let found = recorded(alloc, &mut files, b"/h", activated())?;
+    let found = recorded_of_large(alloc, 262_140, b"__TIMESTAMP__")?;
     let contents = "642e859ec3f11722503fce6f6180adb9a4bfa8f8cd4ae89ae62647ff40baad21";
     expect(&rt, alloc, found, contents, STAMP)?;
-    let mut files = large(alloc, 131_070, b"__TIME__")?;
-    let found = recorded(alloc, &mut files, b"/h", activated())?;
+    let found = recorded_of_large(alloc, 131_070, b"__TIME__")?;
     assert!(rt; found.is_none());
     Ok(())
 }

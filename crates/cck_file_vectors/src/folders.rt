@@ -136,6 +136,12 @@ fn a_hundred_levels(rt: HostRuntime) -> Result<(), UtilError> {
         text_of(alloc, &mut deep, b"/n")?.as_str(),
         "a4fb218fb28db0fdfb08b7dc0a09e748952cdc53a5fa2dc3995ef0e5080ab27c"
     );
+    Ok(())
+}
+
+#[test]
+fn one_level_more(rt: HostRuntime) -> Result<(), UtilError> {
+    let alloc = rt.alloc();
     let mut deeper = nested(alloc, 101)?;
     assert_eq!(rt;
         text_of(alloc, &mut deeper, b"/n").err(),
@@ -167,14 +173,14 @@ fn all_in_order(rt: HostRuntime) -> Result<(), UtilError> {
     let mut files = abc_and_none(alloc)?;
     expect_all(&rt, alloc, &mut files, &[], &[])?;
     expect_all(&rt, alloc, &mut files, &[b"/abc"], &[ABC])?;
-    expect_all(
-        &rt,
-        alloc,
-        &mut files,
-        &[b"/abc", b"/none"],
-        &[ABC, NOTHING],
-    )?;
-    // The first refusal is answered.
+    let both: &[&[u8]] = &[b"/abc", b"/none"];
+    expect_all(&rt, alloc, &mut files, both, &[ABC, NOTHING])
+}
+
+#[test]
+fn the_first_refusal_of_all(rt: HostRuntime) -> Result<(), UtilError> {
+    let alloc = rt.alloc();
+    let mut files = abc_and_none(alloc)?;
     put_other(alloc, &mut files, b"/dev")?;
     let paths = words(alloc, &[b"/abc", b"/none", b"/dev", b"/no"])?;
     assert_eq!(rt;

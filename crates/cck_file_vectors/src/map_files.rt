@@ -39,6 +39,16 @@ fn said(len: u64) -> Result<Metadata, FileError> {
     })
 }
 
+// At this path is a file of this length.
+fn expect_file(rt: &impl Abort, files: &mut MapFiles, path: &[u8], len: u64) {
+    assert_eq!(rt; files.metadata(path), said(len));
+}
+
+// At this path is nothing.
+fn expect_nothing(rt: &impl Abort, files: &mut MapFiles, path: &[u8]) {
+    assert_eq!(rt; files.metadata(path), Err(FileError::NotFound));
+}
+
 // A folder `/d` with a file `x`, a folder `a` with a file `y`, and something else, `s`.
 fn sample(alloc: Global) -> Result<MapFiles, UtilError> {
     let mut files = MapFiles::new(alloc);
@@ -88,13 +98,13 @@ fn expect_children(
 fn nodes_that_are_put(rt: HostRuntime) -> Result<(), UtilError> {
     let alloc = rt.alloc();
     let mut files = sample(alloc)?;
-    assert_eq!(rt; files.metadata(b"/d/x"), said(3));
+    expect_file(&rt, &mut files, b"/d/x", 3);
     put(alloc, &mut files, b"/d/./x", b"longer")?;
-    assert_eq!(rt; files.metadata(b"/d/x"), said(6));
+    expect_file(&rt, &mut files, b"/d/x", 6);
     put(alloc, &mut files, b"x", b"1")?;
     put(alloc, &mut files, b"./x", b"22")?;
-    assert_eq!(rt; files.metadata(b"x"), said(1));
-    assert_eq!(rt; files.metadata(b"./x"), said(2));
+    expect_file(&rt, &mut files, b"x", 1);
+    expect_file(&rt, &mut files, b"./x", 2);
     put(alloc, &mut files, b"/w/../w/h", b"4444")?;
     assert!(rt; !files.exists(b"/w/h"));
     assert!(rt; !files.exists(b"/w"));
@@ -109,17 +119,17 @@ fn links(rt: HostRuntime) -> Result<(), UtilError> {
     let mut files = sample(alloc)?;
     files.link(b"/l", b"/d/x")?;
     files.link(b"/m", b"/l")?;
-    assert_eq!(rt; files.metadata(b"/l"), said(3));
+    expect_file(&rt, &mut files, b"/l", 3);
     expect_canonical(&rt, alloc, &mut files, b"/m", b"/d/x")?;
     put(alloc, &mut files, b"/d/x", b"longer")?;
-    assert_eq!(rt; files.metadata(b"/m"), said(3));
-    assert_eq!(rt; files.metadata(b"/d/x"), said(6));
+    expect_file(&rt, &mut files, b"/m", 3);
+    expect_file(&rt, &mut files, b"/d/x", 6);
     files.link(b"/m", b"/none")?;
-    assert_eq!(rt; files.metadata(b"/m"), Err(FileError::NotFound));
+    expect_nothing(&rt, &mut files, b"/m");
     assert_eq!(rt; files.canonical(alloc, b"/m"), Err(FileError::NotFound));
     assert!(rt; files.exists(b"/l"));
     files.link(b"/l", b"/l")?;
-    assert_eq!(rt; files.metadata(b"/l"), said(3));
+    expect_file(&rt, &mut files, b"/l", 3);
     Ok(())
 }
 
@@ -131,7 +141,7 @@ fn nodes_that_are_removed(rt: HostRuntime) -> Result<(), UtilError> {
     files.remove(b"/none");
     assert!(rt; !files.exists(b"/d/a"));
     assert_eq!(rt; files.canonical(alloc, b"/d/a"), Err(FileError::NotFound));
-    assert_eq!(rt; files.metadata(b"/d/a/y"), said(5));
+    expect_file(&rt, &mut files, b"/d/a/y", 5);
     expect_children(&rt, alloc, &mut files, b"/d", &[b"x", b"s"])?;
     Ok(())
 }
@@ -147,7 +157,7 @@ fn what_is_said_of_nodes(rt: HostRuntime) -> Result<(), UtilError> {
     let other = files.metadata(b"/d/s")?;
     assert_eq!(rt; other.kind, FileKind::Other);
     assert_eq!(rt; other.len, 0);
-    assert_eq!(rt; files.metadata(b"/none"), Err(FileError::NotFound));
+    expect_nothing(&rt, &mut files, b"/none");
     assert!(rt; files.exists(b"/d/s"));
     assert!(rt; files.exists(b"//d/."));
     assert!(rt; !files.exists(b"d"));
@@ -219,8 +229,8 @@ fn files_once_more(rt: HostRuntime) -> Result<(), UtilError> {
     files.link(b"/l", b"/d/x")?;
     let mut copy = files.copy(alloc)?;
     files.remove(b"/d/x");
-    assert_eq!(rt; copy.metadata(b"/d/x"), said(3));
-    assert_eq!(rt; copy.metadata(b"/l"), said(3));
+    expect_file(&rt, &mut copy, b"/d/x", 3);
+    expect_file(&rt, &mut copy, b"/l", 3);
     expect_canonical(&rt, alloc, &mut copy, b"/l", b"/d/x")?;
     expect_children(&rt, alloc, &mut copy, b"/d", &[b"a", b"s", b"x"])?;
     put(alloc, &mut copy, b"/d/x", b"1")?;

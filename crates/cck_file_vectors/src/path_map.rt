@@ -3,6 +3,7 @@ use cck_path_map::PathMap;
 use cck_util::{UtilError, compare_paths, same_path};
 use std::alloc::Global;
 use std::cmp::Ordering;
+use std::process::Abort;
 
 fn sample(alloc: Global) -> Result<PathMap<u32>, UtilError> {
     let mut map = PathMap::new(alloc);
@@ -14,17 +15,22 @@ fn sample(alloc: Global) -> Result<PathMap<u32>, UtilError> {
     Ok(map)
 }
 
+// The value of the path is this one, or it has none.
+fn expect_value(rt: &impl Abort, map: &PathMap<u32>, path: &[u8], value: Option<u32>) {
+    assert_eq!(rt; map.get(path).copied(), value);
+}
+
 #[test]
 fn look_ups(rt: HostRuntime) -> Result<(), UtilError> {
     let map = sample(rt.alloc())?;
     assert_eq!(rt; map.len(), 5);
     assert!(rt; !map.is_empty());
-    assert_eq!(rt; map.get(b"/b"), Some(&1));
-    assert_eq!(rt; map.get(b"//a/./x/"), Some(&2));
-    assert_eq!(rt; map.get(b"./c"), Some(&4));
-    assert_eq!(rt; map.get(b"c"), Some(&5));
-    assert_eq!(rt; map.get(b"/a"), None);
-    assert_eq!(rt; map.get(b""), None);
+    expect_value(&rt, &map, b"/b", Some(1));
+    expect_value(&rt, &map, b"//a/./x/", Some(2));
+    expect_value(&rt, &map, b"./c", Some(4));
+    expect_value(&rt, &map, b"c", Some(5));
+    expect_value(&rt, &map, b"/a", None);
+    expect_value(&rt, &map, b"", None);
     assert!(rt; map.contains(b"/a-b/"));
     assert!(rt; !map.contains(b"a-b"));
     Ok(())
@@ -56,12 +62,18 @@ fn values_in_place_of_others(rt: HostRuntime) -> Result<(), UtilError> {
     let mut map = sample(rt.alloc())?;
     map.insert(b"/a//x/.", 7)?;
     assert_eq!(rt; map.len(), 5);
-    assert_eq!(rt; map.get(b"/a/x"), Some(&7));
+    expect_value(&rt, &map, b"/a/x", Some(7));
     assert_eq!(rt; map.remove(b"/a/./x"), Some(7));
     assert_eq!(rt; map.remove(b"/a/x"), None);
     assert_eq!(rt; map.len(), 4);
-    assert_eq!(rt; map.get(b"/a-b"), Some(&3));
+    expect_value(&rt, &map, b"/a-b", Some(3));
     Ok(())
+}
+
+// The map has one entry, of a path that is written so.
+fn expect_alone(rt: &impl Abort, map: &PathMap<u32>, path: &[u8]) {
+    assert_eq!(rt; map.entries().len(), 1);
+    assert_eq!(rt; map.entries()[0].path.as_slice(), path);
 }
 
 #[test]
@@ -70,12 +82,10 @@ fn paths_as_they_were_written_first(rt: HostRuntime) -> Result<(), UtilError> {
     let mut map = PathMap::new(alloc);
     map.insert(b"/a//x/.", 1)?;
     map.insert(b"/a/x", 2)?;
-    assert_eq!(rt; map.entries().len(), 1);
-    assert_eq!(rt; map.entries()[0].path.as_slice(), b"/a//x/.".as_slice());
+    expect_alone(&rt, &map, b"/a//x/.");
     map.remove(b"/a/x/");
     map.insert(b"/a/x/", 3)?;
-    assert_eq!(rt; map.entries().len(), 1);
-    assert_eq!(rt; map.entries()[0].path.as_slice(), b"/a/x/".as_slice());
+    expect_alone(&rt, &map, b"/a/x/");
     Ok(())
 }
 

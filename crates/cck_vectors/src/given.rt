@@ -1,6 +1,23 @@
-//! Words, variables, files in memory and digests, as the tests of several subjects are given them.
+//! Words, variables, files in memory, digests and a writer, as the tests of several subjects are
+//! given them. Nothing is claimed of them: a test shows what it was given.
 use cck_util::{Digest, FileKind, MapFiles, Node, Sha256State, Timestamp, UtilError};
 use std::alloc::{AllocError, Global};
+use std::io;
+use std::io::Write;
+
+/// A writer that fails at every write.
+#[derive(Drop)]
+pub struct FailingWriter;
+
+impl Write for FailingWriter {
+    fn write(&mut self, _: &[u8]) -> io::Result<usize> {
+        Err(io::Error::from(io::ErrorKind::WriteZero))
+    }
+
+    fn flush(&mut self) -> io::Result<()> {
+        Ok(())
+    }
+}
 
 /// The text of the digest of these bytes.
 pub fn digest_text(alloc: Global, bytes: &[u8]) -> Result<String, UtilError> {

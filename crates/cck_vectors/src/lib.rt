@@ -1,9 +1,9 @@
 //! What `cck_util` answers to given bytes, run from outside as another crate runs it.
 //!
-//! There are tests here, by subject, and [`given`], which hands words, variables, files and digests to tests,
-//! to those of the crates above too. The expected answers follow from the rules by hand, or
-//! are another program's; tests whose names begin with `test_` or `simple_` are named as sccache's
-//! and written from the rules.
+//! There are tests here, by subject, and [`given`], which hands words, variables, files, digests and
+//! a writer to tests, to those of the crates above too. The expected answers follow from the rules
+//! by hand, or are another program's; tests whose names begin with `test_` or `simple_` are named as
+//! sccache's and written from the rules.
 //!
 //! - `digest`, `readers` and `finder`: digests, of readers too, and the macros of time.
 //! - `strip`: base directories, also against a slow program.

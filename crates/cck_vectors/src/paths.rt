@@ -1,5 +1,5 @@
 //! Paths: how they are read, compared, joined and written.
-use crate::texts::Failing;
+use crate::given::FailingWriter;
 use cck_util::{
     Component, Components, UtilError, compare_paths, decode_path, encode_path, extension,
     file_name, is_absolute, join_path, normalize_win_path, same_path,
@@ -91,7 +91,10 @@ fn written_paths(rt: HostRuntime) -> Result<(), UtilError> {
     let mut bytes: Vec<u8> = Vec::new(rt.alloc());
     encode_path(&mut bytes, b"/w/x")?;
     assert_eq!(rt; bytes.as_slice(), b"/w/x".as_slice());
-    assert_eq!(rt; encode_path(&mut Failing, b"x"), Err(UtilError::Write));
+    assert_eq!(rt;
+        encode_path(&mut FailingWriter, b"x"),
+        Err(UtilError::Write)
+    );
     Ok(())
 }
 

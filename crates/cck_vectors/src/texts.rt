@@ -1,22 +1,9 @@
 //! Prefixes of texts, and what is written of lengths and durations.
+use crate::given::FailingWriter;
 use cck_util::{OsStrExt, UtilError, fmt_duration_as_secs, write_length_prefixed};
 use std::io;
 use std::io::Write;
 use std::time::Duration;
-
-// Fails at every write.
-#[derive(Drop)]
-pub(crate) struct Failing;
-
-impl Write for Failing {
-    fn write(&mut self, _: &[u8]) -> io::Result<usize> {
-        Err(io::Error::from(io::ErrorKind::WriteZero))
-    }
-
-    fn flush(&mut self) -> io::Result<()> {
-        Ok(())
-    }
-}
 
 // Knows whether all that was written went through.
 #[derive(Drop)]
@@ -81,7 +68,7 @@ fn length_prefixes(rt: HostRuntime) -> Result<(), UtilError> {
     write_length_prefixed(&mut bytes, b"abc")?;
     assert_eq!(rt; bytes.as_slice(), b"\0\0\0\x03abc".as_slice());
     assert_eq!(rt;
-        write_length_prefixed(&mut Failing, b""),
+        write_length_prefixed(&mut FailingWriter, b""),
         Err(UtilError::Write)
     );
     Ok(())

@@ -9,16 +9,9 @@ use cck_digest::{FileError, Sha256State, UtilError};
 use cck_files::{MapFiles, Node};
 use cck_path::FileKind;
 use cck_util::Language;
+use cck_vectors::given::words;
 use std::alloc::Global;
 use std::process::Abort;
-
-fn list(alloc: Global, items: &[&[u8]]) -> Result<Vec<Vec<u8>>, KeyError> {
-    let mut list = Vec::new(alloc);
-    for item in items {
-        list.push(item.to_vec(alloc)?)?;
-    }
-    Ok(list)
-}
 
 // A command line of nothing but a language, common arguments and one further file.
 fn line(
@@ -27,8 +20,8 @@ fn line(
     common_args: &[&[u8]],
 ) -> Result<ParsedArguments, KeyError> {
     let mut line = arguments(alloc, language)?;
-    line.common_args = list(alloc, common_args)?;
-    line.extra_hash_files = list(alloc, &[b"/own"])?;
+    line.common_args = words(alloc, common_args)?;
+    line.extra_hash_files = words(alloc, &[b"/own"])?;
     Ok(line)
 }
 
@@ -133,7 +126,7 @@ fn expect_files(
     let vars = variables(alloc, pairs)?;
     match compiler.parse_arguments(alloc, &mut files, &[], b"/w", &vars)? {
         CompilerArguments::Ok(hasher) => {
-            assert_eq!(rt; hasher.parsed_args.extra_hash_files, list(alloc, paths)?);
+            assert_eq!(rt; hasher.parsed_args.extra_hash_files, words(alloc, paths)?);
             assert_eq!(rt; hasher.executable.as_slice(), b"/cc".as_slice());
         }
         _ => assert!(rt; false),

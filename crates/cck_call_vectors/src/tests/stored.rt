@@ -5,6 +5,8 @@ use super::given::{
 use c_cache_keys::{CacheControl, KeyError, MapStore, PreprocessorStore, StoreError};
 use cck_entry::Error;
 use cck_util::{FileKind, Language};
+use std::alloc::Global;
+use std::process::Abort;
 use std::test::Fail;
 
 #[test]
@@ -59,37 +61,34 @@ fn the_compiler_is_named(rt: HostRuntime) -> Result<(), Fail> {
     Ok(())
 }
 
+// Why the call is refused on this store.
+fn refusal(alloc: Global, store: &mut MapStore) -> Result<KeyError, Fail> {
+    let mut files = sample(alloc)?;
+    let hasher = hasher(alloc)?;
+    let found = key(alloc, &hasher, &mut files, store);
+    Ok(found.err().ok_or("a refusal")?)
+}
+
+// These bytes are refused as no entry's, for this reason, and stay in the store.
+fn expect_damaged(rt: &impl Abort, alloc: Global, bytes: &[u8], reason: Error) -> Result<(), Fail> {
+    let mut store = MapStore::new(alloc);
+    put_in_store(alloc, &mut store, bytes)?;
+    let error = refusal(alloc, &mut store)?;
+    assert_eq!(rt; error.number(), 5);
+    assert_eq!(rt; error, KeyError::Entry(reason));
+    assert_eq!(rt; store.held(AT), Some(bytes));
+    Ok(())
+}
+
 #[test]
 fn what_is_no_entry(rt: HostRuntime) -> Result<(), Fail> {
-    let alloc = rt.alloc();
-    let mut files = sample(alloc)?;
-    let mut store = MapStore::new(alloc);
-    put_in_store(alloc, &mut store, &[3])?;
-    let hasher = hasher(alloc)?;
-    let error = key(alloc, &hasher, &mut files, &mut store)
-        .err()
-        .ok_or("a refusal")?;
-    assert_eq!(rt; error, KeyError::Entry(Error::UnknownFormat(3)));
-    assert_eq!(rt; error.number(), 5);
-    assert_eq!(rt; store.held(AT), Some([3].as_slice()));
-    Ok(())
+    expect_damaged(&rt, rt.alloc(), &[3], Error::UnknownFormat(3))
 }
 
 // The first byte names the format, and nothing follows it.
 #[test]
 fn what_is_a_beginning_of_an_entry(rt: HostRuntime) -> Result<(), Fail> {
-    let alloc = rt.alloc();
-    let mut files = sample(alloc)?;
-    let mut store = MapStore::new(alloc);
-    put_in_store(alloc, &mut store, &[1])?;
-    let hasher = hasher(alloc)?;
-    let error = key(alloc, &hasher, &mut files, &mut store)
-        .err()
-        .ok_or("a refusal")?;
-    assert_eq!(rt; error, KeyError::Entry(Error::Deserialization));
-    assert_eq!(rt; error.number(), 5);
-    assert_eq!(rt; store.held(AT), Some([1].as_slice()));
-    Ok(())
+    expect_damaged(&rt, rt.alloc(), &[1], Error::Deserialization)
 }
 
 #[test]

@@ -158,6 +158,13 @@ fn other_times(rt: HostRuntime) -> Result<(), Fail> {
     let mut files = dated(alloc, b"abc", 9)?;
     expect(&rt, alloc, &entry, &mut files, by_times(), Some("k"))?;
     expect(&rt, alloc, &entry, &mut files, by_modification(), Some("k"))?;
+    Ok(())
+}
+
+#[test]
+fn other_times_and_contents(rt: HostRuntime) -> Result<(), Fail> {
+    let alloc = rt.alloc();
+    let entry = dated_entry(alloc)?;
     let mut files = dated(alloc, b"xyz", 9)?;
     expect(&rt, alloc, &entry, &mut files, by_times(), None)?;
     let mut files = files_of(alloc, &[(b"/h", b"xyz")])?;

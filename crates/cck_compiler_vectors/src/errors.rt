@@ -1,7 +1,7 @@
 //! Refusals, by their numbers and texts.
-use crate::{KeyError, PreprocessError};
-use cck_digest::{FileError, UtilError};
+use cck_compiler::{KeyError, PreprocessError};
 use cck_time::Error;
+use cck_util::{FileError, UtilError};
 use std::alloc::{AllocError, Global};
 use std::fmt::Display;
 use std::process::Abort;

@@ -1,10 +1,8 @@
-//! Examples written from the format's rules, byte by byte.
-use crate::{Error, IncludeEntry, PreprocessorCacheEntry};
-use cck_digest::UtilError;
-use cck_path::Timestamp;
+//! The bytes of entries, written from the format's rules.
+use cck_entry::{Error, IncludeEntry, PreprocessorCacheEntry};
+use cck_util::{Timestamp, UtilError};
+use cck_vectors::given::FailingWriter;
 use std::alloc::Global;
-use std::io;
-use std::io::Write;
 use std::process::Abort;
 
 // The key `k` with one include: path `/a`, digest `d`, size 3, contents changed at (5, 7).
@@ -37,20 +35,6 @@ const TWO_RESULTS: [u8; 124] = [
 ];
 
 const NO_RESULTS: [u8; 9] = [1, 0, 0, 0, 0, 0, 0, 0, 0];
-
-// Fails at every write.
-#[derive(Drop)]
-struct Failing;
-
-impl Write for Failing {
-    fn write(&mut self, _: &[u8]) -> io::Result<usize> {
-        Err(io::Error::from(io::ErrorKind::WriteZero))
-    }
-
-    fn flush(&mut self) -> io::Result<()> {
-        Ok(())
-    }
-}
 
 // `ONE_RESULT` with this byte in the place of another one.
 fn changed(alloc: Global, at: usize, byte: u8) -> Result<Vec<u8>, Error> {
@@ -108,23 +92,6 @@ fn include(
     })
 }
 
-fn includes(alloc: Global, count: usize) -> Result<Vec<IncludeEntry>, Error> {
-    let mut all = Vec::new(alloc);
-    for _ in 0..count {
-        all.push(include(alloc, b"/a", None, None)?)?;
-    }
-    Ok(all)
-}
-
-// So many results of one include each, with the keys 0, 1, 2 ..
-fn with_results(alloc: Global, count: usize) -> Result<PreprocessorCacheEntry, Error> {
-    let mut entry = PreprocessorCacheEntry::new(alloc);
-    for number in 0..count {
-        entry.insert_result(format!(in alloc; "{number}")?, includes(alloc, 1)?)?;
-    }
-    Ok(entry)
-}
-
 #[test]
 fn one_result(rt: HostRuntime) -> Result<(), Error> {
     let alloc = rt.alloc();
@@ -135,9 +102,6 @@ fn one_result(rt: HostRuntime) -> Result<(), Error> {
     let modified = Some(Timestamp::new(5, 7));
     let list = vec![in alloc; include(alloc, b"/a", modified, None)?]?;
     assert!(rt; entry.results().get(&key) == Some(&list));
-    let mut made = PreprocessorCacheEntry::new(alloc);
-    made.insert_result(key, list)?;
-    assert_eq!(rt; made, entry);
     Ok(())
 }
 
@@ -157,10 +121,8 @@ fn two_results(rt: HostRuntime) -> Result<(), Error> {
         mtime: None,
         ctime: None,
     })?;
-    let mut made = PreprocessorCacheEntry::new(alloc);
-    made.insert_result(String::from_str(alloc, "b")?, list)?;
-    made.insert_result(String::from_str(alloc, "a")?, Vec::new(alloc))?;
-    assert_eq!(rt; made, entry);
+    assert!(rt; entry.results().get("b") == Some(&list));
+    assert!(rt; entry.results().get("a") == Some(&Vec::new(alloc)));
     Ok(())
 }
 
@@ -240,7 +202,7 @@ fn damaged_fields(rt: HostRuntime) -> Result<(), Error> {
 }
 
 #[test]
-fn any_bytes_of_a_path_and_a_size(rt: HostRuntime) -> Result<(), Error> {
+fn any_bytes_of_a_path(rt: HostRuntime) -> Result<(), Error> {
     let alloc = rt.alloc();
     let entry = read_back(&rt, alloc, &changed(alloc, 34, 255)?)?;
     for (_, list) in entry.results() {
@@ -248,6 +210,12 @@ fn any_bytes_of_a_path_and_a_size(rt: HostRuntime) -> Result<(), Error> {
             assert_eq!(rt; one.path.as_slice(), b"\xffa".as_slice());
         }
     }
+    Ok(())
+}
+
+#[test]
+fn any_size(rt: HostRuntime) -> Result<(), Error> {
+    let alloc = rt.alloc();
     let mut large = Vec::from_slice(alloc, &ONE_RESULT[..45])?;
     large.extend_from_slice(&[255; 8])?;
     large.extend_from_slice(&ONE_RESULT[53..])?;
@@ -294,125 +262,100 @@ fn keys_ascend(rt: HostRuntime) -> Result<(), Error> {
     Ok(())
 }
 
-// An entry of so many results with so many includes each, all with these times.
-fn shape(
-    alloc: Global,
-    results: usize,
-    includes: usize,
+// Results of these keys, with so many includes each, all with these bytes of times.
+fn shape(alloc: Global, keys: &[u8], includes: u8, times: &[u8]) -> Result<Vec<u8>, Error> {
+    let mut bytes = Vec::from_slice(alloc, &[1])?;
+    bytes.extend_from_slice(&(keys.len() as u64).to_le_bytes())?;
+    for key in keys {
+        bytes.extend_from_slice(&[1, 0, 0, 0, 0, 0, 0, 0, *key])?;
+        bytes.extend_from_slice(&[includes, 0, 0, 0, 0, 0, 0, 0])?;
+        for _ in 0..includes {
+            bytes.extend_from_slice(&[2, 0, 0, 0, 0, 0, 0, 0, b'/', b'a'])?;
+            bytes.extend_from_slice(&[1, 0, 0, 0, 0, 0, 0, 0, b'd'])?;
+            bytes.extend_from_slice(&[3, 0, 0, 0, 0, 0, 0, 0])?;
+            bytes.extend_from_slice(times)?;
+        }
+    }
+    Ok(bytes)
+}
+
+// Each include of the entry has these times.
+fn expect_times(
+    rt: &impl Abort,
+    entry: &PreprocessorCacheEntry,
     mtime: Option<Timestamp>,
     ctime: Option<Timestamp>,
-) -> Result<PreprocessorCacheEntry, Error> {
-    let mut entry = PreprocessorCacheEntry::new(alloc);
-    for key in 0..results {
-        let mut list = Vec::new(alloc);
-        for _ in 0..includes {
-            list.push(include(alloc, b"/w/a.h", mtime, ctime)?)?;
+) {
+    for (_, list) in entry.results() {
+        for one in list {
+            assert_eq!(rt; one.mtime, mtime);
+            assert_eq!(rt; one.ctime, ctime);
         }
-        entry.insert_result(format!(in alloc; "key {key}")?, list)?;
     }
-    Ok(entry)
 }
 
-fn expect_written_and_read(
-    rt: &impl Abort,
-    alloc: Global,
-    entry: &PreprocessorCacheEntry,
-) -> Result<(), Error> {
-    let mut bytes = Vec::new(alloc);
-    entry.serialize_to(&mut bytes)?;
-    assert!(rt; read_back(rt, alloc, &bytes)? == *entry);
-    assert!(rt; entry.copy(alloc)? == *entry);
-    Ok(())
-}
-
+// Entries of no, one and two results with as many includes are read and written with these times.
 fn expect_shapes(
     rt: &impl Abort,
     alloc: Global,
-    mtime: &Option<Timestamp>,
-    ctime: &Option<Timestamp>,
+    times: &[u8],
+    mtime: Option<Timestamp>,
+    ctime: Option<Timestamp>,
 ) -> Result<(), Error> {
-    for results in 0..3 {
+    for keys in [b"".as_slice(), b"a", b"ab"] {
         for includes in 0..3 {
-            let entry = shape(alloc, results, includes, *mtime, *ctime)?;
-            assert!(rt; entry.number_of_entries() == results * includes);
-            expect_written_and_read(rt, alloc, &entry)?;
+            let entry = read_back(rt, alloc, &shape(alloc, keys, includes, times)?)?;
+            assert_eq!(rt; entry.result_count(), keys.len());
+            let count = keys.len().saturating_mul(usize::from(includes));
+            assert_eq!(rt; entry.number_of_entries(), count);
+            expect_times(rt, &entry, mtime, ctime);
+            assert!(rt; entry.copy(alloc)? == entry);
         }
     }
     Ok(())
+}
+
+// The last time before 1970 and none, none and the earliest time, and these two.
+const LATE: [u8; 14] = [
+    1, 255, 255, 255, 255, 255, 255, 255, 255, 0xff, 0xc9, 0x9a, 0x3b, 0,
+];
+
+const EARLY: [u8; 14] = [0, 1, 0, 0, 0, 0, 0, 0, 0, 0x80, 0, 0, 0, 0];
+
+const EARLY_AND_LATE: [u8; 26] = [
+    1, 0, 0, 0, 0, 0, 0, 0, 0x80, 0, 0, 0, 0, // the seconds and the nanoseconds
+    1, 255, 255, 255, 255, 255, 255, 255, 255, 0xff, 0xc9, 0x9a, 0x3b,
+];
+
+fn early() -> Option<Timestamp> {
+    Some(Timestamp::new(i64::MIN, 0))
+}
+
+fn late() -> Option<Timestamp> {
+    Some(Timestamp::new(-1, 999_999_999))
 }
 
 #[test]
 fn shapes_are_read_back(rt: HostRuntime) -> Result<(), Error> {
     let alloc = rt.alloc();
-    let early = Some(Timestamp::new(i64::MIN, 0));
-    let late = Some(Timestamp::new(-1, 999_999_999));
-    expect_shapes(&rt, alloc, &None, &None)?;
-    expect_shapes(&rt, alloc, &late, &None)?;
-    expect_shapes(&rt, alloc, &None, &early)?;
-    expect_shapes(&rt, alloc, &early, &late)
+    expect_shapes(&rt, alloc, &[0, 0], None, None)?;
+    expect_shapes(&rt, alloc, &LATE, late(), None)?;
+    expect_shapes(&rt, alloc, &EARLY, None, early())?;
+    expect_shapes(&rt, alloc, &EARLY_AND_LATE, early(), late())
 }
 
 #[test]
-fn many_results_start_over(rt: HostRuntime) -> Result<(), Error> {
-    let alloc = rt.alloc();
-    let mut entry = with_results(alloc, 101)?;
-    assert_eq!(rt; entry.result_count(), 101);
-    assert_eq!(rt; entry.number_of_entries(), 101);
-    entry.insert_result(String::from_str(alloc, "more")?, includes(alloc, 2)?)?;
-    assert_eq!(rt; entry.result_count(), 1);
-    assert_eq!(rt; entry.number_of_entries(), 2);
-    // A key that stands already starts over too.
-    let mut entry = with_results(alloc, 101)?;
-    entry.insert_result(String::from_str(alloc, "7")?, includes(alloc, 0)?)?;
-    assert_eq!(rt; entry.result_count(), 1);
-    assert_eq!(rt; entry.number_of_entries(), 0);
-    Ok(())
-}
-
-#[test]
-fn many_includes_start_over(rt: HostRuntime) -> Result<(), Error> {
-    let alloc = rt.alloc();
-    let mut entry = PreprocessorCacheEntry::new(alloc);
-    entry.insert_result(String::from_str(alloc, "a")?, includes(alloc, 9_999)?)?;
-    entry.insert_result(String::from_str(alloc, "b")?, includes(alloc, 1)?)?;
-    assert_eq!(rt; entry.result_count(), 2);
-    assert_eq!(rt; entry.number_of_entries(), 10_000);
-    // What the key had before counts too.
-    let mut again = entry.copy(alloc)?;
-    again.insert_result(String::from_str(alloc, "a")?, includes(alloc, 1)?)?;
-    assert_eq!(rt; again.result_count(), 1);
-    assert_eq!(rt; again.number_of_entries(), 1);
-    entry.insert_result(String::from_str(alloc, "c")?, includes(alloc, 0)?)?;
-    assert_eq!(rt; entry.result_count(), 3);
-    entry.insert_result(String::from_str(alloc, "c")?, includes(alloc, 1)?)?;
-    assert_eq!(rt; entry.result_count(), 1);
-    assert_eq!(rt; entry.number_of_entries(), 1);
-    // One result may have more than 10000 alone.
-    entry.insert_result(String::from_str(alloc, "d")?, includes(alloc, 10_001)?)?;
-    assert_eq!(rt; entry.result_count(), 1);
-    assert_eq!(rt; entry.number_of_entries(), 10_001);
-    Ok(())
-}
-
-#[test]
-fn a_key_is_replaced(rt: HostRuntime) -> Result<(), Error> {
-    let alloc = rt.alloc();
-    let mut entry = with_results(alloc, 3)?;
-    entry.insert_result(String::from_str(alloc, "1")?, includes(alloc, 5)?)?;
-    assert_eq!(rt; entry.result_count(), 3);
-    assert_eq!(rt; entry.number_of_entries(), 7);
-    entry.insert_result(String::from_str(alloc, "1")?, includes(alloc, 0)?)?;
-    assert_eq!(rt; entry.number_of_entries(), 2);
-    Ok(())
-}
-
-#[test]
-fn entries_and_includes_compared(rt: HostRuntime) -> Result<(), Error> {
+fn includes_compared(rt: HostRuntime) -> Result<(), Error> {
     let alloc = rt.alloc();
     let one = include(alloc, b"/a", Some(Timestamp::new(5, 7)), None)?;
     assert_eq!(rt; one.copy(alloc)?, one);
     assert!(rt; one != include(alloc, b"/a", None, Some(Timestamp::new(5, 7)))?);
-    assert!(rt; with_results(alloc, 2)? != with_results(alloc, 3)?);
+    Ok(())
+}
+
+#[test]
+fn an_entry_shown(rt: HostRuntime) -> Result<(), Error> {
+    let alloc = rt.alloc();
     let entry = PreprocessorCacheEntry::new(alloc);
     let shown = format!(in alloc; "{entry:?}")?;
     assert_eq!(rt;
@@ -425,14 +368,12 @@ fn entries_and_includes_compared(rt: HostRuntime) -> Result<(), Error> {
 #[test]
 fn failed_writes(rt: HostRuntime) -> Result<(), Error> {
     let alloc = rt.alloc();
-    let entry = with_results(alloc, 1)?;
+    let entry = PreprocessorCacheEntry::read(alloc, &ONE_RESULT)?;
     assert_eq!(rt;
-        entry.serialize_to(&mut Failing),
+        entry.serialize_to(&mut FailingWriter),
         Err(Error::Io(UtilError::Write))
     );
-    assert_eq!(rt; entry.result_count(), 1);
-    let mut again = PreprocessorCacheEntry::new(entry.allocator());
-    again.insert_result(String::from_str(alloc, "0")?, includes(alloc, 1)?)?;
+    let again = PreprocessorCacheEntry::read(alloc, &ONE_RESULT)?;
     assert_eq!(rt; again, entry);
     Ok(())
 }

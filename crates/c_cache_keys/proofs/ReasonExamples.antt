@@ -1,0 +1,58 @@
+-- The reasons of refusals, where files are missing, and where a store hands out bytes that are written out.
+use Rattle.std.proofs.Common.{◌≡◌, List, [], ◌∷◌, Some, None, Ok, Err, codes, map, refl, sym, ap, ◌∙◌, subst, arith}
+use Rattle.std.specs.Prelude.{is_some}
+use Rattle.std.specs.FinMap.{get}
+use Rattle.cck_compiler.specs.declared.error.KeyError.TheVariants as refusal
+use Rattle.cck_digest.specs.declared.error.FileError.TheVariants.{NotFound, OtherKind, Fault}
+use Rattle.cck_digest.specs.declared.error.UtilError.TheVariants as util
+use Rattle.cck_file_digest.specs.FileDigest.{IsFirstRefusal}
+use Rattle.cck_files.specs.FileMap.{file_at, file_in, stands_at}
+use Rattle.cck_path.specs.Bytes.{Bytes}
+use Rattle.cck_path.specs.Path.{components}
+use Rattle.cck_store.specs.Store.{Store}
+use Rattle.cck_time.specs.declared.error.Error.TheVariants as entry
+use Rattle.c_cache_keys.specs.Call.{Call}
+use Rattle.c_cache_keys.specs.Reasons.{IsFileReason, IsStoreReason}
+use Rattle.c_cache_keys.specs.Walk.{input_path}
+use Rattle.c_cache_keys.specs.World.{World}
+
+module _ {V : Type 0} (w : World V) (c : Call V) (F : Type 0) where
+  module _ (nothing : get c.files.nodes (components (input_path c)) ≡ None) where
+    input_missing : IsFileReason w c F (refusal.Input (util.File NotFound))
+    unfolding file_at
+    input_missing = ap file_in nothing
+
+    -- and it isn't told as something else that stands there
+    input_not_told_as_folder : IsFileReason w c F (refusal.Input (util.File OtherKind)) → ⊥
+    unfolding file_at
+    input_not_told_as_folder told =
+        let apart : Err NotFound ≡ Err OtherKind = sym (ap file_in nothing) ∙ told in
+        cc
+
+  -- of two further files the first is missing
+  further_file_missing : c.request.arguments.extra_hash_files ≡ codes "/x" ∷ codes "/y" ∷ [] → get c.files.nodes (components (codes "/x")) ≡ None → IsFileReason w c F (refusal.Extra (util.File NotFound))
+  unfolding stands_at
+  further_file_missing are nothing =
+      let first : IsFirstRefusal w.hash c.files (map components (codes "/x" ∷ codes "/y" ∷ [])) F (util.File NotFound) =
+      record {
+        at = 0;
+        within = omega (arith);
+        earlier = refl;
+        cause = ap is_some nothing;
+      } in
+      (λ e. cc, subst (λ (files : List Bytes). IsFirstRefusal w.hash c.files (map components files) F (util.File NotFound)) (sym are) first)
+
+  -- a fault is told only where one came
+  input_fault : IsFileReason w c F (refusal.Input (util.File Fault)) → F
+  input_fault came = came
+
+module _ {S : Type 0} (st : Store S) (k : Bytes) (s t : S) where
+  -- the first byte of an entry is 1, so what begins with another one is of an unknown format
+  other_format : st.got s k (Ok (Some (codes "x"))) t → IsStoreReason st k s t (refusal.Entry (entry.UnknownFormat 120))
+  other_format got =
+      record {
+        other = λ e. cc;
+        bytes = codes "x";
+        got = got;
+        reads = ([], refl, λ e. omega (arith, e));
+      }
