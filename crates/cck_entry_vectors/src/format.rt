@@ -315,13 +315,15 @@ fn expect_shapes(
     Ok(())
 }
 
-// The last time before 1970 and none, none and the earliest time, and these two.
+// The bytes of two times: the last one before 1970, and none.
 const LATE: [u8; 14] = [
     1, 255, 255, 255, 255, 255, 255, 255, 255, 0xff, 0xc9, 0x9a, 0x3b, 0,
 ];
 
+// None, and the earliest time.
 const EARLY: [u8; 14] = [0, 1, 0, 0, 0, 0, 0, 0, 0, 0x80, 0, 0, 0, 0];
 
+// The earliest time, and the last one before 1970.
 const EARLY_AND_LATE: [u8; 26] = [
     1, 0, 0, 0, 0, 0, 0, 0, 0x80, 0, 0, 0, 0, // the seconds and the nanoseconds
     1, 255, 255, 255, 255, 255, 255, 255, 255, 0xff, 0xc9, 0x9a, 0x3b,
