@@ -1,7 +1,7 @@
 #!/bin/sh
-# Compares the keys that the program prints with those that key.py computes by the definition, on
-# what gcc prints of a C file with a dozen system headers, on bytes that are no text, on nothing and
-# on 256 MB. Run by hand; needs gcc and python3. Its last line is 'all keys agree'.
+# Compares the keys that the program prints with those that tests/reference computes by the
+# definition, on what gcc prints of a C file with a dozen system headers, on bytes that are no text,
+# on nothing and on 256 MB. Run by hand; needs gcc and python3. Its last line is 'all keys agree'.
 set -eu
 top=$(cd "$(dirname "$0")/.." && pwd)
 printf '' | "$top/cck" key abcd c >/dev/null 2>&1 # proves and builds the program where it is stale
@@ -34,7 +34,7 @@ compare() {
     file=$1
     shift
     ours=$("$cck" key "$@" <"$file")
-    theirs=$(python3 "$top/tests/key.py" "$@" <"$file")
+    theirs=$(cd "$top/tests" && python3 -m reference key "$@" <"$file")
     echo "$ours $(basename "$file") ($(wc -c <"$file") bytes)"
     [ "$ours" = "$theirs" ] || { echo "the definition gives $theirs"; exit 1; }
 }

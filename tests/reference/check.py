@@ -1,0 +1,101 @@
+"""The commands `check` and `write` over the vector files of the repository."""
+import importlib
+import pathlib
+import sys
+
+from .cases import outcomes_of, report_of, rewritten
+
+TOP = pathlib.Path(__file__).resolve().parents[2]
+
+# The programs of cases, each with the module of `subjects` that makes their calls.
+PROGRAMS = [
+    ("cck_value_vectors", "values"),
+    ("cck_file_vectors", "files"),
+    ("cck_walk_vectors", "walks"),
+    ("cck_vectors", "calls"),
+    ("cck_script_vectors", "scripts"),
+]
+
+
+def data_files(crate):
+    """The vector files of a program, in order."""
+    return sorted((TOP / "crates" / crate / "data").glob("*.txt"))
+
+
+def module_of(name):
+    """The adapter of this name, or None where there is none."""
+    if not (pathlib.Path(__file__).parent / "subjects" / f"{name}.py").exists():
+        return None
+    return importlib.import_module(f"{__package__}.subjects.{name}")
+
+
+def vector_files():
+    """Each vector file of the repository, with its adapter or None."""
+    return [(file, module_of(name)) for crate, name in PROGRAMS for file in data_files(crate)]
+
+
+def name_of(file):
+    """How a file is named in what is printed."""
+    return file.relative_to(TOP).as_posix()
+
+
+def chosen_files(words):
+    """The vector files whose names end with one of these words, or all where there are no words."""
+    files = vector_files()
+    return [pair for pair in files if not words or name_of(pair[0]).endswith(tuple(words))]
+
+
+def check_file(file, module):
+    """What is printed of a file, and whether each result is the expected one."""
+    if module is None:
+        return f"{name_of(file)}: not checked, since there is no adapter\n", False
+    outcomes = list(outcomes_of(file.read_bytes(), module.Subject()))
+    results = sum(outcome.result is not None for outcome in outcomes)
+    different = [outcome for outcome in outcomes if not outcome.agrees()]
+    printed = "".join(report_of(name_of(file), outcome) for outcome in different)
+    printed += f"{name_of(file)}: {results} results, {len(different)} differences\n"
+    return printed, not different
+
+
+def check(words):
+    """`check [FILE..]`: compares each expected result with that of the reference."""
+    agreed = True
+    for file, module in chosen_files(words):
+        printed, agrees = check_file(file, module)
+        sys.stdout.write(printed)
+        agreed = agreed and agrees
+    return 0 if agreed else 1
+
+
+def all_agree(first):
+    """Whether all results are the expected ones; stops at the first that isn't.
+
+    The files of the adapter `first` come first, and small files before large ones.
+    """
+
+    def place(pair):
+        file, module = pair
+        return not module.__name__.endswith(first), file.stat().st_size
+
+    checked = [pair for pair in vector_files() if pair[1] is not None]
+    for file, module in sorted(checked, key=place):
+        outcomes = outcomes_of(file.read_bytes(), module.Subject())
+        if not all(outcome.agrees() for outcome in outcomes):
+            return False
+    return True
+
+
+def write(words):
+    """`write [FILE..]`: puts the results of the reference in place of the expected ones."""
+    status = 0
+    for file, module in chosen_files(words):
+        if module is None:
+            sys.stdout.write(f"{name_of(file)}: not written, since there is no adapter\n")
+            status = 1
+            continue
+        data = file.read_bytes()
+        new = rewritten(data, module.Subject())
+        if new != data:
+            file.write_bytes(new)
+            sys.stdout.write(f"{name_of(file)}: written\n")
+    return status

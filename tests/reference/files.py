@@ -1,0 +1,219 @@
+"""Files: a map from paths to what stands there, the calls on it, and the digests of what stands there.
+
+Paths are equal by components. Links are followed in the map: a linked path has what its target had.
+A call can be armed, so that it is a fault.
+"""
+import dataclasses
+
+from .digests import delimiter, digest_text
+from .errors import Refused, other_kind
+from .paths import components, is_name, join_path, normalize_path
+from .texts import lossy
+
+FILE = "File"
+FOLDER = "Folder"
+OTHER = "Other"
+GREATEST_LEVEL = 100
+GREATEST_COUNT = 2**64 - 1
+BUFFER_SIZE = 131072
+
+
+@dataclasses.dataclass
+class Node:
+    """`FileNode`: the kind, the contents of a regular file, and the times of modification and change."""
+
+    kind: str
+    contents: bytes = b""
+    modified: int | None = None
+    changed: int | None = None
+
+
+@dataclasses.dataclass
+class Metadata:
+    """The kind of what stands at a path, its length (0 for what is no regular file) and its times."""
+
+    kind: str
+    length: int
+    modified: int | None
+    changed: int | None
+
+
+class MapFiles:
+    """`FileState`: a `FileMap`, the count of faults, and which call is armed."""
+
+    def __init__(self):
+        self.nodes = {}
+        self.canonical_paths = {}
+        self.faults = 0
+        self.armed = 0
+        self.calls = 0
+
+    def put(self, path, node):
+        """`with_place`: the node stands at the path, whose canonical path is its normalised path."""
+        self.nodes[components(path)] = node
+        self.canonical_paths[components(path)] = normalize_path(path)
+
+    def link(self, path, target):
+        """`linked`: the path gets the node and the canonical path of the target, or neither."""
+        node = self.nodes.get(components(target))
+        canonical = self.canonical_paths.get(components(target))
+        self.remove(path)
+        if node is not None:
+            self.nodes[components(path)] = node
+            self.canonical_paths[components(path)] = canonical
+
+    def remove(self, path):
+        """`without_place`: nothing stands at this path; what is below it stays."""
+        self.nodes.pop(components(path), None)
+        self.canonical_paths.pop(components(path), None)
+
+    def fail_at(self, n):
+        """The nth of the following calls is a fault, counted from 1, and that one alone; 0 disarms."""
+        self.armed = n
+
+    def copy(self):
+        """The same map, count of faults and armed call."""
+        other = MapFiles()
+        other.nodes = dict(self.nodes)
+        other.canonical_paths = dict(self.canonical_paths)
+        other.faults = self.faults
+        other.armed = self.armed
+        return other
+
+    def call(self):
+        """`IsAfterCall`: counts one call, and whether it is the armed one."""
+        self.calls += 1
+        if self.armed == 0:
+            return False
+        self.armed -= 1
+        if self.armed > 0:
+            return False
+        self.faults = min(self.faults + 1, GREATEST_COUNT)
+        return True
+
+    def call_or_fault(self):
+        """Counts one call; an error where it is the armed one."""
+        if self.call():
+            raise Refused("Fault")
+
+    def node_at(self, path):
+        """What stands at a path; an error where nothing does."""
+        node = self.nodes.get(components(path))
+        if node is None:
+            raise Refused("NotFound")
+        return node
+
+    def metadata(self, path):
+        """`metadata_at`, as one call on files."""
+        self.call_or_fault()
+        node = self.node_at(path)
+        length = len(node.contents) if node.kind == FILE else 0
+        return Metadata(node.kind, length, node.modified, node.changed)
+
+    def read_at(self, path, offset, size):
+        """`IsRead`, as one call on files: at most so many bytes of the contents from an offset on."""
+        self.call_or_fault()
+        node = self.node_at(path)
+        if node.kind != FILE:
+            raise Refused("OtherKind")
+        return node.contents[offset : offset + size]
+
+    def read_dir(self, path):
+        """`IsListing`, as one call on files: the last names of a folder's direct children."""
+        self.call_or_fault()
+        if self.node_at(path).kind != FOLDER:
+            raise Refused("OtherKind")
+        folder = components(path)
+        children = [p for p in self.nodes if len(p) > 0 and p[:-1] == folder and is_name(p[-1])]
+        return [child[-1][1] for child in children]
+
+    def exists(self, path):
+        """`stands_at`, as one call on files: whether something stands there; false at a fault."""
+        return not self.call() and components(path) in self.nodes
+
+    def canonical(self, path):
+        """`canonical_at`, as one call on files: the canonical path of what stands there."""
+        self.call_or_fault()
+        self.node_at(path)
+        return self.canonical_paths[components(path)]
+
+
+def as_util_error(error):
+    """`util_error`: what an error of a call on files is as a `UtilError`."""
+    if error.name == "Memory":
+        return error
+    return Refused("File", error)
+
+
+def call_files(call, *arguments):
+    """What a call on files returns, with its error as a `UtilError`."""
+    try:
+        return call(*arguments)
+    except Refused as error:
+        raise as_util_error(error) from None
+
+
+def kind_at(files, path):
+    """The kind of what stands at a path; an error where nothing does."""
+    return call_files(files.metadata, path).kind
+
+
+def read_contents(files, path):
+    """`contents_at`: the contents of the regular file at a path, read in pieces to their end."""
+    return read_pieces(files, path)
+
+
+def read_pieces(files, path):
+    """The bytes of a regular file, read until a read gives none."""
+    contents = b""
+    while True:
+        piece = call_files(files.read_at, path, len(contents), BUFFER_SIZE)
+        if piece == b"":
+            return contents
+        contents += piece
+
+
+def sorted_names(files, path):
+    """`child_names`: the last names of a folder's direct children, in order."""
+    return sorted(call_files(files.read_dir, path))
+
+
+def folder_material(files, path, relative, level):
+    """The material of what is `reached` from a folder: a delimiter and the contents of each file.
+
+    `relative` is the folder's path relative to the one that was handed in, which has level 1.
+    """
+    if level > GREATEST_LEVEL:
+        raise Refused("TooDeep")
+    material = b""
+    for name in sorted_names(files, path):
+        below = join_path(path, name)
+        text = join_path(relative, name)
+        kind = kind_at(files, below)
+        if kind == FOLDER:
+            material += folder_material(files, below, text, level + 1)
+        elif kind == FILE:
+            material += delimiter(lossy(text)) + read_pieces(files, below)
+        else:
+            raise other_kind()
+    return material
+
+
+def digest_material(files, path):
+    """`digest_material`: the bytes whose digest text is that of what stands at a path."""
+    kind = kind_at(files, path)
+    if kind == FILE:
+        return read_pieces(files, path)
+    if kind == FOLDER:
+        return folder_material(files, path, b"", 1)
+    raise other_kind()
+
+
+def text_at(files, path):
+    """`text_at`: the digest text of what stands at a path, a regular file or a folder."""
+    return digest_text(digest_material(files, path))
+
+
+def hash_all(files, paths):
+    """`texts`: the digest texts of several paths in order; the error of the first that has none."""
+    return [text_at(files, path) for path in paths]

@@ -1,0 +1,109 @@
+"""The key of an object."""
+import dataclasses
+
+from .digests import digest_text, length_prefixed
+from .errors import Refused
+from .strip import arguments_bytes, stripped_text
+
+CACHE_VERSION = b"13"
+
+# `language_name` and `is_preprocessed_first`: the variant, its name, and whether the preprocessor
+# goes over it first.
+LANGUAGES = [
+    ("Assembler", b"assembler", False),
+    ("AssemblerToPreprocess", b"assemblerToPreprocess", True),
+    ("C", b"c", True),
+    ("CHeader", b"cHeader", True),
+    ("CPreprocessed", b"cPreprocessed", False),
+    ("Cxx", b"c++", True),
+    ("CxxHeader", b"c++Header", True),
+    ("CxxPreprocessed", b"c++Preprocessed", False),
+    ("GenericHeader", b"c/c++", True),
+    ("ObjectiveC", b"objc", True),
+    ("ObjectiveCPreprocessed", b"objcPreprocessed", False),
+    ("ObjectiveCxx", b"objc++", True),
+    ("ObjectiveCxxPreprocessed", b"objc++Preprocessed", False),
+    ("Cuda", b"cuda", True),
+    ("Hip", b"hip", True),
+]
+
+# `object_variable_names`.
+OBJECT_VARIABLES = [
+    b"SCCACHE_C_CUSTOM_CACHE_BUSTER",
+    b"MACOSX_DEPLOYMENT_TARGET",
+    b"IPHONEOS_DEPLOYMENT_TARGET",
+    b"TVOS_DEPLOYMENT_TARGET",
+    b"WATCHOS_DEPLOYMENT_TARGET",
+    b"SDKROOT",
+    b"CCC_OVERRIDE_OPTIONS",
+]
+
+
+@dataclasses.dataclass
+class Params:
+    """`Params`: what a caller hands in for a key; `plain_params` where nothing more is set."""
+
+    compiler_digest: bytes
+    language: bytes
+    arguments: list
+    text: bytes
+    extra_hashes: list = dataclasses.field(default_factory=list)
+    variables: list = dataclasses.field(default_factory=list)
+    plusplus: bool = False
+    basedirs: list = dataclasses.field(default_factory=list)
+    assembler_digest: bytes | None = None
+
+
+def language_of(name):
+    """`NamesLanguage`: the name, if a language has exactly this one, else an error."""
+    for _, known, _ in LANGUAGES:
+        if known == name:
+            return known
+    raise Refused("UnknownLanguage")
+
+
+def needs_preprocessing(language):
+    """`is_preprocessed_first`: whether the preprocessor goes over the language of this name first."""
+    return any(known == language and first for _, known, first in LANGUAGES)
+
+
+def variables_named(names, variables):
+    """`variables_named`: the variables that have one of these names, in their order."""
+    return [variable for variable in variables if variable[0] in names]
+
+
+def variables_bytes(variables):
+    """`variable_bytes` of each variable: the length-prefixed name, `=`, the length-prefixed value."""
+    return b"".join(length_prefixed(name) + b"=" + length_prefixed(value) for name, value in variables)
+
+
+def flag_byte(flag):
+    """`flag_byte`: 1 for true and 0 for false."""
+    return b"\x01" if flag else b"\x00"
+
+
+def assembler_bytes(digest):
+    """`assembler_bytes`: the digest of an assembler, or nothing."""
+    return b"" if digest is None else digest
+
+
+def key_material(params):
+    """`material` of `key_parts`: the bytes whose digest text is the key of an object."""
+    return b"".join(
+        [
+            params.compiler_digest,
+            flag_byte(params.plusplus),
+            CACHE_VERSION,
+            params.language,
+            arguments_bytes(params.arguments, params.basedirs),
+            b"".join(params.extra_hashes),
+            assembler_bytes(params.assembler_digest),
+            variables_bytes(variables_named(OBJECT_VARIABLES, params.variables)),
+            stripped_text(params.text, params.basedirs),
+        ]
+    )
+
+
+def object_key(params):
+    """`object_key`: the digest text of the material."""
+    return digest_text(key_material(params))

@@ -1,0 +1,112 @@
+"""The program `cck`: what it prints, and its exit status."""
+import os
+import sys
+
+from .arguments import Arguments, Output, with_extra_files
+from .calls import Answer, Call, Conditions, Hasher, executable_text, number_of, run_calls
+from .errors import Refused
+from .key import Params, language_of, object_key
+from .mini import MiniCompiler
+from .script import (
+    EXECUTABLE,
+    WORKING_DIRECTORY,
+    Surroundings,
+    WrongLine,
+    armed_of,
+    basedirs_of,
+    first_files,
+    parse,
+    zone_of,
+)
+from .store import MapStore
+from .texts import is_utf8
+
+# `usage_line`.
+USAGE = b"cck: usage: cck key DIGEST LANGUAGE [ARG..] | cck run\n"
+
+
+def asks_for_key(words):
+    """The words ask for a key (`words_of` of a `KeyCommand`)."""
+    if len(words) < 3 or words[0] != b"key":
+        return False
+    try:
+        language_of(words[2])
+    except Refused:
+        return False
+    return True
+
+
+def key_line(words, text):
+    """`key_line`: the line that is printed for `key DIGEST LANGUAGE [ARG..]` over this text."""
+    return object_key(Params(words[1], words[2], words[3:], text)) + b"\n"
+
+
+def arguments_of(words):
+    """The parsed command line of a script's call: the input, and arguments of both keys."""
+    language = b"cPreprocessed" if words[0].endswith(b".i") else b"c"
+    outputs = {b"obj": Output(b"out.o")}
+    return Arguments(words[0], language, outputs=outputs, common_args=words[1:])
+
+
+def answer_line(answer):
+    """`answer_line`: the line that is printed for one call."""
+    if not isinstance(answer, Answer):
+        return b"error %d\n" % number_of(answer)
+    return (b"miss " if answer.is_fresh else b"hit ") + answer.key + b"\n"
+
+
+def make_call(line, surroundings, compiler, digest, conditions, store):
+    """The answer or the error of the call that a line asks for (`asked_calls`)."""
+    moment, source, words = line.values
+    files, variables = surroundings.files, surroundings.variables
+    arguments = with_extra_files(arguments_of([source] + words), files, variables)
+    hasher = Hasher(compiler, EXECUTABLE, digest, arguments)
+    recache = line.word == b"recache"
+    call = Call(hasher, files, WORKING_DIRECTORY, variables, moment, recache)
+    return run_calls([call], conditions, store)[0]
+
+
+def run_lines(lines):
+    """`Ran`: the lines of the answers of a script's calls."""
+    conditions = Conditions(zone=zone_of(lines), basedirs=basedirs_of(lines))
+    compiler = MiniCompiler(conditions.zone)
+    digest = executable_text(first_files(), EXECUTABLE, compiler.version)
+    store = MapStore()
+    store.forget_at(armed_of(lines, b"forget"))
+    store.fail_at(armed_of(lines, b"fail"))
+    surroundings = Surroundings()
+    printed = b""
+    for line in lines:
+        surroundings.follow(line)
+        if line.word in (b"compile", b"recache"):
+            answer = make_call(line, surroundings, compiler, digest, conditions, store)
+            printed += answer_line(answer)
+    return printed
+
+
+def run_script(text):
+    """`IsRunPrinted` and `wrong_text`: what is printed of a script, and the exit status."""
+    try:
+        lines = parse(text)
+    except WrongLine as wrong:
+        return b"cck: line %d\n" % wrong.number, 2
+    return run_lines(lines), 0
+
+
+def answer_words(words, read):
+    """What is printed for the program's words, and the exit status; `read` returns the input's bytes."""
+    if not all(is_utf8(word) for word in words):
+        return USAGE, 2
+    if words == [b"run"]:
+        return run_script(read())
+    if asks_for_key(words):
+        return key_line(words, read()), 0
+    return USAGE, 2
+
+
+def main(words):
+    """The program over the standard streams."""
+    printed, status = answer_words([os.fsencode(word) for word in words], sys.stdin.buffer.read)
+    sys.stdout.buffer.write(printed)
+    sys.stdout.buffer.flush()
+    return status

@@ -1,0 +1,70 @@
+"""The store in memory."""
+from .errors import Refused
+from .files import GREATEST_COUNT
+
+
+class MapStore:
+    """`State`: the pairs that a store holds, its count of setbacks, and which calls are armed."""
+
+    def __init__(self):
+        self.pairs = {}
+        self.setbacks = 0
+        self.forgetting = 0
+        self.failing = 0
+        self.calls = 0
+
+    def held(self, key):
+        """The bytes that are held under a key, or None."""
+        return self.pairs.get(key)
+
+    def forget_at(self, n):
+        """The nth of the following calls forgets all that is held before it acts; 0 disarms."""
+        self.forgetting = n
+
+    def fail_at(self, n):
+        """The nth of the following calls fails, and hands out and puts nothing; 0 disarms."""
+        self.failing = n
+
+    def set_back(self):
+        """`more`: one setback more."""
+        self.setbacks = min(self.setbacks + 1, GREATEST_COUNT)
+
+    def call(self):
+        """Counts one call, and does what is armed for it: to forget comes before to fail."""
+        self.calls += 1
+        forgets = self.forgetting == 1
+        fails = self.failing == 1
+        self.forgetting = max(self.forgetting - 1, 0)
+        self.failing = max(self.failing - 1, 0)
+        if forgets:
+            self.pairs = {}
+            self.set_back()
+        if fails:
+            self.set_back()
+            raise Refused("Fault")
+
+    def get(self, key):
+        """`IsGot`: the bytes that are held under the key, or None."""
+        self.call()
+        return self.held(key)
+
+    def put(self, key, data):
+        """`IsPut`: these bytes alone are held under the key."""
+        self.call()
+        self.pairs[key] = data
+
+
+class EmptyStore:
+    """The store that keeps nothing: its count of setbacks."""
+
+    def __init__(self):
+        self.setbacks = 0
+
+    def get(self, key):
+        """Nothing is held."""
+        return None
+
+    def put(self, key, data):
+        """A put fails, which is a setback."""
+        self.setbacks = min(self.setbacks + 1, GREATEST_COUNT)
+        raise Refused("Fault")
