@@ -1,24 +1,33 @@
 #!/bin/sh
-# Refuses each request for memory in turn: runs the tests of a crate with the first allocation of
-# each refused, then with the second, and so on, as many runs as are asked for (40). Each test then
-# has to pass or to end for lack of memory, said as its type says it. Run by hand:
-# fail_alloc.sh CRATE [RUNS]. Its last line counts the runs.
+# Refuses one request for memory in each run of a program of cases: the first one, then the second
+# one, and so on. A run has to end with status 2, for want of memory, with no difference printed, or
+# to print what the program prints with all its memory. Run by hand:
+# fail_alloc.sh CRATE FILE [RUNS [FIRST]], where FILE is one of the crate's data/ and FIRST the first
+# request that is refused. A run builds the program, so there are 5 where no number is given.
 set -eu
 cd "$(dirname "$0")/../crates/$1"
-runs=${2:-40}
-n=0
-while [ "$n" -lt "$runs" ]; do
+file=data/$2
+runs=${3:-5}
+first=${4:-1}
+log=$(mktemp)
+trap 'rm "$log"' EXIT
+
+all=$(rt try -- "$file" 2>"$log") || { cat "$log"; exit 1; }
+n=$first
+short=0
+while [ "$n" -lt $((first + runs)) ]; do
+    text=$(rt try --fail-alloc "$n" -- "$file" 2>"$log") || true
+    expected=$all
+    case $(sed -n 's/^run=ended status=\([0-9]*\) .*/\1/p' "$log") in
+    2)
+        expected=
+        short=$((short + 1))
+        text=$(echo "$text" | sed '/: [0-9]* results, 0 differences$/d')
+        ;;
+    0) ;;
+    *) expected='a run that ends' ;;
+    esac
+    [ "$text" = "$expected" ] || { echo "$1 $2: allocation $n refused: $text"; cat "$log"; exit 1; }
     n=$((n + 1))
-    said=$(rt try --test --fail-alloc "$n" 2>/dev/null) || true
-    tests=$(echo "$said" | sed -n 's/^tests: //p')
-    failed=$(echo "$said" | grep -c 'FAILED$' || true)
-    # The third: a writer that keeps what is written had no memory for it. The others: a test saw
-    # the refusal in place of what it compares, or the program said that it was refused, or had no
-    # memory left to say it.
-    memory=$(echo "$said" | grep -c -e '^    [Ee]rror: Memory$' -e '^    [Ee]rror: AllocError$' \
-        -e '^    Error: Io(Write)$' -e '^      left: Err(Memory)$' \
-        -e '^      left: Refused$' -e '^      left: \[\]$' || true)
-    echo "$1: allocation $n refused: $tests tests, $failed of them ended, $memory for lack of memory"
-    [ -n "$tests" ] && [ "$failed" -eq "$memory" ] || { echo "$said"; exit 1; }
 done
-echo "$1: $n runs, each with tests that passed or ended for lack of memory"
+echo "$1 $2: $runs runs from allocation $first on, $short of them ended for want of memory"

@@ -1,26 +1,96 @@
-//! Files in memory, as a crate above them sees them.
-use cck_util::{FileError, Files, UtilError};
-use cck_vectors::given::files_of;
+//! Files in memory.
+use crate::cases::Cases;
+use crate::shown::{write_metadata, write_names};
+use cck_cases::{CaseError, Value};
+use cck_util::{FileKind, Files, Node};
+use std::mem::swap;
 
-#[test]
-fn a_link(rt: HostRuntime) -> Result<(), UtilError> {
-    let alloc = rt.alloc();
-    let mut files = files_of(alloc, &[(b"/w/h.h", b"int y;")])?;
-    files.link(b"/l", b"/w/h.h")?;
-    let mut buffer = [0; 4];
-    assert_eq!(rt; files.read_at(b"/l", 4, &mut buffer), Ok(2));
-    assert!(rt; buffer.starts_with(b"y;"));
-    assert!(rt; !files.exists(b"/w"));
-    let canonical = files.canonical(alloc, b"/l")?;
-    assert_eq!(rt; canonical.as_slice(), b"/w/h.h".as_slice());
-    Ok(())
+#[derive(Clone, Copy)]
+pub(crate) enum FileCall {
+    Metadata,
+    Read,
+    Children,
+    Exists,
+    Canonical,
+    PutAside,
+    Swap,
+    PutMade,
 }
 
-#[test]
-fn a_fault(rt: HostRuntime) -> Result<(), UtilError> {
-    let mut files = files_of(rt.alloc(), &[(b"/l", b"int y;")])?;
-    files.fail_at(1);
-    assert_eq!(rt; files.metadata(b"/l"), Err(FileError::Fault));
-    assert_eq!(rt; files.metadata(b"/l")?.len, 6);
-    Ok(())
+pub(crate) const CALLS: [(&str, FileCall); 8] = [
+    ("metadata", FileCall::Metadata),
+    ("read_at", FileCall::Read),
+    ("read_dir", FileCall::Children),
+    ("exists", FileCall::Exists),
+    ("canonical", FileCall::Canonical),
+    ("copy_aside", FileCall::PutAside),
+    ("swap_aside", FileCall::Swap),
+    ("put_made", FileCall::PutMade),
+];
+
+pub(crate) fn call<'a>(
+    call: FileCall,
+    cases: &'a mut Cases,
+    path: &[u8],
+) -> Result<Value<'a>, CaseError> {
+    match call {
+        FileCall::Metadata => metadata(cases, path),
+        FileCall::Read => read_at(cases, path),
+        FileCall::Children => read_dir(cases, path),
+        FileCall::Exists => Ok(Value::Flag(cases.world.files.exists(path))),
+        FileCall::Canonical => Ok(Value::Bytes(cases.world.files.canonical(cases.alloc, path)?)),
+        FileCall::PutAside => put_aside(cases),
+        FileCall::Swap => Ok(swap_aside(cases)),
+        FileCall::PutMade => put_made(cases, path),
+    }
+}
+
+fn metadata<'a>(cases: &'a mut Cases, path: &[u8]) -> Result<Value<'a>, CaseError> {
+    let metadata = cases.world.files.metadata(path)?;
+    let mut text = Vec::new(cases.alloc);
+    write_metadata(cases.alloc, &mut text, &metadata)?;
+    Ok(Value::Bytes(text))
+}
+
+// What was read.
+fn read_at<'a>(cases: &'a mut Cases, path: &[u8]) -> Result<Value<'a>, CaseError> {
+    let wanted = &mut cases.wanted;
+    let count = cases
+        .world
+        .files
+        .read_at(path, wanted.offset, &mut wanted.buffer)?;
+    Ok(Value::Part(wanted.buffer.get(..count)))
+}
+
+// The names of the children, in the order of their bytes.
+fn read_dir<'a>(cases: &'a mut Cases, path: &[u8]) -> Result<Value<'a>, CaseError> {
+    let mut names = cases.world.files.read_dir(cases.alloc, path)?;
+    names.sort_unstable();
+    let mut text = Vec::new(cases.alloc);
+    write_names(&mut text, &names)?;
+    Ok(Value::Bytes(text))
+}
+
+// Puts a copy of the files aside.
+fn put_aside<'a>(cases: &'a mut Cases) -> Result<Value<'a>, CaseError> {
+    cases.aside = cases.world.files.copy(cases.alloc)?;
+    Ok(Value::Word("copied"))
+}
+
+// Takes the files that were put aside, and puts the others aside.
+fn swap_aside<'a>(cases: &'a mut Cases) -> Value<'a> {
+    swap(&mut cases.world.files, &mut cases.aside);
+    Value::Word("swapped")
+}
+
+// Puts a file of these contents at `base`, modified at `modified`. The result is its length.
+fn put_made<'a>(cases: &'a mut Cases, contents: &[u8]) -> Result<Value<'a>, CaseError> {
+    let node = Node {
+        kind: FileKind::File,
+        contents: contents.to_vec(cases.alloc)?,
+        modified: cases.wanted.modified,
+        changed: None,
+    };
+    cases.world.files.put(&cases.given.base, node)?;
+    Ok(Value::Number(contents.len() as u64))
 }

@@ -8,9 +8,6 @@
 //! what the theorems speak of.
 #![tactic(auto)]
 
-#[cfg(test)]
-mod tests;
-
 use cck_command::{engine, refuse};
 use cck_util::Sha256State;
 use std::env;

@@ -1,35 +1,128 @@
-//! Scripts that are read. Worked examples, each written from the rules.
-use cck_digest::UtilError;
-use cck_path::Timestamp;
-use cck_script::{Command, Script, ScriptError};
-use std::alloc::Global;
-use std::process::Abort;
+//! Scripts.
+use crate::commands::{write_call, write_command, write_count, write_list, write_zone};
+use crate::places::{begin_line, write_surroundings};
+use cck_cases::{CaseError, number};
+use cck_script::{RunOptions, Script, ScriptError, Surroundings};
+use cck_util::UtilError;
+use std::alloc::{AllocError, Global};
 
-mod calls;
-mod lines;
-mod numbers;
-
-// The bytes of a text.
-fn bytes(alloc: Global, text: &[u8]) -> Result<Vec<u8>, ScriptError> {
-    Ok(text.to_vec(alloc)?)
+#[derive(Clone, Copy)]
+pub(crate) enum ScriptCall {
+    Parse,
+    Calls,
+    Options,
+    Surroundings,
+    ErrorText,
 }
 
-// A text of one line is a script that says this.
-fn expect_says(
-    rt: &impl Abort,
+pub(crate) const CALLS: [(&str, ScriptCall); 5] = [
+    ("parse", ScriptCall::Parse),
+    ("calls", ScriptCall::Calls),
+    ("options", ScriptCall::Options),
+    ("surroundings", ScriptCall::Surroundings),
+    ("script_error_text", ScriptCall::ErrorText),
+];
+
+/// Makes a call on the script of this text, and writes its result.
+pub(crate) fn write(
+    call: ScriptCall,
     alloc: Global,
+    out: &mut Vec<u8>,
     text: &[u8],
-    command: Command,
-) -> Result<(), ScriptError> {
-    let script = Script::parse(alloc, text)?;
-    assert_eq!(rt; script.commands(), &[command][..], "{text:?}");
+    rest: &str,
+) -> Result<(), CaseError> {
+    match Script::parse(alloc, text) {
+        Ok(script) => write_of_script(call, alloc, out, &script, rest),
+        Err(ScriptError::Memory) => Err(CaseError::Util(UtilError::Memory)),
+        Err(error) => Ok(write_error(call, alloc, out, error)?),
+    }
+}
+
+fn write_of_script(
+    call: ScriptCall,
+    alloc: Global,
+    out: &mut Vec<u8>,
+    script: &Script,
+    rest: &str,
+) -> Result<(), CaseError> {
+    match call {
+        ScriptCall::Parse | ScriptCall::ErrorText => Ok(write_commands(alloc, out, script)?),
+        ScriptCall::Calls => Ok(write_calls(alloc, out, script)?),
+        ScriptCall::Options => Ok(write_options(alloc, out, &script.options(alloc)?)?),
+        ScriptCall::Surroundings => write_at_call(alloc, out, script, rest),
+    }
+}
+
+fn write_error(
+    call: ScriptCall,
+    alloc: Global,
+    out: &mut Vec<u8>,
+    error: ScriptError,
+) -> Result<(), AllocError> {
+    let text = match call {
+        ScriptCall::ErrorText => format!(in alloc; "{error}")?,
+        _ => format!(in alloc; "error {error:?}")?,
+    };
+    out.extend_from_slice(text.as_bytes())
+}
+
+fn write_commands(alloc: Global, out: &mut Vec<u8>, script: &Script) -> Result<(), AllocError> {
+    for command in script.commands() {
+        begin_line(out)?;
+        write_command(alloc, out, command)?;
+    }
     Ok(())
 }
 
-// A text is no script, for its line of this number.
-fn expect_wrong(rt: &impl Abort, alloc: Global, text: &[u8], number: u64) {
-    match Script::parse(alloc, text) {
-        Ok(_) => assert!(rt; false, "{text:?}"),
-        Err(error) => assert_eq!(rt; error, ScriptError::Line(number), "{text:?}"),
+fn write_calls(alloc: Global, out: &mut Vec<u8>, script: &Script) -> Result<(), AllocError> {
+    for command in script.commands() {
+        if let Some(call) = command.call() {
+            begin_line(out)?;
+            let name: &[u8] = if call.is_recache {
+                b"afresh"
+            } else {
+                b"cached"
+            };
+            write_call(alloc, out, name, call.moment, call.arguments)?;
+        }
     }
+    Ok(())
+}
+
+fn write_options(alloc: Global, out: &mut Vec<u8>, options: &RunOptions) -> Result<(), AllocError> {
+    write_zone(alloc, out, options.zone_offset)?;
+    out.extend_from_slice(b"\nbasedirs")?;
+    write_list(out, &options.basedirs)?;
+    if let Some(count) = options.forget_at {
+        out.push(b'\n')?;
+        write_count(alloc, out, "forget", count)?;
+    }
+    if let Some(count) = options.fail_at {
+        out.push(b'\n')?;
+        write_count(alloc, out, "fail", count)?;
+    }
+    Ok(())
+}
+
+// `surroundings N PATH..`: what stands at these paths, and the variables, at the call of this
+// number, counted from 0, or after all lines.
+fn write_at_call(
+    alloc: Global,
+    out: &mut Vec<u8>,
+    script: &Script,
+    rest: &str,
+) -> Result<(), CaseError> {
+    let (before, paths) = rest.split_once(' ').unwrap_or((rest, ""));
+    let mut before = number::<u64>(before)?;
+    let mut surroundings = Surroundings::new(alloc)?;
+    for command in script.commands() {
+        if command.call().is_some() {
+            if before == 0 {
+                break;
+            }
+            before -= 1;
+        }
+        surroundings.follow(alloc, command)?;
+    }
+    write_surroundings(alloc, out, paths, &mut surroundings)
 }

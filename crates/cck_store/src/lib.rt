@@ -25,6 +25,3 @@ mod store;
 pub use empty_store::EmptyStore;
 pub use map_store::MapStore;
 pub use store::{PreprocessorStore, StoreError};
-
-#[cfg(test)]
-mod tests;

@@ -1,121 +1,248 @@
-//! Walks over line markers, over files in memory. The digests were computed apart from the program.
-use cck_digest::{FileError, Sha256State, UtilError};
-use cck_files::{MapFiles, Node};
-use cck_path::{FileKind, Timestamp};
-use cck_time::PreprocessorCacheModeConfig;
+//! Walks over texts and over single line markers.
+use cck_cases::{CaseError, Given, Line, Value, World, bytes_of, find, number, write_numbers};
+use cck_digest::{Digest, FileError, Sha256State, UtilError};
+use cck_files::{Files, MapFiles};
 use cck_walk::{
     LineAction, Records, Walk, WalkError, process_preprocessed_file, process_preprocessor_line,
 };
-use jiff::tz::TimeZone;
-use std::alloc::Global;
-use std::process::Abort;
-use std::test::Fail;
+use jiff::tz::{Offset, TimeZone};
+use std::alloc::{AllocError, Global};
 
-mod judged;
-mod lines;
-mod texts;
-
-// Of `contents`.
-const DIGEST: &str = "1d2b5af9eb7a2e0077faf9192be7598e5660b172b00ef35f93bab3378587288e";
-
-// When all walks are made: in the second of January 1970.
-fn moment() -> Timestamp {
-    Timestamp::new(100_000, 0)
+#[derive(Clone, Copy)]
+enum Word {
+    Input,
+    Cwd,
 }
 
-// The last time before it.
-fn before() -> Option<Timestamp> {
-    Some(Timestamp::new(99_999, 999_999_999))
+const WORDS: [(&str, Word); 2] = [("input", Word::Input), ("cwd", Word::Cwd)];
+
+#[derive(Clone, Copy)]
+pub(crate) enum WalkCall {
+    Walk,
+    WalksOfTexts,
+    Line,
+    Records,
+    Record,
+    IsArmed,
+    ErrorText,
 }
 
-fn activated() -> PreprocessorCacheModeConfig {
-    PreprocessorCacheModeConfig::activated()
+pub(crate) const CALLS: [(&str, WalkCall); 7] = [
+    ("walk", WalkCall::Walk),
+    ("walks_of_texts", WalkCall::WalksOfTexts),
+    ("line", WalkCall::Line),
+    ("records", WalkCall::Records),
+    ("record", WalkCall::Record),
+    ("is_armed", WalkCall::IsArmed),
+    ("error_text", WalkCall::ErrorText),
+];
+
+const ERRORS: [(&str, WalkError); 2] = [
+    ("Memory", WalkError::Memory),
+    ("Marker", WalkError::Marker),
+];
+
+/// What lines give to walks, and what single line markers recorded.
+#[derive(Drop)]
+pub(crate) struct Walks {
+    alloc: Global,
+    given: Given,
+    world: World,
+    /// `input TEXT`: the path of the input. Empty at first.
+    input: Vec<u8>,
+    /// `cwd TEXT`: the working directory. Empty at first.
+    cwd: Vec<u8>,
+    /// The records that `line` adds to. None at first.
+    records: Records,
 }
 
-fn skipping() -> PreprocessorCacheModeConfig {
-    PreprocessorCacheModeConfig {
-        skip_system_headers: true,
-        ..activated()
+/// Makes a call. Of the texts it returns one digest: that of all results, each with an LF after it.
+pub(crate) fn call<'a>(
+    call: WalkCall,
+    walks: &'a mut Walks,
+    texts: &[Vec<u8>],
+    line: Line<'a>,
+) -> Result<Value<'a>, CaseError> {
+    match call {
+        WalkCall::Walk => walks.walk(line.bytes),
+        WalkCall::WalksOfTexts => walks.walk_each(texts),
+        WalkCall::Line => walks.process_line(line.rest),
+        WalkCall::Records => Ok(Value::Number(walks.records.len() as u64)),
+        WalkCall::Record => Ok(Value::Part(walks.record(line.bytes))),
+        WalkCall::IsArmed => Ok(Value::Flag(
+            walks.world.files.metadata(b"/") == Err(FileError::Fault),
+        )),
+        WalkCall::ErrorText => Ok(Value::Text(error_text(walks.alloc, line.rest)?)),
     }
 }
 
-fn file(
-    alloc: Global,
-    contents: &[u8],
-    modified: Option<Timestamp>,
-    changed: Option<Timestamp>,
-) -> Result<Node, UtilError> {
-    Ok(Node {
-        kind: FileKind::File,
-        contents: contents.to_vec(alloc)?,
-        modified,
-        changed,
-    })
+fn error_text(alloc: Global, name: &str) -> Result<String, CaseError> {
+    let error = find(&ERRORS, name).ok_or(CaseError::Line)?;
+    Ok(format!(in alloc; "{error}")?)
 }
 
-// Something of another kind, whose contents don't matter.
-fn other(alloc: Global, kind: FileKind) -> Result<Node, UtilError> {
-    let mut node = file(alloc, b"contents", before(), before())?;
-    node.kind = kind;
-    Ok(node)
-}
-
-// Files that are old enough, all with the same contents.
-fn files_at(alloc: Global, paths: &[&[u8]]) -> Result<MapFiles, UtilError> {
-    let mut files = MapFiles::new(alloc);
-    for path in paths {
-        files.put(path, file(alloc, b"contents", before(), before())?)?;
+fn zone_of(seconds: i32) -> Result<TimeZone<'static>, CaseError> {
+    match Offset::from_seconds(seconds) {
+        Ok(offset) => Ok(TimeZone::fixed(offset)),
+        Err(_) => Err(CaseError::Line),
     }
-    Ok(files)
 }
 
-// A walk with the input `/w/in.c`.
-fn walk_in(
-    alloc: Global,
-    files: &mut MapFiles,
-    cwd: &[u8],
-    text: &[u8],
-    config: PreprocessorCacheModeConfig,
-) -> Result<Walk, WalkError> {
-    process_preprocessed_file::<Sha256State, MapFiles>(
-        alloc,
-        files,
-        b"/w/in.c",
-        cwd,
-        text,
-        config,
-        moment(),
-        &TimeZone::UTC,
-        &[],
-    )
-}
-
-// What a walk answers, as one text: each path in `[]`, or in `()` where its digest isn't that of
-// `contents`; `!` where it is refused, and `?` for a malformed marker.
-fn transcript(alloc: Global, answer: Result<Walk, WalkError>) -> Result<Vec<u8>, WalkError> {
-    let mut written = Vec::new(alloc);
-    match answer {
-        Ok(Walk::Accepted(files)) => {
-            for (path, digest) in &files {
-                let is_same = digest.as_str() == DIGEST;
-                written.push(if is_same { b'[' } else { b'(' })?;
-                written.extend_from_slice(path)?;
-                written.push(if is_same { b']' } else { b')' })?;
-            }
+impl Walks {
+    /// Nothing is given, and nothing is recorded.
+    pub(crate) fn new(alloc: Global) -> Walks {
+        Walks {
+            alloc,
+            given: Given::new(alloc),
+            world: World::new(alloc),
+            input: Vec::new(alloc),
+            cwd: Vec::new(alloc),
+            records: Records::new(alloc),
         }
-        Ok(Walk::Refused) => written.push(b'!')?,
-        Err(WalkError::Marker) => written.push(b'?')?,
-        Err(WalkError::Memory) => return Err(WalkError::Memory),
     }
-    Ok(written)
+
+    /// Forgets all that was given and recorded.
+    pub(crate) fn begin(&mut self) {
+        self.given.begin();
+        self.world.begin();
+        self.input.clear();
+        self.cwd.clear();
+        self.records = Records::new(self.alloc);
+    }
+
+    /// Takes what a line gives, and returns whether it knows the line's word.
+    pub(crate) fn give(&mut self, name: &str, rest: &str) -> Result<bool, CaseError> {
+        let Some(word) = find(&WORDS, name) else {
+            return Ok(self.world.give(name, rest)? || self.given.give(name, rest)?);
+        };
+        match word {
+            Word::Input => self.input = bytes_of(self.alloc, rest)?,
+            Word::Cwd => self.cwd = bytes_of(self.alloc, rest)?,
+        }
+        Ok(true)
+    }
+
+    fn walk<'a>(&mut self, text: &[u8]) -> Result<Value<'a>, CaseError> {
+        let mut out = Vec::new(self.alloc);
+        self.write_walk(&mut out, text)?;
+        Ok(Value::Bytes(out))
+    }
+
+    fn walk_each<'a>(&mut self, texts: &[Vec<u8>]) -> Result<Value<'a>, CaseError> {
+        let mut digest = Digest::<Sha256State>::new();
+        let mut out = Vec::new(self.alloc);
+        for text in texts {
+            out.clear();
+            self.write_walk(&mut out, text)?;
+            out.push(b'\n')?;
+            digest.update(&out);
+        }
+        Ok(Value::Text(digest.finish(self.alloc)?))
+    }
+
+    // Writes what a walk over a text returns.
+    fn write_walk(&mut self, out: &mut Vec<u8>, text: &[u8]) -> Result<(), CaseError> {
+        let zone = zone_of(self.world.zone)?;
+        let walk = process_preprocessed_file::<Sha256State, MapFiles>(
+            self.alloc,
+            &mut self.world.files,
+            &self.input,
+            &self.cwd,
+            text,
+            self.world.config,
+            self.world.moment,
+            &zone,
+            &self.given.variables,
+        );
+        write_result(out, walk)
+    }
+
+    // `line START HASH_START TEXT`: what the line marker at a place of a text does.
+    fn process_line<'a>(&mut self, rest: &str) -> Result<Value<'a>, CaseError> {
+        let (start, rest) = rest.split_once(' ').ok_or(CaseError::Line)?;
+        let (hash_start, text) = rest.split_once(' ').ok_or(CaseError::Line)?;
+        let text = bytes_of(self.alloc, text)?;
+        self.process(&text, number(start)?, number(hash_start)?)
+    }
+
+    fn process<'a>(
+        &mut self,
+        text: &[u8],
+        start: usize,
+        hash_start: usize,
+    ) -> Result<Value<'a>, CaseError> {
+        if hash_start > start || start >= text.len() {
+            return Err(CaseError::Line);
+        }
+        let zone = zone_of(self.world.zone)?;
+        let action = process_preprocessor_line::<Sha256State, MapFiles>(
+            self.alloc,
+            &mut self.world.files,
+            &self.input,
+            &self.cwd,
+            &mut self.records,
+            text,
+            start,
+            hash_start,
+            self.world.config,
+            self.world.moment,
+            &zone,
+            &self.given.variables,
+        );
+        match action {
+            Ok(action) => Ok(Value::Bytes(action_text(self.alloc, action)?)),
+            Err(error) => Ok(Value::Word(error_word(error)?)),
+        }
+    }
+
+    // The recorded digest of the file at a path, if it was recorded.
+    fn record(&self, path: &[u8]) -> Option<&[u8]> {
+        let digest = self.records.get(path)?;
+        Some(digest.as_bytes())
+    }
 }
 
-#[test]
-fn errors_shown(rt: HostRuntime) -> Result<(), Fail> {
-    let alloc = rt.alloc();
-    let shown = format!(in alloc; "{}", WalkError::Memory)?;
-    assert_eq!(rt; shown.as_str(), "out of memory");
-    let shown = format!(in alloc; "{}", WalkError::Marker)?;
-    assert_eq!(rt; shown.as_str(), "a line marker is malformed");
+// An error that is a result.
+fn error_word(error: WalkError) -> Result<&'static str, CaseError> {
+    match error {
+        WalkError::Memory => Err(CaseError::Util(UtilError::Memory)),
+        WalkError::Marker => Ok("error Marker"),
+    }
+}
+
+fn write_result(out: &mut Vec<u8>, walk: Result<Walk, WalkError>) -> Result<(), CaseError> {
+    match walk {
+        Ok(Walk::Accepted(files)) => write_files(out, &files)?,
+        Ok(Walk::Refused) => out.extend_from_slice(b"refused")?,
+        Err(error) => out.extend_from_slice(error_word(error)?.as_bytes())?,
+    }
     Ok(())
+}
+
+// Writes the recorded files, each with its digest in a line of its own.
+fn write_files(out: &mut Vec<u8>, files: &[(Vec<u8>, String)]) -> Result<(), AllocError> {
+    out.extend_from_slice(b"accepted")?;
+    for (path, digest) in files {
+        out.push(b'\n')?;
+        out.extend_from_slice(path)?;
+        out.push(b' ')?;
+        out.extend_from_slice(digest.as_bytes())?;
+    }
+    Ok(())
+}
+
+fn action_text(alloc: Global, action: LineAction) -> Result<Vec<u8>, AllocError> {
+    let mut out = Vec::new(alloc);
+    match action {
+        LineAction::Continue((next, also)) => {
+            out.extend_from_slice(b"Continue")?;
+            write_numbers(alloc, &mut out, &[next, also])?;
+        }
+        LineAction::Break((next, from, goes_on)) => {
+            out.extend_from_slice(b"Break")?;
+            write_numbers(alloc, &mut out, &[next, from])?;
+            out.extend_from_slice(if goes_on { b" true" } else { b" false" })?;
+        }
+    }
+    Ok(out)
 }

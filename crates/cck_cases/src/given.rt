@@ -1,0 +1,137 @@
+//! What lines give to calls on bytes, arguments and keys.
+use crate::case_error::CaseError;
+use crate::table::find;
+use crate::text::{bytes_of, variables_of, words_of};
+use cck_util::Language;
+use std::alloc::Global;
+
+#[derive(Clone, Copy)]
+enum Word {
+    Basedirs,
+    Arguments,
+    Variables,
+    ExtraHashes,
+    Compiler,
+    Language,
+    Plusplus,
+    Multiarch,
+    Assembler,
+    Base,
+}
+
+const WORDS: [(&str, Word); 10] = [
+    ("basedirs", Word::Basedirs),
+    ("arguments", Word::Arguments),
+    ("variables", Word::Variables),
+    ("extra_hashes", Word::ExtraHashes),
+    ("compiler", Word::Compiler),
+    ("language", Word::Language),
+    ("plusplus", Word::Plusplus),
+    ("multiarch", Word::Multiarch),
+    ("assembler", Word::Assembler),
+    ("base", Word::Base),
+];
+
+/// What lines give to calls on bytes, arguments and keys.
+#[derive(Drop)]
+pub struct Given {
+    /// The allocator of all that is given.
+    pub alloc: Global,
+    /// `basedirs LIST`: the base directories. None at first.
+    pub basedirs: Vec<Vec<u8>>,
+    /// `arguments LIST`: the arguments of a compiler. None at first.
+    pub arguments: Vec<Vec<u8>>,
+    /// `variables NAME=VALUE ..`: the variables of the environment. None at first.
+    pub variables: Vec<(Vec<u8>, Vec<u8>)>,
+    /// `extra_hashes DIGEST ..`: the digest texts of extra files, as they stand. None at first.
+    pub extra_hashes: Vec<String>,
+    /// `compiler DIGEST`: the digest text of the compiler, as it stands. `abcd` at first.
+    pub compiler: Option<String>,
+    /// `language NAME`: the language of an input. C at first.
+    pub language: Language,
+    /// `plusplus`: whether the compiler takes its input for C++. It doesn't at first.
+    pub plusplus: bool,
+    /// `multiarch`: whether there are several architectures. There aren't at first.
+    pub multiarch: bool,
+    /// `assembler DIGEST`: the digest text of the assembler, as it stands. None at first.
+    pub assembler: Option<String>,
+    /// `base TEXT`: the first of two texts or paths that a call takes. Empty at first.
+    pub base: Vec<u8>,
+}
+
+impl Given {
+    /// Nothing is given.
+    pub fn new(alloc: Global) -> Given {
+        Given {
+            alloc,
+            basedirs: Vec::new(alloc),
+            arguments: Vec::new(alloc),
+            variables: Vec::new(alloc),
+            extra_hashes: Vec::new(alloc),
+            compiler: None,
+            language: Language::C,
+            plusplus: false,
+            multiarch: false,
+            assembler: None,
+            base: Vec::new(alloc),
+        }
+    }
+
+    /// Forgets all that was given.
+    pub fn begin(&mut self) {
+        self.basedirs.clear();
+        self.arguments.clear();
+        self.variables.clear();
+        self.extra_hashes.clear();
+        self.compiler = None;
+        self.language = Language::C;
+        self.plusplus = false;
+        self.multiarch = false;
+        self.assembler = None;
+        self.base.clear();
+    }
+
+    /// The digest text of the compiler.
+    pub fn compiler(&self) -> &str {
+        match &self.compiler {
+            Some(text) => text.as_str(),
+            None => "abcd",
+        }
+    }
+
+    /// The digest text of the assembler, if one is given.
+    pub fn assembler(&self) -> Option<&str> {
+        match &self.assembler {
+            Some(text) => Some(text.as_str()),
+            None => None,
+        }
+    }
+
+    /// Takes what a line gives, and returns whether it knows the line's word.
+    pub fn give(&mut self, name: &str, rest: &str) -> Result<bool, CaseError> {
+        let Some(word) = find(&WORDS, name) else {
+            return Ok(false);
+        };
+        match word {
+            Word::Basedirs => self.basedirs = words_of(self.alloc, rest)?,
+            Word::Arguments => self.arguments = words_of(self.alloc, rest)?,
+            Word::Variables => self.variables = variables_of(self.alloc, rest)?,
+            Word::ExtraHashes => self.set_hashes(rest)?,
+            Word::Compiler => self.compiler = Some(String::from_str(self.alloc, rest)?),
+            Word::Language => self.language = rest.parse::<Language>()?,
+            Word::Plusplus => self.plusplus = true,
+            Word::Multiarch => self.multiarch = true,
+            Word::Assembler => self.assembler = Some(String::from_str(self.alloc, rest)?),
+            Word::Base => self.base = bytes_of(self.alloc, rest)?,
+        }
+        Ok(true)
+    }
+
+    fn set_hashes(&mut self, rest: &str) -> Result<(), CaseError> {
+        self.extra_hashes.clear();
+        for word in rest.split_whitespace() {
+            self.extra_hashes.push(String::from_str(self.alloc, word)?)?;
+        }
+        Ok(())
+    }
+}

@@ -1,0 +1,39 @@
+//! Test vectors: cases read from files, the calls that they ask for, and what is reported of them.
+//!
+//! A vector file has one line for each thing that a case says. `docs/VECTORS.md` has the grammar. A
+//! program of cases implements [`Subject`] for the calls that it knows, and its `main` is
+//! [`run_files`]. A case that is added to a file needs no proof.
+//!
+//! - [`Subject`] and [`run_files`] are what a program uses. [`Value`] is what a call returns, and
+//!   [`CaseError`] why it returned none.
+//! - [`Given`] has what lines give to calls on bytes, and [`World`] what they give to calls on files.
+//! - [`find`] finds a word in a table. [`number`], [`bytes_of`], [`words_of`] and [`moment_of`] read
+//!   the parts of a line.
+//! - [`FailingReader`] and [`FailingWriter`] fail after so many calls.
+//!
+//! Nothing is claimed of these calls beyond their types: they are what tests are made of, and a
+//! fault in them shows as a difference or a wrong count.
+#![tactic(auto)]
+
+mod case_error;
+mod failing;
+mod given;
+mod made;
+mod program;
+mod report;
+mod session;
+mod subject;
+mod table;
+mod text;
+mod value;
+mod world;
+
+pub use case_error::CaseError;
+pub use failing::{FailingReader, FailingWriter};
+pub use given::Given;
+pub use program::run_files;
+pub use subject::{Line, Subject};
+pub use table::find;
+pub use text::{byte_of, bytes_of, moment_of, number, optional_moment_of, variables_of, words_of};
+pub use value::{Value, write_cut, write_moment, write_numbers};
+pub use world::World;

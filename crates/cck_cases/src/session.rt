@@ -1,0 +1,144 @@
+//! The lines of a vector file, in their order.
+use crate::case_error::CaseError;
+use crate::made::Made;
+use crate::report::Report;
+use crate::subject::{Line, Subject};
+use crate::text::bytes_of;
+use crate::value::write_error;
+use std::alloc::Global;
+
+// The result of a call, and what was expected of it so far.
+#[derive(Drop)]
+struct Returned {
+    line: usize,
+    result: Vec<u8>,
+    expected: Option<Vec<u8>>,
+}
+
+#[derive(Drop)]
+struct Session<S: Drop> {
+    alloc: Global,
+    subject: S,
+    made: Made,
+    last: Option<Returned>,
+}
+
+/// Runs the cases of a text. The error is want of memory alone.
+pub(crate) fn run_lines<S: Subject + Drop>(
+    alloc: Global,
+    text: &str,
+    report: &mut Report<'_>,
+) -> Result<(), CaseError> {
+    let mut session = Session {
+        alloc,
+        subject: S::new(alloc),
+        made: Made::new(alloc),
+        last: None,
+    };
+    let mut number: usize = 0;
+    for line in text.split('\n') {
+        number = number.saturating_add(1);
+        if let Err(error) = session.follow(number, line, report) {
+            if error.is_memory() {
+                return Err(error);
+            }
+            report.reject(number, "the line can't be read")?;
+        }
+    }
+    session.settle(report)
+}
+
+impl<S: Subject + Drop> Session<S> {
+    fn follow(
+        &mut self,
+        number: usize,
+        line: &str,
+        report: &mut Report<'_>,
+    ) -> Result<(), CaseError> {
+        let (name, rest) = line.split_once(' ').unwrap_or((line, ""));
+        if name == "=>" {
+            return self.expect(rest);
+        }
+        self.settle(report)?;
+        if line.is_empty() || line.starts_with('#') {
+            return Ok(());
+        }
+        if name == "case" {
+            self.made.begin();
+            self.subject.begin();
+            report.begin(rest)?;
+            return Ok(());
+        }
+        if self.made.give(name, rest)? || self.subject.give(name, rest)? {
+            return Ok(());
+        }
+        self.call(number, name, rest)
+    }
+
+    // Makes a call, and keeps its result. An error is a result too, but for want of memory and a
+    // line that can't be read.
+    fn call(&mut self, line: usize, name: &str, rest: &str) -> Result<(), CaseError> {
+        let mut bytes = Vec::new(self.alloc);
+        self.made.write(rest, S::is_raw(name), &mut bytes)?;
+        let mut result = Vec::new(self.alloc);
+        write_result(
+            &mut self.subject,
+            self.alloc,
+            name,
+            Line {
+                rest,
+                bytes: &bytes,
+            },
+            &mut result,
+        )?;
+        self.last = Some(Returned {
+            line,
+            result,
+            expected: None,
+        });
+        Ok(())
+    }
+
+    // Takes one line of the expected result.
+    fn expect(&mut self, rest: &str) -> Result<(), CaseError> {
+        let line = bytes_of(self.alloc, rest)?;
+        let Some(last) = &mut self.last else {
+            return Err(CaseError::Line);
+        };
+        match &mut last.expected {
+            Some(lines) => {
+                lines.push(b'\n')?;
+                lines.extend_from_slice(&line)?;
+            }
+            None => last.expected = Some(line),
+        }
+        Ok(())
+    }
+
+    // Compares the last result, if there is one that wasn't compared.
+    fn settle(&mut self, report: &mut Report<'_>) -> Result<(), CaseError> {
+        let Some(last) = self.last.take() else {
+            return Ok(());
+        };
+        match &last.expected {
+            Some(expected) => report.compare(last.line, expected, &last.result)?,
+            None => report.reject(last.line, "the call has no expected result")?,
+        }
+        Ok(())
+    }
+}
+
+fn write_result<S: Subject>(
+    subject: &mut S,
+    alloc: Global,
+    name: &str,
+    line: Line<'_>,
+    out: &mut Vec<u8>,
+) -> Result<(), CaseError> {
+    match subject.call(name, line) {
+        Ok(value) => value.write(alloc, out)?,
+        Err(error) if error.stops() => return Err(error),
+        Err(error) => write_error(alloc, out, error)?,
+    }
+    Ok(())
+}

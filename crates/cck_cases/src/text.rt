@@ -1,0 +1,72 @@
+//! Bytes, words, numbers and times, as a vector file writes them.
+use crate::case_error::CaseError;
+use cck_util::{Timestamp, UtilError, ascii_unescape_default};
+use std::alloc::Global;
+use std::str::FromStr;
+
+/// The bytes that an escaped text stands for.
+pub fn bytes_of(alloc: Global, text: &str) -> Result<Vec<u8>, CaseError> {
+    match ascii_unescape_default(alloc, text.as_bytes()) {
+        Ok(bytes) => Ok(bytes),
+        Err(UtilError::Memory) => Err(CaseError::Util(UtilError::Memory)),
+        Err(_) => Err(CaseError::Line),
+    }
+}
+
+/// The words of a text, with spaces between them. `""` is the empty word.
+pub fn words_of(alloc: Global, text: &str) -> Result<Vec<Vec<u8>>, CaseError> {
+    let mut words = Vec::new(alloc);
+    for word in text.split_whitespace() {
+        let text = if word == "\"\"" { "" } else { word };
+        words.push(bytes_of(alloc, text)?)?;
+    }
+    Ok(words)
+}
+
+/// The variables of a text, each as `NAME=VALUE`, with spaces between them.
+pub fn variables_of(alloc: Global, text: &str) -> Result<Vec<(Vec<u8>, Vec<u8>)>, CaseError> {
+    let mut variables = Vec::new(alloc);
+    for word in text.split_whitespace() {
+        let (name, value) = word.split_once('=').ok_or(CaseError::Line)?;
+        let name = bytes_of(alloc, name)?;
+        variables.push((name, bytes_of(alloc, value)?))?;
+    }
+    Ok(variables)
+}
+
+/// The number that a text writes.
+pub fn number<T: FromStr>(text: &str) -> Result<T, CaseError>
+where
+    T::Err: Drop,
+{
+    match text.parse::<T>() {
+        Ok(number) => Ok(number),
+        Err(_) => Err(CaseError::Line),
+    }
+}
+
+/// The byte of two hexadecimal digits.
+pub fn byte_of(digits: &str) -> Result<u8, CaseError> {
+    match u8::from_str_radix(digits, 16) {
+        Ok(byte) => Ok(byte),
+        Err(_) => Err(CaseError::Line),
+    }
+}
+
+/// The time of so many nanoseconds since 1970.
+pub fn moment_of(text: &str) -> Result<Timestamp, CaseError> {
+    let nanoseconds = number::<i128>(text)?;
+    if Timestamp::fits_nanos(nanoseconds) {
+        Ok(Timestamp::from_nanos(nanoseconds))
+    } else {
+        Err(CaseError::Line)
+    }
+}
+
+/// The time of so many nanoseconds since 1970, or none for `-`.
+pub fn optional_moment_of(text: &str) -> Result<Option<Timestamp>, CaseError> {
+    if text == "-" {
+        return Ok(None);
+    }
+    Ok(Some(moment_of(text)?))
+}

@@ -1,0 +1,131 @@
+//! What calls return, and how a vector file writes it.
+use crate::case_error::CaseError;
+use cck_util::Timestamp;
+use std::alloc::{AllocError, Global};
+use std::borrow::CowSlice;
+use std::cmp::Ordering;
+
+/// What a call returns.
+#[derive(Drop)]
+pub enum Value<'a> {
+    /// These bytes.
+    Bytes(Vec<u8>),
+    /// These bytes of what the case was given.
+    Slice(&'a [u8]),
+    /// This text.
+    Text(String),
+    /// One of a few words.
+    Word(&'static str),
+    /// `true` or `false`.
+    Flag(bool),
+    /// A number.
+    Number(u64),
+    /// `none`, or `some` and a part of what was given.
+    Part(Option<&'a [u8]>),
+    /// `none`, or `some` and bytes.
+    Found(Option<Vec<u8>>),
+    /// `kept` where nothing was cut, or `cut` and what remains.
+    Cut(CowSlice<'a, u8>),
+    /// Numbers, with a space between them.
+    Numbers(Vec<usize>),
+    /// How two values are ordered.
+    Order(Ordering),
+    /// A time, or `-`.
+    Moment(Option<Timestamp>),
+}
+
+impl Value<'_> {
+    /// The value as a vector file writes it, before its escapes.
+    pub(crate) fn write(&self, alloc: Global, out: &mut Vec<u8>) -> Result<(), AllocError> {
+        match self {
+            Value::Bytes(bytes) => out.extend_from_slice(bytes),
+            Value::Slice(bytes) => out.extend_from_slice(bytes),
+            Value::Text(text) => out.extend_from_slice(text.as_bytes()),
+            Value::Word(word) => out.extend_from_slice(word.as_bytes()),
+            Value::Flag(true) => out.extend_from_slice(b"true"),
+            Value::Flag(false) => out.extend_from_slice(b"false"),
+            Value::Number(number) => write_number(alloc, out, *number),
+            Value::Part(part) => write_part(out, *part),
+            Value::Found(None) => write_part(out, None),
+            Value::Found(Some(bytes)) => write_part(out, Some(bytes)),
+            Value::Cut(kept) => write_cut(out, kept),
+            Value::Numbers(numbers) => write_numbers(alloc, out, numbers),
+            Value::Order(order) => out.extend_from_slice(order_word(*order).as_bytes()),
+            Value::Moment(moment) => write_moment(alloc, out, *moment),
+        }
+    }
+}
+
+fn write_number(alloc: Global, out: &mut Vec<u8>, number: u64) -> Result<(), AllocError> {
+    out.extend_from_slice(format!(in alloc; "{number}")?.as_bytes())
+}
+
+fn write_part(out: &mut Vec<u8>, part: Option<&[u8]>) -> Result<(), AllocError> {
+    let Some(part) = part else {
+        return out.extend_from_slice(b"none");
+    };
+    out.extend_from_slice(b"some ")?;
+    out.extend_from_slice(part)
+}
+
+/// Writes `kept` where nothing was cut, or `cut` and what remains.
+pub fn write_cut(out: &mut Vec<u8>, kept: &CowSlice<'_, u8>) -> Result<(), AllocError> {
+    match kept {
+        CowSlice::Borrowed(_) => out.extend_from_slice(b"kept"),
+        CowSlice::Owned(bytes) => {
+            out.extend_from_slice(b"cut ")?;
+            out.extend_from_slice(bytes)
+        }
+    }
+}
+
+/// Writes each number, with a space before it where `out` has bytes already.
+pub fn write_numbers(
+    alloc: Global,
+    out: &mut Vec<u8>,
+    numbers: &[usize],
+) -> Result<(), AllocError> {
+    for number in numbers {
+        if !out.is_empty() {
+            out.push(b' ')?;
+        }
+        out.extend_from_slice(format!(in alloc; "{number}")?.as_bytes())?;
+    }
+    Ok(())
+}
+
+fn order_word(order: Ordering) -> &'static str {
+    match order {
+        Ordering::Less => "Less",
+        Ordering::Equal => "Equal",
+        Ordering::Greater => "Greater",
+    }
+}
+
+/// Writes the seconds and the nanoseconds of a time, or `-`.
+pub fn write_moment(
+    alloc: Global,
+    out: &mut Vec<u8>,
+    moment: Option<Timestamp>,
+) -> Result<(), AllocError> {
+    let Some(moment) = moment else {
+        return out.extend_from_slice(b"-");
+    };
+    let (seconds, nanoseconds) = (moment.seconds(), moment.nanoseconds());
+    out.extend_from_slice(format!(in alloc; "{seconds}s+{nanoseconds}ns")?.as_bytes())
+}
+
+/// Writes an error that is a result: `error` and what `Debug` prints of it.
+pub(crate) fn write_error(
+    alloc: Global,
+    out: &mut Vec<u8>,
+    error: CaseError,
+) -> Result<(), AllocError> {
+    let text = match error {
+        CaseError::Util(error) => format!(in alloc; "error {error:?}")?,
+        CaseError::Entry(error) => format!(in alloc; "error {error:?}")?,
+        CaseError::File(error) => format!(in alloc; "error {error:?}")?,
+        CaseError::Language | CaseError::Line => format!(in alloc; "error UnknownLanguage")?,
+    };
+    out.extend_from_slice(text.as_bytes())
+}

@@ -1,0 +1,141 @@
+//! What lines give to calls on files: the files, the time of the call, the zone and the options.
+use crate::case_error::CaseError;
+use crate::table::find;
+use crate::text::{bytes_of, moment_of, number, optional_moment_of};
+use cck_time::PreprocessorCacheModeConfig;
+use cck_util::{FileKind, MapFiles, Node, Timestamp};
+use std::alloc::Global;
+
+#[derive(Clone, Copy)]
+enum Word {
+    File,
+    Folder,
+    Other,
+    Link,
+    Gone,
+    FailAt,
+    Moment,
+    Zone,
+    Option,
+}
+
+const WORDS: [(&str, Word); 9] = [
+    ("file", Word::File),
+    ("dir", Word::Folder),
+    ("other", Word::Other),
+    ("link", Word::Link),
+    ("gone", Word::Gone),
+    ("fail_at", Word::FailAt),
+    ("moment", Word::Moment),
+    ("zone", Word::Zone),
+    ("option", Word::Option),
+];
+
+/// What lines give to calls on files.
+#[derive(Drop)]
+pub struct World {
+    /// The allocator of all that is given.
+    pub alloc: Global,
+    /// `file PATH MODIFIED CHANGED TEXT`, `dir PATH`, `other PATH`, `link PATH TARGET`, `gone PATH`
+    /// and `fail_at N`: the files, which lie in memory. None at first. Times are nanoseconds since
+    /// 1970, or `-` for none; directories and others have none.
+    pub files: MapFiles,
+    /// `moment NANOSECONDS`: the time of the call. 100 seconds after the start of 1970 at first.
+    pub moment: Timestamp,
+    /// `zone SECONDS`: how far east of Greenwich local time is taken. 0 at first.
+    pub zone: i32,
+    /// `option NAME on` and `option NAME off`: the options. Those of
+    /// [`activated`](PreprocessorCacheModeConfig::activated) at first.
+    pub config: PreprocessorCacheModeConfig,
+}
+
+impl World {
+    /// Nothing is given.
+    pub fn new(alloc: Global) -> World {
+        World {
+            alloc,
+            files: MapFiles::new(alloc),
+            moment: Timestamp::new(100, 0),
+            zone: 0,
+            config: PreprocessorCacheModeConfig::activated(),
+        }
+    }
+
+    /// Forgets all that was given.
+    pub fn begin(&mut self) {
+        self.files = MapFiles::new(self.alloc);
+        self.moment = Timestamp::new(100, 0);
+        self.zone = 0;
+        self.config = PreprocessorCacheModeConfig::activated();
+    }
+
+    /// Takes what a line gives, and returns whether it knows the line's word.
+    pub fn give(&mut self, name: &str, rest: &str) -> Result<bool, CaseError> {
+        let Some(word) = find(&WORDS, name) else {
+            return Ok(false);
+        };
+        match word {
+            Word::File => self.put_file(rest)?,
+            Word::Folder => self.put(rest, FileKind::Folder)?,
+            Word::Other => self.put(rest, FileKind::Other)?,
+            Word::Link => self.link(rest)?,
+            Word::Gone => self.files.remove(&bytes_of(self.alloc, rest)?),
+            Word::FailAt => self.files.fail_at(number(rest)?),
+            Word::Moment => self.moment = moment_of(rest)?,
+            Word::Zone => self.zone = number(rest)?,
+            Word::Option => self.set_option(rest)?,
+        }
+        Ok(true)
+    }
+
+    fn put_file(&mut self, rest: &str) -> Result<(), CaseError> {
+        let (path, rest) = rest.split_once(' ').ok_or(CaseError::Line)?;
+        let (modified, rest) = rest.split_once(' ').ok_or(CaseError::Line)?;
+        let (changed, text) = rest.split_once(' ').unwrap_or((rest, ""));
+        let node = Node {
+            kind: FileKind::File,
+            contents: bytes_of(self.alloc, text)?,
+            modified: optional_moment_of(modified)?,
+            changed: optional_moment_of(changed)?,
+        };
+        self.files.put(&bytes_of(self.alloc, path)?, node)?;
+        Ok(())
+    }
+
+    fn put(&mut self, path: &str, kind: FileKind) -> Result<(), CaseError> {
+        let node = Node {
+            kind,
+            contents: Vec::new(self.alloc),
+            modified: None,
+            changed: None,
+        };
+        self.files.put(&bytes_of(self.alloc, path)?, node)?;
+        Ok(())
+    }
+
+    fn link(&mut self, rest: &str) -> Result<(), CaseError> {
+        let (path, target) = rest.split_once(' ').ok_or(CaseError::Line)?;
+        let path = bytes_of(self.alloc, path)?;
+        self.files.link(&path, &bytes_of(self.alloc, target)?)?;
+        Ok(())
+    }
+
+    fn set_option(&mut self, rest: &str) -> Result<(), CaseError> {
+        let (name, state) = rest.split_once(' ').ok_or(CaseError::Line)?;
+        let is_on = match state {
+            "on" => true,
+            "off" => false,
+            _ => return Err(CaseError::Line),
+        };
+        match name {
+            "use_preprocessor_cache_mode" => self.config.use_preprocessor_cache_mode = is_on,
+            "file_stat_matches" => self.config.file_stat_matches = is_on,
+            "use_ctime_for_stat" => self.config.use_ctime_for_stat = is_on,
+            "ignore_time_macros" => self.config.ignore_time_macros = is_on,
+            "skip_system_headers" => self.config.skip_system_headers = is_on,
+            "hash_working_directory" => self.config.hash_working_directory = is_on,
+            _ => return Err(CaseError::Line),
+        }
+        Ok(())
+    }
+}

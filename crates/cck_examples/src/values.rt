@@ -1,0 +1,141 @@
+//! Bytes, paths, texts, digests and keys of objects.
+ghost use Rattle.std.specs.Prelude.{⊤};
+
+use cck_digest::{Digest, FileError, Sha256State, Sink, UtilError, read_to_end};
+use cck_path::{
+    Component, Components, FileKind, Metadata, Timestamp, join_path, normalize_path, same_path,
+    write_length_prefixed,
+};
+use cck_strip::{strip_basedirs, strip_basedirs_from_arg};
+use cck_util::{HashKeyParams, Language};
+use std::alloc::AllocError;
+use std::io;
+use std::io::Write;
+
+const ABC: &str = "ab8761fbf810fcae141404edd5ea22320b30163a6971a7c94b01ff162f0051da";
+
+#[test]
+fn a_digest_of_two_pieces(rt: HostRuntime) -> Result<(), UtilError> {
+    let mut digest = Digest::<Sha256State>::new();
+    digest.update(b"ab");
+    digest.update(b"c");
+    assert_eq!(rt; digest.finish(rt.alloc())?.as_str(), ABC);
+    Ok(())
+}
+
+#[test]
+fn a_text_and_an_argument_without_base_directories(rt: HostRuntime) -> Result<(), UtilError> {
+    let alloc = rt.alloc();
+    let basedirs = vec![in alloc; b"/home/me/".to_vec(alloc)?]?;
+    let text = strip_basedirs(alloc, b"# 1 \"/home/me/main.c\"", &basedirs)?;
+    assert_eq!(rt; text.as_slice(), b"# 1 \"main.c\"".as_slice());
+    let argument = strip_basedirs_from_arg(alloc, b"-I/home/me/include", &basedirs)?;
+    assert_eq!(rt; argument.as_slice(), b"-Iinclude".as_slice());
+    Ok(())
+}
+
+#[test]
+fn a_path_seen_from_a_folder(rt: HostRuntime) -> Result<(), UtilError> {
+    let alloc = rt.alloc();
+    let path = join_path(alloc, b"/w/b", b"../h.h")?;
+    assert_eq!(rt; path.as_slice(), b"/w/b/../h.h".as_slice());
+    let normal = normalize_path(alloc, &path)?;
+    assert_eq!(rt; normal.as_slice(), b"/w/h.h".as_slice());
+    assert!(rt; same_path(&normal, b"/w/./h.h"));
+    Ok(())
+}
+
+// The key with plusplus is made of a copy, and the first parts stay as they are.
+#[test]
+fn a_key_of_copied_parts(rt: HostRuntime) -> Result<(), UtilError> {
+    let alloc = rt.alloc();
+    let arguments = vec![in alloc;
+        b"a".to_vec(alloc)?,
+        b"b".to_vec(alloc)?,
+        b"c".to_vec(alloc)?,
+    ]?;
+    let params = HashKeyParams::new("abcd", Language::C, &arguments, b"hello world");
+    let other = params.clone()?.with_plusplus(true);
+    assert_eq!(rt;
+        params.compute::<Sha256State>(alloc)?.as_str(),
+        "91b9a91cd88e3ab823de7b286a3506b5c6e6311b760752ce90b0ea613eafb820"
+    );
+    assert_eq!(rt;
+        other.compute::<Sha256State>(alloc)?.as_str(),
+        "62a180849d592a71eae467cc276b6001ea69e5acd430b63e6a4cabcb0f57ee2c"
+    );
+    Ok(())
+}
+
+#[test]
+fn values_are_copied_and_compared(rt: HostRuntime) {
+    let time = Timestamp::new(5, 7);
+    let metadata = Metadata {
+        kind: FileKind::File,
+        len: 3,
+        modified: Some(time),
+        changed: None,
+    };
+    let mut other = metadata;
+    assert!(rt; other == metadata);
+    other.changed = Some(time);
+    assert!(rt; other != metadata);
+    assert!(rt; time < Timestamp::new(5, 8) && time > Timestamp::new(4, 8));
+    assert!(rt; Component::RootDir < Component::CurDir && Component::CurDir < Component::ParentDir);
+    assert!(rt; Component::ParentDir < Component::Normal(b"") && Language::C != Language::Cxx);
+    let mut components = Components::new(b"a/b");
+    assert_eq!(rt; components.next(), Some(Component::Normal(b"a")));
+    assert_eq!(rt; components.next(), Some(Component::Normal(b"b")));
+    assert_eq!(rt; components.next(), None);
+}
+
+// Counts the pieces that it takes.
+#[derive(Drop)]
+struct Count {
+    pieces: u8,
+}
+
+impl Sink for Count {
+    ghost takes = { λ _ _ _. ⊤ };
+
+    fn take(&mut self, _: &[u8]) -> Result<(), AllocError> {
+        self.pieces = self.pieces.saturating_add(1);
+        Ok(())
+    }
+}
+
+#[test]
+fn a_sink_of_another_type(rt: HostRuntime) -> Result<(), UtilError> {
+    let mut count = Count { pieces: 0 };
+    read_to_end(rt.alloc(), &mut b"abc".as_slice(), &mut count)?;
+    assert_eq!(rt; count.pieces, 1);
+    Ok(())
+}
+
+// Takes each write, and fails where it is flushed.
+#[derive(Drop)]
+struct FailingFlush;
+
+impl Write for FailingFlush {
+    fn write(&mut self, bytes: &[u8]) -> io::Result<usize> {
+        Ok(bytes.len())
+    }
+
+    fn flush(&mut self) -> io::Result<()> {
+        Err(io::Error::from(io::ErrorKind::Other))
+    }
+}
+
+#[test]
+fn a_failed_flush(rt: HostRuntime) {
+    assert_eq!(rt;
+        write_length_prefixed(&mut FailingFlush, b"abc"),
+        Err(UtilError::Write)
+    );
+}
+
+#[test]
+fn want_of_memory(rt: HostRuntime) {
+    assert_eq!(rt; UtilError::from(AllocError), UtilError::Memory);
+    assert_eq!(rt; FileError::from(AllocError), FileError::Memory);
+}

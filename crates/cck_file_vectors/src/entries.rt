@@ -1,0 +1,205 @@
+//! Entries, their bytes, what is added to them, and the look-up.
+use crate::cases::Cases;
+use crate::shown::{write_counts, write_entry, write_includes};
+use cck_cases::{CaseError, FailingWriter, Line, Value, number, words_of};
+use cck_entry::{Error, PreprocessorCacheEntry, gather, includes_match};
+use cck_path_map::PathMap;
+use cck_util::{Digest, MapFiles, Sha256State, UtilError};
+
+#[derive(Clone, Copy)]
+pub(crate) enum EntryCall {
+    Read,
+    Prefixes,
+    Show,
+    Debug,
+    Written,
+    WrittenDigest,
+    WriteFailing,
+    Add,
+    AddEach,
+    Gather,
+    Matches,
+    LookUp,
+    LookUpAmong,
+}
+
+pub(crate) const CALLS: [(&str, EntryCall); 13] = [
+    ("read_entry", EntryCall::Read),
+    ("read_each_prefix", EntryCall::Prefixes),
+    ("entry", EntryCall::Show),
+    ("entry_debug", EntryCall::Debug),
+    ("entry_bytes", EntryCall::Written),
+    ("entry_bytes_digest", EntryCall::WrittenDigest),
+    ("write_entry", EntryCall::WriteFailing),
+    ("add", EntryCall::Add),
+    ("add_each", EntryCall::AddEach),
+    ("gather", EntryCall::Gather),
+    ("includes_match", EntryCall::Matches),
+    ("look_up", EntryCall::LookUp),
+    ("look_up_among", EntryCall::LookUpAmong),
+];
+
+pub(crate) fn call<'a>(
+    call: EntryCall,
+    cases: &'a mut Cases,
+    line: Line<'a>,
+) -> Result<Value<'a>, CaseError> {
+    match call {
+        EntryCall::Read => read(cases, line.bytes),
+        EntryCall::Prefixes => Ok(Value::Word(prefixes(cases, line.bytes))),
+        EntryCall::Show => show(cases),
+        EntryCall::Debug => debug(cases),
+        EntryCall::Written => Ok(Value::Bytes(written(cases)?)),
+        EntryCall::WrittenDigest => written_digest(cases),
+        EntryCall::WriteFailing => write_failing(cases),
+        EntryCall::Add => add(cases, line.rest),
+        EntryCall::AddEach => add_each(cases, number(line.rest)?),
+        EntryCall::Gather => gathered(cases),
+        EntryCall::Matches => matches(cases, line.rest),
+        EntryCall::LookUp => Ok(Value::Part(look_up(cases)?)),
+        EntryCall::LookUpAmong => look_up_among(cases, line.rest),
+    }
+}
+
+// Keeps the entry of these bytes, and shows it.
+fn read<'a>(cases: &'a mut Cases, bytes: &[u8]) -> Result<Value<'a>, CaseError> {
+    cases.entry = PreprocessorCacheEntry::read(cases.alloc, bytes)?;
+    show(cases)
+}
+
+// The counts, and a line for each result and each include. It is said where a copy of the entry is
+// another one.
+fn show<'a>(cases: &'a Cases) -> Result<Value<'a>, CaseError> {
+    let mut text = Vec::new(cases.alloc);
+    write_entry(cases.alloc, &mut text, &cases.entry)?;
+    if cases.entry.copy(cases.alloc)? != cases.entry {
+        text.extend_from_slice(b"\ncopied as another entry")?;
+    }
+    Ok(Value::Bytes(text))
+}
+
+// Whether each beginning that isn't empty is damaged.
+fn prefixes(cases: &Cases, bytes: &[u8]) -> &'static str {
+    for end in 1..bytes.len() {
+        if !matches!(
+            PreprocessorCacheEntry::read(cases.alloc, &bytes[..end]),
+            Err(Error::Deserialization)
+        ) {
+            return "not each is damaged";
+        }
+    }
+    "each is damaged"
+}
+
+fn debug<'a>(cases: &'a Cases) -> Result<Value<'a>, CaseError> {
+    let entry = &cases.entry;
+    Ok(Value::Text(format!(in cases.alloc; "{entry:?}")?))
+}
+
+fn written(cases: &Cases) -> Result<Vec<u8>, CaseError> {
+    let mut bytes: Vec<u8> = Vec::new(cases.alloc);
+    cases.entry.serialize_to(&mut bytes)?;
+    Ok(bytes)
+}
+
+fn written_digest<'a>(cases: &'a Cases) -> Result<Value<'a>, CaseError> {
+    let mut digest = Digest::<Sha256State>::new();
+    digest.update(&written(cases)?);
+    Ok(Value::Text(digest.finish(cases.alloc)?))
+}
+
+// Writes the entry to a writer that fails after `passing` writes.
+fn write_failing<'a>(cases: &'a Cases) -> Result<Value<'a>, CaseError> {
+    let mut writer = FailingWriter {
+        written: Vec::new(cases.alloc),
+        passing: cases.wanted.passing,
+        is_flushed: false,
+    };
+    cases.entry.serialize_to(&mut writer)?;
+    Ok(Value::Word("written"))
+}
+
+fn counts<'a>(cases: &'a Cases) -> Result<Value<'a>, CaseError> {
+    let mut text = Vec::new(cases.alloc);
+    write_counts(cases.alloc, &mut text, &cases.entry)?;
+    Ok(Value::Bytes(text))
+}
+
+// Adds a result of the files that `include` gave, under this key.
+fn add<'a>(cases: &'a mut Cases, key: &str) -> Result<Value<'a>, CaseError> {
+    cases.entry.add_result(
+        &mut cases.world.files,
+        cases.world.moment,
+        key,
+        &cases.wanted.included,
+    )?;
+    counts(cases)
+}
+
+// Adds so many of them, under the keys `0`, `1` and so on.
+fn add_each<'a>(cases: &'a mut Cases, count: u64) -> Result<Value<'a>, CaseError> {
+    for number in 0..count {
+        let key = format!(in cases.alloc; "{number}")?;
+        cases.entry.add_result(
+            &mut cases.world.files,
+            cases.world.moment,
+            &key,
+            &cases.wanted.included,
+        )?;
+    }
+    counts(cases)
+}
+
+// What is recorded of the files that `include` gave.
+fn gathered<'a>(cases: &'a mut Cases) -> Result<Value<'a>, CaseError> {
+    let includes = gather(
+        cases.alloc,
+        &mut cases.world.files,
+        cases.world.moment,
+        &cases.wanted.included,
+    )?;
+    let mut text = Vec::new(cases.alloc);
+    write_includes(cases.alloc, &mut text, &includes)?;
+    Ok(Value::Bytes(text))
+}
+
+// Whether the files of the result of this key still are what they were.
+fn matches<'a>(cases: &'a mut Cases, key: &str) -> Result<Value<'a>, CaseError> {
+    let mut known = PathMap::new(cases.alloc);
+    let includes = cases.entry.results().get(key).ok_or(CaseError::Line)?;
+    Ok(Value::Flag(includes_match::<Sha256State, MapFiles>(
+        cases.alloc,
+        &mut cases.world.files,
+        &mut known,
+        includes,
+        cases.world.moment,
+        &cases.wanted.zone,
+        &cases.given.variables,
+        cases.world.config,
+    )?))
+}
+
+// The key of the result that still stands.
+fn look_up<'a>(cases: &'a mut Cases) -> Result<Option<&'a [u8]>, CaseError> {
+    let found = cases.entry.lookup_result_digest::<Sha256State, MapFiles>(
+        cases.alloc,
+        &mut cases.world.files,
+        cases.world.moment,
+        &cases.wanted.zone,
+        &cases.given.variables,
+        cases.world.config,
+    )?;
+    match found {
+        Some(key) => Ok(Some(key.as_bytes())),
+        None => Ok(None),
+    }
+}
+
+// Whether it is one of these keys.
+fn look_up_among<'a>(cases: &'a mut Cases, keys: &str) -> Result<Value<'a>, CaseError> {
+    let keys = words_of(cases.alloc, keys)?;
+    let Some(found) = look_up(cases)? else {
+        return Ok(Value::Flag(false));
+    };
+    Ok(Value::Flag(keys.iter().any(|key| key.as_slice() == found)))
+}

@@ -1,0 +1,45 @@
+//! Preprocessor keys.
+use crate::cases::Cases;
+use crate::times::found_text;
+use cck_cases::{CaseError, Value};
+use cck_preprocessor_key::preprocessor_cache_entry_hash_key;
+use cck_util::{MapFiles, Sha256State};
+
+#[derive(Clone, Copy)]
+pub(crate) enum KeyCall {
+    Preprocessor,
+}
+
+pub(crate) const CALLS: [(&str, KeyCall); 1] = [("preprocessor_key", KeyCall::Preprocessor)];
+
+pub(crate) fn call<'a>(
+    call: KeyCall,
+    cases: &'a mut Cases,
+    path: &[u8],
+) -> Result<Value<'a>, CaseError> {
+    match call {
+        KeyCall::Preprocessor => key(cases, path),
+    }
+}
+
+fn key<'a>(cases: &'a mut Cases, input: &[u8]) -> Result<Value<'a>, CaseError> {
+    let (given, world) = (&cases.given, &mut cases.world);
+    let key = preprocessor_cache_entry_hash_key::<Sha256State, MapFiles>(
+        cases.alloc,
+        given.compiler(),
+        given.language,
+        &given.arguments,
+        &given.extra_hashes,
+        given.assembler(),
+        &given.variables,
+        input,
+        given.plusplus,
+        given.multiarch,
+        world.config,
+        &given.basedirs,
+        &mut world.files,
+        world.moment,
+        &cases.wanted.zone,
+    )?;
+    Ok(found_text(key))
+}

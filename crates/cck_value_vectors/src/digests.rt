@@ -1,0 +1,91 @@
+//! Digests of known bytes, and of what calls feed.
+use cck_cases::{CaseError, Given, Value};
+use cck_util::{
+    Digest, HASH_BUFFER_SIZE, HashState, Sha256State, hash_arguments, hash_assembler_digest,
+    hash_extra_hashes, hash_len_prefixed, hash_variables_named, hex,
+};
+use std::alloc::Global;
+
+#[derive(Clone, Copy)]
+pub(crate) enum DigestCall {
+    Hex,
+    BufferSize,
+    State,
+    Digest,
+    Pieces,
+    Delimiter,
+    LengthPrefixed,
+    Arguments,
+    ExtraHashes,
+    Assembler,
+    Variables,
+}
+
+pub(crate) const CALLS: [(&str, DigestCall); 11] = [
+    ("hex_digits", DigestCall::Hex),
+    ("hash_buffer_size", DigestCall::BufferSize),
+    ("state", DigestCall::State),
+    ("digest", DigestCall::Digest),
+    ("digest_of_pieces", DigestCall::Pieces),
+    ("delimiter", DigestCall::Delimiter),
+    ("hash_len_prefixed", DigestCall::LengthPrefixed),
+    ("hash_arguments", DigestCall::Arguments),
+    ("hash_extra_hashes", DigestCall::ExtraHashes),
+    ("hash_assembler_digest", DigestCall::Assembler),
+    ("hash_variables_named", DigestCall::Variables),
+];
+
+// Where a call feeds a digest, the digest was fed `base` before it.
+pub(crate) fn call<'a>(
+    call: DigestCall,
+    given: &'a Given,
+    pieces: &[Vec<u8>],
+    bytes: &[u8],
+) -> Result<Value<'a>, CaseError> {
+    let alloc = given.alloc;
+    let mut digest = Digest::<Sha256State>::new();
+    digest.update(&given.base);
+    match call {
+        DigestCall::Hex => return Ok(Value::Text(hex(alloc, bytes)?)),
+        DigestCall::BufferSize => return Ok(Value::Number(HASH_BUFFER_SIZE as u64)),
+        DigestCall::State => return state(alloc, pieces),
+        DigestCall::Digest => digest.update(bytes),
+        DigestCall::Pieces => update_each(&mut digest, pieces),
+        DigestCall::Delimiter => digest.delimiter(bytes),
+        DigestCall::LengthPrefixed => hash_len_prefixed(&mut digest, bytes),
+        DigestCall::Arguments => feed_arguments(given, &mut digest)?,
+        DigestCall::ExtraHashes => hash_extra_hashes(&mut digest, &given.extra_hashes),
+        DigestCall::Assembler => hash_assembler_digest(&mut digest, given.assembler()),
+        DigestCall::Variables => feed_variables(given, &mut digest)?,
+    }
+    Ok(Value::Text(digest.finish(alloc)?))
+}
+
+fn update_each(digest: &mut Digest<Sha256State>, pieces: &[Vec<u8>]) {
+    for piece in pieces {
+        digest.update(piece);
+    }
+}
+
+fn state<'a>(alloc: Global, pieces: &[Vec<u8>]) -> Result<Value<'a>, CaseError> {
+    let mut state = Sha256State::start();
+    for piece in pieces {
+        state.feed(piece);
+    }
+    Ok(Value::Text(hex(alloc, &state.out())?))
+}
+
+fn feed_arguments(given: &Given, digest: &mut Digest<Sha256State>) -> Result<(), CaseError> {
+    hash_arguments(given.alloc, digest, &given.arguments, &given.basedirs)?;
+    Ok(())
+}
+
+// The variables whose names are the arguments.
+fn feed_variables(given: &Given, digest: &mut Digest<Sha256State>) -> Result<(), CaseError> {
+    let mut names: Vec<&[u8]> = Vec::new(given.alloc);
+    for name in &given.arguments {
+        names.push(name)?;
+    }
+    hash_variables_named(digest, &given.variables, &names);
+    Ok(())
+}

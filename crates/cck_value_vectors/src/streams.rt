@@ -1,0 +1,74 @@
+//! What lines say of a reader and a writer.
+use cck_cases::{CaseError, FailingReader, FailingWriter, number};
+use std::alloc::Global;
+use std::io;
+
+/// What a reader and a writer do.
+#[derive(Clone, Copy)]
+pub(crate) struct Streams {
+    step: usize,
+    passing_reads: u64,
+    kind: io::ErrorKind,
+    passing_writes: u64,
+}
+
+fn kind_of(name: &str) -> Result<io::ErrorKind, CaseError> {
+    match name {
+        "interrupted" => Ok(io::ErrorKind::Interrupted),
+        "other" => Ok(io::ErrorKind::Other),
+        _ => Err(CaseError::Line),
+    }
+}
+
+impl Streams {
+    /// Nothing fails, and a reader gives as much as it is asked for.
+    pub(crate) fn new() -> Streams {
+        Streams {
+            step: usize::MAX,
+            passing_reads: u64::MAX,
+            kind: io::ErrorKind::Other,
+            passing_writes: u64::MAX,
+        }
+    }
+
+    /// Takes what a line gives, and returns whether it knows the line's word.
+    pub(crate) fn give(&mut self, word: &str, rest: &str) -> Result<bool, CaseError> {
+        match word {
+            "reader" => self.set_reader(rest)?,
+            "writer" => self.passing_writes = number(rest)?,
+            _ => return Ok(false),
+        }
+        Ok(true)
+    }
+
+    fn set_reader(&mut self, rest: &str) -> Result<(), CaseError> {
+        let (step, rest) = rest.split_once(' ').ok_or(CaseError::Line)?;
+        let (passing, kind) = rest.split_once(' ').ok_or(CaseError::Line)?;
+        self.step = number(step)?;
+        self.passing_reads = number(passing)?;
+        self.kind = kind_of(kind)?;
+        Ok(())
+    }
+
+    /// A reader of these bytes.
+    pub(crate) fn reader<'a>(&self, bytes: &'a [u8]) -> FailingReader<'a> {
+        FailingReader {
+            bytes,
+            step: self.step,
+            passing: self.passing_reads,
+            kind: self.kind,
+        }
+    }
+
+    /// A writer to which nothing was written, with room for so many bytes: it needs no memory for
+    /// these, so that it fails for no want of memory.
+    pub(crate) fn writer(&self, alloc: Global, room: usize) -> Result<FailingWriter, CaseError> {
+        let mut written = Vec::new(alloc);
+        written.reserve(room)?;
+        Ok(FailingWriter {
+            written,
+            passing: self.passing_writes,
+            is_flushed: false,
+        })
+    }
+}

@@ -1,0 +1,167 @@
+//! Compilers with their executables, and parsed command lines.
+use crate::fixed_compiler::FixedCompiler;
+use crate::request::Request;
+use crate::shown::{error_value, held, write_arguments, write_word, write_words};
+use c_cache_keys::{CCompiler, CCompilerHasher, CCompilerImpl, CompilerArguments, ParsedArguments};
+use cck_cases::{CaseError, Given, Value};
+use cck_util::{MapFiles, Sha256State};
+use std::alloc::Global;
+
+#[derive(Clone, Copy)]
+pub(crate) enum CompilerCall {
+    New,
+    Parse,
+    ParsedFiles,
+    ParsedShown,
+    Copy,
+    Told,
+    Archs,
+    IsMultiarch,
+    OutputPretty,
+}
+
+pub(crate) const CALLS: [(&str, CompilerCall); 9] = [
+    ("new_compiler", CompilerCall::New),
+    ("parse", CompilerCall::Parse),
+    ("parsed_files", CompilerCall::ParsedFiles),
+    ("parsed_shown", CompilerCall::ParsedShown),
+    ("copy", CompilerCall::Copy),
+    ("language_color_output", CompilerCall::Told),
+    ("archs", CompilerCall::Archs),
+    ("is_multiarch", CompilerCall::IsMultiarch),
+    ("output_pretty", CompilerCall::OutputPretty),
+];
+
+pub(crate) fn call<'a>(
+    call: CompilerCall,
+    request: &mut Request,
+    given: &Given,
+    files: &mut MapFiles,
+) -> Result<Value<'a>, CaseError> {
+    let alloc = request.alloc;
+    let args = &request.hasher.parsed_args;
+    match call {
+        CompilerCall::New => new_compiler(request, files),
+        CompilerCall::Parse => parse(request, given, files, false),
+        CompilerCall::ParsedFiles => parse(request, given, files, true),
+        CompilerCall::ParsedShown => parsed_shown(request, given),
+        CompilerCall::Copy => copy(request),
+        CompilerCall::Told => told(request),
+        CompilerCall::Archs => archs(alloc, args),
+        CompilerCall::IsMultiarch => Ok(Value::Flag(args.is_multiarch())),
+        CompilerCall::OutputPretty => Ok(Value::Text(held(args.output_pretty(alloc))?)),
+    }
+}
+
+// The family of the compiler and the digest text of its executable.
+fn new_compiler<'a>(request: &Request, files: &mut MapFiles) -> Result<Value<'a>, CaseError> {
+    let alloc = request.alloc;
+    let compiler = held(request.hasher.compiler.copy(alloc))?;
+    let executable = request.hasher.executable.to_vec(alloc)?;
+    let made = CCompiler::new::<Sha256State, MapFiles>(alloc, compiler, executable, files)?;
+    let copy = held(made.copy(alloc))?;
+    let (kind, digest) = (copy.kind(), copy.executable_digest.as_str());
+    Ok(Value::Text(format!(in alloc; "{kind:?} {digest}")?))
+}
+
+// The compiler that parses each command line into the arguments that are given.
+fn compiler_of(request: &mut Request) -> Result<CCompiler<FixedCompiler>, CaseError> {
+    let alloc = request.alloc;
+    request.hasher.compiler.parsed = held(request.hasher.parsed_args.copy(alloc))?;
+    let executable = request.hasher.executable.to_vec(alloc)?;
+    let digest = request.hasher.executable_digest.as_str();
+    let executable_digest = String::from_str(alloc, digest)?;
+    Ok(CCompiler {
+        compiler: held(request.hasher.compiler.copy(alloc))?,
+        executable,
+        executable_digest,
+    })
+}
+
+// What the command line comes to: all that it says, or the further files alone.
+fn parse<'a>(
+    request: &mut Request,
+    given: &Given,
+    files: &mut MapFiles,
+    files_alone: bool,
+) -> Result<Value<'a>, CaseError> {
+    let alloc = request.alloc;
+    let compiler = compiler_of(request)?;
+    let parsed = compiler.parse_arguments::<MapFiles>(
+        alloc,
+        files,
+        &given.arguments,
+        &request.cwd,
+        &given.variables,
+    );
+    match parsed {
+        Ok(CompilerArguments::Ok(hasher)) => parsed_value(alloc, &hasher, files_alone),
+        Ok(CompilerArguments::CannotCache(reason, detail)) => {
+            Ok(Value::Text(format!(in alloc; "cannot cache {reason} {detail:?}")?))
+        }
+        Ok(CompilerArguments::NotCompilation) => Ok(Value::Word("no compilation")),
+        Err(error) => error_value(alloc, error),
+    }
+}
+
+fn parsed_value<'a>(
+    alloc: Global,
+    hasher: &CCompilerHasher<FixedCompiler>,
+    files_alone: bool,
+) -> Result<Value<'a>, CaseError> {
+    let mut out = Vec::new(alloc);
+    if files_alone {
+        out.extend_from_slice(b"files")?;
+        write_words(&mut out, &hasher.parsed_args.extra_hash_files)?;
+    } else {
+        write_hasher(alloc, &mut out, hasher)?;
+    }
+    Ok(Value::Bytes(out))
+}
+
+fn write_hasher(
+    alloc: Global,
+    out: &mut Vec<u8>,
+    hasher: &CCompilerHasher<FixedCompiler>,
+) -> Result<(), CaseError> {
+    out.extend_from_slice(b"compilation ")?;
+    out.extend_from_slice(&hasher.executable)?;
+    out.push(b' ')?;
+    out.extend_from_slice(hasher.executable_digest.as_bytes())?;
+    write_arguments(alloc, out, &hasher.parsed_args)
+}
+
+// What the compiler itself says of the command line, as `Debug` prints it.
+fn parsed_shown<'a>(request: &mut Request, given: &Given) -> Result<Value<'a>, CaseError> {
+    let alloc = request.alloc;
+    let compiler = compiler_of(request)?;
+    let parsed = compiler
+        .compiler
+        .parse_arguments(alloc, &given.arguments, &request.cwd, &given.variables);
+    let parsed = held(parsed)?;
+    Ok(Value::Text(format!(in alloc; "{parsed:?}")?))
+}
+
+// All that a copy of the compilation says.
+fn copy<'a>(request: &Request) -> Result<Value<'a>, CaseError> {
+    let copy = held(request.hasher.copy(request.alloc))?;
+    parsed_value(request.alloc, &copy, false)
+}
+
+// The language, the color mode and the name of the output of the compilation.
+fn told<'a>(request: &Request) -> Result<Value<'a>, CaseError> {
+    let alloc = request.alloc;
+    let name = held(request.hasher.output_pretty(alloc))?;
+    let (language, color) = (request.hasher.language(), request.hasher.color_mode());
+    Ok(Value::Text(format!(in alloc; "{language:?} {color:?} {name}")?))
+}
+
+fn archs<'a>(alloc: Global, args: &ParsedArguments) -> Result<Value<'a>, CaseError> {
+    let mut out = Vec::new(alloc);
+    out.extend_from_slice(b"archs")?;
+    for arch in held(args.archs(alloc))? {
+        out.push(b' ')?;
+        write_word(&mut out, arch)?;
+    }
+    Ok(Value::Bytes(out))
+}

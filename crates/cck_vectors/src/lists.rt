@@ -1,0 +1,87 @@
+//! Lists of calls for keys.
+use crate::fixed_compiler::{FixedCompiler, PREPROCESSED};
+use crate::keys::zone_of;
+use crate::noting_files::NotingFiles;
+use crate::request::Request;
+use crate::shown::{held, write_result};
+use c_cache_keys::{Call, HashResult, KeyError, PreprocessorStore, run_calls};
+use cck_cases::{CaseError, Given, Value, World};
+use cck_util::Sha256State;
+use std::alloc::Global;
+
+/// A call for a key.
+pub(crate) type KeyRequest = Call<FixedCompiler, NotingFiles>;
+
+/// The call for the key of the compilation that is given, over a copy of the files.
+pub(crate) fn call_of(
+    request: &Request,
+    given: &Given,
+    world: &World,
+) -> Result<KeyRequest, CaseError> {
+    let alloc = request.alloc;
+    Ok(Call {
+        hasher: held(request.hasher.copy(alloc))?,
+        files: noting(alloc, world)?,
+        cwd: request.cwd.to_vec(alloc)?,
+        vars: copies_of(alloc, &given.variables)?,
+        moment: world.moment,
+        control: request.control,
+    })
+}
+
+fn noting(alloc: Global, world: &World) -> Result<NotingFiles, CaseError> {
+    Ok(NotingFiles {
+        files: world.files.copy(alloc)?,
+        path: PREPROCESSED.to_vec(alloc)?,
+        count: 0,
+    })
+}
+
+fn copies_of(
+    alloc: Global,
+    variables: &[(Vec<u8>, Vec<u8>)],
+) -> Result<Vec<(Vec<u8>, Vec<u8>)>, CaseError> {
+    let mut copies = Vec::new(alloc);
+    for (name, value) in variables {
+        let name = name.to_vec(alloc)?;
+        copies.push((name, value.to_vec(alloc)?))?;
+    }
+    Ok(copies)
+}
+
+/// Makes the calls, and returns a line for each: its result, and how often it preprocessed.
+pub(crate) fn run<'a, S: PreprocessorStore>(
+    given: &Given,
+    world: &World,
+    store: &mut S,
+    calls: &mut [KeyRequest],
+) -> Result<Value<'a>, CaseError> {
+    let alloc = given.alloc;
+    let zone = zone_of(world)?;
+    let results = run_calls::<Sha256State, FixedCompiler, NotingFiles, S>(
+        alloc,
+        store,
+        &zone,
+        world.config,
+        &given.basedirs,
+        calls,
+    )?;
+    results_value(alloc, &results, calls)
+}
+
+fn results_value<'a>(
+    alloc: Global,
+    results: &[Result<HashResult, KeyError>],
+    calls: &[KeyRequest],
+) -> Result<Value<'a>, CaseError> {
+    let count = results.len();
+    let mut out = Vec::new(alloc);
+    out.extend_from_slice(format!(in alloc; "{count} results")?.as_bytes())?;
+    for (result, call) in results.iter().zip(calls) {
+        out.push(b'\n')?;
+        write_result(alloc, &mut out, result)?;
+        let times = call.files.count;
+        out.extend_from_slice(format!(in alloc; ", preprocessed {times}")?.as_bytes())?;
+    }
+    Ok(Value::Bytes(out))
+}

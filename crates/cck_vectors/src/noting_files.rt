@@ -1,0 +1,107 @@
+//! Files in memory that count the calls on one path.
+ghost use Rattle.std.specs.Prelude.{◌≡◌, ◌⊎◌, false, true, map, IsOkAnd, MatchBool, MatchResult, Ok, vec_items};
+ghost use Rattle.cck_path.specs.Path.{components};
+ghost use Rattle.cck_files.specs.Calls.{IsRead, IsRefusal, IsRefusalOrMemory, Keeps, Rose};
+ghost use Rattle.cck_files.specs.FileMap.{IsListing, canonical_at, contents_at, folder_at, metadata_at, stands_at};
+ghost use Rattle.cck_vectors.specs.NotingFiles.{IsNoted, faults_of, is_quiet, map_of};
+
+use cck_digest::FileError;
+use cck_files::{Files, MapFiles};
+use cck_path::{Metadata, same_path};
+use std::alloc::Global;
+
+/// Files in memory that count the calls on one path. Each call is made on the files that they hold.
+///
+/// A call counts where its path has the same components. The count is a `u64` and stays at
+/// `u64::MAX`.
+#[derive(Drop)]
+pub(crate) struct NotingFiles {
+    /// The files.
+    pub(crate) files: MapFiles,
+    /// The path that calls are counted on.
+    pub(crate) path: Vec<u8>,
+    /// How many there were.
+    pub(crate) count: u64,
+}
+
+impl NotingFiles {
+    // Counts a call on a path, where it is the one that is counted on.
+    fn note(&mut self, path: &[u8])
+        ensures same_files { self.new.files ≡ self.old.files }
+        ensures noted { IsNoted self.old path.now self.new }
+    {
+        if same_path(&self.path, path) {
+            self.count = self.count.saturating_add(1);
+        }
+    }
+}
+
+impl Files for NotingFiles {
+    ghost use Rattle.std.proofs.Common.{arith};
+
+    ghost file_map = { map_of };
+
+    ghost faults = { faults_of };
+
+    ghost is_quiet = { is_quiet };
+
+    fn metadata(&mut self, path: &[u8]) -> Result<Metadata, FileError>
+        ensures keeps { Keeps map_of faults_of is_quiet self.old self.new }
+        ensures answer { let found = metadata_at (map_of self.old) (components path.now) in
+            MatchResult result (λ metadata. found ≡ Ok metadata)
+            (IsRefusal found (Rose (faults_of self.old) (faults_of self.new))) }
+        ensures noted { IsNoted self.old path.now self.new }
+    {
+        self.note(path);
+        self.files.metadata(path)
+    }
+
+    fn read_at(&mut self, path: &[u8], offset: u64, buffer: &mut [u8]) -> Result<usize, FileError>
+        ensures keeps { Keeps map_of faults_of is_quiet self.old self.new }
+        ensures answer { let found = contents_at (map_of self.old) (components path.now) in
+            MatchResult result (λ n. IsOkAnd found (λ contents. IsRead contents offset n buffer.new))
+            (IsRefusal found (Rose (faults_of self.old) (faults_of self.new))) }
+        ensures noted { IsNoted self.old path.now self.new }
+    {
+        self.note(path);
+        self.files.read_at(path, offset, buffer)
+    }
+
+    fn read_dir(&mut self, alloc: Global, path: &[u8]) -> Result<Vec<Vec<u8>>, FileError>
+        ensures keeps { Keeps map_of faults_of is_quiet self.old self.new }
+        ensures answer { MatchResult result
+            (λ names. IsListing (map_of self.old) (components path.now) (map vec_items names.items))
+            (IsRefusalOrMemory (folder_at (map_of self.old) (components path.now))
+            (Rose (faults_of self.old) (faults_of self.new))) }
+        ensures noted { IsNoted self.old path.now self.new }
+    {
+        self.note(path);
+        self.files.read_dir(alloc, path)
+    }
+
+    fn exists(&mut self, path: &[u8]) -> bool
+        ensures keeps { Keeps map_of faults_of is_quiet self.old self.new }
+        ensures answer { let stands = stands_at (map_of self.old) (components path.now) in
+            MatchBool result (stands ≡ true)
+            ((stands ≡ false) ⊎ Rose (faults_of self.old) (faults_of self.new)) }
+        ensures noted { IsNoted self.old path.now self.new }
+    {
+        self.note(path);
+        self.files.exists(path)
+    }
+
+    fn canonical(&mut self, alloc: Global, path: &[u8]) -> Result<Vec<u8>, FileError>
+        ensures keeps { Keeps map_of faults_of is_quiet self.old self.new }
+        ensures answer { let found = canonical_at (map_of self.old) (components path.now) in
+            MatchResult result (λ path. found ≡ Ok (components path.items))
+            (IsRefusalOrMemory found (Rose (faults_of self.old) (faults_of self.new))) }
+        ensures noted { IsNoted self.old path.now self.new }
+    {
+        self.note(path);
+        self.files.canonical(alloc, path)
+    }
+
+    ghost faults_fit = { λ files. Prim.omega arith };
+
+    ghost quiet_is_low = { λ files quiet. quiet.1 };
+}
