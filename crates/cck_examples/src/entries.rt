@@ -65,10 +65,11 @@ fn includes_compared(rt: HostRuntime) -> Result<(), Fail> {
     let included = vec![in alloc; (digest, b"/w/h.h".to_vec(alloc)?)]?;
     let includes = gather(alloc, &mut files, Timestamp::new(1, 0), &included)?;
     assert!(rt; still_match(alloc, &mut files, &includes)?);
-    let mut copy = includes[0].copy(alloc)?;
-    assert_eq!(rt; copy, includes[0]);
+    let include = includes.first().ok_or("an include")?;
+    let mut copy = include.copy(alloc)?;
+    assert!(rt; copy == *include);
     copy.ctime = Some(Timestamp::new(0, 1));
-    assert!(rt; copy != includes[0]);
+    assert!(rt; copy != *include);
     let mut others = files_of(alloc, &[(b"/w/h.h", b"int z;")])?;
     assert!(rt; !still_match(alloc, &mut others, &includes)?);
     Ok(())

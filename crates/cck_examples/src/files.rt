@@ -7,6 +7,7 @@ use cck_util::{
     UtilError, same_path,
 };
 use std::alloc::Global;
+use std::test::Fail;
 
 // A node of these contents, without times.
 fn node(alloc: Global, kind: FileKind, contents: &[u8]) -> Result<Node, UtilError> {
@@ -28,12 +29,13 @@ pub(crate) fn files_of(alloc: Global, files: &[(&[u8], &[u8])]) -> Result<MapFil
 }
 
 #[test]
-fn a_map_of_paths(rt: HostRuntime) -> Result<(), UtilError> {
+fn a_map_of_paths(rt: HostRuntime) -> Result<(), Fail> {
     let mut map: PathMap<u32> = PathMap::new(rt.alloc());
     map.insert(b"/a-b", 2)?;
     map.insert(b"/a/x", 1)?;
     assert_eq!(rt; map.get(b"//a/./x/").copied(), Some(1));
-    assert_eq!(rt; map.entries()[0].path.as_slice(), b"/a/x".as_slice());
+    let first = map.entries().first().ok_or("an entry")?;
+    assert_eq!(rt; first.path.as_slice(), b"/a/x".as_slice());
     assert_eq!(rt; map.remove(b"/a-b/"), Some(2));
     assert_eq!(rt; map.len(), 1);
     Ok(())
