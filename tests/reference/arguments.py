@@ -16,7 +16,7 @@ class Output:
     """`Output`: a file that a command line writes."""
 
     path: bytes
-    optional: bool = False
+    optional: bool
 
 
 @dataclasses.dataclass
@@ -67,7 +67,7 @@ def output_name(arguments):
 
 
 def named_files(variables):
-    """What stands between the colons of each variable `SCCACHE_EXTRAFILES`."""
+    """What is between the colons of each variable `SCCACHE_EXTRAFILES`."""
     files = []
     for name, value in variables:
         if name == b"SCCACHE_EXTRAFILES":
@@ -134,6 +134,6 @@ def extra_files(arguments, files, variables):
 
 
 def with_extra_files(arguments, files, variables):
-    """`with_extra_files`: the arguments with further files behind those that they have."""
+    """`with_extra_files`: the arguments with further files after those that they have."""
     further = arguments.extra_hash_files + extra_files(arguments, files, variables)
     return dataclasses.replace(arguments, extra_hash_files=further)

@@ -45,9 +45,9 @@ class Hasher:
 class Conditions:
     """What calls are made under: the zone, the options and the base directories."""
 
-    zone: int = 0
-    config: Config = dataclasses.field(default_factory=activated)
-    basedirs: list = dataclasses.field(default_factory=list)
+    zone: int
+    config: Config
+    basedirs: list
 
 
 @dataclasses.dataclass
@@ -64,7 +64,7 @@ class Call:
 
 @dataclasses.dataclass
 class Answer:
-    """`Answer`: a key, whether it was made afresh, and the key of the toolchain."""
+    """`Answer`: a key, whether it was computed, and the key of the toolchain."""
 
     key: bytes
     is_fresh: bool

@@ -67,7 +67,7 @@ def byte_of(digits):
 
 
 def cut_words(rest, count):
-    """So many words of a line's rest, and the text behind them, none of it undone."""
+    """`count` words of a line's rest, and the text after them, none of it undone."""
     parts = rest.split(" ", count)
     if len(parts) < count:
         raise WrongLine
@@ -150,7 +150,7 @@ class Made:
         self.made = b""
 
     def text(self, rest):
-        """The bytes of a call: those that were made, and behind them those of the line's rest."""
+        """The bytes of a call: those that were made, and after them those of the line's rest."""
         return self.made + undo(rest)
 
     def give(self, word, rest):
@@ -165,7 +165,7 @@ class Made:
         self.made += b"".join(byte_of(digits) for digits in rest.split(" ") if digits)
 
     def repeat(self, rest):
-        """`repeat N TEXT`: the text so many times more."""
+        """`repeat N TEXT`: the text N times more."""
         count, text = cut_words(rest, 1)
         self.made += number_of(count) * undo(text)
 
@@ -178,7 +178,7 @@ class Made:
         self.made = self.made[:at] + byte_of(digits) + self.made[at + 1 :]
 
     def cut(self, rest):
-        """`cut N`: so many bytes at most."""
+        """`cut N`: N bytes at most."""
         self.made = self.made[: number_of(rest)]
 
     def save(self, rest):
@@ -191,7 +191,7 @@ class Made:
         self.append(rest)
 
     def append(self, rest):
-        """`append NAME`: the bytes that were kept under this name, behind those that were made."""
+        """`append NAME`: the bytes that were kept under this name, after those that were made."""
         if rest not in self.saved:
             raise WrongLine
         self.made += self.saved[rest]

@@ -293,7 +293,7 @@ def places_of(parent, function="module"):
 
 
 def function_of(node, function):
-    """The name of the function or class that a node is, or that of the one it stands in."""
+    """The name of the function or class that a node is, or that of the one it is in."""
     if not isinstance(node, (ast.FunctionDef, ast.ClassDef)):
         return function
     return node.name if function == "module" else f"{function}.{node.name}"
@@ -340,7 +340,7 @@ def changed_tree(change):
 
 
 def all_changes(modules):
-    """The changes of several modules. Those of one name are told apart by a number behind it."""
+    """The changes of several modules. Those of one name are told apart by a number after it."""
     changes, seen = [], {}
     for module in modules:
         for change in changes_of(module):

@@ -78,7 +78,7 @@ def count_answers(counts, printed):
 
 
 def compare_scripts(program, count, seed):
-    """Compares so many scripts; returns how many differ, and what was answered how often."""
+    """Compares `count` scripts; returns how many differ, and what was answered how often."""
     different, counts = 0, collections.Counter()
     for number in range(count):
         script = ScriptMaker(random.Random(f"{seed} {number}")).script()
@@ -91,7 +91,7 @@ def compare_scripts(program, count, seed):
 
 
 def compare_keys(program, count, seed):
-    """Compares so many calls for a key; returns how many differ."""
+    """Compares `count` calls for a key; returns how many differ."""
     different = 0
     for number in range(count):
         words, text = key_words(random.Random(f"{seed} key {number}"))

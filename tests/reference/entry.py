@@ -79,11 +79,11 @@ class Reader:
         return int.from_bytes(self.take(8), "little")
 
     def text(self):
-        """Bytes behind their length."""
+        """Bytes after their length."""
         return self.take(self.number())
 
     def utf8(self):
-        """Bytes behind their length, damaged where they are no UTF-8."""
+        """Bytes after their length, damaged where they are no UTF-8."""
         text = self.text()
         if not is_utf8(text):
             raise Refused("Deserialization")
@@ -107,7 +107,7 @@ class Reader:
         return Include(self.text(), self.utf8(), self.number(), self.time(), self.time())
 
     def includes(self):
-        """Includes behind their count."""
+        """Includes after their count."""
         includes = []
         for _ in range(self.number()):
             includes.append(self.include())
@@ -195,7 +195,7 @@ def is_digest(files, include, setting):
 
 
 def matches(files, include, setting):
-    """`matches`: what stands at the path is the file that was included. What can't be read isn't."""
+    """`matches`: what is at the path is the file that was included. What can't be read isn't."""
     try:
         metadata = files.metadata(include.path)
         if metadata.kind != FILE or metadata.length != include.size:

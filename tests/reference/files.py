@@ -1,4 +1,4 @@
-"""Files: a map from paths to what stands there, the calls on it, and the digests of what stands there.
+"""Files: a map from paths to what is there, the calls on it, and the digests of what is there.
 
 Paths are equal by components. Links are followed in the map: a linked path has what its target had.
 A call can be armed, so that it is a fault.
@@ -14,7 +14,6 @@ FILE = "File"
 FOLDER = "Folder"
 OTHER = "Other"
 GREATEST_LEVEL = 100
-GREATEST_COUNT = 2**64 - 1
 BUFFER_SIZE = 131072
 
 
@@ -30,7 +29,7 @@ class Node:
 
 @dataclasses.dataclass
 class Metadata:
-    """The kind of what stands at a path, its length (0 for what is no regular file) and its times."""
+    """The kind of what is at a path, its length (0 for what is no regular file) and its times."""
 
     kind: str
     length: int
@@ -39,17 +38,15 @@ class Metadata:
 
 
 class MapFiles:
-    """`FileState`: a `FileMap`, the count of faults, and which call is armed."""
+    """`FileState`: a `FileMap`, and which call is armed."""
 
     def __init__(self):
         self.nodes = {}
         self.canonical_paths = {}
-        self.faults = 0
         self.armed = 0
-        self.calls = 0
 
     def put(self, path, node):
-        """`with_place`: the node stands at the path, whose canonical path is its normalised path."""
+        """`with_place`: the node is at the path, whose canonical path is its normalised path."""
         self.nodes[components(path)] = node
         self.canonical_paths[components(path)] = normalize_path(path)
 
@@ -63,7 +60,7 @@ class MapFiles:
             self.canonical_paths[components(path)] = canonical
 
     def remove(self, path):
-        """`without_place`: nothing stands at this path; what is below it stays."""
+        """`without_place`: nothing is at this path; what is below it stays."""
         self.nodes.pop(components(path), None)
         self.canonical_paths.pop(components(path), None)
 
@@ -76,20 +73,14 @@ class MapFiles:
         other = MapFiles()
         other.nodes = dict(self.nodes)
         other.canonical_paths = dict(self.canonical_paths)
-        other.faults = self.faults
         other.armed = self.armed
         return other
 
     def call(self):
         """`IsAfterCall`: counts one call, and whether it is the armed one."""
-        self.calls += 1
-        if self.armed == 0:
-            return False
-        self.armed -= 1
-        if self.armed > 0:
-            return False
-        self.faults = min(self.faults + 1, GREATEST_COUNT)
-        return True
+        is_armed = self.armed == 1
+        self.armed = max(self.armed - 1, 0)
+        return is_armed
 
     def call_or_fault(self):
         """Counts one call; an error where it is the armed one."""
@@ -97,7 +88,7 @@ class MapFiles:
             raise Refused("Fault")
 
     def node_at(self, path):
-        """What stands at a path; an error where nothing does."""
+        """What is at a path; an error where nothing is."""
         node = self.nodes.get(components(path))
         if node is None:
             raise Refused("NotFound")
@@ -128,11 +119,11 @@ class MapFiles:
         return [child[-1][1] for child in children]
 
     def exists(self, path):
-        """`stands_at`, as one call on files: whether something stands there; false at a fault."""
+        """`stands_at`, as one call on files: whether something is there; false at a fault."""
         return not self.call() and components(path) in self.nodes
 
     def canonical(self, path):
-        """`canonical_at`, as one call on files: the canonical path of what stands there."""
+        """`canonical_at`, as one call on files: the canonical path of what is there."""
         self.call_or_fault()
         self.node_at(path)
         return self.canonical_paths[components(path)]
@@ -154,7 +145,7 @@ def call_files(call, *arguments):
 
 
 def kind_at(files, path):
-    """The kind of what stands at a path; an error where nothing does."""
+    """The kind of what is at a path; an error where nothing is."""
     return call_files(files.metadata, path).kind
 
 
@@ -181,7 +172,7 @@ def sorted_names(files, path):
 def folder_material(files, path, relative, level):
     """The material of what is `reached` from a folder: a delimiter and the contents of each file.
 
-    `relative` is the folder's path relative to the one that was handed in, which has level 1.
+    `relative` is the folder's path relative to the one that was given, which has level 1.
     """
     if level > GREATEST_LEVEL:
         raise Refused("TooDeep")
@@ -200,7 +191,7 @@ def folder_material(files, path, relative, level):
 
 
 def digest_material(files, path):
-    """`digest_material`: the bytes whose digest text is that of what stands at a path."""
+    """`digest_material`: the bytes whose digest text is that of what is at a path."""
     kind = kind_at(files, path)
     if kind == FILE:
         return read_pieces(files, path)
@@ -210,7 +201,7 @@ def digest_material(files, path):
 
 
 def text_at(files, path):
-    """`text_at`: the digest text of what stands at a path, a regular file or a folder."""
+    """`text_at`: the digest text of what is at a path, a regular file or a folder."""
     return digest_text(digest_material(files, path))
 
 

@@ -69,7 +69,7 @@ class World:
         self.begin()
 
     def begin(self):
-        """No files; 100 seconds behind the start of 1970, in the zone of Greenwich."""
+        """No files; 100 seconds after the start of 1970, in the zone of Greenwich."""
         self.files = MapFiles()
         self.now = 100 * NANOS
         self.offset = 0
@@ -101,12 +101,12 @@ class World:
         self.files.put(undo(rest), Node(OTHER))
 
     def link(self, rest):
-        """A link to what stands at the target."""
+        """A link to what is at the target."""
         path, target = cut_words(rest, 1)
         self.files.link(undo(path), undo(target))
 
     def gone(self, rest):
-        """Nothing stands there."""
+        """Nothing is there."""
         self.files.remove(undo(rest))
 
     def fail_at(self, rest):

@@ -28,7 +28,7 @@ LANGUAGES = [
 ]
 
 # `object_variable_names`.
-OBJECT_VARIABLES = [
+OBJECT_VARIABLES = {
     b"SCCACHE_C_CUSTOM_CACHE_BUSTER",
     b"MACOSX_DEPLOYMENT_TARGET",
     b"IPHONEOS_DEPLOYMENT_TARGET",
@@ -36,7 +36,7 @@ OBJECT_VARIABLES = [
     b"WATCHOS_DEPLOYMENT_TARGET",
     b"SDKROOT",
     b"CCC_OVERRIDE_OPTIONS",
-]
+}
 
 
 @dataclasses.dataclass

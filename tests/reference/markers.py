@@ -53,7 +53,7 @@ def place_of(text, byte, start):
 
 
 def next_place(text, at):
-    """The next place behind this one where another thing than a single byte can begin."""
+    """The next place after this one where another thing than a single byte can begin."""
     found = PLACE.search(text, at + 1)
     return len(text) if found is None else found.start()
 
@@ -71,7 +71,7 @@ def read_marker(text, start):
 
 
 def is_system(text, end):
-    """`is_system`: a `3` stands between the closing quote and the line's end."""
+    """`is_system`: a `3` is between the closing quote and the line's end."""
     return b"3" in text[end + 1 : place_of(text, b"\n", end)]
 
 

@@ -45,7 +45,7 @@ def include_name(line):
 
 
 def marker(number, path, behind):
-    """`marker`: a line marker with its LF; behind the name stand these bytes."""
+    """`marker`: a line marker with its LF; after the name are these bytes."""
     return b"# " + number_text(number) + b' "' + path + b'"' + behind + b"\n"
 
 

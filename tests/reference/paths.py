@@ -35,7 +35,7 @@ def beginning(path):
 
 def inner_components(path):
     """`inner_components`: one for each part between the slashes that is neither empty nor `.`."""
-    parts = [part for part in path.split(b"/") if part not in (b"", b".")]
+    parts = [part for part in path.split(b"/") if part not in {b"", b"."}]
     return [PARENT if part == b".." else name_component(part) for part in parts]
 
 
@@ -50,7 +50,7 @@ def same_path(a, b):
 
 
 def compare_paths(a, b):
-    """`path_cmp`: -1, 0 or 1, as the first path is before the second, equal or behind it."""
+    """`path_cmp`: -1, 0 or 1, as the first path is before the second, equal or after it."""
     return (components(a) > components(b)) - (components(a) < components(b))
 
 

@@ -10,14 +10,14 @@ ENTRY_FORMAT = b"\x01"
 SEVERAL_ARCHITECTURES = b"multiarch-per-pass"
 
 # `preprocessor_variable_names`.
-PREPROCESSOR_VARIABLES = [
+PREPROCESSOR_VARIABLES = {
     b"SCCACHE_C_CUSTOM_CACHE_BUSTER",
     b"CPATH",
     b"C_INCLUDE_PATH",
     b"CPLUS_INCLUDE_PATH",
     b"OBJC_INCLUDE_PATH",
     b"OBJCPLUS_INCLUDE_PATH",
-]
+}
 
 
 @dataclasses.dataclass
@@ -28,12 +28,12 @@ class RequestParts:
     language: bytes
     arguments: list
     input_file: bytes
-    extra_hashes: list = dataclasses.field(default_factory=list)
-    assembler_digest: bytes | None = None
-    variables: list = dataclasses.field(default_factory=list)
-    plusplus: bool = False
-    multiarch: bool = False
-    basedirs: list = dataclasses.field(default_factory=list)
+    extra_hashes: list
+    assembler_digest: bytes | None
+    variables: list
+    plusplus: bool
+    multiarch: bool
+    basedirs: list
 
 
 def preprocessor_material(parts, input_digest):

@@ -7,6 +7,7 @@ from .calls import Answer, Call, Conditions, Hasher, executable_text, number_of,
 from .errors import Refused
 from .key import Params, language_of, object_key
 from .mini import MiniCompiler
+from .recorded import activated
 from .script import (
     EXECUTABLE,
     WORKING_DIRECTORY,
@@ -44,7 +45,7 @@ def key_line(words, text):
 def arguments_of(words):
     """The parsed command line of a script's call: the input, and arguments of both keys."""
     language = b"cPreprocessed" if words[0].endswith(b".i") else b"c"
-    outputs = {b"obj": Output(b"out.o")}
+    outputs = {b"obj": Output(b"out.o", False)}
     return Arguments(words[0], language, outputs=outputs, common_args=words[1:])
 
 
@@ -68,7 +69,7 @@ def make_call(line, surroundings, compiler, digest, conditions, store):
 
 def run_lines(lines):
     """`Ran`: the lines of the answers of a script's calls."""
-    conditions = Conditions(zone=zone_of(lines), basedirs=basedirs_of(lines))
+    conditions = Conditions(zone_of(lines), activated(), basedirs_of(lines))
     compiler = MiniCompiler(conditions.zone)
     digest = executable_text(first_files(), EXECUTABLE, compiler.version)
     store = MapStore()
@@ -78,7 +79,7 @@ def run_lines(lines):
     printed = b""
     for line in lines:
         surroundings.follow(line)
-        if line.word in (b"compile", b"recache"):
+        if line.word in {b"compile", b"recache"}:
             answer = make_call(line, surroundings, compiler, digest, conditions, store)
             printed += answer_line(answer)
     return printed

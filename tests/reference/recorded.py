@@ -10,7 +10,6 @@ from .times import is_instant, local_date, local_second
 TIME_MACRO = b"__TIME__"
 DATE_MACRO = b"__DATE__"
 TIMESTAMP_MACRO = b"__TIMESTAMP__"
-KEPT_BYTES = 12
 
 
 @dataclasses.dataclass
@@ -43,11 +42,6 @@ class Setting:
 def has(text, word):
     """`has`: the word is a contiguous part of the text."""
     return word in text
-
-
-def last_bytes(stream):
-    """`last_bytes`: the last 12 bytes, or all of fewer."""
-    return stream[-KEPT_BYTES:]
 
 
 def found_macros(stream):
@@ -133,6 +127,6 @@ def io_error(error):
     """The error of the entries that a `UtilError` or an error of a call on files becomes."""
     if error.name == "Memory":
         return error
-    if error.name in ("NotFound", "OtherKind", "Fault"):
+    if error.name in {"NotFound", "OtherKind", "Fault"}:
         error = Refused("File", error)
     return Refused("Io", error)

@@ -43,7 +43,7 @@ def undone(text):
 
 
 def next_word(rest):
-    """`next_word`: the first word of what is left of a line, undone, and what is left behind it.
+    """`next_word`: the first word of what is left of a line, undone, and what is left after it.
 
     Nothing is left (None) where the line ends with the word.
     """
@@ -70,7 +70,7 @@ def last_text(rest):
 
 
 def words_and_text(rest, count):
-    """So many words of what is left of a line, and the TEXT behind them."""
+    """`count` words of what is left of a line, and the TEXT after them."""
     found = []
     for _ in range(count):
         word, rest = next_word(rest)
@@ -100,7 +100,7 @@ def time_or_none(text):
 
 
 def exactly(rest, count):
-    """The words of what is left of a line, which are so many."""
+    """The words of what is left of a line, of which there are `count`."""
     found = words(rest)
     if len(found) != count:
         raise Wrong
@@ -120,7 +120,7 @@ def read_basedir(rest):
 def read_store(rest):
     """`store forget N` and `store fail N`."""
     word, count = exactly(rest, 2)
-    if word not in (b"forget", b"fail"):
+    if word not in {b"forget", b"fail"}:
         raise Wrong
     return [word, number(count, 1, GREATEST_NUMBER)]
 

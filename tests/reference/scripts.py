@@ -204,7 +204,7 @@ class ScriptMaker:
         elif kind < 0.55:
             name, value = b"SOURCE_DATE_EPOCH", self.one(VALUES)
         else:
-            names = OBJECT_VARIABLES + PREPROCESSOR_VARIABLES + [b"HOME", b"cpath", b"SDKROOT2"]
+            names = sorted(OBJECT_VARIABLES | PREPROCESSOR_VARIABLES | {b"HOME", b"cpath", b"SDKROOT2"})
             name, value = self.one(names), self.one(VALUES)
         return b"var " + self.word(name) + b" " + self.text(value)
 

@@ -1,6 +1,5 @@
 """The store in memory."""
 from .errors import Refused
-from .files import GREATEST_COUNT
 
 
 class MapStore:
@@ -11,7 +10,6 @@ class MapStore:
         self.setbacks = 0
         self.forgetting = 0
         self.failing = 0
-        self.calls = 0
 
     def held(self, key):
         """The bytes that are held under a key, or None."""
@@ -27,11 +25,10 @@ class MapStore:
 
     def set_back(self):
         """`more`: one setback more."""
-        self.setbacks = min(self.setbacks + 1, GREATEST_COUNT)
+        self.setbacks += 1
 
     def call(self):
         """Counts one call, and does what is armed for it: to forget comes before to fail."""
-        self.calls += 1
         forgets = self.forgetting == 1
         fails = self.failing == 1
         self.forgetting = max(self.forgetting - 1, 0)
@@ -66,5 +63,5 @@ class EmptyStore:
 
     def put(self, key, data):
         """A put fails, which is a setback."""
-        self.setbacks = min(self.setbacks + 1, GREATEST_COUNT)
+        self.setbacks += 1
         raise Refused("Fault")

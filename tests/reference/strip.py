@@ -6,17 +6,17 @@ FLAG_BYTES = LETTERS + b"0123456789-_:"
 
 
 def is_boundary(text, at):
-    """`is_boundary`: the start of the text, or directly behind a byte of `is_separator`."""
+    """`is_boundary`: the start of the text, or directly after a byte of `is_separator`."""
     return at == 0 or text[at - 1] in BEFORE_A_PATH
 
 
 def longest_prefix(text, at, basedirs):
-    """`longest_prefix`: the length of the longest base directory that stands at this place, or 0."""
+    """`longest_prefix`: the length of the longest base directory that is at this place, or 0."""
     return max((len(basedir) for basedir in basedirs if text.startswith(basedir, at)), default=0)
 
 
 def text_site(text, at, basedirs):
-    """`text_site`: at a boundary the length of the longest base directory that stands there, else 0."""
+    """`text_site`: at a boundary the length of the longest base directory that is there, else 0."""
     if not is_boundary(text, at):
         return 0
     return longest_prefix(text, at, basedirs)
@@ -55,12 +55,12 @@ def flag_end(argument):
 
 
 def glued_position(argument):
-    """`glued_position`: where a path may stand directly behind a flag, or None."""
-    if argument[:1] not in (b"-", b"/"):
+    """`glued_position`: where a path may be directly after a flag, or None."""
+    if argument[:1] not in {b"-", b"/"}:
         return None
     end = flag_end(argument)
     if end >= 4 and argument[end - 2] in LETTERS and argument[end - 1] == ord(":"):
-        if argument[end : end + 1] in (b"/", b"\\"):
+        if argument[end : end + 1] in {b"/", b"\\"}:
             return end - 2
     if argument[:1] == b"-":
         return end
@@ -87,10 +87,10 @@ def matched(text, basedir):
         if text.startswith(basedir):
             return len(basedir)
         short = basedir[:-1]
-        if text.startswith(short) and text[len(short) : len(short) + 1] in (b"", b"="):
+        if text.startswith(short) and text[len(short) : len(short) + 1] in {b"", b"="}:
             return len(short)
         return 0
-    if text.startswith(basedir) and text[len(basedir) : len(basedir) + 1] in (b"", b"=", b"/"):
+    if text.startswith(basedir) and text[len(basedir) : len(basedir) + 1] in {b"", b"=", b"/"}:
         return len(basedir)
     return 0
 

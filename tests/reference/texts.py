@@ -27,14 +27,14 @@ def unescape(text):
 
 
 def escape_at(text, at):
-    """What the escape stands for whose `\\` is directly before a place, and the place behind it."""
+    """What the escape stands for whose `\\` is directly before a place, and the place after it."""
     if text[at : at + 1] == b"x":
         return hex_value(text[at + 1 : at + 3]), at + 3
     return letter_value(text[at : at + 1]), at + 1
 
 
 def letter_value(letter):
-    """`letter_value`: the byte that a letter behind `\\` stands for."""
+    """`letter_value`: the byte that a letter after `\\` stands for."""
     if letter == b"":
         raise Refused("IncompleteEscape")
     if letter[0] not in LETTER_VALUES:
@@ -43,7 +43,7 @@ def letter_value(letter):
 
 
 def hex_value(digits):
-    """`hex_value`: the byte that the digits behind `\\x` stand for."""
+    """`hex_value`: the byte that the digits after `\\x` stand for."""
     if len(digits) < 2:
         raise Refused("IncompleteHex")
     if digits[0] not in HEX_DIGITS or digits[1] not in HEX_DIGITS:

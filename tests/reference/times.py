@@ -1,6 +1,6 @@
 """Times: whole nanoseconds since 1970-01-01T00:00:00Z, and what a clock in a zone shows at them.
 
-A zone is a fixed offset, so many seconds east of Greenwich, or a rule (see `zones.py`).
+A zone is a fixed offset, this many seconds east of Greenwich, or a rule (see `zones.py`).
 """
 import datetime
 
@@ -21,7 +21,7 @@ def seconds_of(nanos):
 
 
 def nanoseconds_of(nanos):
-    """`moment_of_nanos`: the nanoseconds of a time behind its whole seconds."""
+    """`moment_of_nanos`: the nanoseconds of a time after its whole seconds."""
     return nanos % NANOS
 
 

@@ -4,7 +4,7 @@ from .paths import components, file_name, has_root, join_path, name_component
 from .texts import first_value, lower_ascii
 
 # `wrapper_names`.
-WRAPPER_NAMES = [b"ccache", b"sccache"]
+WRAPPER_NAMES = {b"ccache", b"sccache"}
 
 
 def is_program(name, program):
@@ -52,7 +52,7 @@ def is_settled(files, executable):
 
 
 def is_compiler(files, path):
-    """`is_compiler`: something stands there, and it leads to no wrapper."""
+    """`is_compiler`: something is there, and it leads to no wrapper."""
     return files.exists(path) and not leads_to_wrapper(files, path)
 
 

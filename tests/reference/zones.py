@@ -4,12 +4,12 @@ Of rules those are known that have two offsets and change between them on the Nt
 as `CET-1CEST,M3.5.0,M10.5.0/3`: the last Sunday of March at 2 o'clock, to the last Sunday of October
 at 3 o'clock. Offsets in a rule are west of Greenwich.
 """
+import calendar
 import datetime
 import re
 
 HOUR = 3600
 DAY = 86400
-LAST_WEEK = 5
 RULE = re.compile(
     r"[A-Z]+(-?\d+)[A-Z]+,M(\d+)\.(\d)\.(\d)(?:/(\d+))?,M(\d+)\.(\d)\.(\d)(?:/(\d+))?"
 )
@@ -35,16 +35,10 @@ def change_second(year, change):
     month, week, weekday, hour = change
     first = datetime.date(year, month, 1)
     day = 1 + (weekday - first.isoweekday()) % 7 + 7 * (week - 1)
-    if week == LAST_WEEK and day > days_in(year, month):
+    if day > calendar.monthrange(year, month)[1]:
         day -= 7
     date = datetime.date(year, month, day)
     return (date - datetime.date(1970, 1, 1)).days * DAY + hour * HOUR
-
-
-def days_in(year, month):
-    """How many days a month has."""
-    following = datetime.date(year + month // 12, month % 12 + 1, 1)
-    return (following - datetime.date(year, month, 1)).days
 
 
 def offset_at(zone, second):

@@ -1,8 +1,8 @@
-//! A reader and a writer that fail after so many calls.
+//! A reader and a writer that fail after a given number of calls.
 use std::io;
 use std::io::{Read, Write};
 
-/// Reads its bytes so many at a time, and fails once so many reads have passed.
+/// Reads its bytes `step` at a time, and fails once `passing` reads have passed.
 #[derive(Drop)]
 pub struct FailingReader<'a> {
     /// The bytes that are left.
@@ -29,7 +29,7 @@ impl Read for FailingReader<'_> {
     }
 }
 
-/// Keeps what is written, and fails once so many writes have passed.
+/// Keeps what is written, and fails once `passing` writes have passed.
 #[derive(Drop)]
 pub struct FailingWriter {
     /// What was written.

@@ -43,9 +43,9 @@ pub struct Given {
     pub arguments: Vec<Vec<u8>>,
     /// `variables NAME=VALUE ..`: the variables of the environment. None at first.
     pub variables: Vec<(Vec<u8>, Vec<u8>)>,
-    /// `extra_hashes DIGEST ..`: the digest texts of extra files, as they stand. None at first.
+    /// `extra_hashes DIGEST ..`: the digest texts of extra files, as they are. None at first.
     pub extra_hashes: Vec<String>,
-    /// `compiler DIGEST`: the digest text of the compiler, as it stands. `abcd` at first.
+    /// `compiler DIGEST`: the digest text of the compiler, as it is. `abcd` at first.
     pub compiler: Option<String>,
     /// `language NAME`: the language of an input. C at first.
     pub language: Language,
@@ -53,7 +53,7 @@ pub struct Given {
     pub plusplus: bool,
     /// `multiarch`: whether there are several architectures. There aren't at first.
     pub multiarch: bool,
-    /// `assembler DIGEST`: the digest text of the assembler, as it stands. None at first.
+    /// `assembler DIGEST`: the digest text of the assembler, as it is. None at first.
     pub assembler: Option<String>,
     /// `base TEXT`: the first of two texts or paths that a call takes. Empty at first.
     pub base: Vec<u8>,

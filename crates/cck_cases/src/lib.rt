@@ -9,7 +9,7 @@
 //! - [`Given`] has what lines give to calls on bytes, and [`World`] what they give to calls on files.
 //! - [`find`] finds a word in a table. [`number`], [`bytes_of`], [`words_of`] and [`moment_of`] read
 //!   the parts of a line.
-//! - [`FailingReader`] and [`FailingWriter`] fail after so many calls.
+//! - [`FailingReader`] and [`FailingWriter`] fail after a given number of calls.
 //!
 //! Nothing is claimed of these calls beyond their types: they are what tests are made of, and a
 //! fault in them shows as a difference or a wrong count.

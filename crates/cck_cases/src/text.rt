@@ -53,7 +53,7 @@ pub fn byte_of(digits: &str) -> Result<u8, CaseError> {
     }
 }
 
-/// The time of so many nanoseconds since 1970.
+/// The time that is this number of nanoseconds after the start of 1970.
 pub fn moment_of(text: &str) -> Result<Timestamp, CaseError> {
     let nanoseconds = number::<i128>(text)?;
     if Timestamp::fits_nanos(nanoseconds) {
@@ -63,7 +63,7 @@ pub fn moment_of(text: &str) -> Result<Timestamp, CaseError> {
     }
 }
 
-/// The time of so many nanoseconds since 1970, or none for `-`.
+/// The time that is this number of nanoseconds after the start of 1970, or none for `-`.
 pub fn optional_moment_of(text: &str) -> Result<Option<Timestamp>, CaseError> {
     if text == "-" {
         return Ok(None);

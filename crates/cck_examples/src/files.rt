@@ -150,7 +150,7 @@ impl<F: Files> Files for CountedFiles<F> {
     ghost quiet_is_low = { λ files quiet. F.quiet_is_low files.inner quiet };
 }
 
-// How many of these paths stand.
+// How many of these paths exist.
 fn count_standing<F: Files>(files: &mut F, paths: &[&[u8]]) -> usize {
     let mut count: usize = 0;
     for path in paths {

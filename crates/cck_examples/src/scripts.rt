@@ -50,7 +50,7 @@ fn a_printed_text(rt: HostRuntime) -> Result<(), Fail> {
     Ok(())
 }
 
-// The program reads from a slice, and writes behind what a vector holds.
+// The program reads from a slice, and writes after what a vector holds.
 #[test]
 fn the_program(rt: HostRuntime) -> Result<(), Fail> {
     let alloc = rt.alloc();

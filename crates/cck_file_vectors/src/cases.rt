@@ -27,12 +27,7 @@ pub(crate) struct Cases {
 }
 
 // The calls whose lines have no escaped text after their names.
-const RAW_CALLS: [&str; 4] = [
-    "error_text",
-    "add_each",
-    "file_error_text",
-    "util_error_text",
-];
+const RAW_CALLS: [&str; 2] = ["error_text", "add_each"];
 
 impl Subject for Cases {
     fn new(alloc: Global) -> Cases {
@@ -87,8 +82,8 @@ impl Subject for Cases {
         if let Some(call) = find(&entries::CALLS, name) {
             return entries::call(call, self, line);
         }
-        if let Some(call) = find(&errors::CALLS, name) {
-            return errors::call(call, self.alloc, line.rest);
+        if name == "error_text" {
+            return errors::error_text(self.alloc, line.rest);
         }
         Err(CaseError::Line)
     }

@@ -136,7 +136,7 @@ fn add<'a>(cases: &'a mut Cases, key: &str) -> Result<Value<'a>, CaseError> {
     counts(cases)
 }
 
-// Adds so many of them, under the keys `0`, `1` and so on.
+// Adds `count` of them, under the keys `0`, `1` and so on.
 fn add_each<'a>(cases: &'a mut Cases, count: u64) -> Result<Value<'a>, CaseError> {
     for number in 0..count {
         let key = format!(in cases.alloc; "{number}")?;
@@ -179,7 +179,7 @@ fn matches<'a>(cases: &'a mut Cases, key: &str) -> Result<Value<'a>, CaseError> 
     )?))
 }
 
-// The key of the result that still stands.
+// The key of the result that still matches.
 fn look_up<'a>(cases: &'a mut Cases) -> Result<Option<&'a [u8]>, CaseError> {
     let found = cases.entry.lookup_result_digest::<Sha256State, MapFiles>(
         cases.alloc,

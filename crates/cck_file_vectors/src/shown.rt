@@ -53,7 +53,7 @@ fn kind_word(kind: FileKind) -> &'static str {
     }
 }
 
-/// Writes the kind, the length and the times of what stands at a path.
+/// Writes the kind, the length and the times of what is at a path.
 pub(crate) fn write_metadata(
     alloc: Global,
     text: &mut Vec<u8>,

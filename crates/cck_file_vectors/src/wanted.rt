@@ -41,7 +41,7 @@ pub(crate) struct Wanted {
     pub(crate) paths: Vec<Vec<u8>>,
     /// `offset N`: where a read begins. 0 at first.
     pub(crate) offset: u64,
-    /// `room N`: what a read fills, so many bytes. 4 at first.
+    /// `room N`: how many bytes a read fills. 4 at first.
     pub(crate) buffer: Vec<u8>,
     /// `shows date`, `shows timestamp` and `shows date timestamp`: the macros that a text holds.
     /// None at first.
@@ -51,7 +51,7 @@ pub(crate) struct Wanted {
     /// `modified NANOSECONDS`, or `modified -`: the time of a file's last modification. None at
     /// first.
     pub(crate) modified: Option<Timestamp>,
-    /// `zone SECONDS`: so many seconds east of Greenwich, or `zone_rule TEXT`: by a rule of POSIX.
+    /// `zone SECONDS`: this many seconds east of Greenwich, or `zone_rule TEXT`: by a rule of POSIX.
     /// UTC at first.
     pub(crate) zone: TimeZone<'static>,
     /// `include PATH DIGEST`, `includes N PATH DIGEST` for the same N times, and `no_includes`:
@@ -148,7 +148,7 @@ impl Wanted {
     }
 }
 
-// The zone of an offset of so many seconds.
+// The zone of an offset in seconds.
 fn fixed_zone(text: &str) -> Result<TimeZone<'static>, CaseError> {
     match Offset::from_seconds(number(text)?) {
         Ok(offset) => Ok(TimeZone::fixed(offset)),

@@ -2,14 +2,14 @@
 //! the program `cck` as a function.
 //!
 //! The words after its name are vector files. `docs/VECTORS.md` has their grammar. A script is made of
-//! the lines of `line TEXT`, each as it stands, and after them the bytes of a call.
+//! the lines of `line TEXT`, each as it is, and after them the bytes of a call.
 //!
 //! | call | what is called, and its result |
 //! |---|---|
 //! | `parse TEXT` | `Script::parse`: what each line says, in the words of a script, with brackets round paths, texts and arguments |
-//! | `calls TEXT` | `Command::call`: each call that the script asks for; `afresh` for a `recache` |
+//! | `calls TEXT` | `Command::call`: each call that the script asks for; `recache` where no stored key may be returned |
 //! | `options TEXT` | `Script::options` |
-//! | `surroundings N PATH..` | `Surroundings` at the call N, counted from 0: what stands at these paths, and the variables |
+//! | `surroundings N PATH..` | `Surroundings` at the call N, counted from 0: what is at these paths, and the variables |
 //! | `script_error_text TEXT` | what `Display` prints of the error of `Script::parse` |
 //! | `run TEXT` | `engine` with the word `run`: what is written, and after it the status |
 //! | `program WORD..` | `engine` with these words |

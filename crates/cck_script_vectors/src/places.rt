@@ -1,4 +1,4 @@
-//! What stands at paths, and which variables there are, as the lines of a script leave them.
+//! What is at paths, and which variables there are, as the lines of a script leave them.
 use crate::commands::{write_bracketed, write_times};
 use cck_cases::{CaseError, words_of};
 use cck_script::Surroundings;

@@ -79,7 +79,7 @@ fn write_calls(alloc: Global, out: &mut Vec<u8>, script: &Script) -> Result<(), 
         if let Some(call) = command.call() {
             begin_line(out)?;
             let name: &[u8] = if call.is_recache {
-                b"afresh"
+                b"recache"
             } else {
                 b"cached"
             };
@@ -104,7 +104,7 @@ fn write_options(alloc: Global, out: &mut Vec<u8>, options: &RunOptions) -> Resu
     Ok(())
 }
 
-// `surroundings N PATH..`: what stands at these paths, and the variables, at the call of this
+// `surroundings N PATH..`: what is at these paths, and the variables, at the call of this
 // number, counted from 0, or after all lines.
 fn write_at_call(
     alloc: Global,

@@ -24,7 +24,7 @@ pub(crate) struct Scripts {
     alloc: Global,
     world: World,
     streams: Streams,
-    // `line TEXT`: a line of the script, without escapes. The bytes of a call stand after them.
+    // `line TEXT`: a line of the script, without escapes. The bytes of a call are after them.
     lines: Vec<u8>,
     // `cwd PATH`: the working directory. `/w` at first, for which it is empty.
     cwd: Vec<u8>,

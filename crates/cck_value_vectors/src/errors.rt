@@ -20,12 +20,13 @@ pub(crate) const CALLS: [(&str, ErrorCall); 5] = [
     ("unknown_language_text", ErrorCall::Language),
 ];
 
-const UTIL_ERRORS: [(&str, UtilError); 12] = [
+const UTIL_ERRORS: [(&str, UtilError); 13] = [
     ("Memory", UtilError::Memory),
     ("Read", UtilError::Read),
     ("File(NotFound)", UtilError::File(FileError::NotFound)),
     ("File(OtherKind)", UtilError::File(FileError::OtherKind)),
     ("File(Fault)", UtilError::File(FileError::Fault)),
+    ("File(Memory)", UtilError::File(FileError::Memory)),
     ("TooDeep", UtilError::TooDeep),
     ("TooLong", UtilError::TooLong),
     ("Write", UtilError::Write),

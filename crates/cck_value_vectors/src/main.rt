@@ -6,7 +6,7 @@
 //!
 //! | word | what it gives |
 //! |---|---|
-//! | `pieces LIST` | the pieces that a digest or a finder is handed in turn; none at first |
+//! | `pieces LIST` | the pieces that a digest or a finder is given in turn; none at first |
 //! | `reader STEP PASSING KIND` | what a reader of the call's bytes does: the bytes of one read, the reads that pass, and the kind of the error of the reads after them, `interrupted` or `other`; at first it doesn't fail, and gives as much as it is asked for |
 //! | `writer PASSING` | the writes that pass before a writer fails; all at first |
 #![tactic(auto)]

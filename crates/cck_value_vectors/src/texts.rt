@@ -72,7 +72,7 @@ fn unescape<'a>(alloc: Global, text: &str) -> Result<Value<'a>, CaseError> {
     Ok(Value::Text(digits))
 }
 
-// Of so many seconds and nanoseconds.
+// Of a number of seconds and nanoseconds.
 fn duration<'a>(alloc: Global, rest: &str) -> Result<Value<'a>, CaseError> {
     let (seconds, nanoseconds) = rest.split_once(' ').ok_or(CaseError::Line)?;
     let (seconds, nanoseconds) = (number::<u64>(seconds)?, number::<u32>(nanoseconds)?);

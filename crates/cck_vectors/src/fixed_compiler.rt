@@ -27,7 +27,7 @@ pub(crate) enum Reading {
 /// A compiler whose every result was given to it. Its preprocessor prints one text for every input
 /// that is a regular file, and none for any other input.
 ///
-/// Each time it preprocesses it asks first whether something stands at [`PREPROCESSED`], and does
+/// Each time it preprocesses it asks first whether something is at [`PREPROCESSED`], and does
 /// nothing with the result.
 #[derive(Drop)]
 pub(crate) struct FixedCompiler {

@@ -127,7 +127,7 @@ pub(crate) fn preprocessed_text<'a>(
 }
 
 /// Makes each call on files once, on one path: the length, how many of 4 bytes are read from the
-/// offset 5 on, whether it can be listed and whether something stands there.
+/// offset 5 on, whether it can be listed and whether something is there.
 pub(crate) fn call_each<'a>(
     alloc: Global,
     files: &mut NotingFiles,

@@ -17,7 +17,7 @@
 //! - `add_call` adds a call of all this to the list that `run_calls` makes. `counted_path PATH` and
 //!   `count N` say on which path calls are counted, and from where on.
 //!
-//! The calls of each module stand in its table `CALLS`.
+//! The calls of each module are in its table `CALLS`.
 #![tactic(auto)]
 
 mod arguments;

@@ -30,6 +30,7 @@ from ..cases import (
     undo,
 )
 from ..cases import number_of as number_in
+from ..error_texts import text_of_entry_error, text_of_util_error
 from ..errors import Refused
 from ..given import Given, World, known_language
 from ..key import LANGUAGES as KNOWN_LANGUAGES
@@ -81,11 +82,6 @@ FLAGS = {
 COLORS = {"color_off": "Off", "color_on": "On", "color_auto": "Auto"}
 
 # What an error's `Display` prints, by its name.
-FILE_TEXTS = {
-    "NotFound": "there is no such file",
-    "OtherKind": "the file is of another kind",
-    "Fault": "a call on a file failed",
-}
 PREPROCESS_TEXTS = {
     "Fault": "a call on a file failed",
     "Failed": "the preprocessor failed",
@@ -482,14 +478,8 @@ def inner_text(outer, error):
         return ""
     if outer == "Preprocess":
         return PREPROCESS_TEXTS[error.name]
-    if error.name == "File":
-        return "a file can't be read: " + FILE_TEXTS[error.inner.name]
-    if error.name == "UnknownFormat":
-        return f"Unknown preprocessor cache entry format {error.inner:x}"
-    return {
-        "TooDeep": "a folder stands too deep",
-        "Deserialization": "a preprocessor cache entry is damaged",
-    }[error.name]
+    text_of = text_of_entry_error if outer == "Entry" else text_of_util_error
+    return text_of(error.debug())
 
 
 def call_key_error(subject, rest, made):

@@ -22,6 +22,7 @@ from ..entry import (
     matches,
     read_entry,
 )
+from ..error_texts import text_of_entry_error
 from ..errors import Refused
 from ..files import FILE, MapFiles, Node, hash_all, read_pieces, sorted_names, text_at
 from ..given import Given, World
@@ -32,28 +33,6 @@ from ..times import NANOS
 from ..wrapper import resolved
 from ..zones import parse_rule
 
-# `Display` of each error of entries. The first is followed by the text of what it holds.
-ERROR_TEXTS = {
-    "Deserialization": "a preprocessor cache entry is damaged",
-    "Memory": "out of memory",
-}
-UTIL_ERROR_TEXTS = {
-    "Memory": "out of memory",
-    "Read": "a read failed",
-    "TooDeep": "a folder stands too deep",
-    "TooLong": "too many bytes for a length of four bytes",
-    "Write": "a write failed",
-    "IncompleteEscape": "the text ends within an escape",
-    "InvalidEscape": "there is no such escape",
-    "IncompleteHex": "the text ends within the digits of an escape",
-    "InvalidHex": "a digit of an escape is not hexadecimal",
-}
-FILE_ERROR_TEXTS = {
-    "NotFound": "there is no such file",
-    "OtherKind": "the file is of another kind",
-    "Fault": "a call on a file failed",
-    "Memory": "out of memory",
-}
 KIND_WORDS = {"File": b"file", "Folder": b"folder", "Other": b"other"}
 
 
@@ -106,7 +85,7 @@ def give_include(subject, rest):
 
 
 def give_includes(subject, rest):
-    """`includes N PATH DIGEST`: the same file so many times more."""
+    """`includes N PATH DIGEST`: the same file N times more."""
     count, path, digest = cut_words(rest, 2)
     subject.included += number_of(count) * [(digest.encode("latin-1"), undo(path))]
 
@@ -138,7 +117,7 @@ def call_map_insert(subject, rest, made):
 
 
 def call_map_insert_all(subject, rest, made):
-    """`map_insert_all`: each path of `variables` gets the text behind it."""
+    """`map_insert_all`: each path of `variables` gets the text after it."""
     for path, value in subject.given.variables:
         insert(subject.map, path, value)
     return b"set"
@@ -186,7 +165,7 @@ def call_map_entries(subject, rest, made):
 
 
 def call_metadata(subject, rest, made):
-    """`metadata PATH`: the kind, the length and the times of what stands there."""
+    """`metadata PATH`: the kind, the length and the times of what is there."""
     metadata = subject.world.files.metadata(made.text(rest))
     return b"%s %d %s %s" % (
         KIND_WORDS[metadata.kind],
@@ -197,7 +176,7 @@ def call_metadata(subject, rest, made):
 
 
 def call_read_at(subject, rest, made):
-    """`read_at PATH`: what stands at `offset`, so many bytes as there is `room` for."""
+    """`read_at PATH`: what is at `offset`, as many bytes as there is `room` for."""
     return found(subject.world.files.read_at(made.text(rest), subject.offset, subject.room))
 
 
@@ -239,7 +218,7 @@ def call_put_made(subject, rest, made):
 
 
 def call_file_digest(subject, rest, made):
-    """`file_digest PATH` and `reader_digest PATH`: the digest text of what stands there."""
+    """`file_digest PATH` and `reader_digest PATH`: the digest text of what is there."""
     return text_at(subject.world.files, made.text(rest))
 
 
@@ -473,7 +452,7 @@ def call_add(subject, rest, made):
 
 
 def call_add_each(subject, rest, made):
-    """`add_each N`: adds so many results, under the keys `0`, `1` and so on."""
+    """`add_each N`: adds N results, under the keys `0`, `1` and so on."""
     for key in range(number_of(rest)):
         add(subject, b"%d" % key)
     return counts(subject.entry)
@@ -495,7 +474,7 @@ def call_includes_match(subject, rest, made):
 
 
 def call_look_up(subject, rest, made):
-    """`look_up`: the key of the result that still stands."""
+    """`look_up`: the key of the result that still matches."""
     return found(find(subject.entry, subject.world.files, setting_of(subject)))
 
 
@@ -507,38 +486,9 @@ def call_look_up_among(subject, rest, made):
 # ---- texts of errors
 
 
-def inner_of(name):
-    """What stands between the parentheses of a name."""
-    return name.partition("(")[2][:-1]
-
-
-def text_of_error(name):
-    """`Display` of an error of entries."""
-    if name.startswith("UnknownFormat("):
-        return f"Unknown preprocessor cache entry format {int(inner_of(name)):x}"
-    return text_of_util_error(inner_of(name)) if name.startswith("Io(") else ERROR_TEXTS[name]
-
-
-def text_of_util_error(name):
-    """`Display` of a `UtilError`."""
-    if name.startswith("File("):
-        return "a file can't be read: " + FILE_ERROR_TEXTS[inner_of(name)]
-    return UTIL_ERROR_TEXTS[name]
-
-
 def call_error_text(subject, rest, made):
     """`error_text NAME`."""
-    return text_of_error(rest).encode()
-
-
-def call_util_error_text(subject, rest, made):
-    """`util_error_text NAME`."""
-    return text_of_util_error(rest).encode()
-
-
-def call_file_error_text(subject, rest, made):
-    """`file_error_text NAME`."""
-    return FILE_ERROR_TEXTS[rest].encode()
+    return text_of_entry_error(rest).encode()
 
 
 class Subject(BaseSubject):

@@ -14,7 +14,7 @@ from ..texts import is_utf8
 REFUSED = b"cck: refused\n"
 KINDS = ("Interrupted", "BrokenPipe", "UnexpectedEof", "OutOfMemory")
 MANY = 2**63
-CALL_WORDS = {b"compile": b"cached", b"recache": b"afresh"}
+CALL_WORDS = {b"compile": b"cached", b"recache": b"recache"}
 
 
 class Failed(Exception):
@@ -136,12 +136,12 @@ class Run:
 
 
 def bracketed(texts):
-    """Texts between brackets, each behind a space."""
+    """Texts between brackets, each after a space."""
     return b"".join(b" [" + text + b"]" for text in texts)
 
 
 def times(modified, changed):
-    """Two times, each behind a space."""
+    """Two times, each after a space."""
     return b" " + moment(modified) + b" " + moment(changed)
 
 
@@ -166,7 +166,7 @@ def call_text(word, line):
 
 
 def place_text(files, path):
-    """What stands at a path."""
+    """What is at a path."""
     try:
         metadata = files.metadata(path)
     except Refused as error:

@@ -16,35 +16,13 @@ from ..cases import (
     time_of,
     undo,
 )
+from ..error_texts import FILE_TEXTS, text_of_util_error
 from ..errors import Refused
 from ..given import Given
 from ..recorded import found_macros
 
 # How many bytes are asked of a reader at once.
 HASH_BUFFER_SIZE = 131072
-
-# The texts of errors.
-FILE_ERRORS = {
-    "NotFound": "there is no such file",
-    "OtherKind": "the file is of another kind",
-    "Fault": "a call on a file failed",
-    "Memory": "out of memory",
-}
-UTIL_ERRORS = {
-    "Memory": "out of memory",
-    "Read": "a read failed",
-    "File(NotFound)": "a file can't be read: there is no such file",
-    "File(OtherKind)": "a file can't be read: the file is of another kind",
-    "File(Fault)": "a file can't be read: a call on a file failed",
-    "TooDeep": "a folder stands too deep",
-    "TooLong": "too many bytes for a length of four bytes",
-    "Write": "a write failed",
-    "IncompleteEscape": "the text ends within an escape",
-    "InvalidEscape": "there is no such escape",
-    "IncompleteHex": "the text ends within the digits of an escape",
-    "InvalidHex": "a digit of an escape is not hexadecimal",
-}
-
 
 class Streams:
     """What a reader and a writer do: `reader STEP PASSING KIND` and `writer PASSING`."""
@@ -337,25 +315,27 @@ TEXT_CALLS = {
 # ---- errors
 
 
-def named(table):
-    """A call that gives what stands in a table under the line's name."""
+def named(text_of):
+    """A call that gives the text of the error of this name."""
 
     def call(subject, rest, made):
-        if rest not in table:
-            raise WrongLine
-        return table[rest].encode()
+        try:
+            return text_of(rest).encode()
+        except KeyError:
+            raise WrongLine from None
 
     return call
 
 
-UTIL_DEBUG = {name: name for name in UTIL_ERRORS}
-UTIL_OF_FILE = {name: name if name == "Memory" else f"File({name})" for name in FILE_ERRORS}
+def util_error_of(name):
+    """The name of the `UtilError` that a `FileError` becomes."""
+    return name if name == "Memory" else f"File({name})"
 
 ERROR_CALLS = {
-    "util_error_text": named(UTIL_ERRORS),
-    "util_error_debug": named(UTIL_DEBUG),
-    "file_error_text": named(FILE_ERRORS),
-    "util_error_of_file_error": named(UTIL_OF_FILE),
+    "util_error_text": named(text_of_util_error),
+    "util_error_debug": named(lambda name: name),
+    "file_error_text": named(FILE_TEXTS.__getitem__),
+    "util_error_of_file_error": named(util_error_of),
     "unknown_language_text": lambda subject, rest, made: b"no language has this name",
 }
 

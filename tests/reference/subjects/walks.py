@@ -35,7 +35,7 @@ def next_state(state):
 
 
 def all_texts(pieces, count):
-    """Each text of so many pieces; the first piece changes with each text."""
+    """Each text of this number of pieces; the first piece changes with each text."""
     for chosen in itertools.product(pieces, repeat=count):
         yield b"".join(reversed(chosen))
 
