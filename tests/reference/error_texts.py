@@ -1,4 +1,7 @@
-"""What the libraries print of their errors. An error is named as Rust's `Debug` prints it."""
+"""What the libraries print of their errors. An error is named as Rust's `Debug` prints it.
+
+No document has these texts: they are those of the sources.
+"""
 
 FILE_TEXTS = {
     "NotFound": "there is no such file",
