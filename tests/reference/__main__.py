@@ -26,7 +26,7 @@ COMMANDS = {
 def main(words):
     """Runs one command and returns the exit status."""
     if words[:1] in (["key"], ["run"]):
-        return importlib.import_module("reference.program").main(words)
+        return importlib.import_module("reference.streams").main(words)
     if words and words[0] in COMMANDS:
         module, function = COMMANDS[words[0]]
         return getattr(importlib.import_module(f"reference.{module}"), function)(words[1:])

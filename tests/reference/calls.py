@@ -28,7 +28,7 @@ NUMBERS = {
     "Preprocess": 6,
     "Marker": 7,
 }
-OFF_WORDS = [b"false", b"off", b"0"]
+OFF_WORDS = {b"false", b"off", b"0"}
 
 
 @dataclasses.dataclass
@@ -59,7 +59,7 @@ class Call:
     cwd: bytes
     variables: list
     moment: int
-    recache: bool = False
+    recache: bool
 
 
 @dataclasses.dataclass
@@ -114,16 +114,7 @@ def refused_as(name, function, *arguments):
     try:
         return function(*arguments)
     except Refused as error:
-        raise as_call_error(name, error) from None
-
-
-def as_call_error(name, error):
-    """The error of a call that an error below becomes: lack of memory stays so."""
-    if error.name == "Memory":
-        return error
-    if error.name == "Io":
-        error = error.inner
-    return Refused(name, error)
+        raise Refused(name, error.inner if error.name == "Io" else error) from None
 
 
 def setting_of(call, conditions):
@@ -192,9 +183,9 @@ def text_of(call):
 
 
 def recorded_of(call, conditions, text):
-    """The files that the text names, with their recorded digests; none where the text is refused."""
+    """The files that the text names, with their recorded digests; None where the text is refused."""
     context = Context(call.files, input_path(call), call.cwd, setting_of(call, conditions))
-    return walk(context, text) or []
+    return walk(context, text)
 
 
 def plain_key(call, conditions, extra_hashes, text):

@@ -29,6 +29,7 @@ OPERATORS = {
     ast.Mod: [ast.FloorDiv],
     ast.Pow: [ast.Mult],
 }
+SYMMETRIC = {"max", "min"}
 NAMES = {
     "any": "all",
     "all": "any",
@@ -131,7 +132,8 @@ def of_call(node):
     """Two arguments swapped, a keyword left out, or an argument or a method's object alone."""
     if any(isinstance(argument, ast.Starred) for argument in node.args):
         return
-    for at in range(len(node.args) - 1):
+    is_symmetric = isinstance(node.func, ast.Name) and node.func.id in SYMMETRIC
+    for at in range(0 if is_symmetric else len(node.args) - 1):
         swapped = node.args[:at] + [node.args[at + 1], node.args[at]] + node.args[at + 2 :]
         yield ast.Call(node.func, swapped, node.keywords)
     for at in range(len(node.keywords)):

@@ -67,22 +67,17 @@ def check(words):
     return 0 if agreed else 1
 
 
-def all_agree(first):
-    """Whether all results are the expected ones; stops at the first that isn't.
+def vector_names():
+    """The names of the vector files, in order."""
+    return [name_of(file) for file, _ in vector_files()]
 
-    The files of the adapter `first` come first, and small files before large ones.
-    """
 
-    def place(pair):
-        file, module = pair
-        return not module.__name__.endswith(first), file.stat().st_size
-
-    checked = [pair for pair in vector_files() if pair[1] is not None]
-    for file, module in sorted(checked, key=place):
-        outcomes = outcomes_of(file.read_bytes(), module.Subject())
-        if not all(outcome.agrees() for outcome in outcomes):
-            return False
-    return True
+def agrees(name):
+    """Whether all results of the vector file of this name are the expected ones."""
+    crate = name.split("/")[1]
+    module = module_of(dict(PROGRAMS)[crate])
+    outcomes = outcomes_of((TOP / name).read_bytes(), module.Subject())
+    return all(outcome.agrees() for outcome in outcomes)
 
 
 def write(words):

@@ -6,8 +6,8 @@ import subprocess
 import sys
 
 from .cases import escape
-from .program import answer_words
 from .scripts import ScriptMaker, key_words
+from .streams import answer_any_words
 
 SECONDS = 60
 
@@ -20,7 +20,7 @@ def answers_of(program, words, data):
 
 def expected_of(words, data):
     """What the reference prints for these words and this input, and its exit status."""
-    return answer_words(words, lambda: data)
+    return answer_any_words(words, lambda: data)
 
 
 def differs(program, words, data):

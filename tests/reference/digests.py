@@ -1,12 +1,10 @@
 """Digest texts, and the forms in which bytes are fed to a hash function."""
 import hashlib
 
-DIGITS = b"0123456789abcdef"
-
 
 def hex_text(data):
     """`hex_text`: two digits for each byte, that of its low half first (`hex_pair`, `hex_digit`)."""
-    return b"".join(bytes([DIGITS[byte % 16], DIGITS[byte // 16]]) for byte in data)
+    return b"".join(b"%x%x" % (byte % 16, byte // 16) for byte in data)
 
 
 def digest_text(data):

@@ -6,9 +6,9 @@ import dataclasses
 
 from .digests import length_prefixed
 from .errors import Refused
-from .files import FILE
+from .files import FILE, call_files
 from .preprocessor_key import ENTRY_FORMAT
-from .recorded import io_error, recorded_digest
+from .recorded import recorded_digest
 from .texts import is_utf8
 from .times import NANOS, nanoseconds_of, seconds_of
 
@@ -145,9 +145,9 @@ def is_before(time, moment):
 def include_of(files, path, digest, moment):
     """`include_of`: what is recorded of a file: both times if both are before the moment, else none."""
     try:
-        metadata = files.metadata(path)
+        metadata = call_files(files.metadata, path)
     except Refused as error:
-        raise io_error(error) from None
+        raise Refused("Io", error) from None
     include = Include(path, digest, metadata.length)
     if is_before(metadata.modified, moment) and is_before(metadata.changed, moment):
         include.modified = metadata.modified

@@ -25,6 +25,6 @@ def other_kind():
 
 def is_fault(error):
     """Whether an error of a call on files is a fault: the call on files failed."""
-    while isinstance(error.inner, Refused):
+    while error.inner is not None:
         error = error.inner
     return error.name == "Fault"

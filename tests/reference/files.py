@@ -19,7 +19,7 @@ BUFFER_SIZE = 131072
 
 @dataclasses.dataclass
 class Node:
-    """`FileNode`: the kind, the contents of a regular file, and the times of modification and change."""
+    """`FileNode`: the kind, a regular file's contents, and the times of modification and change."""
 
     kind: str
     contents: bytes = b""
@@ -38,73 +38,67 @@ class Metadata:
 
 
 class MapFiles:
-    """`FileState`: a `FileMap`, and which call is armed."""
+    """`FileState`: a `FileMap`, and how many calls there are up to the one that is a fault."""
 
     def __init__(self):
-        self.nodes = {}
-        self.canonical_paths = {}
-        self.armed = 0
+        self.places = {}
+        self.calls_to_fault = None
 
     def put(self, path, node):
         """`with_place`: the node is at the path, whose canonical path is its normalised path."""
-        self.nodes[components(path)] = node
-        self.canonical_paths[components(path)] = normalize_path(path)
+        self.places[components(path)] = (node, normalize_path(path))
 
     def link(self, path, target):
         """`linked`: the path gets the node and the canonical path of the target, or neither."""
-        node = self.nodes.get(components(target))
-        canonical = self.canonical_paths.get(components(target))
+        place = self.places.get(components(target))
         self.remove(path)
-        if node is not None:
-            self.nodes[components(path)] = node
-            self.canonical_paths[components(path)] = canonical
+        if place is not None:
+            self.places[components(path)] = place
 
     def remove(self, path):
         """`without_place`: nothing is at this path; what is below it stays."""
-        self.nodes.pop(components(path), None)
-        self.canonical_paths.pop(components(path), None)
+        self.places.pop(components(path), None)
 
     def fail_at(self, n):
         """The nth of the following calls is a fault, counted from 1, and that one alone; 0 disarms."""
-        self.armed = n
+        self.calls_to_fault = n
 
     def copy(self):
         """The same map, count of faults and armed call."""
         other = MapFiles()
-        other.nodes = dict(self.nodes)
-        other.canonical_paths = dict(self.canonical_paths)
-        other.armed = self.armed
+        other.places = dict(self.places)
+        other.calls_to_fault = self.calls_to_fault
         return other
 
     def call(self):
         """`IsAfterCall`: counts one call, and whether it is the armed one."""
-        is_armed = self.armed == 1
-        self.armed = max(self.armed - 1, 0)
-        return is_armed
+        if self.calls_to_fault is None:
+            return False
+        self.calls_to_fault -= 1
+        return self.calls_to_fault == 0
 
     def call_or_fault(self):
         """Counts one call; an error where it is the armed one."""
         if self.call():
             raise Refused("Fault")
 
-    def node_at(self, path):
-        """What is at a path; an error where nothing is."""
-        node = self.nodes.get(components(path))
-        if node is None:
+    def place_at(self, path):
+        """What is at a path, and its canonical path; an error where nothing is."""
+        place = self.places.get(components(path))
+        if place is None:
             raise Refused("NotFound")
-        return node
+        return place
 
     def metadata(self, path):
         """`metadata_at`, as one call on files."""
         self.call_or_fault()
-        node = self.node_at(path)
-        length = len(node.contents) if node.kind == FILE else 0
-        return Metadata(node.kind, length, node.modified, node.changed)
+        node, _ = self.place_at(path)
+        return Metadata(node.kind, len(node.contents), node.modified, node.changed)
 
     def read_at(self, path, offset, size):
         """`IsRead`, as one call on files: at most so many bytes of the contents from an offset on."""
         self.call_or_fault()
-        node = self.node_at(path)
+        node, _ = self.place_at(path)
         if node.kind != FILE:
             raise Refused("OtherKind")
         return node.contents[offset : offset + size]
@@ -112,28 +106,22 @@ class MapFiles:
     def read_dir(self, path):
         """`IsListing`, as one call on files: the last names of a folder's direct children."""
         self.call_or_fault()
-        if self.node_at(path).kind != FOLDER:
+        node, _ = self.place_at(path)
+        if node.kind != FOLDER:
             raise Refused("OtherKind")
         folder = components(path)
-        children = [p for p in self.nodes if len(p) > 0 and p[:-1] == folder and is_name(p[-1])]
+        children = [p for p in self.places if len(p) > 0 and p[:-1] == folder and is_name(p[-1])]
         return [child[-1][1] for child in children]
 
     def exists(self, path):
         """`stands_at`, as one call on files: whether something is there; false at a fault."""
-        return not self.call() and components(path) in self.nodes
+        return not self.call() and components(path) in self.places
 
     def canonical(self, path):
         """`canonical_at`, as one call on files: the canonical path of what is there."""
         self.call_or_fault()
-        self.node_at(path)
-        return self.canonical_paths[components(path)]
-
-
-def as_util_error(error):
-    """`util_error`: what an error of a call on files is as a `UtilError`."""
-    if error.name == "Memory":
-        return error
-    return Refused("File", error)
+        _, canonical = self.place_at(path)
+        return canonical
 
 
 def call_files(call, *arguments):
@@ -141,7 +129,7 @@ def call_files(call, *arguments):
     try:
         return call(*arguments)
     except Refused as error:
-        raise as_util_error(error) from None
+        raise Refused("File", error) from None
 
 
 def kind_at(files, path):

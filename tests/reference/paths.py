@@ -98,6 +98,6 @@ def normalize_path(path):
 
 def normalize_win_path(path):
     """Each character in lower case, what is no UTF-8 as it is, and `/` for `\\` (`win_byte`)."""
-    text = path.decode("utf-8", "surrogateescape")
+    text = path.decode(errors="surrogateescape")
     lower = "".join(character.lower() for character in text)
-    return lower.replace("\\", "/").encode("utf-8", "surrogateescape")
+    return lower.replace("\\", "/").encode(errors="surrogateescape")

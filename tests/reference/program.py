@@ -1,7 +1,4 @@
 """The program `cck`: what it prints, and its exit status."""
-import os
-import sys
-
 from .arguments import Arguments, Output, with_extra_files
 from .calls import Answer, Call, Conditions, Hasher, executable_text, number_of, run_calls
 from .errors import Refused
@@ -20,7 +17,6 @@ from .script import (
     zone_of,
 )
 from .store import MapStore
-from .texts import is_utf8
 
 # `usage_line`.
 USAGE = b"cck: usage: cck key DIGEST LANGUAGE [ARG..] | cck run\n"
@@ -95,19 +91,9 @@ def run_script(text):
 
 
 def answer_words(words, read):
-    """What is printed for the program's words, and the exit status; `read` returns the input's bytes."""
-    if not all(is_utf8(word) for word in words):
-        return USAGE, 2
+    """What is printed for words that are UTF-8, and the status; `read` returns the input's bytes."""
     if words == [b"run"]:
         return run_script(read())
     if asks_for_key(words):
         return key_line(words, read()), 0
     return USAGE, 2
-
-
-def main(words):
-    """The program over the standard streams."""
-    printed, status = answer_words([os.fsencode(word) for word in words], sys.stdin.buffer.read)
-    sys.stdout.buffer.write(printed)
-    sys.stdout.buffer.flush()
-    return status

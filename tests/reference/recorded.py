@@ -2,8 +2,8 @@
 import dataclasses
 
 from .digests import delimiter, digest_text
-from .errors import Refused, other_kind
-from .files import FILE, read_pieces
+from .errors import Refused
+from .files import call_files, read_pieces
 from .texts import first_value
 from .times import is_instant, local_date, local_second
 
@@ -34,9 +34,9 @@ class Setting:
     """`Setting`: how files are judged: the options, the moment, the zone and the variables."""
 
     moment: int
-    zone: int = 0
-    variables: list = dataclasses.field(default_factory=list)
-    config: Config = dataclasses.field(default_factory=activated)
+    zone: int
+    variables: list
+    config: Config
 
 
 def has(text, word):
@@ -114,19 +114,8 @@ def recorded(contents, modified, setting):
 def recorded_digest(files, path, setting):
     """`recorded` of the regular file at a path; the error `Io` where it can't be read."""
     try:
-        metadata = files.metadata(path)
-        if metadata.kind != FILE:
-            raise other_kind()
+        modified = call_files(files.metadata, path).modified
         contents = read_pieces(files, path)
     except Refused as error:
-        raise io_error(error) from None
-    return recorded(contents, metadata.modified, setting)
-
-
-def io_error(error):
-    """The error of the entries that a `UtilError` or an error of a call on files becomes."""
-    if error.name == "Memory":
-        return error
-    if error.name in {"NotFound", "OtherKind", "Fault"}:
-        error = Refused("File", error)
-    return Refused("Io", error)
+        raise Refused("Io", error) from None
+    return recorded(contents, modified, setting)

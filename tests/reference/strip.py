@@ -80,9 +80,7 @@ def positions(argument):
 
 
 def matched(text, basedir):
-    """`matched`: how many bytes a base directory matches where this text begins."""
-    if basedir == b"":
-        return 0
+    """`matched`: how many bytes a base directory matches where this text begins; of an empty one 0."""
     if basedir.endswith(b"/"):
         if text.startswith(basedir):
             return len(basedir)

@@ -2,15 +2,14 @@
 from .errors import Refused
 
 LETTER_VALUES = {
-    ord("n"): b"\n",
-    ord("r"): b"\r",
-    ord("t"): b"\t",
-    ord("'"): b"'",
-    ord('"'): b'"',
-    ord("\\"): b"\\",
+    b"n": b"\n",
+    b"r": b"\r",
+    b"t": b"\t",
+    b"'": b"'",
+    b'"': b'"',
+    b"\\": b"\\",
 }
 HEX_DIGITS = b"0123456789abcdefABCDEF"
-GREATEST_LENGTH = 4294967295
 
 
 def unescape(text):
@@ -37,9 +36,9 @@ def letter_value(letter):
     """`letter_value`: the byte that a letter after `\\` stands for."""
     if letter == b"":
         raise Refused("IncompleteEscape")
-    if letter[0] not in LETTER_VALUES:
+    if letter not in LETTER_VALUES:
         raise Refused("InvalidEscape")
-    return LETTER_VALUES[letter[0]]
+    return LETTER_VALUES[letter]
 
 
 def hex_value(digits):
@@ -70,21 +69,19 @@ def seconds_text(nanoseconds):
 
 
 def prefixed_bytes(data):
-    """`prefixed_bytes`: the length in 4 bytes, the highest first, and the bytes."""
-    if len(data) > GREATEST_LENGTH:
-        raise Refused("TooLong")
+    """`prefixed_bytes`: the length in 4 bytes, the highest first, and the bytes (4294967295 at most)."""
     return len(data).to_bytes(4, "big") + data
 
 
 def lossy(data):
     """`lossy`: bytes as text, with U+FFFD for each part that is no UTF-8."""
-    return data.decode("utf-8", "replace").encode("utf-8")
+    return data.decode(errors="replace").encode()
 
 
 def is_utf8(data):
     """Whether bytes are UTF-8."""
     try:
-        data.decode("utf-8")
+        data.decode()
     except UnicodeDecodeError:
         return False
     return True

@@ -58,7 +58,7 @@ def is_compiler(files, path):
 
 def resolved(files, executable, variables):
     """`resolved`: the first candidate that is a compiler (`found`), or the executable."""
-    if file_name(executable) is None or is_settled(files, executable):
+    if is_settled(files, executable):
         return executable
     for path in candidates(executable, variables):
         if is_compiler(files, path):

@@ -21,7 +21,7 @@ def parse_rule(text):
     if match is None:
         return None
     winter = -int(match[1]) * HOUR
-    return winter, change_of(match.groups()[1:5]), change_of(match.groups()[5:9])
+    return winter, change_of(match.groups()[1:5]), change_of(match.groups()[5:])
 
 
 def change_of(parts):

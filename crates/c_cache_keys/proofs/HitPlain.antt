@@ -4,7 +4,7 @@ use Rattle.std.specs.Prelude.{Contains}
 use Rattle.std.specs.FinMap.{empty, entries}
 use Rattle.std.specs.List.{list_all}
 use Rattle.std.proofs.lemmas.List.Elements.{Contains-append_left, Contains-append_right}
-use Rattle.std.proofs.lemmas.Option.{same_Some}
+use Rattle.std.proofs.lemmas.Option.{same_Some, none-some}
 use Rattle.cck_entry.proofs.LawLemmas.{one_text_one_entry}
 use Rattle.cck_entry.specs.Entry.{Entry, EntryText, added}
 use Rattle.cck_entry.specs.Results.{KeyResult}
@@ -66,7 +66,8 @@ module _ {V : Type 0} (w : World V) (size : HasSize w.hash) (calls : List (Call 
           → Agree w c d × (uses_cache w c.request ≡ true) × (r : Bytes) × (input_recorded w c ≡ Some r) × (input_recorded w d ≡ Some r)
       go mc md is-mc is-md same request =
           let (extra, r, digest-c, digest-d) = material_same w size c d mc request is-mc (is-md ∙ ap Some (sym same)) in
-          (record { request = request; extra = extra }, (material_known w c mc is-mc).0, r, digest-c, digest-d)
+          let (used, xs, s, is-xs, is-s, made-of) = material_known w c mc is-mc in
+          (record { request = request; extra = extra; some_extra = λ none. (none-some _ (sym none ∙ is-xs)) }, used, r, digest-c, digest-d)
 
   abbrev InputSame : Type 0
   InputSame = (input : FileNode) × (file_at c.files (components (input_path c)) ≡ Ok input) × NoTime w c × ((n : FileNode) → file_at c.files (components (input_path c)) ≡ Ok n → (o : FileNode) × (file_at d.files (components (input_path c)) ≡ Ok o) × IsSameFile w c d n o)

@@ -27,3 +27,5 @@ pub mod TimeExamples
 pub mod WalkExamples
 pub mod Walked
 pub mod Widen
+pub mod Witness
+pub mod WitnessExamples

@@ -8,10 +8,6 @@ use Rattle.std.specs.Option.{option_map}
 use Rattle.std.specs.declared.alloc.Global.{Global}
 use Rattle.std.proofs.lemmas.Option.{same_Some}
 use Rattle.cck_compiler.specs.Seen.{IsPrinted}
-use Rattle.cck_compiler.specs.declared.error.KeyError.{KeyError}
-use Rattle.cck_compiler.specs.declared.error.KeyError.TheVariants as key
-use Rattle.cck_compiler.specs.declared.error.PreprocessError.{PreprocessError}
-use Rattle.cck_compiler.specs.declared.error.PreprocessError.TheVariants as text
 use Rattle.cck_digest.specs.declared.error.FileError.{FileError}
 use Rattle.cck_digest.specs.declared.error.FileError.TheVariants as file
 use Rattle.cck_files.specs.Calls.{IsRefusalOrMemory}
@@ -24,11 +20,13 @@ use Rattle.cck_path.specs.Path.{components}
 use Rattle.cck_path.specs.Text.{path_text}
 use Rattle.cck_store.specs.Store.{Store}
 use Rattle.cck_util.specs.Key.{object_key}
-use Rattle.cck_walk.specs.declared.error.WalkError.{WalkError}
-use Rattle.cck_walk.specs.declared.error.WalkError.TheVariants as failed
 use Rattle.cck_walk.specs.declared.walk.Walk as walk
 use Rattle.cck_walk.specs.declared.walk.Walk.TheVariants as answer
 use Rattle.cck_files.proofs.FileLemmas.{found_without_contents, found_with_contents}
+use Rattle.cck_key_error.specs.declared.key_error.KeyError.{KeyError}
+use Rattle.cck_key_error.specs.declared.key_error.KeyError.TheVariants as key
+use Rattle.cck_key_error.specs.declared.preprocess_error.PreprocessError.{PreprocessError}
+use Rattle.cck_key_error.specs.declared.preprocess_error.PreprocessError.TheVariants as text
 use Rattle.c_cache_keys.proofs.Decisions.{one_decision}
 use Rattle.c_cache_keys.proofs.Elements.{first_in, later_in, none_in}
 use Rattle.c_cache_keys.proofs.HitPlain.{components-named}
@@ -37,7 +35,7 @@ use Rattle.c_cache_keys.proofs.Opened.{some_none}
 use Rattle.c_cache_keys.specs.Call.{Call, Refused, Memory}
 use Rattle.c_cache_keys.specs.Hasher.{IsPrintedFor, IsPut, made_of}
 use Rattle.c_cache_keys.specs.Keys.{extra_texts, input_file, is_preprocessed, key_material, params, plain_key, preprocessor_key_of, printed, text_of, told, uses_cache}
-use Rattle.c_cache_keys.specs.Refusals.{input_refusal, text_refusal, walk_refusal}
+use Rattle.c_cache_keys.specs.Refusals.{input_refusal, text_refusal}
 use Rattle.c_cache_keys.specs.Seen.{why_of}
 use Rattle.c_cache_keys.specs.Step.{AreOwnIncludes, Makes, NotErring, NothingNew, StopsMaking, gives, stops}
 use Rattle.c_cache_keys.specs.Walk.{Accepted, AreRecorded, MarksDecide, Errs, IsNamed, IsRecorded, NotAccepted, Verdict, Walk, input_path}
@@ -207,9 +205,14 @@ module _ {V S : Type 0} (w : World V) (st : Store S) (c : Call V) (F : Type 0) w
     refused s r (inr fault) is unless = finished s r plain plain_here (λ other some prints errs. fault) (inl fault) is unless
 
     -- the walk is refused
-    pub stop_walked : (s : S) (e : WalkError) → IsWalked w c text F (Err e) → Makes w st c F s (made_of (Err (walk_refusal e))) s
-    stop_walked s failed.Memory h = stops Memory tt refl refl
-    stop_walked s failed.Marker h = stops _ (some_none for.key, (text, for.prints, h)) refl refl
+    pub stop_walked : (s : S) (e : KeyError) → IsWalked w c text F (Err e) → Makes w st c F s (made_of (Err e)) s
+    stop_walked s key.Memory h = stops Memory tt refl refl
+    stop_walked s key.Marker h = stops _ (some_none for.key, (text, for.prints, h)) refl refl
+    stop_walked s (key.Extra e) h = absurd h
+    stop_walked s (key.Input e) h = absurd h
+    stop_walked s key.Store h = absurd h
+    stop_walked s (key.Entry e) h = absurd h
+    stop_walked s (key.Preprocess e) h = absurd h
 
     -- the text is accepted, and names no file that is recorded
     pub nothing_named : (s : S) (answer : String Global) → string_bytes answer ≡ plain → Walk w c text Accepted → AreRecorded w c text [] → Makes w st c F s (made_of (Ok answer)) s

@@ -3,10 +3,11 @@ use Rattle.std.proofs.Common.{true, false, List, [], ◌∷◌, codes, refl}
 use Rattle.cck_path.specs.Bytes.{Bytes}
 use Rattle.cck_markers.specs.Marks.{Mark, Name, Refusal, Malformed, Marks, is_hidden, is_inclusion, is_marker, what}
 use Rattle.c_cache_keys.proofs.MarksRead.{are_marks}
+use Rattle.c_cache_keys.specs.Witness.{printed_text}
 
 -- an input whose first line includes a header, preprocessed
 abbrev pub header_text : Bytes
-header_text = codes "# 1 \"/w/a.c\"\n# 1 \"/w/h.h\" 1\nint y1;\n# 2 \"/w/a.c\" 2\nint x;\n"
+header_text = printed_text
 
 abbrev pub input_mark : Mark
 input_mark = Name (codes "/w/a.c") false

@@ -4,8 +4,6 @@ use Rattle.std.specs.Prelude.{IsOkAnd, is_none, slice_index_or, string_bytes}
 use Rattle.std.specs.Global.{Vec}
 use Rattle.std.specs.Option.{option_map}
 use Rattle.std.proofs.lemmas.Option.{none-some}
-use Rattle.cck_compiler.specs.declared.error.KeyError.{KeyError}
-use Rattle.cck_compiler.specs.declared.error.KeyError.TheVariants as key
 use Rattle.cck_digest.specs.Digest.{digest_text}
 use Rattle.cck_digest.specs.declared.error.FileError.{FileError}
 use Rattle.cck_digest.specs.declared.error.FileError.TheVariants as file
@@ -18,6 +16,8 @@ use Rattle.cck_file_digest.specs.Refusals.{IsDigestRefusal}
 use Rattle.cck_files.specs.FileMap.{FileMap, FileNode, file_at}
 use Rattle.cck_include.specs.Recorded.{recorded}
 use Rattle.cck_include.specs.Refusal.{IsIoRefusal}
+use Rattle.cck_key_error.specs.declared.key_error.KeyError.{KeyError}
+use Rattle.cck_key_error.specs.declared.key_error.KeyError.TheVariants as key
 use Rattle.cck_path.specs.Bytes.{Bytes, lists_of}
 use Rattle.cck_path.specs.Path.{Path, components}
 use Rattle.cck_preprocessor_key.specs.PreprocessorKey.{preprocessor_material}

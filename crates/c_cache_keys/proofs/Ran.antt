@@ -1,11 +1,12 @@
 -- Calls are made one after another.
-use Rattle.std.proofs.Common.{◌≡◌, ℕ, zero, suc, ◌<◌, List, [], ◌∷◌, ◌++◌, length, map, take, drop, get_or, Result, refl, ap, subst, arith}
+use Rattle.std.proofs.Common.{◌≡◌, ℕ, zero, suc, ◌<◌, ◌≤◌, List, [], ◌∷◌, ◌++◌, length, map, take, drop, get_or, Result, refl, ap, subst, arith}
 use Rattle.std.proofs.Math.ListN.{set}
+use Rattle.std.proofs.lemmas.List.{take_all}
 use Rattle.std.specs.List.{AllZip}
-use Rattle.cck_compiler.specs.declared.error.KeyError.{KeyError}
 use Rattle.cck_files.specs.Calls.{Keeps}
 use Rattle.cck_files.specs.FileMap.{FileMap}
 use Rattle.cck_files.proofs.CallsLemmas.{keeps_itself}
+use Rattle.cck_key_error.specs.declared.key_error.KeyError.{KeyError}
 use Rattle.cck_store.specs.Store.{Store}
 use Rattle.c_cache_keys.specs.Calls.{AreAnswered, IsAfter, IsAnswered, done_all}
 use Rattle.c_cache_keys.specs.Seen.{answer_of}
@@ -42,6 +43,18 @@ module _ {I F V : Type 0} (value : I → V) (file_map : F → FileMap) (faults :
     run_answered (o ∷ olds) [] rs s t made = absurd made
     run_answered (o ∷ olds) (n ∷ news) [] s t made = absurd made
     run_answered (o ∷ olds) (n ∷ news) (r ∷ rs) s t (mid, first, rest) = (mid, first.step, run_answered olds news rs mid t rest)
+
+    -- so they are once the loop has gone over all of them
+    pub all_answered : (i : ℕ) (olds news : List (Call I F)) (rs : List (Result HashResult KeyError)) (s t : S) → length olds ≤ i → length news ≡ length olds
+        → AreAnswered value file_map faults w st s (take i olds) (take i news) rs t → AreAnswered value file_map faults w st s olds news rs t
+    all_answered i olds news rs s t past long made =
+        let all = take_all i olds past in
+        let now = take_all i news (omega (arith, long, past)) in
+        rw (all, now) at made
+
+    pub all_run : (i : ℕ) (olds news : List (Call I F)) (rs : List (Result HashResult KeyError)) (s t : S) → length olds ≤ i → length news ≡ length olds
+        → AreAnswered value file_map faults w st s (take i olds) (take i news) rs t → Run w st s (done_all value file_map faults olds news) (map answer_of rs) t
+    all_run i olds news rs s t past long made = run_answered olds news rs s t (all_answered i olds news rs s t past long made)
 
 -- what is left stays
 pub rest_more : {A : Type 0} (i : ℕ) (olds news : List A) (v : A) → length news ≡ length olds → drop i news ≡ drop i olds → drop (suc i) (set news i v) ≡ drop (suc i) olds

@@ -2,11 +2,11 @@
 use Rattle.std.proofs.Common.{◌≡◌, List, [], ◌∷◌, Some, None, Ok, Err, codes, map, refl, sym, ap, ◌∙◌, subst, arith}
 use Rattle.std.specs.Prelude.{is_some}
 use Rattle.std.specs.FinMap.{get}
-use Rattle.cck_compiler.specs.declared.error.KeyError.TheVariants as refusal
 use Rattle.cck_digest.specs.declared.error.FileError.TheVariants.{NotFound, OtherKind, Fault}
 use Rattle.cck_digest.specs.declared.error.UtilError.TheVariants as util
 use Rattle.cck_file_digest.specs.FileDigest.{IsFirstRefusal}
 use Rattle.cck_files.specs.FileMap.{file_at, file_in, stands_at}
+use Rattle.cck_key_error.specs.declared.key_error.KeyError.TheVariants as refusal
 use Rattle.cck_path.specs.Bytes.{Bytes}
 use Rattle.cck_path.specs.Path.{components}
 use Rattle.cck_store.specs.Store.{Store}

@@ -1,11 +1,7 @@
 -- Each refusal gives its reason.
-use Rattle.std.proofs.Common.{◌≡◌, Ok, Err, map, subst, sym, List, Result}
+use Rattle.std.proofs.Common.{◌≡◌, Some, Ok, Err, map, subst, sym, List, Result}
 use Rattle.std.specs.Prelude.{IfErr, IsOkUnless}
 use Rattle.std.specs.FinMap.{get}
-use Rattle.cck_compiler.specs.declared.error.KeyError.{KeyError}
-use Rattle.cck_compiler.specs.declared.error.KeyError.TheVariants as key
-use Rattle.cck_compiler.specs.declared.error.PreprocessError.{PreprocessError}
-use Rattle.cck_compiler.specs.declared.error.PreprocessError.TheVariants as text
 use Rattle.cck_digest.specs.declared.error.FileError.{FileError}
 use Rattle.cck_digest.specs.declared.error.FileError.TheVariants as file
 use Rattle.cck_digest.specs.declared.error.UtilError.{UtilError}
@@ -16,16 +12,20 @@ use Rattle.cck_files.proofs.FileLemmas.{found_without_contents}
 use Rattle.cck_files.proofs.CallsLemmas.{refusal_by}
 use Rattle.cck_files.specs.Calls.{IsRefusalOrMemory}
 use Rattle.cck_files.specs.FileMap.{FileMap, contents_at, file_at}
+use Rattle.cck_key_error.specs.declared.key_error.KeyError.{KeyError}
+use Rattle.cck_key_error.specs.declared.key_error.KeyError.TheVariants as key
+use Rattle.cck_key_error.specs.declared.preprocess_error.PreprocessError.{PreprocessError}
+use Rattle.cck_key_error.specs.declared.preprocess_error.PreprocessError.TheVariants as text
 use Rattle.cck_path.specs.Bytes.{Bytes}
 use Rattle.cck_path.specs.Path.{Path, components}
 use Rattle.cck_store.specs.Store.{Store}
-use Rattle.cck_walk.specs.declared.error.WalkError.{WalkError}
-use Rattle.cck_walk.specs.declared.error.WalkError.TheVariants as walk
 use Rattle.c_cache_keys.specs.Call.{Call}
 use Rattle.c_cache_keys.specs.Hasher.{IsInputRefusal}
-use Rattle.c_cache_keys.specs.Reasons.{IsFileReason, IsReason}
-use Rattle.c_cache_keys.specs.Refusals.{extra_refusal, input_refusal, text_refusal, walk_refusal}
+use Rattle.c_cache_keys.specs.Keys.{preprocessor_key_of}
+use Rattle.c_cache_keys.specs.Reasons.{IsFileReason, IsReason, IsStoreReason}
+use Rattle.c_cache_keys.specs.Refusals.{extra_refusal, input_refusal, text_refusal}
 use Rattle.c_cache_keys.specs.Walk.{input_path}
+use Rattle.c_cache_keys.specs.Walked.{IsWalked}
 use Rattle.c_cache_keys.specs.World.{World}
 
 -- ---- a fault of a part is one of the whole
@@ -121,9 +121,14 @@ module _ {V : Type 0} (w : World V) (c : Call V) (F : Type 0) where
   text_reason text.Failed = λ e. cc
   text_reason text.Memory = tt
 
-  pub walk_reason : (e : WalkError) → IsFileReason w c F (walk_refusal e)
-  walk_reason walk.Memory = tt
-  walk_reason walk.Marker = tt
+  pub walk_reason : (walked : Bytes) (e : KeyError) → IsWalked w c walked F (Err e) → IsFileReason w c F e
+  walk_reason walked key.Memory h = tt
+  walk_reason walked key.Marker h = tt
+  walk_reason walked (key.Extra e) h = absurd h
+  walk_reason walked (key.Input e) h = absurd h
+  walk_reason walked key.Store h = absurd h
+  walk_reason walked (key.Entry e) h = absurd h
+  walk_reason walked (key.Preprocess e) h = absurd h
 
 -- ---- reasons of the store, and of both
 
@@ -138,11 +143,11 @@ module _ {V S : Type 0} (w : World V) (st : Store S) (c : Call V) (s t : S) wher
     file_reason (key.Preprocess e) h = h
     file_reason key.Marker h = h
 
-  pub wide_any : (F G : Type 0) → (F → G) → (e : KeyError) → IsReason w st c F s t e → IsReason w st c G s t e
-  wide_any F G more key.Memory h = h
-  wide_any F G more key.Store h = h
-  wide_any F G more (key.Entry e) h = h
-  wide_any F G more (key.Extra e) h = wide_reason F G more w c (key.Extra e) h
-  wide_any F G more (key.Input e) h = wide_reason F G more w c (key.Input e) h
-  wide_any F G more (key.Preprocess e) h = h
-  wide_any F G more key.Marker h = h
+    pub store_reason : (k : Bytes) → preprocessor_key_of w c ≡ Some k → (e : KeyError) → IsStoreReason st k s t e → IsReason w st c F s t e
+    store_reason k is key.Memory h = h
+    store_reason k is key.Store h = h
+    store_reason k is (key.Entry e) h = (k, is, h)
+    store_reason k is (key.Extra e) h = absurd h
+    store_reason k is (key.Input e) h = absurd h
+    store_reason k is (key.Preprocess e) h = absurd h
+    store_reason k is key.Marker h = absurd h

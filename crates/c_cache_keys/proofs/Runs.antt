@@ -11,11 +11,12 @@ use Rattle.cck_store.specs.Store.{Handed, Store, StoreLaws}
 use Rattle.cck_store.specs.declared.store.StoreError.TheVariants as store
 use Rattle.c_cache_keys.proofs.Elements.{first_in}
 use Rattle.c_cache_keys.proofs.HitPlain.{hit_plain}
+use Rattle.c_cache_keys.proofs.Stored.{run_answers_handed}
 use Rattle.c_cache_keys.specs.Call.{Answer, Call, Damaged, Done, Fault, Keyed, Refused, calls_of}
 use Rattle.c_cache_keys.specs.Keys.{plain_key}
-use Rattle.c_cache_keys.specs.Laws.{FreshIsPlain, HitIsPlain, IsTransparent, KeepsOldOrOwn, NothingDamaged, Runs, RunsJoin, RunsTransparent, StaysSound, Transparent, joined_lists}
+use Rattle.c_cache_keys.specs.Laws.{FreshIsPlain, Headline, HitIsPlain, IsTransparent, KeepsOldOrOwn, NothingDamaged, Runs, RunsHeadline, RunsJoin, StaysSound, joined_lists}
 use Rattle.c_cache_keys.specs.Premises.{IsBefore, Premises}
-use Rattle.c_cache_keys.specs.Step.{Asked, Asks, Ends, Failed, Gives, Hit, Makes, Miss, OwnPair, Puts, Run, Sound, Step, StopsMaking, StopsOpening, asked, gives, made, matching, stopped, stops}
+use Rattle.c_cache_keys.specs.Step.{Asked, Asks, Ends, Failed, Gives, Hit, IsEmpty, Makes, Miss, OwnPair, Puts, Run, Sound, Step, StopsMaking, StopsOpening, asked, gives, made, matching, stopped, stops}
 use Rattle.c_cache_keys.specs.World.{HasSize, World}
 
 module _ {V S : Type 0} (w : World V) (st : Store S) where
@@ -173,8 +174,11 @@ module _ {V S : Type 0} (w : World V) (st : Store S) (size : HasSize w.hash) (la
     from_sound done (earlier ++ d.call ∷ []) answers run.0 t (stays_sound earlier d s run.0 r sound run.1) run.2 (subst (Premises w) (sym (append_assoc earlier (d.call ∷ []) (calls_of done))) premises),
   )
 
-  pub transparent : Transparent w st
+  pub transparent : (s t : S) (done : List (Done V)) (answers : List Answer) → IsEmpty w st s → Run w st s done answers t → Premises w (calls_of done) → AllZip (IsTransparent w) (calls_of done) answers
   transparent s t done answers none run premises = from_sound done [] answers s t (λ k b h. absurd (none k b h)) run premises
+
+  pub headline : Headline w st
+  headline s t done answers run = (λ none premises. transparent s t done answers none run premises, run_answers_handed w st s t done answers run)
 
   pub keeps_old_or_own : KeepsOldOrOwn w st
   keeps_old_or_own d s t r step = step_kept d.call (Fault d) s t r step
@@ -186,5 +190,5 @@ module _ {V S : Type 0} (w : World V) (st : Store S) (size : HasSize w.hash) (la
   joined_run s t (r ∷ runs) [] p = absurd p
   joined_run s t (r ∷ runs) (a ∷ answers) p = run_joined w st s p.0 t r (joined_lists runs) a (joined_lists answers) p.1 (joined_run p.0 t runs answers p.2)
 
-  pub runs_transparent : RunsTransparent w st
-  runs_transparent s t runs answers none p premises = transparent s t (joined_lists runs) (joined_lists answers) none (joined_run s t runs answers p) premises
+  pub runs_headline : RunsHeadline w st
+  runs_headline s t runs answers p = headline s t (joined_lists runs) (joined_lists answers) (joined_run s t runs answers p)

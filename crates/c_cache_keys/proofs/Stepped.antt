@@ -1,17 +1,18 @@
 -- One call, from its parts.
-use Rattle.std.proofs.Common.{◌≡◌, ℕ, ◌≤◌, false, inl, inr, ap, refl, subst, arith, Option, Ok, String}
+use Rattle.std.proofs.Common.{◌≡◌, ℕ, ◌≤◌, false, inl, inr, ap, refl, sym, subst, arith, Option, Ok, String, option_map}
+use Rattle.std.specs.String.{string_bytes}
 use Rattle.std.specs.declared.alloc.Global.{Global}
-use Rattle.cck_compiler.specs.declared.error.KeyError.{KeyError}
-use Rattle.cck_compiler.specs.declared.error.KeyError.TheVariants as key
 use Rattle.cck_path.specs.Bytes.{Bytes}
 use Rattle.cck_files.proofs.CallsLemmas.{rose_earlier, rose_later}
 use Rattle.cck_files.specs.Calls.{Rose}
+use Rattle.cck_key_error.specs.declared.key_error.KeyError.{KeyError}
+use Rattle.cck_key_error.specs.declared.key_error.KeyError.TheVariants as key
 use Rattle.cck_store.specs.Store.{Store}
 use Rattle.c_cache_keys.proofs.Widen.{wide_asks, wide_makes}
 use Rattle.c_cache_keys.specs.Call.{Answer, Call, Keyed, Refused, Why, Memory}
-use Rattle.c_cache_keys.specs.Hasher.{IsFound, IsOpening, asked_of}
+use Rattle.c_cache_keys.specs.Hasher.{IsFound, IsFoundBy, IsOpening, asked_of}
 use Rattle.c_cache_keys.specs.Seen.{why_of}
-use Rattle.c_cache_keys.specs.Step.{Failed, Hit, Makes, Miss, Step, StopsOpening, asked, made, stopped}
+use Rattle.c_cache_keys.specs.Step.{Asked, Failed, Hit, Makes, Miss, Step, StopsOpening, asked, made, matching, stopped}
 use Rattle.c_cache_keys.specs.World.{World}
 use Rattle.c_cache_keys.specs.declared.hasher.opening.Opening.{Opening}
 
@@ -30,8 +31,14 @@ module _ {V S : Type 0} (w : World V) (st : Store S) (c : Call V) (F : Type 0) w
   pub step_starved : (s : S) (e : KeyError) → e ≡ key.Memory → Step w st c F s (Refused (why_of e)) s
   step_starved s e is = stopped Memory tt (ap (λ e. Refused (why_of e)) is) refl
 
-  pub found_as : (s t : S) (r found : Option (String Global)) → r ≡ found → IsFound w st c F s (asked_of (Ok r)) t → IsFound w st c F s (asked_of (Ok found)) t
-  found_as s t r found is h = subst (λ r. IsFound w st c F s (asked_of (Ok r)) t) is h
+module _ {V S : Type 0} (w : World V) (st : Store S) (c : Call V) (o : Opening) (opens : IsOpening w c o) (F : Type 0) (s t : S) where
+  -- what is found under the key that a call begins with is found under the call's key
+  pub found_under : (a : Asked) → IsFoundBy st (option_map string_bytes o.key) c.control (matching w c) F s a t → IsFound w st c F s a t
+  found_under a h = subst (λ key. IsFoundBy st key c.control (matching w c) F s a t) (sym opens.key) h
+
+  pub found_as : (r found : Option (String Global)) → r ≡ found → IsFoundBy st (option_map string_bytes o.key) c.control (matching w c) F s (asked_of (Ok r)) t
+      → IsFound w st c F s (asked_of (Ok found)) t
+  found_as r found is h = subst (λ r. IsFound w st c F s (asked_of (Ok r)) t) is (found_under (asked_of (Ok r)) h)
 
 module _ {V S : Type 0} (w : World V) (st : Store S) (c : Call V) (o : Opening) (opens : IsOpening w c o) (first second last : ℕ) (up : first ≤ second) where
   -- a stored key is answered

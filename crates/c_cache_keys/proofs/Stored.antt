@@ -24,7 +24,7 @@ use Rattle.c_cache_keys.proofs.KeySame.{key_known, material_known}
 use Rattle.c_cache_keys.specs.Call.{Answer, Call, Done, Fault, Keyed, Refused, calls_of, Why, Memory, Extra, ExtraFault, Input, InputFault, Store as StoreFails, Damaged, NoText, TextFault, Marker}
 use Rattle.c_cache_keys.specs.Hits.{FreshIsHeld, HeldIsAnswered, IsAside, SameRecords, StoredIsHit}
 use Rattle.c_cache_keys.specs.Keys.{input_file, input_recorded, preprocessor_key_of}
-use Rattle.c_cache_keys.specs.Laws.{HandedIsAnswered, RecacheIsFresh}
+use Rattle.c_cache_keys.specs.Laws.{HandedIsAnswered, RecacheIsFresh, RunAnswersHanded}
 use Rattle.c_cache_keys.specs.Step.{Asked, Ends, Failed, Gives, Hit, AreOwnIncludes, Makes, Miss, Puts, ReadsAs, Run, Step, Stores, StopsOpening, asked, found, gives, made, matching, stopped, stops}
 use Rattle.c_cache_keys.specs.Walk.{IsNamed}
 use Rattle.c_cache_keys.specs.World.{World, setting}
@@ -117,12 +117,12 @@ module _ {V S : Type 0} (w : World V) (st : Store S) where
   recache_is_fresh d s t key again (asked opened k is-k control o mid asks ends) = absurd (not_both (sym control ∙ again))
 
   -- what a look into the store ends in
-  ends_found : (c : Call V) (F : Type 0) (mid t : S) (r : Answer) (key : Bytes) (o : Asked) → r ≢ Refused Memory → Ends w st c F o mid r t → (o ≡ Hit key) ⊎ (o ≡ Failed Memory) → r ≡ Keyed key false
-  ends_found c F mid t r key o enough ends (inl is) = (subst (λ v. Ends w st c F v mid r t) is ends).0
+  ends_found : (c : Call V) (F : Type 0) (mid t : S) (r : Answer) (key : Bytes) (o : Asked) → r ≢ Refused Memory → Ends w st c F o mid r t → (o ≡ Hit key) ⊎ (o ≡ Failed Memory) → (r ≡ Keyed key false) × (t ≡ mid)
+  ends_found c F mid t r key o enough ends (inl is) = subst (λ v. Ends w st c F v mid r t) is ends
   ends_found c F mid t r key o enough ends (inr is) = absurd (enough (subst (λ v. Ends w st c F v mid r t) is ends).0)
 
   handed_found : (c : Call V) (F : Type 0) (mid t : S) (r : Answer) (o : Asked) (handed : Handed) (bytes key : Bytes) (e : Entry) → (F → ⊥) → r ≢ Refused Memory → Gives w c F handed o → Ends w st c F o mid r t
-      → handed ≡ Ok (Some bytes) → EntryText e bytes → found w c e ≡ Some key → r ≡ Keyed key false
+      → handed ≡ Ok (Some bytes) → EntryText e bytes → found w c e ≡ Some key → (r ≡ Keyed key false) × (t ≡ mid)
   handed_found c F mid t r o handed bytes key e no_fault enough given ends is text finds =
       ends_found c F mid t r key o enough ends (reads_found w c F e bytes key o no_fault text finds (subst (λ v. Gives w c F v o) is given))
 
@@ -135,9 +135,15 @@ module _ {V S : Type 0} (w : World V) (st : Store S) where
       (asks.answer, mid, subst (λ v. st.got s v asks.answer mid) (same_Some k' k (sym is-k' ∙ is-k)) asks.got, o, asks.gives, ends)
 
   pub handed_is_answered : HandedIsAnswered w st
-  handed_is_answered d s t k r can step =
+  handed_is_answered d s t r step k can =
       let (handed, mid, got, o, given, ends) = handed_any d.call (Fault d) s t k r can.control can.key can.no_fault can.enough_memory step in
       (handed, mid, got, λ bytes key e is text finds. handed_found d.call (Fault d) mid t r o handed bytes key e can.no_fault can.enough_memory given ends is text finds)
+
+  pub run_answers_handed : RunAnswersHanded w st
+  run_answers_handed s t [] [] run = run
+  run_answers_handed s t [] (r ∷ answers) run = absurd run
+  run_answers_handed s t (d ∷ done) [] run = absurd run
+  run_answers_handed s t (d ∷ done) (r ∷ answers) run = (run.0, run.1, handed_is_answered d s run.0 r run.1, run_answers_handed run.0 t done answers run.2)
 
 module _ {V S : Type 0} (w : World V) (st : Store S) (laws : StoreLaws st) where
   abbrev Calm : S → S → Type 0
@@ -214,7 +220,7 @@ module _ {V S : Type 0} (w : World V) (st : Store S) (laws : StoreLaws st) where
   handed_held c F s mid t r k bytes o (Ok (Some x)) no_fault enough calm held each got given ends =
       let now = laws.got_some s mid k x got in
       let (e, text, key, finds) = each x now in
-      (key, x, e, now, text, finds, handed_found w st c F mid t r o (Ok (Some x)) x key e no_fault enough given ends refl text finds)
+      (key, x, e, now, text, finds, (handed_found w st c F mid t r o (Ok (Some x)) x key e no_fault enough given ends refl text finds).0)
 
   pub held_is_answered : HeldIsAnswered w st
   held_is_answered d s t r k bytes can calm held each step =

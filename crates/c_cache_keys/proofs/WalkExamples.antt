@@ -11,7 +11,6 @@ use Rattle.cck_include.specs.Recorded.{recorded}
 use Rattle.cck_markers.proofs.OneList.{some_nothing}
 use Rattle.cck_markers.proofs.OneList.{one_list}
 use Rattle.cck_markers.specs.Marks.{Mark, Name, Refusal, Malformed}
-use Rattle.cck_path.specs.Path as path
 use Rattle.cck_path.specs.Path.{Path, components, joined, normal, path_cmp}
 use Rattle.cck_path.specs.Text.{join_path}
 use Rattle.cck_path.specs.Timestamp.{Moment}
@@ -21,15 +20,13 @@ use Rattle.c_cache_keys.proofs.MarkExamples.{header_mark, header_marks, header_t
 use Rattle.c_cache_keys.proofs.TimeExamples.{time_of_day_not_recorded}
 use Rattle.c_cache_keys.specs.Call.{Call}
 use Rattle.c_cache_keys.specs.Walk.{Accepted, Errs, IsAngled, IsGood, IsLooked, IsNamed, IsOld, NotAccepted, Walk, input_path, path_of}
+use Rattle.c_cache_keys.specs.Witness.{path_in_w as in_w}
 use Rattle.c_cache_keys.specs.World.{World, setting}
 
 -- ---- paths
 
 true_false : true ≡ false → ⊥
 true_false e = cc
-
-abbrev in_w : Bytes → Path
-in_w name = path.Root ∷ path.Name (codes "w") ∷ path.Name name ∷ []
 
 -- a name that begins with something else than `<`
 not_angled : (x : ℕ) (name : Bytes) → x ≢ 60 → IsAngled (x ∷ name) → ⊥
@@ -80,7 +77,7 @@ module _ {V : Type 0} (w : World V) (c : Call V) (cwd_is : c.request.cwd ≡ cod
   meant : (name : Bytes) → path_of c name ≡ normal (joined (components (codes "/w")) (components name))
   meant name = ap (λ d. normal (joined (components d) (components name))) cwd_is
 
-  input_meant : components (input_path c) ≡ in_w (codes "a.c")
+  pub input_meant : components (input_path c) ≡ in_w (codes "a.c")
   unfolding components join_path
   input_meant = ap₂ (λ d f. components (join_path d f)) cwd_is input_is
 
@@ -116,7 +113,7 @@ module _ {V : Type 0} (w : World V) (c : Call V) (cwd_is : c.request.cwd ≡ cod
   header_looked = looked_at 47 (codes "w/h.h") (codes "h.h") (λ e. omega (arith, e)) header_path refl refl
 
   -- the header is named, and nothing else is
-  header_named : IsNamed w c header_text (in_w (codes "h.h"))
+  pub header_named : IsNamed w c header_text (in_w (codes "h.h"))
   header_named =
       record {
         name = codes "/w/h.h";
@@ -128,7 +125,7 @@ module _ {V : Type 0} (w : World V) (c : Call V) (cwd_is : c.request.cwd ≡ cod
         is = sym header_path;
       }
 
-  header_alone : (p : Path) → IsNamed w c header_text p → p ≡ in_w (codes "h.h")
+  pub header_alone : (p : Path) → IsNamed w c header_text p → p ≡ in_w (codes "h.h")
   header_alone p n =
       let same : n.marks ≡ header_marks = one_list true header_text n.marks header_marks n.are header_text_marks in
       let mark = Name n.name n.system in
@@ -148,7 +145,7 @@ module _ {V : Type 0} (w : World V) (c : Call V) (cwd_is : c.request.cwd ≡ cod
   input_passes : IsLooked w c (codes "/w/a.c") false → IsGood w c (path_of c (codes "/w/a.c"))
   input_passes looked = absurd (named_itself (codes "/w/a.c") input_itself false looked)
 
-  header_accepted : (n : FileNode) → file_at c.files (in_w (codes "h.h")) ≡ Ok n → IsOld w c n → recorded (setting w c) n ≢ None → Walk w c header_text Accepted
+  pub header_accepted : (n : FileNode) → file_at c.files (in_w (codes "h.h")) ≡ Ok n → IsOld w c n → recorded (setting w c) n ≢ None → Walk w c header_text Accepted
   header_accepted n at old told =
       (header_marks, header_text_marks, inl (input_passes, inl (λ _. subst (IsGood w c) (sym header_path) (inr (n, at, old, told)), inl (input_passes, refl))))
 

@@ -7,6 +7,8 @@ use Rattle.std.specs.declared.alloc.Global.{Global}
 use Rattle.std.proofs.lemmas.Option.{none-some}
 use Rattle.cck_files.specs.FileMap.{FileMap}
 use Rattle.cck_include.specs.Gathered.{Digested}
+use Rattle.cck_key_error.specs.declared.key_error.KeyError.{KeyError}
+use Rattle.cck_key_error.specs.declared.key_error.KeyError.TheVariants as error
 use Rattle.cck_markers.proofs.OneList.{one_list}
 use Rattle.cck_markers.specs.Marks.{Mark, Marks, Name}
 use Rattle.cck_path.specs.Bytes.{Bytes, variables_of}
@@ -17,8 +19,6 @@ use Rattle.cck_walk.specs.Decided.{Accepts, Context, Digests, Errs, IsRefused, c
 use Rattle.cck_walk.specs.Decided as decision
 use Rattle.cck_walk.specs.Digests.{listed, written}
 use Rattle.cck_walk.specs.Walk.{IsWalk}
-use Rattle.cck_walk.specs.declared.error.WalkError.{WalkError}
-use Rattle.cck_walk.specs.declared.error.WalkError.TheVariants as error
 use Rattle.cck_walk.specs.declared.walk.Walk as walk
 use Rattle.cck_walk.specs.declared.walk.Walk.TheVariants as answer
 use Rattle.c_cache_keys.proofs.Decisions.{AreGathered, IsMeant, gathers, none_regular, one_decision, told}
@@ -110,18 +110,23 @@ module _ {V : Type 0} (w : World V) (c : Call V) (text : Bytes) where
       turned_written (e ∷ es) = ap (λ l. handed e ∷ l) (turned_written es)
 
   -- what a walk answers
-  pub walked : (F : Type 0) (r : Result walk.Walk WalkError) → IsWalk (walk_context w c) F text r → IsWalked w c text F r
+  pub walked : (F : Type 0) (r : Result walk.Walk KeyError) → IsWalk (walk_context w c) F text r → IsWalked w c text F r
   walked F (Ok (answer.Accepted files)) (digests, decides, is) =
       (verdict_told (Accepts digests) decides, subst (AreRecorded w c text) (sym (handed_on files.items (entries digests) is)) (all_recorded digests decides))
   walked F (Ok answer.Refused) (inl decides) = inl (verdict_told IsRefused decides)
   walked F (Ok answer.Refused) (inr fault) = inr fault
   walked F (Err error.Marker) decides = verdict_told Errs decides
   walked F (Err error.Memory) h = tt
+  walked F (Err (error.Extra e)) h = absurd h
+  walked F (Err (error.Input e)) h = absurd h
+  walked F (Err error.Store) h = absurd h
+  walked F (Err (error.Entry e)) h = absurd h
+  walked F (Err (error.Preprocess e)) h = absurd h
 
 -- the same of a walk that was handed the parts of a call
 pub walked_over : {V : Type 0} (w : World V) (c : Call V) (text : Bytes) (files : FileMap) (moment : Moment) (variables : List (Vec ℕ × Vec ℕ)) (input cwd : Bytes)
     → c.files ≡ files → c.moment ≡ moment → c.request.env_vars ≡ variables_of variables → input_path c ≡ input → c.request.cwd ≡ cwd
-    → (F : Type 0) (r : Result walk.Walk WalkError) → IsWalk (context_in w.hash w.config moment w.zone variables files input cwd) F text r → IsWalked w c text F r
+    → (F : Type 0) (r : Result walk.Walk KeyError) → IsWalk (context_in w.hash w.config moment w.zone variables files input cwd) F text r → IsWalked w c text F r
 walked_over w c text files moment variables input cwd same-files same-moment same-variables same-input same-cwd F r is =
     walked w c text F r (subst (λ (x : Context). IsWalk x F text r) (same_context w c files moment variables input cwd same-files same-moment same-variables same-input same-cwd) is)
 

@@ -3,6 +3,7 @@ use Rattle.std.specs.Prelude.{List, string_bytes}
 use Rattle.cck_compiler.specs.Compiler.{Compiler}
 use Rattle.cck_compiler.specs.Seen.{arguments_of}
 use Rattle.cck_files.specs.FileMap.{FileMap}
+use Rattle.cck_include.specs.Setting.{Setting}
 use Rattle.cck_path.specs.Bytes.{Bytes, lists_of, variables_of}
 use Rattle.cck_path.specs.Timestamp.{Moment}
 use Rattle.cck_path.specs.Variables.{Variable}
@@ -38,6 +39,16 @@ given_by cwd env_vars moment zone config basedirs control = record {
 
 abbrev pub given_of : Conditions → Given
 given_of c = given_by c.cwd.now (variables_of c.vars.now) c.moment (plain_zone c.zone.now) c.config (lists_of c.basedirs.now) c.control
+
+-- how files are judged under it
+abbrev pub setting_under : (Bytes → Bytes) → Given → Setting
+setting_under hash given = record {
+  hash = hash;
+  config = given.config;
+  moment = given.moment;
+  zone = given.zone;
+  variables = given.env_vars;
+}
 
 -- the world of a call
 abbrev pub world_under : {V : Type 0} → (Bytes → Bytes) → Compiler V → Given → World V

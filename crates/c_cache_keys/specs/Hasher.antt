@@ -1,10 +1,8 @@
 -- what the parts of one call answer
-use Rattle.std.specs.Prelude.{◌≡◌, ◌⊎◌, List, true, ◌∷◌, ◌++◌, map, Option, Some, None, Result, Ok, Err, String, string_bytes}
+use Rattle.std.specs.Prelude.{◌≡◌, ◌⊎◌, List, Bool, true, ◌∷◌, ◌++◌, map, Option, Some, None, Result, Ok, Err, String, string_bytes}
 use Rattle.std.specs.FinMap.{empty}
 use Rattle.std.specs.Option.{option_map}
 use Rattle.std.specs.declared.alloc.Global.{Global}
-use Rattle.cck_compiler.specs.declared.error.KeyError.{KeyError}
-use Rattle.cck_compiler.specs.declared.error.KeyError.TheVariants as refusal
 use Rattle.cck_digest.specs.Digest.{digest_text}
 use Rattle.cck_entry.specs.Entry.{EntryText, added}
 use Rattle.cck_file_digest.specs.FolderText.{lossy}
@@ -12,6 +10,8 @@ use Rattle.cck_files.specs.FileMap.{FileMap, FileNode}
 use Rattle.cck_include.specs.Gathered.{Digested, gathered}
 use Rattle.cck_include.specs.Include.{Include}
 use Rattle.cck_include.specs.Recorded.{recorded}
+use Rattle.cck_key_error.specs.declared.key_error.KeyError.{KeyError}
+use Rattle.cck_key_error.specs.declared.key_error.KeyError.TheVariants as refusal
 use Rattle.cck_path.specs.Bytes.{Bytes}
 use Rattle.cck_path.specs.Timestamp.{Moment}
 use Rattle.cck_preprocessor_key.specs.PreprocessorKey.{preprocessor_material}
@@ -20,9 +20,10 @@ use Rattle.c_cache_keys.specs.Call.{Answer, Call, Keyed, Refused}
 use Rattle.c_cache_keys.specs.Keys.{extra_texts, input_file, is_preprocessed, preprocessor_key_of, printed, request_parts}
 use Rattle.c_cache_keys.specs.Reasons.{IsInputReason}
 use Rattle.c_cache_keys.specs.Seen.{why_of}
-use Rattle.c_cache_keys.specs.Step.{Asked, Asks, Failed, Hit, Miss, Opened}
+use Rattle.c_cache_keys.specs.Step.{Asked, AsksBy, Failed, Hit, Miss, Opened, matching}
 use Rattle.c_cache_keys.specs.Walk.{input_path}
 use Rattle.c_cache_keys.specs.World.{World, setting}
+use Rattle.c_cache_keys.specs.declared.call.CacheControl.{CacheControl}
 use Rattle.c_cache_keys.specs.declared.call.CacheControl.TheVariants.{Default, ForceRecache}
 use Rattle.c_cache_keys.specs.declared.hasher.opening.Opening.{Opening}
 
@@ -74,8 +75,12 @@ pub record IsPrintedFor {V : Type 0} (w : World V) (c : Call V) (k : Bytes) (ext
   pub first : is_preprocessed c.request ≡ true
   pub prints : printed w c ≡ Some text
 
--- The store is asked under the call's key; or it isn't, where there is no such key or no stored result may be answered.
+-- The store is asked under this key; or it isn't, where there is none or no stored result may be answered.
+abbrev pub IsFoundBy : {S : Type 0} → Store S → Option Bytes → CacheControl → (Include → Bool) → Type 0 → S → Asked → S → Type 0
+IsFoundBy st key control test HasFault s o t =
+    (((key ≡ None) ⊎ (control ≡ ForceRecache)) × (o ≡ Miss) × (t ≡ s))
+    ⊎ ((k : Bytes) × (key ≡ Some k) × (control ≡ Default) × AsksBy st test HasFault k s o t)
+
+-- the same under a call's key
 abbrev pub IsFound : {V S : Type 0} → World V → Store S → Call V → Type 0 → S → Asked → S → Type 0
-IsFound w st c HasFault s o t =
-    (((preprocessor_key_of w c ≡ None) ⊎ (c.control ≡ ForceRecache)) × (o ≡ Miss) × (t ≡ s))
-    ⊎ ((k : Bytes) × (preprocessor_key_of w c ≡ Some k) × (c.control ≡ Default) × Asks w st c HasFault k s o t)
+IsFound w st c = IsFoundBy st (preprocessor_key_of w c) c.control (matching w c)

@@ -53,11 +53,37 @@ module _ {V S : Type 0} (w : World V) (st : Store S) where
   abbrev pub NothingDamaged : Type 0
   NothingDamaged = (earlier : List (Call V)) (d : Done V) (s t : S) → Sound w st s earlier → Step w st d.call (Fault d) s (Refused Damaged) t → ⊥
 
-  -- every answered key of a run from an empty store is its call's plain key
-  abbrev pub Transparent : Type 0
-  Transparent =
-      (s t : S) (done : List (Done V)) (answers : List Answer) → IsEmpty w st s → Run w st s done answers t → Premises w (calls_of done)
-      → AllZip (IsTransparent w) (calls_of done) answers
+  -- A call that can hit asks the store once, under its key. Where it is handed an entry with a key whose included files all are what
+  -- they were, the greatest such key is answered, as a stored one, whatever a preprocessor would print; and nothing is put.
+  abbrev pub AnswersHanded : Done V → S → Answer → S → Type 0
+  AnswersHanded d s r t =
+      (k : Bytes) → CanHit w d k r
+      → (handed : Handed) × (mid : S) × st.got s k handed mid
+      × ((bytes key : Bytes) (e : Entry) → handed ≡ Ok (Some bytes) → EntryText e bytes → found w d.call e ≡ Some key → (r ≡ Keyed key false) × (t ≡ mid))
+
+  abbrev pub HandedIsAnswered : Type 0
+  HandedIsAnswered = (d : Done V) (s t : S) (r : Answer) → Step w st d.call (Fault d) s r t → AnswersHanded d s r t
+
+  -- a run, each of whose calls answers what it is handed, between the same two states as its step
+  abbrev pub AllAnswerHanded : S → List (Done V) → List Answer → S → Type 0
+  AllAnswerHanded s [] [] t = t ≡ s
+  AllAnswerHanded s (d ∷ ds) (r ∷ rs) t = (mid : S) × Step w st d.call (Fault d) s r mid × AnswersHanded d s r mid × AllAnswerHanded mid ds rs t
+  AllAnswerHanded s [] (r ∷ rs) t = ⊥
+  AllAnswerHanded s (d ∷ ds) [] t = ⊥
+
+  -- each run is such a one, whatever the store holds at first
+  abbrev pub RunAnswersHanded : Type 0
+  RunAnswersHanded = (s t : S) (done : List (Done V)) (answers : List Answer) → Run w st s done answers t → AllAnswerHanded s done answers t
+
+  -- The headline. Its first half: every answered key of a run from an empty store, stored or fresh, is its call's plain key, and no call
+  -- is refused for what the store handed out. Its second half: a stored key that matches is answered, whatever a preprocessor prints.
+  -- The first half has five premises. Four are `Premises`: no shared digest, one request, prints again, options off. The fifth, an honest
+  -- store, is part of what each `PreprocessorStore` keeps to (`got_some`, `got_old` and `put_old` of `StoreLaws`). The second half needs
+  -- none of them, nor an empty store, but that the call can hit (`CanHit`).
+  abbrev pub Headline : Type 0
+  Headline =
+      (s t : S) (done : List (Done V)) (answers : List Answer) → Run w st s done answers t
+      → (IsEmpty w st s → Premises w (calls_of done) → AllZip (IsTransparent w) (calls_of done) answers) × AllAnswerHanded s done answers t
 
   -- the same of several runs on one store, each starting where the one before ended
   abbrev pub Runs : S → List (List (Done V)) → List (List Answer) → S → Type 0
@@ -66,18 +92,11 @@ module _ {V S : Type 0} (w : World V) (st : Store S) where
   Runs s [] (answers ∷ others) t = ⊥
   Runs s (run ∷ runs) [] t = ⊥
 
-  abbrev pub RunsTransparent : Type 0
-  RunsTransparent =
-      (s t : S) (runs : List (List (Done V))) (answers : List (List Answer)) → IsEmpty w st s → Runs s runs answers t → Premises w (calls_of (joined_lists runs))
-      → AllZip (IsTransparent w) (calls_of (joined_lists runs)) (joined_lists answers)
-
-  -- What a call that can hit is handed decides: where that is an entry with a key whose included files all are what they were, the
-  -- greatest such key is answered, whatever a preprocessor would print.
-  abbrev pub HandedIsAnswered : Type 0
-  HandedIsAnswered =
-      (d : Done V) (s t : S) (k : Bytes) (r : Answer) → CanHit w d k r → Step w st d.call (Fault d) s r t
-      → (handed : Handed) × (mid : S) × st.got s k handed mid
-      × ((bytes key : Bytes) (e : Entry) → handed ≡ Ok (Some bytes) → EntryText e bytes → found w d.call e ≡ Some key → r ≡ Keyed key false)
+  abbrev pub RunsHeadline : Type 0
+  RunsHeadline =
+      (s t : S) (runs : List (List (Done V))) (answers : List (List Answer)) → Runs s runs answers t
+      → (IsEmpty w st s → Premises w (calls_of (joined_lists runs)) → AllZip (IsTransparent w) (calls_of (joined_lists runs)) (joined_lists answers))
+      × AllAnswerHanded s (joined_lists runs) (joined_lists answers) t
 
   -- what is held after a call was held before it, or is the call's own pair, whose key was the fresh answer
   abbrev pub KeepsOldOrOwn : Type 0

@@ -13,4 +13,5 @@ pub mod Seen
 pub mod Step
 pub mod Walk
 pub mod Walked
+pub mod Witness
 pub mod World

@@ -1,5 +1,5 @@
 -- what is asked of the calls, so that a stored key is the plain key
-use Rattle.std.specs.Prelude.{◌≡◌, ◌⊎◌, List, ◌++◌, true, false, Some, Ok, Contains}
+use Rattle.std.specs.Prelude.{◌≡◌, ◌≢◌, ◌⊎◌, List, ◌++◌, true, false, Some, None, Ok, Contains}
 use Rattle.cck_digest.specs.Digest.{digest_text}
 use Rattle.cck_file_digest.specs.FolderText.{digest_material}
 use Rattle.cck_files.specs.FileMap.{FileNode, file_at, folder_at}
@@ -33,10 +33,12 @@ module _ {V : Type 0} (w : World V) where
   abbrev pub IsBefore : List (Call V) → Call V → Call V → Type 0
   IsBefore calls c d = (xs : List (Call V)) × (ys : List (Call V)) × (calls ≡ xs ++ ys) × Contains xs c × Contains ys d
 
-  -- two calls agree in what a printed text and a key are made of, beside the input and what it includes
+  -- two calls agree in what a printed text and a key are made of, beside the input and what it includes: all their further files have
+  -- digests, and these are the same
   pub record Agree (c d : Call V) : Type 0 where
     pub request : c.request ≡ d.request
     pub extra : extra_texts w c ≡ extra_texts w d
+    pub some_extra : extra_texts w c ≢ None
 
   -- The file of one call is as that of the other, as far as a text can show: by its contents, by the day of the calls where these hold
   -- a date, and by the second of its modification where they hold a timestamp.

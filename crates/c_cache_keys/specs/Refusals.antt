@@ -1,16 +1,14 @@
 -- why a call for a key is refused, by why a call below it is
-use Rattle.cck_compiler.specs.declared.error.KeyError.{KeyError}
-use Rattle.cck_compiler.specs.declared.error.KeyError.TheVariants.{Memory, Extra, Input, Entry, Preprocess, Marker}
-use Rattle.cck_compiler.specs.declared.error.PreprocessError.{PreprocessError}
-use Rattle.cck_compiler.specs.declared.error.PreprocessError.TheVariants as text
 use Rattle.cck_digest.specs.declared.error.FileError.{FileError}
 use Rattle.cck_digest.specs.declared.error.FileError.TheVariants as file
 use Rattle.cck_digest.specs.declared.error.UtilError.{UtilError}
 use Rattle.cck_digest.specs.declared.error.UtilError.TheVariants as util
+use Rattle.cck_key_error.specs.declared.key_error.KeyError.{KeyError}
+use Rattle.cck_key_error.specs.declared.key_error.KeyError.TheVariants.{Memory, Extra, Input, Entry, Preprocess}
+use Rattle.cck_key_error.specs.declared.preprocess_error.PreprocessError.{PreprocessError}
+use Rattle.cck_key_error.specs.declared.preprocess_error.PreprocessError.TheVariants as text
 use Rattle.cck_time.specs.declared.error.Error.{Error}
 use Rattle.cck_time.specs.declared.error.Error.TheVariants as entry
-use Rattle.cck_walk.specs.declared.error.WalkError.{WalkError}
-use Rattle.cck_walk.specs.declared.error.WalkError.TheVariants as walk
 
 abbrev pub extra_refusal : UtilError → KeyError
 extra_refusal util.Memory = Memory
@@ -31,7 +29,3 @@ text_refusal other = Preprocess other
 abbrev pub entry_refusal : Error → KeyError
 entry_refusal entry.Memory = Memory
 entry_refusal other = Entry other
-
-abbrev pub walk_refusal : WalkError → KeyError
-walk_refusal walk.Memory = Memory
-walk_refusal walk.Marker = Marker

@@ -22,6 +22,34 @@ pub data Asked : Type 0 where
   Miss : Asked
   Failed : Why → Asked
 
+-- What bytes come to that were handed out, where a test says which included files are what they were: it is all that is taken of a
+-- call. No bytes are the empty entry. Here and below F says that a fault came
+abbrev pub ReadsBy : (Include → Bool) → Type 0 → Bytes → Asked → Type 0
+ReadsBy test F bytes (Hit key) = (e : Entry) × EntryText e bytes × IsLookup test (entries e) F (Some key)
+ReadsBy test F bytes Miss = (bytes ≡ []) ⊎ ((e : Entry) × EntryText e bytes × IsLookup test (entries e) F None)
+ReadsBy test F bytes (Failed Memory) = ⊤
+ReadsBy test F bytes (Failed Damaged) = (bytes ≢ []) × ((e : Entry) → EntryText e bytes → ⊥)
+ReadsBy test F bytes (Failed Extra) = ⊥
+ReadsBy test F bytes (Failed ExtraFault) = ⊥
+ReadsBy test F bytes (Failed Input) = ⊥
+ReadsBy test F bytes (Failed InputFault) = ⊥
+ReadsBy test F bytes (Failed StoreFails) = ⊥
+ReadsBy test F bytes (Failed NoText) = ⊥
+ReadsBy test F bytes (Failed TextFault) = ⊥
+ReadsBy test F bytes (Failed Marker) = ⊥
+
+abbrev pub GivesBy : (Include → Bool) → Type 0 → Handed → Asked → Type 0
+GivesBy test F (Err store.Fault) o = o ≡ Failed StoreFails
+GivesBy test F (Err store.Memory) o = o ≡ Failed Memory
+GivesBy test F (Ok None) o = o ≡ Miss
+GivesBy test F (Ok (Some bytes)) o = ReadsBy test F bytes o
+
+-- the store is asked once, under this key
+pub record AsksBy {S : Type 0} (st : Store S) (test : Include → Bool) (F : Type 0) (k : Bytes) (s : S) (o : Asked) (t : S) : Type 0 where
+  pub answer : Handed
+  pub got : st.got s k answer t
+  pub gives : GivesBy test F answer o
+
 module _ {V : Type 0} (w : World V) where
   -- an included file is what it was, for this call
   abbrev pub matching : Call V → Include → Bool
@@ -31,7 +59,7 @@ module _ {V : Type 0} (w : World V) where
   unfoldable pub found : Call V → Entry → Option Bytes
   found c e = option_map (λ r. r.0) (found_in (matching c) (entries e))
 
-  -- why a call is refused before the store is asked. Here and below F says that a fault came
+  -- why a call is refused before the store is asked
   abbrev pub StopsOpening : Call V → Type 0 → Why → Type 0
   StopsOpening c F Memory = ⊤
   StopsOpening c F Extra = extra_texts w c ≡ None
@@ -49,26 +77,12 @@ module _ {V : Type 0} (w : World V) where
     pub extra : extra_texts w c ≢ None
     pub input : uses_cache w c.request ≡ true → input_file w c ≢ None
 
-  -- what bytes come to that were handed out. No bytes are the empty entry
+  -- what bytes come to for a call that were handed out
   abbrev pub ReadsAs : Call V → Type 0 → Bytes → Asked → Type 0
-  ReadsAs c F bytes (Hit key) = (e : Entry) × EntryText e bytes × IsLookup (matching c) (entries e) F (Some key)
-  ReadsAs c F bytes Miss = (bytes ≡ []) ⊎ ((e : Entry) × EntryText e bytes × IsLookup (matching c) (entries e) F None)
-  ReadsAs c F bytes (Failed Memory) = ⊤
-  ReadsAs c F bytes (Failed Damaged) = (bytes ≢ []) × ((e : Entry) → EntryText e bytes → ⊥)
-  ReadsAs c F bytes (Failed Extra) = ⊥
-  ReadsAs c F bytes (Failed ExtraFault) = ⊥
-  ReadsAs c F bytes (Failed Input) = ⊥
-  ReadsAs c F bytes (Failed InputFault) = ⊥
-  ReadsAs c F bytes (Failed StoreFails) = ⊥
-  ReadsAs c F bytes (Failed NoText) = ⊥
-  ReadsAs c F bytes (Failed TextFault) = ⊥
-  ReadsAs c F bytes (Failed Marker) = ⊥
+  ReadsAs c = ReadsBy (matching c)
 
   abbrev pub Gives : Call V → Type 0 → Handed → Asked → Type 0
-  Gives c F (Err store.Fault) o = o ≡ Failed StoreFails
-  Gives c F (Err store.Memory) o = o ≡ Failed Memory
-  Gives c F (Ok None) o = o ≡ Miss
-  Gives c F (Ok (Some bytes)) o = ReadsAs c F bytes o
+  Gives c = GivesBy (matching c)
 
   -- these included files are recorded of the call: all regular files that its text names, and there are some
   pub record AreOwnIncludes (c : Call V) (includes : List Include) : Type 0 where
@@ -110,11 +124,9 @@ module _ {V : Type 0} (w : World V) where
   NotErring c F = (text : Bytes) → preprocessor_key_of w c ≢ None → printed w c ≡ Some text → Walk w c text Errs → F
 
 module _ {V S : Type 0} (w : World V) (st : Store S) where
-  -- the store is asked once, under this key
-  pub record Asks (c : Call V) (F : Type 0) (k : Bytes) (s : S) (o : Asked) (t : S) : Type 0 where
-    pub answer : Handed
-    pub got : st.got s k answer t
-    pub gives : Gives w c F answer o
+  -- the store is asked once for a call, under this key
+  abbrev pub Asks : Call V → Type 0 → Bytes → S → Asked → S → Type 0
+  Asks c = AsksBy st (matching w c)
 
   -- the call's own pair is put once
   pub record Puts (c : Call V) (key : Bytes) (s t : S) : Type 0 where

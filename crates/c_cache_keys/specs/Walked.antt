@@ -5,13 +5,13 @@ use Rattle.std.specs.FinMap.{entries}
 use Rattle.std.specs.String.{string_bytes}
 use Rattle.std.specs.declared.alloc.Global.{Global}
 use Rattle.cck_include.specs.Gathered.{Digested}
+use Rattle.cck_key_error.specs.declared.key_error.KeyError.{KeyError}
+use Rattle.cck_key_error.specs.declared.key_error.KeyError.TheVariants.{Memory, Marker}
 use Rattle.cck_path.specs.Bytes.{Bytes}
 use Rattle.cck_path.specs.Path.{components}
 use Rattle.cck_path.specs.Text.{path_text}
 use Rattle.cck_walk.specs.Decided.{Accepts, Context, Decided, Digests, IsRefused}
 use Rattle.cck_walk.specs.Decided as decision
-use Rattle.cck_walk.specs.declared.error.WalkError.{WalkError}
-use Rattle.cck_walk.specs.declared.error.WalkError.TheVariants.{Memory, Marker}
 use Rattle.cck_walk.specs.declared.walk.Walk as walk
 use Rattle.cck_walk.specs.declared.walk.Walk.TheVariants as answer
 use Rattle.c_cache_keys.specs.Call.{Call}
@@ -51,8 +51,9 @@ digested_of files = map (λ f. (string_bytes (f.1), f.0.items)) files
 
 -- A walk over a call's text answered: its verdict, and with an accepted text what is recorded; with a fault the text may be refused
 -- whatever its verdict.
-abbrev pub IsWalked : {V : Type 0} → World V → Call V → Bytes → Type 0 → Result walk.Walk WalkError → Type 0
+abbrev pub IsWalked : {V : Type 0} → World V → Call V → Bytes → Type 0 → Result walk.Walk KeyError → Type 0
 IsWalked w c text HasFault (Ok (answer.Accepted files)) = Walk w c text Accepted × AreRecorded w c text (digested_of files.items)
 IsWalked w c text HasFault (Ok answer.Refused) = Walk w c text NotAccepted ⊎ HasFault
 IsWalked w c text HasFault (Err Marker) = Walk w c text Errs
 IsWalked w c text HasFault (Err Memory) = Unit {0}
+IsWalked w c text HasFault (Err other) = ⊥

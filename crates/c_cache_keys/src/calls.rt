@@ -5,7 +5,7 @@ ghost use Rattle.cck_path.specs.Bytes.{lists_of};
 ghost use Rattle.jiff.specs.Words.{plain_zone};
 ghost use Rattle.c_cache_keys.specs.Call.{calls_of};
 ghost use Rattle.c_cache_keys.specs.Calls.{AreAnswered, IsAfter, done_all};
-ghost use Rattle.c_cache_keys.specs.Laws.{IsTransparent};
+ghost use Rattle.c_cache_keys.specs.Laws.{AllAnswerHanded, IsTransparent};
 ghost use Rattle.c_cache_keys.specs.Premises.{Premises};
 ghost use Rattle.c_cache_keys.specs.Seen.{answer_of};
 ghost use Rattle.c_cache_keys.specs.Step.{IsEmpty, Run};
@@ -41,17 +41,25 @@ pub struct Call<I, F> {
 
 /// The keys of these calls in their order, one result a call.
 ///
-/// Over a store that is empty at first each key that is answered, stored or fresh, is the plain key
-/// of its call, and no call is refused for what the store handed out, if the calls meet the
-/// premises:
+/// The headline has two halves. Over a store that is empty at first each key that is answered,
+/// stored or fresh, is the plain key of its call, and no call is refused for what the store handed
+/// out, if
 ///
 /// - no two different strings that may be hashed share a digest;
 /// - calls that have one preprocessor key ask for the same;
 /// - a preprocessor prints the same text again over the same input and the same included files;
-/// - the options that let a changed file count as unchanged are off.
+/// - the options that let a changed file count as unchanged are off;
+/// - the store hands out only what was put under the key: its interface demands it, so it is no
+///   further condition here. It may forget, fail and run out of memory at any time.
 ///
-/// This needs nothing of the store but its interface: it may forget, fail and run out of memory at
-/// any time. Of a call only the state of its files changes. Each result is as
+/// And over any store, whether these hold or not, a stored key that matches is answered, whatever a
+/// preprocessor would print, if
+///
+/// - the call can hit: it may use the store and has a key to ask it under, no fault came in it, its
+///   memory sufficed, and it was handed an entry with a key whose included files all are what they
+///   were. The greatest such key is then the answer, and nothing is put.
+///
+/// Of a call only the state of its files changes. Each result is as
 /// [`generate_hash_key`](CCompilerHasher::generate_hash_key) gives it, of the store as the calls
 /// before leave it. The whole is refused only as [`UtilError::Memory`], and then no call was made.
 pub fn run_calls<H: HashState, I: CCompilerImpl, F: Files, S: PreprocessorStore>(
@@ -68,10 +76,13 @@ pub fn run_calls<H: HashState, I: CCompilerImpl, F: Files, S: PreprocessorStore>
     ensures run { IfOk result (λ answers.
         let w = world_of H.hash I.compiler (plain_zone zone.now) config (lists_of basedirs.now) in
         Run w S.store store.old (done_all I.value F.file_map F.faults calls.old calls.new) (map answer_of answers.items) store.new) }
-    ensures transparent { IfOk result (λ answers.
+    ensures headline { IfOk result (λ answers.
         let w = world_of H.hash I.compiler (plain_zone zone.now) config (lists_of basedirs.now) in
         let made = calls_of (done_all I.value F.file_map F.faults calls.old calls.new) in
         IsEmpty w S.store store.old → Premises w made → AllZip (IsTransparent w) made (map answer_of answers.items)) }
+    ensures handed { IfOk result (λ answers.
+        let w = world_of H.hash I.compiler (plain_zone zone.now) config (lists_of basedirs.now) in
+        AllAnswerHanded w S.store store.old (done_all I.value F.file_map F.faults calls.old calls.new) (map answer_of answers.items) store.new) }
     ensures each { IfOk result (λ answers. length answers.items ≡ length calls.old) }
     ensures keeps { AllZip (IsAfter F.file_map F.faults F.is_quiet) calls.old calls.new }
     ensures refused { IsOkUnless result UtilError.Memory }

@@ -18,6 +18,7 @@ mod storing;
 
 use crate::call::{CacheControl, HashResult};
 use crate::conditions::Conditions;
+use asking::find;
 use bstr::ByteSlice;
 use cck_compiler::{CCompilerImpl, ColorMode, KeyError, ParsedArguments};
 use cck_digest::HashState;
@@ -51,10 +52,10 @@ impl<I: CCompilerImpl> CCompilerHasher<I> {
     /// if there is one: the language is preprocessed, the options and the variable `SCCACHE_DIRECT`
     /// allow it, and the arguments don't forbid it. Under that key the store is asked once, unless
     /// `control` forbids it, and the greatest key of an entry whose included files all are what
-    /// they were is the answer. Else the input is preprocessed, and its text with the compiler and
-    /// its arguments gives the key. Where there is a key to ask under, and the text could be walked
-    /// over and names files, an entry of this one result is put; whether that went well doesn't
-    /// change the answer.
+    /// they were is the answer: what looks it up takes no compiler, so it can't preprocess. Else
+    /// the input is preprocessed, and its text with the compiler and its arguments gives the key.
+    /// Where there is a key to ask under, and the text could be walked over and names files, an
+    /// entry of this one result is put; whether that went well doesn't change the answer.
     ///
     /// It is refused as
     ///
@@ -113,7 +114,7 @@ impl<I: CCompilerImpl> CCompilerHasher<I> {
             Ok(opening) => opening,
             Err(error) => return Err(error),
         };
-        let found = match self.find::<H, F, S>(alloc, files, store, &opening, &conditions) {
+        let found = match find::<H, F, S>(alloc, files, store, &opening, &conditions) {
             Ok(found) => found,
             Err(error) => return Err(error),
         };

@@ -1,14 +1,15 @@
 //! Laws about calls and runs, over the definitions alone: each is the contract of a function that
-//! does nothing, and holds for every hash, compiler and store.
-ghost use Rattle.std.specs.Prelude.{ℕ, List};
+//! does nothing, and all but the last hold for every hash, compiler and store.
+ghost use Rattle.std.specs.Prelude.{◌≡◌, ◌↔◌, ℕ, IsTrue, List};
 ghost use Rattle.cck_time.specs.declared.config.PreprocessorCacheModeConfig.{PreprocessorCacheModeConfig};
 ghost use Rattle.jiff.specs.Types.{TimeZone};
 ghost use Rattle.c_cache_keys.specs.Hits.{FreshIsHeld, HeldIsAnswered, RefusalsHaveCauses, StoredIsHit};
-ghost use Rattle.c_cache_keys.specs.Laws.{FreshIsPlain, HandedIsAnswered, HitIsPlain, KeepsOldOrOwn, NothingDamaged, RecacheIsFresh, RunsJoin, RunsTransparent, StaysSound, Transparent};
+ghost use Rattle.c_cache_keys.specs.Laws.{FreshIsPlain, HandedIsAnswered, Headline, HitIsPlain, KeepsOldOrOwn, NothingDamaged, RecacheIsFresh, RunAnswersHanded, RunsHeadline, RunsJoin, StaysSound};
 ghost use Rattle.c_cache_keys.specs.Walked.{VerdictIsDecided};
+ghost use Rattle.c_cache_keys.specs.Witness.{PremisesCanHold};
 ghost use Rattle.c_cache_keys.specs.World.{world_of};
 
-use crate::{CCompilerImpl, PreprocessorStore};
+use crate::{CCompilerImpl, CacheControl, PreprocessorStore};
 use cck_digest::HashState;
 
 /// Calls in two lists in turn are calls in the list joined, and the other way round.
@@ -41,26 +42,33 @@ pub fn nothing_damaged<H: HashState, I: CCompilerImpl, S: PreprocessorStore>()
         NothingDamaged (world_of H.hash I.compiler zone config basedirs) S.store }
 {}
 
-/// **Transparency**: over calls in order on a store that starts empty, under the premises, every
+/// The **headline**, over calls in order. On a store that starts empty, under the premises, every
 /// key that is answered, stored or fresh, is the plain key of its call, and no call is refused for
-/// what the store handed out.
-pub fn transparent<H: HashState, I: CCompilerImpl, S: PreprocessorStore>()
+/// what the store handed out. And on any store, under none of these premises, a call that can hit
+/// answers a stored key that matches, whatever a preprocessor would print.
+pub fn headline<H: HashState, I: CCompilerImpl, S: PreprocessorStore>()
     ensures { (zone : TimeZone) (config : PreprocessorCacheModeConfig) (basedirs : List (List ℕ)) →
-        Transparent (world_of H.hash I.compiler zone config basedirs) S.store }
+        Headline (world_of H.hash I.compiler zone config basedirs) S.store }
 {}
 
 /// The same of several runs in turn on one store.
-pub fn runs_transparent<H: HashState, I: CCompilerImpl, S: PreprocessorStore>()
+pub fn runs_headline<H: HashState, I: CCompilerImpl, S: PreprocessorStore>()
     ensures { (zone : TimeZone) (config : PreprocessorCacheModeConfig) (basedirs : List (List ℕ)) →
-        RunsTransparent (world_of H.hash I.compiler zone config basedirs) S.store }
+        RunsHeadline (world_of H.hash I.compiler zone config basedirs) S.store }
 {}
 
 /// A call that can hit asks the store once. Where it is handed an entry with a key whose included
 /// files all are what they were, the greatest such key is answered, whatever a preprocessor would
-/// print.
+/// print, and nothing is put.
 pub fn handed_is_answered<H: HashState, I: CCompilerImpl, S: PreprocessorStore>()
     ensures { (zone : TimeZone) (config : PreprocessorCacheModeConfig) (basedirs : List (List ℕ)) →
         HandedIsAnswered (world_of H.hash I.compiler zone config basedirs) S.store }
+{}
+
+/// So does each call of a run, whatever the store holds at first: the second half of the headline.
+pub fn run_answers_handed<H: HashState, I: CCompilerImpl, S: PreprocessorStore>()
+    ensures { (zone : TimeZone) (config : PreprocessorCacheModeConfig) (basedirs : List (List ℕ)) →
+        RunAnswersHanded (world_of H.hash I.compiler zone config basedirs) S.store }
 {}
 
 /// What a store holds after a call it held before, or it is the call's own pair, and its key was
@@ -109,4 +117,16 @@ pub fn refusals_have_causes<H: HashState, I: CCompilerImpl, S: PreprocessorStore
 pub fn verdict_is_decided<H: HashState, I: CCompilerImpl>()
     ensures { (zone : TimeZone) (config : PreprocessorCacheModeConfig) (basedirs : List (List ℕ)) →
         VerdictIsDecided (world_of H.hash I.compiler zone config basedirs) }
+{}
+
+/// The premises can hold, and a stored key can be answered: two equal calls on a store in memory
+/// that holds nothing at first meet all that [`headline`] takes, with no fault and no setback.
+/// The first makes a key, and the second answers it from the store.
+pub fn premises_can_hold()
+    ensures { PremisesCanHold }
+{}
+
+/// Controls are equal exactly if they are the same.
+pub fn equality_is_exact()
+    ensures { (a b : CacheControl) → IsTrue (⟦<CacheControl as PartialEq>⟧.eq a b) ↔ (a ≡ b) }
 {}

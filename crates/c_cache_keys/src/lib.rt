@@ -13,29 +13,32 @@
 //! and any hash function. A call answers a [`HashResult`], or a [`KeyError`] that says why there is
 //! no key, be it for a [`PreprocessError`] of the compiler or a [`StoreError`] of the store.
 //!
-//! The promise is a clause of [`run_calls`] and a law over its words, [`laws::transparent`]: over
+//! The headline is two clauses of [`run_calls`] and a law over its words, [`laws::headline`]. Over
 //! calls in order on a store that starts empty every answered key is the plain key, where
 //!
 //! - no two different strings that may be hashed share a digest;
 //! - calls that have one preprocessor key ask for the same;
 //! - a preprocessor prints the same text again over the same input and the same included files;
-//! - the options that let a changed file count as unchanged are off.
+//! - the options that let a changed file count as unchanged are off;
+//! - the store hands out only what was put, as its interface demands.
+//!
+//! And on any store a stored key that matches is answered, by a call that may use the store and
+//! meets no fault and no lack of memory.
 //!
 //! What a text was made of is read from its line markers by [`process_preprocessed_file`], and
 //! [`laws::verdict_is_decided`] says that this is what calls speak of.
 //!
 //! What compilers and stores are, and the walk, is passed on from `cck_compiler`, `cck_store` and
 //! `cck_walk`; two stores are at hand: [`MapStore`] in memory, and [`EmptyStore`], which keeps
-//! nothing.
+//! nothing. All else that a caller names, as hash functions, files, moments and options, stands in
+//! [`cck_util`] and [`cck_entry`], which are passed on whole. Zones are those of `jiff`.
 //!
 //! One call, from a command line to a key:
 //!
 //! ```rust
 //! use c_cache_keys::{CCompiler, CCompilerImpl, CacheControl, CompilerArguments, KeyError, PreprocessorStore};
-//! use cck_files::Files;
-//! use cck_path::Timestamp;
-//! use cck_time::PreprocessorCacheModeConfig;
-//! use cck_util::Sha256State;
+//! use c_cache_keys::cck_entry::PreprocessorCacheModeConfig;
+//! use c_cache_keys::cck_util::{Files, Sha256State, Timestamp};
 //! use jiff::tz::TimeZone;
 //! use std::alloc::Global;
 //!
@@ -81,8 +84,10 @@ pub use cck_compiler::{
     ArtifactDescriptor, CCompilerImpl, CCompilerKind, ColorMode, CompilerArguments, KeyError,
     ParsedArguments, PreprocessError,
 };
+pub use cck_entry;
 pub use cck_store::{EmptyStore, MapStore, PreprocessorStore, StoreError};
+pub use cck_util;
 pub use cck_walk::{
-    LineAction, Records, Walk, WalkError, process_preprocessed_file, process_preprocessor_line,
+    LineAction, Records, Walk, process_preprocessed_file, process_preprocessor_line,
 };
 pub use hasher::CCompilerHasher;

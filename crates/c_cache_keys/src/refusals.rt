@@ -1,12 +1,11 @@
 //! Why a call for a key is refused, by why a call below it is. Lack of memory is
 //! [`KeyError::Memory`], wherever it came.
 ghost use Rattle.std.specs.Prelude.{◌≡◌};
-ghost use Rattle.c_cache_keys.specs.Refusals.{entry_refusal, extra_refusal, input_refusal, key_refusal, text_refusal, walk_refusal};
+ghost use Rattle.c_cache_keys.specs.Refusals.{entry_refusal, extra_refusal, input_refusal, key_refusal, text_refusal};
 
 use cck_compiler::{KeyError, PreprocessError};
 use cck_digest::{FileError, UtilError};
 use cck_time::Error;
-use cck_walk::WalkError;
 
 /// A further file has no digest.
 pub(crate) fn extra_refusal(error: UtilError) -> KeyError
@@ -55,15 +54,5 @@ pub(crate) fn entry_refusal(error: Error) -> KeyError
     match error {
         Error::Memory => KeyError::Memory,
         other => KeyError::Entry(other),
-    }
-}
-
-/// A text could not be walked over.
-pub(crate) fn walk_refusal(error: WalkError) -> KeyError
-    ensures { result ≡ walk_refusal error }
-{
-    match error {
-        WalkError::Memory => KeyError::Memory,
-        WalkError::Marker => KeyError::Marker,
     }
 }

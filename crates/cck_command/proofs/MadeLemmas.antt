@@ -6,6 +6,7 @@ use Rattle.std.proofs.Math.Seq.{take-nil}
 use Rattle.std.proofs.lemmas.Grind.{flat_map-append}
 use Rattle.std.proofs.lemmas.List.{append-nil, length_push}
 use Rattle.cck_path.specs.Bytes.{Bytes}
+use Rattle.cck_store.specs.MapLemmas.{map_store_laws}
 use Rattle.cck_store.specs.MapStore.{State, map_store}
 use Rattle.jiff.specs.Types.{Offset, TimeZone}
 use Rattle.jiff.specs.Words.{fixed_zone}
@@ -18,16 +19,17 @@ use Rattle.cck_script.specs.Surroundings.{AreAfter}
 use Rattle.cck_script.specs.declared.surroundings.Surroundings.{Surroundings}
 use Rattle.cck_time.specs.Config.{activated}
 use Rattle.cck_time.specs.declared.config.PreprocessorCacheModeConfig.{PreprocessorCacheModeConfig}
-use Rattle.c_cache_keys.proofs.Runs.{run_joined}
+use Rattle.c_cache_keys.proofs.Runs.{run_joined, transparent}
+use Rattle.c_cache_keys.proofs.Stored.{run_answers_handed}
 use Rattle.c_cache_keys.specs.Call.{Answer}
 use Rattle.c_cache_keys.specs.Calls.{IsAfter, done_all, done_in}
-use Rattle.c_cache_keys.specs.Step.{Run}
-use Rattle.c_cache_keys.specs.World.{World, world_of}
+use Rattle.c_cache_keys.specs.Step.{IsEmpty, Run}
+use Rattle.c_cache_keys.specs.World.{HasSize, World, world_of}
 use Rattle.c_cache_keys.specs.declared.c_compiler.CCompiler.{CCompiler}
 use Rattle.c_cache_keys.specs.declared.calls.Call.{Call}
 use Rattle.cck_command.specs.MiniCompiler.{mini_compiler}
 use Rattle.cck_command.specs.Made.{AreMade, IsReady, IsRunCompiler}
-use Rattle.cck_command.specs.Run.{IsDone, Ran, answer_line, armed_by}
+use Rattle.cck_command.specs.Run.{IsDone, Ran, answer_line, armed_by, run_world}
 use Rattle.cck_command.specs.declared.mini_compiler.MiniCompiler.{MiniCompiler}
 
 -- ---- one call
@@ -154,17 +156,26 @@ module _ (hash : Bytes → Bytes) (zone : ℤ) (w : World ℤ) where
     made = made_joined so.asked (option_to_list (call_said so.earlier line)) start store next [] printed more so.made (make so.earlier so.after);
   }
 
+-- the store of a script holds nothing at first
+none_held : (hash : Bytes → Bytes) (zone : Offset) (lines : List Line) → IsEmpty (run_world hash zone lines) map_store (armed_by lines)
+none_held hash zone lines k bytes held = cc
+
 -- what is printed of a run, where no line is left
 pub ran : (hash : Bytes → Bytes) (lines : List Line) (now : Surroundings) (printed : Bytes) (zone : Offset) (plain : TimeZone) (basedirs : List Bytes) (end : State)
-    → zone.seconds ≡ zone_of lines → plain ≡ fixed_zone zone → basedirs ≡ basedirs_of lines
+    → HasSize hash → zone.seconds ≡ zone_of lines → plain ≡ fixed_zone zone → basedirs ≡ basedirs_of lines
     → AreSoFar hash (zone_of lines) (world_of hash mini_compiler plain activated basedirs) lines [] now (armed_by lines) end printed → Ran hash lines printed
-ran hash lines now printed zone plain basedirs end is p q so = record {
-  zone = zone;
-  zone_is = is;
-  done = so.made.done;
-  answers = so.made.answers;
-  end = end;
-  calls = rw (so.split ∙ append-nil so.asked) so.made.calls;
-  run = rw (p, q) at so.made.run;
-  printed_are = so.made.printed_are;
-}
+ran hash lines now printed zone plain basedirs end size is p q so =
+    let world = run_world hash zone lines in
+    let run : Run world map_store (armed_by lines) so.made.done so.made.answers end = rw (p, q) at so.made.run in
+    record {
+      zone = zone;
+      zone_is = is;
+      done = so.made.done;
+      answers = so.made.answers;
+      end = end;
+      calls = rw (so.split ∙ append-nil so.asked) so.made.calls;
+      run = run;
+      headline = transparent world map_store size map_store_laws (armed_by lines) end so.made.done so.made.answers (none_held hash zone lines) run;
+      handed = run_answers_handed world map_store (armed_by lines) end so.made.done so.made.answers run;
+      printed_are = so.made.printed_are;
+    }

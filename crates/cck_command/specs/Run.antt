@@ -16,7 +16,9 @@ use Rattle.cck_script.specs.Calls as script
 use Rattle.cck_script.specs.Lines.{Line}
 use Rattle.cck_script.specs.Script.{basedirs_of, fail_of, forget_of, lines_said, zone_of}
 use Rattle.cck_time.specs.Config.{activated}
-use Rattle.c_cache_keys.specs.Call.{Answer, Done, Keyed, Refused, Why, Memory, Extra, ExtraFault, Input, InputFault, Store, Damaged, NoText, TextFault, Marker}
+use Rattle.c_cache_keys.specs.Call.{Answer, Done, Keyed, Refused, calls_of, Why, Memory, Extra, ExtraFault, Input, InputFault, Store, Damaged, NoText, TextFault, Marker}
+use Rattle.c_cache_keys.specs.Laws.{AllAnswerHanded, IsTransparent}
+use Rattle.c_cache_keys.specs.Premises.{Premises}
 use Rattle.c_cache_keys.specs.Step.{Run}
 use Rattle.c_cache_keys.specs.World.{World, world_of}
 use Rattle.c_cache_keys.specs.declared.call.CacheControl.{CacheControl}
@@ -73,7 +75,10 @@ run_world hash zone lines = world_of hash mini_compiler (fixed_zone zone) activa
 abbrev pub armed_by : List Line → State
 armed_by lines = record { pairs = []; setbacks = 0; forget = unwrap_or (forget_of lines) 0; fail = unwrap_or (fail_of lines) 0 }
 
--- this is printed for a run over the calls of these lines
+-- This is printed for a run over the calls of these lines, and the headline holds of all of them: under the premises each key is its
+-- call's plain key, and under none of them each stored key that matches is answered. That a script meets the premises is not said: the
+-- small compiler breaks `PrintsAgain` on some. It reads an included file by its joined path, and what is recorded of it is the file at
+-- the normal path, which is another one where the name has a `..` in it.
 pub record Ran (hash : Bytes → Bytes) (lines : List Line) (printed : Bytes) : Type 0 where
   pub zone : Offset
   pub zone_is : zone.seconds ≡ zone_of lines
@@ -82,6 +87,8 @@ pub record Ran (hash : Bytes → Bytes) (lines : List Line) (printed : Bytes) : 
   pub end : State
   pub calls : AllZip (IsDone hash (zone_of lines)) (asked_calls lines) done
   pub run : Run (run_world hash zone lines) map_store (armed_by lines) done answers end
+  pub headline : Premises (run_world hash zone lines) (calls_of done) → AllZip (IsTransparent (run_world hash zone lines)) (calls_of done) answers
+  pub handed : AllAnswerHanded (run_world hash zone lines) map_store (armed_by lines) done answers end
   pub printed_are : printed ≡ flat_map answer_line answers
 
 -- what is printed for this text, a script without a wrong line

@@ -18,9 +18,11 @@
 //!
 //! The promise of [`engine`] is about each byte: on a reader and a writer that tell their bytes,
 //! what is written is exactly the key of all that was read, by its definition, or the lines of the
-//! answers of a run over the calls that the script's lines ask for; and so these answers are what
-//! the theorem about runs speaks of. [`Status::Refused`] is left out: it says that input, output or
-//! memory failed, and [`refuse`] has then tried once to say so.
+//! answers of a run over the calls that the script's lines ask for. The headline of
+//! [`c_cache_keys`] holds of these calls: if they meet its premises, each printed key is the plain
+//! key of its call; and each stored key that matches is printed as a hit, by a call that may use
+//! the store and isn't refused for lack of memory. [`Status::Refused`] is left out: it says that
+//! input, output or memory failed, and [`refuse`] has then tried once to say so.
 //!
 //! ```rust
 //! let mut words = Vec::new(alloc);

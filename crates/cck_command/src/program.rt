@@ -119,6 +119,9 @@ pub fn refuse<W: Write>(writer: &mut W) -> Status
 ///   number of the first such line is written, with [`Status::Usage`], and nothing is run. Else its
 ///   calls are made in their order, and one line per call is written, with [`Status::Done`]:
 ///   `hit KEY` for a stored key, `miss KEY` for a fresh one, `error N` for a refusal.
+///   If the calls meet the premises of [`laws::headline`](c_cache_keys::laws::headline), each
+///   printed key is the plain key of its call; and whether they do or not, each stored key that
+///   matches is printed as a hit, by a call that may use the store and isn't `error 1`.
 /// - Where a read, a write or a growth of memory outside a call failed: [`Status::Refused`], after
 ///   one try to write `cck: refused`. How much was read and written before is not said.
 pub fn engine<H: HashState, R: Read, W: Write>(

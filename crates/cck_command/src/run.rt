@@ -32,6 +32,9 @@ use std::alloc::Global;
 ///
 /// There is one map of files and one list of variables, which follow the script line by line, and
 /// each call is made over them as they are at its line.
+///
+/// The headline holds of all these calls, since the store holds nothing at first: [`run_calls`]
+/// promises it of the one call of a line alone.
 pub fn run_script<H: HashState>(alloc: Global, script: &Script) -> Result<Vec<u8>, Failed>
     ensures { IfOk result (λ printed. Ran H.hash (lines_of script.now) printed.items) }
 {

@@ -4,4 +4,5 @@ pub mod CopyLemmas
 pub mod ExtraFiles
 pub mod FileExamples
 pub mod ListLemmas
+mod OutputEquality
 pub mod Outputs

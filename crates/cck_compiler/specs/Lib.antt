@@ -1,5 +1,4 @@
 pub mod Arguments
 pub mod Compiler
 pub mod ExtraFiles
-pub mod KeyError
 pub mod Seen

@@ -4,6 +4,8 @@ use Rattle.std.specs.Global.{Vec}
 use Rattle.std.specs.Option.{option_map}
 use Rattle.std.specs.String.{string_bytes}
 use Rattle.std.specs.declared.alloc.Global.{Global}
+use Rattle.cck_key_error.specs.declared.preprocess_error.PreprocessError.{PreprocessError}
+use Rattle.cck_key_error.specs.declared.preprocess_error.PreprocessError.TheVariants as text
 use Rattle.cck_path.specs.Bytes.{Bytes, lists_of}
 use Rattle.cck_compiler.specs.Arguments.{Arguments, Output}
 use Rattle.cck_compiler.specs.Compiler.{CannotCache, Compilation, NotCompilation, Parsed}
@@ -11,8 +13,6 @@ use Rattle.cck_compiler.specs.declared.arguments.ArtifactDescriptor.{ArtifactDes
 use Rattle.cck_compiler.specs.declared.arguments.ParsedArguments.{ParsedArguments}
 use Rattle.cck_compiler.specs.declared.compiler.CompilerArguments.{CompilerArguments}
 use Rattle.cck_compiler.specs.declared.compiler.CompilerArguments.TheVariants as parsed
-use Rattle.cck_compiler.specs.declared.error.PreprocessError.{PreprocessError}
-use Rattle.cck_compiler.specs.declared.error.PreprocessError.TheVariants as text
 
 abbrev pub output_of : String Global × ArtifactDescriptor → Output
 output_of o = record { name = string_bytes (o.0); path = o.1.path.items; optional = o.1.optional }

@@ -8,8 +8,8 @@ ghost use Rattle.cck_file_digest.specs.FolderText.{lossy};
 ghost use Rattle.cck_compiler.specs.Arguments.{archs, is_arch, is_multiarch, output_name};
 ghost use Rattle.cck_compiler.specs.Seen.{arguments_of};
 
-use crate::error::KeyError;
 use bstr::ByteSlice;
+use cck_key_error::KeyError;
 use cck_path::file_name;
 use cck_util::Language;
 use std::alloc::Global;
@@ -42,7 +42,7 @@ pub enum ColorMode {
 /// A command line of a compiler, parsed.
 ///
 /// Upstream's `compiler::c::ParsedArguments`.
-#[derive(Debug, PartialEq, Eq, Drop)]
+#[derive(Debug, Drop, PartialEq, Eq)]
 pub struct ParsedArguments {
     /// The file that is compiled.
     pub input: Vec<u8>,

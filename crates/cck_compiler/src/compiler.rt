@@ -3,8 +3,8 @@ ghost use Rattle.std.specs.Prelude.{◌≡◌, IfOk, IsOkUnless};
 ghost use Rattle.cck_path.specs.Bytes.{lists_of, variables_of};
 
 use crate::arguments::ParsedArguments;
-use crate::error::{KeyError, PreprocessError};
 use cck_files::Files;
+use cck_key_error::{KeyError, PreprocessError};
 use cck_path::Timestamp;
 use std::alloc::Global;
 
@@ -53,6 +53,11 @@ pub enum CompilerArguments<T> {
 ///
 /// It is seen as a value. That value decides, together with what is handed in, what each call
 /// answers, but for lack of memory, and what its preprocessor prints.
+///
+/// An implementation chooses the type of that value, `Value`. It must not be the implementing type
+/// itself where that holds a pointer, as a `String`, a `Vec` or a `Box` does: requests are compared
+/// by the value, and equal compilers at two places in memory would be two values. Take what the
+/// compiler is told by: lists of bytes, numbers and flags.
 ///
 /// Upstream's `compiler::c::CCompilerImpl`.
 pub trait CCompilerImpl {

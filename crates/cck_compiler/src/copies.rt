@@ -6,8 +6,8 @@ ghost use Rattle.std.specs.String.{string_cmp};
 ghost use Rattle.cck_compiler.specs.Seen.{arguments_of, output_of};
 
 use crate::arguments::{ArtifactDescriptor, ParsedArguments};
-use crate::error::KeyError;
 use crate::lists::copy_lists;
+use cck_key_error::KeyError;
 use std::alloc::Global;
 use std::collections::BTreeMap;
 

@@ -5,8 +5,8 @@
 //! that decides all of these, which is what a proof about keys knows of it.
 //!
 //! Behind the arguments come files that no command line names but whose digests stand in the keys:
-//! [`add_extra_files`] puts them there. [`KeyError`] is why a call for a key gave no answer, parsing
-//! among them.
+//! [`add_extra_files`] puts them there. [`KeyError`], which is passed on from `cck_key_error` with
+//! [`PreprocessError`], is why a call for a key gave no answer, parsing among them.
 //!
 //! ```rust
 //! let mut parsed = match compiler.parse_arguments(alloc, &arguments, b"/w", &vars)? {
@@ -22,12 +22,12 @@
 mod arguments;
 mod compiler;
 mod copies;
-mod error;
 mod extra_files;
+pub mod laws;
 mod lists;
 
 pub use arguments::{ArtifactDescriptor, ColorMode, ParsedArguments};
+pub use cck_key_error::{KeyError, PreprocessError};
 pub use compiler::{CCompilerImpl, CCompilerKind, CompilerArguments};
-pub use error::{KeyError, PreprocessError};
 pub use extra_files::add_extra_files;
 pub use lists::{copy_lists, push_copies};

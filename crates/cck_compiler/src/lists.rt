@@ -2,7 +2,7 @@
 ghost use Rattle.std.specs.Prelude.{◌≡◌, ◌++◌, IfOk, IsOkUnless, OnOk};
 ghost use Rattle.cck_path.specs.Bytes.{lists_of};
 
-use crate::error::KeyError;
+use cck_key_error::KeyError;
 use std::alloc::{AllocError, Global};
 
 /// Puts copies of these behind the others. After a refusal some of them may stand there.

@@ -1,3 +1,4 @@
+pub mod EqualityLemmas
 pub mod FinderLemmas
 pub mod HasLemmas
 pub mod FindLemmas

@@ -1,60 +1,127 @@
 -- How far a reader was read into a sink.
-use Rattle.std.proofs.Common.{◌≡◌, ℕ, List, [], ◌∷◌, ◌++◌, Option, Some, None, IfSome, Result, Ok, Err, IfOk, take, refl, sym, ap, ◌∙◌, subst, append_assoc}
+use Rattle.std.proofs.Common.{◌≡◌, ℕ, ◌<◌, ◌≤◌, arith, List, [], ◌∷◌, ◌++◌, length, length-take-le, Option, Some, None, IfSome, Result, Ok, Err, IfOk, take, refl, sym, ap, ◌∙◌, subst, append_assoc, All, Vec, Global}
+use Rattle.std.specs.Prelude.{OnErr, if◌then◌else◌, is_ok}
 use Rattle.std.specs.List.{FoldsTo}
-use Rattle.std.specs.Io.KnownBytes.{Consumes, IsAtEnd}
+use Rattle.std.specs.Io.KnownBytes.{Consumes, IsAtEnd, Keeps}
 use Rattle.std.proofs.lemmas.Fn.{FoldsTo-push}
 use Rattle.std.proofs.lemmas.List.{append-nil, flat_map_more}
-use Rattle.cck_digest.specs.Stream.{concatenation}
+use Rattle.std.proofs.lemmas.List.Elements.{All-nil, All-push}
+use Rattle.cck_digest.specs.Stream.{HasTaken, IsPiece, TakesBeginning, buffer_size, concatenation}
 
--- the pieces so far, that the sink took them, and that they and what the reader has left are its stream
-pub record HasRead {S : Type 0} (takes : S → List ℕ → S → Type 0) (first now : S) (old new : Option (List ℕ)) : Type 0 where
-  pub pieces : List (List ℕ)
-  pub taken : FoldsTo takes first pieces now
-  pub rest : (stream : List ℕ) → old ≡ Some stream → (left : List ℕ) × (new ≡ Some left) × (stream ≡ concatenation pieces ++ left)
-
--- what is left behind a piece
-left_behind : (stream piece : List ℕ) (new : Option (List ℕ)) → Consumes (Some stream) new piece → (left : List ℕ) × (new ≡ Some left) × (stream ≡ piece ++ left)
-left_behind stream piece None consumed = absurd consumed
-left_behind stream piece (Some left) consumed = (left, refl, consumed)
+-- what a reader loses in two steps
+consumes_more : (old new newer : Option (List ℕ)) (front piece : List ℕ) → Consumes old new front → Consumes new newer piece → Consumes old newer (front ++ piece)
+consumes_more None new newer front piece first second = tt
+consumes_more (Some stream) None newer front piece first second = absurd first
+consumes_more (Some stream) (Some left) None front piece first second = absurd second
+consumes_more (Some stream) (Some left) (Some rest) front piece first second = first ∙ ap (λ x. front ++ x) second ∙ sym (append_assoc front piece rest)
 
 concatenation-push : (pieces : List (List ℕ)) (piece : List ℕ) → concatenation pieces ++ piece ≡ concatenation (pieces ++ piece ∷ [])
 concatenation-push pieces piece = flat_map_more (λ p. p) [] pieces piece
 
+concatenation-append : (xs ys : List (List ℕ)) → concatenation (xs ++ ys) ≡ concatenation xs ++ concatenation ys
+concatenation-append [] ys = refl
+concatenation-append (x ∷ xs) ys = ap (λ bytes. x ++ bytes) (concatenation-append xs ys) ∙ sym (append_assoc x (concatenation xs) (concatenation ys))
+
+-- at first no piece was taken
+pub HasTaken-nothing : {S : Type 0} (takes : S → List ℕ → S → Type 0) (sink : S) (known : Option (List ℕ)) → HasTaken takes sink sink known known
+HasTaken-nothing takes sink None = ([], refl, All-nil IsPiece, tt)
+HasTaken-nothing takes sink (Some stream) = ([], refl, All-nil IsPiece, refl)
+
 -- one more piece
-pub HasRead-push : {S : Type 0} (takes : S → List ℕ → S → Type 0) (first now later : S) (old new newer : Option (List ℕ)) (piece : List ℕ)
-    → HasRead takes first now old new → takes now piece later → Consumes new newer piece → HasRead takes first later old newer
-HasRead-push takes first now later old new newer piece read taking consumed = record {
-  pieces = read.pieces ++ piece ∷ [];
-  taken = FoldsTo-push takes first read.pieces now piece later read.taken taking;
-  rest = λ stream e.
-      let before = read.rest stream e in
-      let after = left_behind before.0 piece newer (subst (λ x. Consumes x newer piece) before.1 consumed) in (
-        after.0,
-        after.1,
-        before.2 ∙ (ap (λ x. concatenation read.pieces ++ x) after.2
-            ∙ (sym (append_assoc (concatenation read.pieces) piece after.0) ∙ ap (λ x. x ++ after.0) (concatenation-push read.pieces piece))),
-      );
-}
+pub HasTaken-push : {S : Type 0} (takes : S → List ℕ → S → Type 0) (first now later : S) (old new newer : Option (List ℕ)) (piece : List ℕ)
+    → HasTaken takes first now old new → takes now piece later → IsPiece piece → Consumes new newer piece → HasTaken takes first later old newer
+HasTaken-push takes first now later old new newer piece (pieces, folds, small, consumed) taking fits more = (
+  pieces ++ piece ∷ [],
+  FoldsTo-push takes first pieces now piece later folds taking,
+  All-push IsPiece pieces piece small fits,
+  subst (Consumes old newer) (concatenation-push pieces piece) (consumes_more old new newer (concatenation pieces) piece consumed more),
+)
+
+-- what one read gives is a piece
+pub read_is_piece : (count : ℕ) (buffer : List ℕ) → 0 < count → count ≤ length buffer → length buffer ≡ buffer_size → IsPiece (take count buffer)
+read_is_piece count buffer some within room =
+    let long = length-take-le count buffer within in
+    (omega (arith, long), omega (arith, long))
+
+-- a failed read loses nothing
+consumes_kept : (old new newer : Option (List ℕ)) (bytes : List ℕ) → Consumes old new bytes → Keeps new newer → Consumes old newer bytes
+consumes_kept None new newer bytes consumed kept = tt
+consumes_kept (Some stream) None newer bytes consumed kept = absurd consumed
+consumes_kept (Some stream) (Some left) None bytes consumed kept = absurd kept
+consumes_kept (Some stream) (Some left) (Some rest) bytes consumed kept = consumed ∙ ap (λ x. bytes ++ x) (sym kept)
+
+pub HasTaken-kept : {S : Type 0} (takes : S → List ℕ → S → Type 0) (first now : S) (old new newer : Option (List ℕ))
+    → HasTaken takes first now old new → Keeps new newer → HasTaken takes first now old newer
+HasTaken-kept takes first now old new newer (pieces, folds, small, consumed) kept = (pieces, folds, small, consumes_kept old new newer (concatenation pieces) consumed kept)
 
 -- at the end of the reader the pieces are all of its stream
-pub HasRead-end : {S : Type 0} (takes : S → List ℕ → S → Type 0) (first now : S) (old new newer : Option (List ℕ)) (count : ℕ) (buffer : List ℕ)
-    → HasRead takes first now old new → count ≡ 0 → Consumes new newer (take count buffer) → IsAtEnd newer
-    → (pieces : List (List ℕ)) × FoldsTo takes first pieces now × IfSome old (λ stream. stream ≡ concatenation pieces)
-HasRead-end takes first now old new newer count buffer read none consumed ended = (read.pieces, read.taken, whole old read.rest)
-  where
-    nothing : Consumes new newer []
-    nothing = subst (λ n. Consumes new newer (take n buffer)) none consumed
+whole_stream : (old new : Option (List ℕ)) (bytes : List ℕ) → Consumes old new bytes → IsAtEnd new → IfSome old (λ stream. stream ≡ bytes)
+whole_stream None new bytes consumed ended = tt
+whole_stream (Some stream) None bytes consumed ended = absurd consumed
+whole_stream (Some stream) (Some left) bytes consumed ended = consumed ∙ (ap (λ x. bytes ++ x) ended ∙ append-nil bytes)
 
-    none_left : (left : List ℕ) → newer ≡ Some left → left ≡ []
-    none_left left e = subst IsAtEnd e ended
+pub HasTaken-end : {S : Type 0} (takes : S → List ℕ → S → Type 0) (first now : S) (old new newer : Option (List ℕ)) (count : ℕ) (buffer : List ℕ)
+    → HasTaken takes first now old new → count ≡ 0 → Consumes new newer (take count buffer) → IsAtEnd newer
+    → (pieces : List (List ℕ)) × FoldsTo takes first pieces now × All IsPiece pieces × IfSome old (λ stream. stream ≡ concatenation pieces)
+HasTaken-end takes first now old new newer count buffer (pieces, folds, small, consumed) none more ended =
+    let nothing : Consumes new newer [] = subst (λ n. Consumes new newer (take n buffer)) none more in
+    let lost = subst (Consumes old newer) (append-nil (concatenation pieces)) (consumes_more old new newer (concatenation pieces) [] consumed nothing) in
+    (pieces, folds, small, whole_stream old newer (concatenation pieces) lost ended)
 
-    whole : (known : Option (List ℕ)) → ((stream : List ℕ) → known ≡ Some stream → (left : List ℕ) × (new ≡ Some left) × (stream ≡ concatenation read.pieces ++ left))
-        → IfSome known (λ stream. stream ≡ concatenation read.pieces)
-    whole None rest = tt
-    whole (Some stream) rest =
-        let before = rest stream refl in
-        let after = left_behind before.0 [] newer (subst (λ x. Consumes x newer []) before.1 nothing) in
-        before.2 ∙ (ap (λ x. concatenation read.pieces ++ x) (after.2 ∙ none_left after.0 after.1) ∙ append-nil _)
+-- pieces that were taken in two turns
+folds_on : {S : Type 0} (takes : S → List ℕ → S → Type 0) (first mid last : S) (xs ys : List (List ℕ)) → FoldsTo takes first xs mid → FoldsTo takes mid ys last → FoldsTo takes first (xs ++ ys) last
+folds_on takes first mid last [] ys before after = subst (λ s. FoldsTo takes s ys last) (sym before) after
+folds_on takes first mid last (x ∷ xs) ys (next, step, before) after = (next, step, folds_on takes next mid last xs ys before after)
+
+-- a beginning of what comes behind other pieces
+pub begun_behind : {S : Type 0} (takes : S → List ℕ → S → Type 0) (first mid last : S) (pieces : List (List ℕ)) (front back : List ℕ)
+    → FoldsTo takes first pieces mid → front ≡ concatenation pieces → TakesBeginning takes mid back last → TakesBeginning takes first (front ++ back) last
+begun_behind takes first mid last pieces front back before whole (more, rest, after, begun) = (
+  pieces ++ more,
+  rest,
+  folds_on takes first mid last pieces more before after,
+  ap (λ x. x ++ back) whole
+      ∙ ap (λ x. concatenation pieces ++ x) begun
+      ∙ sym (append_assoc (concatenation pieces) (concatenation more) rest)
+      ∙ ap (λ x. x ++ rest) (sym (concatenation-append pieces more)),
+)
+
+-- a beginning of bytes is one of longer bytes
+pub begun_longer : {S : Type 0} (takes : S → List ℕ → S → Type 0) (first last : S) (bytes more : List ℕ) → TakesBeginning takes first bytes last → TakesBeginning takes first (bytes ++ more) last
+begun_longer takes first last bytes more (pieces, rest, folds, begun) =
+    (pieces, rest ++ more, folds, ap (λ x. x ++ more) begun ∙ append_assoc (concatenation pieces) rest more)
+
+-- nothing is a beginning
+pub begun_with_nothing : {S : Type 0} (takes : S → List ℕ → S → Type 0) (sink : S) (bytes : List ℕ) → TakesBeginning takes sink bytes sink
+begun_with_nothing takes sink bytes = ([], bytes, refl, refl)
+
+-- what was taken of a reader is a beginning of its stream,
+pub begun_so_far : {S : Type 0} (takes : S → List ℕ → S → Type 0) (first now : S) (old new : Option (List ℕ))
+    → HasTaken takes first now old new → IfSome old (λ stream. TakesBeginning takes first stream now)
+begun_so_far takes first now None new taken = tt
+begun_so_far takes first now (Some stream) None (pieces, folds, small, consumed) = absurd consumed
+begun_so_far takes first now (Some stream) (Some left) (pieces, folds, small, consumed) = (pieces, left, folds, consumed)
+
+-- and so with a beginning of one more piece
+pub begun_with_piece : {S : Type 0} (takes : S → List ℕ → S → Type 0) (first now later : S) (old new newer : Option (List ℕ)) (piece : List ℕ)
+    → HasTaken takes first now old new → Consumes new newer piece → TakesBeginning takes now piece later → IfSome old (λ stream. TakesBeginning takes first stream later)
+begun_with_piece takes first now later None new newer piece taken more begun = tt
+begun_with_piece takes first now later (Some stream) None newer piece (pieces, folds, small, consumed) more begun = absurd consumed
+begun_with_piece takes first now later (Some stream) (Some left) None piece (pieces, folds, small, consumed) more begun = absurd more
+begun_with_piece takes first now later (Some stream) (Some left) (Some rest) piece (pieces, folds, small, consumed) more begun =
+    subst (λ bytes. TakesBeginning takes first bytes later) (sym (consumed ∙ ap (λ x. concatenation pieces ++ x) more))
+    (begun_behind takes first now later pieces (concatenation pieces) (piece ++ rest) folds refl (begun_longer takes now later piece rest begun))
+
+-- what holds anyway holds after a refusal
+pub after_refusal : {T E : Type 0} (r : Result T E) (P : Type 0) → P → OnErr r P
+after_refusal (Ok x) P p = tt
+after_refusal (Err e) P p = p
+
+-- a vector that is refused memory took nothing
+pub vector_refused : {T E : Type 0} (r : Result T E) (before after : Vec ℕ Global) (piece : List ℕ) → after.items ≡ (if is_ok r then before.items ++ piece else before.items)
+    → OnErr r (TakesBeginning (λ old bytes new. new.items ≡ old.items ++ bytes) before piece after)
+vector_refused (Ok x) before after piece is = tt
+vector_refused (Err e) before after piece is = ([] ∷ [], piece, (after, is ∙ sym (append-nil before.items), refl), refl)
 
 -- what holds of a sink and its stream piece by piece, holds of the whole
 pub holds_after : {S : Type 0} (takes : S → List ℕ → S → Type 0) (holds : S → List ℕ → Type 0)
@@ -70,10 +137,10 @@ holds_after takes holds keeps (piece ∷ pieces) first last (mid, step, folds) f
 pub holds_of_stream : {S : Type 0} (takes : S → List ℕ → S → Type 0) (holds : S → List ℕ → Type 0)
     → ((before : S) (piece : List ℕ) (after : S) → takes before piece after → (fed : List ℕ) → holds before fed → holds after (fed ++ piece))
     → (first last : S) (known : Option (List ℕ))
-    → (pieces : List (List ℕ)) × FoldsTo takes first pieces last × IfSome known (λ stream. stream ≡ concatenation pieces)
+    → (pieces : List (List ℕ)) × FoldsTo takes first pieces last × All IsPiece pieces × IfSome known (λ stream. stream ≡ concatenation pieces)
     → holds first [] → IfSome known (λ stream. holds last stream)
 holds_of_stream takes holds keeps first last None read h = tt
-holds_of_stream takes holds keeps first last (Some stream) (pieces, folds, whole) h =
+holds_of_stream takes holds keeps first last (Some stream) (pieces, folds, small, whole) h =
     subst (holds last) (sym whole) (holds_after takes holds keeps pieces first last folds [] h)
 
 -- what a part of the sink took

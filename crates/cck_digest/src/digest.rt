@@ -1,5 +1,5 @@
 //! Digests, and the text that stands for one.
-ghost use Rattle.std.specs.Prelude.{◌≡◌, ◌<◌, ℕ, List, [], ◌++◌, IfOk, IsOkUnless, string_bytes};
+ghost use Rattle.std.specs.Prelude.{◌≡◌, ◌<◌, ℕ, List, [], ◌++◌, length, IfOk, IsOkUnless, string_bytes};
 ghost use Rattle.cck_digest.specs.Digest.{delimiter_bytes, digest_text, hex_digit, hex_text, length_prefixed};
 
 use crate::{HashState, UtilError};
@@ -50,6 +50,7 @@ impl<H: HashState> Digest<H> {
     /// It is refused only for lack of memory, as [`UtilError::Memory`].
     pub fn finish(self, alloc: Global) -> Result<String, UtilError>
         ensures text { IfOk result (λ text. (fed : List ℕ) → H.holds self fed → string_bytes text ≡ digest_text H.hash fed) }
+        ensures digits { IfOk result (λ text. length (string_bytes text) ≡ 64) }
         ensures refused { IsOkUnless result UtilError.Memory }
     {
         let out = self.state.out();

@@ -1,9 +1,9 @@
 //! Laws about the definitions, each the contract of a function that does nothing.
-ghost use Rattle.std.specs.Prelude.{◌≡◌, ℕ, List, length};
+ghost use Rattle.std.specs.Prelude.{◌≡◌, ◌↔◌, ℕ, IsTrue, List, length};
 ghost use Rattle.cck_digest.specs.Digest.{HexTellsBytes, digest_text};
 ghost use Rattle.cck_digest.specs.TimeMacros.{HasIsTested};
 
-use crate::HashState;
+use crate::{FileError, HashState, UtilError};
 
 /// Equal digits are of equal bytes: a digest text tells the digest.
 pub fn hex_tells_bytes()
@@ -18,4 +18,12 @@ pub fn text_has_64_characters<H: HashState>()
 /// A word stands in a text exactly if the test for it says so.
 pub fn has_is_tested()
     ensures { HasIsTested }
+{}
+
+/// Refusals are equal exactly if they are the same, with the same cause.
+pub fn equality_is_exact()
+    ensures file_errors { (a b : FileError) →
+        IsTrue (⟦<FileError as PartialEq>⟧.eq a b) ↔ (a ≡ b) }
+    ensures util_errors { (a b : UtilError) →
+        IsTrue (⟦<UtilError as PartialEq>⟧.eq a b) ↔ (a ≡ b) }
 {}

@@ -36,4 +36,4 @@ pub use error::{FileError, UtilError};
 pub use finder::TimeMacroFinder;
 pub use hash::{HashState, Sha256State};
 pub use reader::WatchedDigest;
-pub use stream::{HASH_BUFFER_SIZE, Sink, read_all, read_to_end};
+pub use stream::{HASH_BUFFER_SIZE, Sink, new_hash_buffer, read_all, read_to_end};

@@ -1,14 +1,15 @@
 //! Digests of what a reader gives: upstream's `Digest::reader_sync` and its kin, with the allocator
 //! handed in.
-ghost use Rattle.std.specs.Prelude.{◌≡◌, ◌++◌, ◌⊎◌, ℕ, List, [], IfOk, IfSome, IfErr, IsOkUnless, OnOk, string_bytes};
+ghost use Rattle.std.specs.Prelude.{◌≡◌, ◌++◌, ◌⊎◌, ℕ, List, [], All, length, IfOk, IfSome, IfErr, IsOkUnless, OnOk, string_bytes};
 ghost use Rattle.std.specs.Fn.{CalledAt};
 ghost use Rattle.std.specs.Io.KnownBytes.{IsAtEnd};
 ghost use Rattle.std.specs.List.{FoldsTo};
 ghost use Rattle.cck_digest.specs.Digest.{digest_text};
-ghost use Rattle.cck_digest.specs.Stream.{concatenation};
+ghost use Rattle.cck_digest.specs.Stream.{IsPiece, concatenation};
 ghost use Rattle.cck_digest.specs.TimeMacros.{Follows};
 
-use crate::{Digest, HashState, Sink, TimeMacroFinder, UtilError, read_to_end};
+use crate::stream::{OpenSink, read_through};
+use crate::{Digest, HashState, Sink, TimeMacroFinder, UtilError, new_hash_buffer, read_to_end};
 use std::alloc::{AllocError, Global};
 use std::io::Read;
 
@@ -51,6 +52,7 @@ impl<H: HashState> WatchedDigest<H> {
     pub fn finish(self, alloc: Global) -> Result<(String, TimeMacroFinder), UtilError>
         ensures text { IfOk result (λ pair. (fed : List ℕ) → H.holds self.digest fed
             → string_bytes pair.0 ≡ digest_text H.hash fed) }
+        ensures digits { IfOk result (λ pair. length (string_bytes pair.0) ≡ 64) }
         ensures finder { IfOk result (λ pair. pair.1 ≡ self.finder) }
         ensures refused { IsOkUnless result UtilError.Memory }
     {
@@ -78,14 +80,14 @@ struct Each<H: HashState, F: Drop> {
     each: F,
 }
 
-impl<H: HashState, F: FnMut(&[u8]) + Drop> Sink for Each<H, F> {
+impl<H: HashState, F: FnMut(&[u8]) + Drop> OpenSink for Each<H, F> {
     ghost is_open = { λ shown. F.IsAlwaysCallable shown.each };
 
     ghost takes = { λ before piece after.
         CalledAt F.FnMut before.each piece tt after.each
         × ((fed : List ℕ) → H.holds before.digest fed → H.holds after.digest (fed ++ piece)) };
 
-    fn take(&mut self, piece: &[u8]) -> Result<(), AllocError> {
+    fn take_open(&mut self, piece: &[u8]) -> Result<(), AllocError> {
         (self.each)(piece);
         self.digest.update(piece);
         Ok(())
@@ -98,6 +100,7 @@ impl<H: HashState> Digest<H> {
     pub fn reader_sync<R: Read>(alloc: Global, reader: &mut R) -> Result<String, UtilError>
         ensures text { IfOk result (λ text. IfSome (R.remaining reader.old) (λ stream.
             string_bytes text ≡ digest_text H.hash stream)) }
+        ensures digits { IfOk result (λ text. length (string_bytes text) ≡ 64) }
         ensures end { OnOk result (IsAtEnd (R.remaining reader.new)) }
         ensures refused { IfErr result (λ e. (e ≡ UtilError.Memory) ⊎ (e ≡ UtilError.Read)) }
     {
@@ -107,7 +110,8 @@ impl<H: HashState> Digest<H> {
     }
 
     /// A digest that was fed all that the reader gives. `each` is called with each piece before
-    /// the piece is fed. It is refused as [`read_to_end`] is.
+    /// the piece is fed: with a byte at least, and [`HASH_BUFFER_SIZE`](crate::HASH_BUFFER_SIZE)
+    /// bytes at most. It is refused as [`read_to_end`] is.
     pub fn reader_sync_with<R: Read, F: FnMut(&[u8]) + Drop>(
         alloc: Global,
         reader: &mut R,
@@ -116,7 +120,7 @@ impl<H: HashState> Digest<H> {
         requires { F.IsAlwaysCallable each }
         ensures fed { IfOk result (λ digest. (pieces : List (List ℕ)) × (last : F)
             × FoldsTo (λ before piece after. CalledAt F.FnMut before piece tt after) each pieces last
-            × H.holds digest (concatenation pieces)
+            × All IsPiece pieces × H.holds digest (concatenation pieces)
             × IfSome (R.remaining reader.old) (λ stream. stream ≡ concatenation pieces)) }
         ensures end { OnOk result (IsAtEnd (R.remaining reader.new)) }
         ensures refused { IfErr result (λ e. (e ≡ UtilError.Memory) ⊎ (e ≡ UtilError.Read)) }
@@ -125,7 +129,8 @@ impl<H: HashState> Digest<H> {
             digest: Digest::<H>::new(),
             each,
         };
-        read_to_end(alloc, reader, &mut shown)?;
+        let mut buffer = new_hash_buffer(alloc)?;
+        read_through(&mut buffer, reader, &mut shown)?;
         Ok(shown.digest)
     }
 
@@ -137,6 +142,7 @@ impl<H: HashState> Digest<H> {
     ) -> Result<(String, TimeMacroFinder), UtilError>
         ensures text { IfOk result (λ pair. IfSome (R.remaining reader.old) (λ stream.
             string_bytes pair.0 ≡ digest_text H.hash stream)) }
+        ensures digits { IfOk result (λ pair. length (string_bytes pair.0) ≡ 64) }
         ensures macros { IfOk result (λ pair. IfSome (R.remaining reader.old) (λ stream. Follows pair.1 stream)) }
         ensures end { OnOk result (IsAtEnd (R.remaining reader.new)) }
         ensures refused { IfErr result (λ e. (e ≡ UtilError.Memory) ⊎ (e ≡ UtilError.Read)) }

@@ -1,8 +1,8 @@
 //! Streams: what takes one piece by piece, and the loop that reads a reader to its end.
-ghost use Rattle.std.specs.Prelude.{◌≡◌, ◌<◌, ◌++◌, ◌⊎◌, ℕ, List, length, ⊤, IfOk, IfSome, IfErr, IsErrOf, OnOk, vec_len};
-ghost use Rattle.std.specs.List.{flat_map, FoldsTo};
+ghost use Rattle.std.specs.Prelude.{◌≡◌, ◌++◌, ◌⊎◌, ℕ, List, All, length, ⊤, IfOk, IfSome, IfErr, IsErrOf, OnErr, OnOk, vec_len};
+ghost use Rattle.std.specs.List.{FoldsTo};
 ghost use Rattle.std.specs.Io.KnownBytes.{IsAtEnd};
-ghost use Rattle.cck_digest.specs.Stream.{HasTaken, concatenation};
+ghost use Rattle.cck_digest.specs.Stream.{HasTaken, IsPiece, TakesBeginning, buffer_size, concatenation};
 
 use crate::UtilError;
 use std::alloc::{AllocError, Global};
@@ -11,21 +11,27 @@ use std::io::Read;
 /// How many bytes are asked of a reader at once. Upstream's `util::HASH_BUFFER_SIZE`.
 pub const HASH_BUFFER_SIZE: usize = 131072;
 
+/// A buffer of [`HASH_BUFFER_SIZE`] bytes, 131072, to read a stream through.
+pub fn new_hash_buffer(alloc: Global) -> Result<Vec<u8>, AllocError>
+    ensures room { IfOk result (λ buffer. vec_len buffer ≡ HASH_BUFFER_SIZE) }
+    ensures size { HASH_BUFFER_SIZE ≡ buffer_size }
+{
+    Ok(vec![in alloc; 0u8; HASH_BUFFER_SIZE]?)
+}
+
 /// What takes a stream piece by piece.
 pub trait Sink {
-    // A piece may be handed over.
-    ghost is_open: { Self → Type 0 } = { λ _. ⊤ };
-
     // Taking this piece may lead from the one to the other.
     ghost takes: { Self → List ℕ → Self → Type 0 };
 
-    /// Takes the next piece. It is refused only for lack of memory.
+    /// Takes the next piece. It is refused only for lack of memory, and has taken a beginning of
+    /// the piece then, which may be nothing.
     fn take(&mut self, piece: &[u8]) -> Result<(), AllocError>
-        requires { is_open self.old }
-        ensures { OnOk result (takes self.old piece.now self.new × is_open self.new) };
+        ensures taken { OnOk result (takes self.old piece.now self.new) }
+        ensures begun { OnErr result (TakesBeginning takes self.old piece.now self.new) };
 }
 
-/// Appends each piece.
+/// Appends each piece, or nothing of it where it is refused.
 impl Sink for Vec<u8> {
     ghost takes = { λ before piece after. after.items ≡ before.items ++ piece };
 
@@ -34,20 +40,47 @@ impl Sink for Vec<u8> {
     }
 }
 
+// What takes a stream piece by piece while it is open, as what calls a closure does. A [`Sink`] is
+// always open.
+pub(crate) trait OpenSink {
+    // A piece may be handed over.
+    ghost is_open: { Self → Type 0 };
+
+    // Taking this piece may lead from the one to the other.
+    ghost takes: { Self → List ℕ → Self → Type 0 };
+
+    // Takes the next piece, as [`Sink::take`] does, and is open afterwards.
+    fn take_open(&mut self, piece: &[u8]) -> Result<(), AllocError>
+        requires { is_open self.old }
+        ensures taken { OnOk result (takes self.old piece.now self.new × is_open self.new) }
+        ensures begun { OnErr result (TakesBeginning takes self.old piece.now self.new) };
+}
+
+impl<S: Sink> OpenSink for S {
+    ghost is_open = { λ _. ⊤ };
+
+    ghost takes = { S.takes };
+
+    fn take_open(&mut self, piece: &[u8]) -> Result<(), AllocError> {
+        self.take(piece)
+    }
+}
+
 // Hands over all that the reader gives, read through this buffer.
-fn read_through<S: Sink, R: Read>(
+pub(crate) fn read_through<S: OpenSink, R: Read>(
     buffer: &mut [u8],
     reader: &mut R,
     sink: &mut S,
 ) -> Result<(), UtilError>
-    requires room { 0 < length buffer.old }
+    requires room { length buffer.old ≡ buffer_size }
     requires ready { S.is_open sink.old }
     ensures taken { OnOk result ((pieces : List (List ℕ)) × FoldsTo S.takes sink.old pieces sink.new
-        × IfSome (R.remaining reader.old) (λ stream. stream ≡ concatenation pieces)) }
-    ensures ready { OnOk result (S.is_open sink.new) }
+        × All IsPiece pieces × IfSome (R.remaining reader.old) (λ stream. stream ≡ concatenation pieces)) }
     ensures end { OnOk result (IsAtEnd (R.remaining reader.new)) }
-    ensures stopped { IsErrOf result UtilError.Read → S.is_open sink.new
-        × HasTaken S.takes sink.old sink.new (R.remaining reader.old) (R.remaining reader.new) }
+    ensures stopped { IsErrOf result UtilError.Read
+        → HasTaken S.takes sink.old sink.new (R.remaining reader.old) (R.remaining reader.new) }
+    ensures begun { OnErr result (IfSome (R.remaining reader.old) (λ stream.
+        TakesBeginning S.takes sink.old stream sink.new)) }
     ensures refused { IfErr result (λ e. (e ≡ UtilError.Memory) ⊎ (e ≡ UtilError.Read)) }
 {
     for _ in 0..u64::MAX {
@@ -58,33 +91,34 @@ fn read_through<S: Sink, R: Read>(
         if count == 0 {
             return Ok(());
         }
-        sink.take(&buffer[..count])?;
+        sink.take_open(&buffer[..count])?;
     }
     Err(UtilError::Read)
 }
 
-/// Reads the reader to its end, and hands each piece to the sink, which is then ready for more. No
-/// read is tried again.
+/// Reads the reader to its end, and hands each piece to the sink. A piece has a byte at least, and
+/// [`HASH_BUFFER_SIZE`] bytes at most. No read is tried again.
 ///
 /// It is refused as [`UtilError::Read`] where a read fails, an interrupted one too, or where
 /// `u64::MAX` reads meet no end, and as [`UtilError::Memory`]. After [`UtilError::Read`] the sink
-/// has taken what the reader gave so far and is ready for more, so that a second call goes on where
-/// this one stopped. After [`UtilError::Memory`] it may have taken a beginning of the stream.
+/// has taken what the reader gave so far, so that a second call goes on where this one stopped.
+/// After [`UtilError::Memory`] it has taken a beginning of the stream, and the reader may have
+/// given more.
 pub fn read_to_end<S: Sink, R: Read>(
     alloc: Global,
     reader: &mut R,
     sink: &mut S,
 ) -> Result<(), UtilError>
-    requires { S.is_open sink.old }
     ensures taken { OnOk result ((pieces : List (List ℕ)) × FoldsTo S.takes sink.old pieces sink.new
-        × IfSome (R.remaining reader.old) (λ stream. stream ≡ concatenation pieces)) }
-    ensures ready { OnOk result (S.is_open sink.new) }
+        × All IsPiece pieces × IfSome (R.remaining reader.old) (λ stream. stream ≡ concatenation pieces)) }
     ensures end { OnOk result (IsAtEnd (R.remaining reader.new)) }
-    ensures stopped { IsErrOf result UtilError.Read → S.is_open sink.new
-        × HasTaken S.takes sink.old sink.new (R.remaining reader.old) (R.remaining reader.new) }
+    ensures stopped { IsErrOf result UtilError.Read
+        → HasTaken S.takes sink.old sink.new (R.remaining reader.old) (R.remaining reader.new) }
+    ensures begun { OnErr result (IfSome (R.remaining reader.old) (λ stream.
+        TakesBeginning S.takes sink.old stream sink.new)) }
     ensures refused { IfErr result (λ e. (e ≡ UtilError.Memory) ⊎ (e ≡ UtilError.Read)) }
 {
-    let mut buffer = vec![in alloc; 0u8; HASH_BUFFER_SIZE]?;
+    let mut buffer = new_hash_buffer(alloc)?;
     read_through(&mut buffer, reader, sink)
 }
 

@@ -1,18 +1,12 @@
 -- when two entries are equal, as a test
 use Rattle.std.specs.Prelude.{Bool, ◌&&◌, nat_eq}
-use Rattle.std.specs.Option.{option_eq}
 use Rattle.std.specs.Cmp.Lexicographic.{pointwise, lists_equiv, options_equiv}
 use Rattle.std.specs.Cmp.{IsEquivalence, IsPartialEquivalence, and_equiv, on_equiv, nat_eq_equiv, int_eq_equiv, partial_equiv_from_equiv}
 use Rattle.std.specs.FinMap.{entries}
 use Rattle.cck_path.specs.Timestamp.{Moment, same_moment}
-use Rattle.cck_include.specs.Include.{Include}
+use Rattle.cck_include.specs.Include.{Include, same_include}
 use Rattle.cck_entry.specs.Results.{KeyResult}
 use Rattle.cck_entry.specs.Entry.{Entry}
-
-abbrev pub same_include : Include → Include → Bool
-same_include a b =
-    pointwise nat_eq a.path b.path && (pointwise nat_eq a.digest b.digest && (nat_eq a.size b.size
-    && (option_eq same_moment a.modified b.modified && option_eq same_moment a.changed b.changed)))
 
 abbrev pub same_result : KeyResult → KeyResult → Bool
 same_result a b = pointwise nat_eq a.0 b.0 && pointwise same_include a.1 b.1

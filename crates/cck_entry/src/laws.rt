@@ -1,12 +1,11 @@
 //! Laws about the definitions: what they say beyond what they compute. Each is the contract of a
 //! function that does nothing.
 ghost use Rattle.std.specs.Prelude.{◌≡◌, ◌↔◌, IsTrue};
-ghost use Rattle.cck_include.specs.Include.{include_in};
 ghost use Rattle.cck_entry.specs.Entry.{Entry};
 ghost use Rattle.cck_entry.specs.Find.{GreatestIsFound};
 ghost use Rattle.cck_entry.specs.Laws.{AddedIsLimited, AddedToAllOrNothing, OneTextOneEntry};
 
-use crate::{IncludeEntry, PreprocessorCacheEntry};
+use crate::PreprocessorCacheEntry;
 pub use cck_include::laws::{equal_digests_tell, recorded_has_length};
 pub use cck_preprocessor_key::laws::one_request_one_material;
 pub use cck_time::laws::{dates_of_days, equal_parts_tell, one_day, one_second, parts_exist};
@@ -29,13 +28,9 @@ pub fn added_is_limited()
     ensures { AddedIsLimited }
 {}
 
-/// Entries are equal exactly if they are the same map, and includes exactly if all their fields are
-/// the same.
+/// Entries are equal exactly if they are the same map.
 pub fn equality_is_exact()
-    ensures entries { (a b : Entry) →
-        IsTrue (⟦<PreprocessorCacheEntry as PartialEq>⟧.eq a b) ↔ (a ≡ b) }
-    ensures includes { (a b : IncludeEntry) →
-        IsTrue (⟦<IncludeEntry as PartialEq>⟧.eq a b) ↔ (include_in a ≡ include_in b) }
+    ensures { (a b : Entry) → IsTrue (⟦<PreprocessorCacheEntry as PartialEq>⟧.eq a b) ↔ (a ≡ b) }
 {}
 
 /// What is looked up is the greatest key whose includes all match, and none only if no key's do.

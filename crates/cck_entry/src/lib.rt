@@ -15,6 +15,11 @@
 //!   reads it back. Other bytes are refused, each for a named cause.
 //! - [`laws`] has what the definitions say beyond what they compute.
 //!
+//! What these calls take and return is passed on too: hash functions and errors of `cck_digest`,
+//! files of `cck_files`, their metadata and moments of `cck_path`, [`Language`] of `cck_util`, and
+//! [`KnownDigests`] of `cck_include`, which [`includes_match`] keeps digests in. Zones are those of
+//! `jiff`.
+//!
 //! An entry is written in one way only. Numbers have their lowest byte first:
 //!
 //! | part | bytes |
@@ -45,7 +50,11 @@ mod reading;
 mod results;
 mod writing;
 
-pub use cck_include::{IncludeEntry, gather, includes_match, recorded_digest};
+pub use cck_digest::{FileError, HashState, Sha256State, UtilError};
+pub use cck_files::{Files, MapFiles, Node};
+pub use cck_include::{IncludeEntry, KnownDigests, gather, includes_match, recorded_digest};
+pub use cck_path::{FileKind, Metadata, Timestamp};
 pub use cck_preprocessor_key::{FORMAT_VERSION, preprocessor_cache_entry_hash_key};
 pub use cck_time::{Error, PreprocessorCacheModeConfig, local_time_part};
+pub use cck_util::{Language, UnknownLanguage};
 pub use entry::PreprocessorCacheEntry;

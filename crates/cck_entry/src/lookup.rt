@@ -13,9 +13,8 @@ use crate::PreprocessorCacheEntry;
 use crate::results::Results;
 use cck_digest::HashState;
 use cck_files::Files;
-use cck_include::includes_match;
+use cck_include::{KnownDigests, includes_match};
 use cck_path::Timestamp;
-use cck_path_map::PathMap;
 use cck_time::{Error, PreprocessorCacheModeConfig};
 use jiff::tz::TimeZone;
 use std::alloc::Global;
@@ -67,7 +66,7 @@ fn find_result<'a, H: HashState, F: Files>(
         (map result_in results.now.entries) (Rose (F.faults files.old) (F.faults files.new)) (option_map (λ k. k.now) key)) }
     ensures refused { IsOkUnless result Error.Memory }
 {
-    let mut known: PathMap<Option<String>> = PathMap::new(alloc);
+    let mut known = KnownDigests::new(alloc);
     for (key, includes) in results.iter().rev() {
         let matches = includes_match::<H, F>(
             alloc, files, &mut known, includes, moment, zone, vars, config,

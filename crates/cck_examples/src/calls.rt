@@ -2,14 +2,14 @@
 mod own_compiler;
 
 use crate::calls::own_compiler::OwnCompiler;
+use c_cache_keys::cck_util::{FileKind, Language, MapFiles, Node, Sha256State, Timestamp};
 use c_cache_keys::{
     ArtifactDescriptor, CCompiler, CacheControl, ColorMode, CompilerArguments, EmptyStore,
     KeyError, MapStore, ParsedArguments, PreprocessorStore, StoreError,
 };
 use cck_compiler::add_extra_files;
-use cck_util::{FileError, FileKind, Language, MapFiles, Node, Sha256State, Timestamp, UtilError};
 use jiff::tz::TimeZone;
-use std::alloc::{AllocError, Global};
+use std::alloc::Global;
 use std::collections::BTreeMap;
 use std::process::Abort;
 use std::test::Fail;
@@ -68,40 +68,6 @@ fn a_parsed_command_line(rt: HostRuntime) -> Result<(), Fail> {
     assert_eq!(rt; args.extra_hash_files.len(), 2);
     assert_eq!(rt; args.extra_hash_files[1].as_slice(), b"/y".as_slice());
     Ok(())
-}
-
-#[test]
-fn copies_of_command_lines(rt: HostRuntime) -> Result<(), Fail> {
-    let alloc = rt.alloc();
-    let original = arguments(alloc)?;
-    let mut copy = original.copy(alloc)?;
-    assert!(rt; copy == original);
-    copy.depfile = Some(b"a.d".to_vec(alloc)?);
-    assert!(rt; copy != original);
-    copy.depfile = None;
-    copy.extra_hash_files.push(b"/h".to_vec(alloc)?)?;
-    assert!(rt; copy != original);
-    copy.extra_hash_files.clear();
-    copy.outputs.remove("obj");
-    assert!(rt; copy != original);
-    let output = ArtifactDescriptor {
-        path: b"a.o".to_vec(alloc)?,
-        optional: true,
-    };
-    let mut same = output.copy(alloc)?;
-    assert!(rt; same == output);
-    same.optional = false;
-    assert!(rt; same != output);
-    Ok(())
-}
-
-#[test]
-fn errors_of_calls_for_keys(rt: HostRuntime) {
-    let cause = UtilError::File(FileError::NotFound);
-    assert_eq!(rt; KeyError::from(AllocError), KeyError::Memory);
-    assert_eq!(rt; KeyError::Extra(cause), KeyError::Extra(cause));
-    assert!(rt; KeyError::Extra(cause) != KeyError::Input(cause));
-    assert!(rt; KeyError::Extra(cause) != KeyError::Extra(UtilError::TooDeep));
 }
 
 // Puts bytes into any store, and gets them.

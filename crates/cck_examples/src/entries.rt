@@ -1,11 +1,10 @@
 //! Time parts, recorded digests, preprocessor keys and entries.
 use crate::files::{CountedFiles, files_of};
-use cck_entry::{Error, PreprocessorCacheEntry};
-use cck_include::{IncludeEntry, gather, includes_match, recorded_digest};
-use cck_path_map::PathMap;
-use cck_preprocessor_key::preprocessor_cache_entry_hash_key;
-use cck_time::{PreprocessorCacheModeConfig, local_time_part};
-use cck_util::{FileKind, Language, MapFiles, Node, Sha256State, Timestamp};
+use cck_entry::{
+    Error, FileKind, IncludeEntry, KnownDigests, Language, MapFiles, Node, PreprocessorCacheEntry,
+    PreprocessorCacheModeConfig, Sha256State, Timestamp, gather, includes_match, local_time_part,
+    preprocessor_cache_entry_hash_key, recorded_digest,
+};
 use jiff::tz::{Offset, TimeZone};
 use std::alloc::Global;
 use std::test::Fail;
@@ -44,7 +43,7 @@ fn still_match(
     files: &mut MapFiles,
     includes: &[IncludeEntry],
 ) -> Result<bool, Error> {
-    let mut known = PathMap::new(alloc);
+    let mut known = KnownDigests::new(alloc);
     includes_match::<Sha256State, MapFiles>(
         alloc,
         files,
@@ -58,20 +57,13 @@ fn still_match(
 }
 
 #[test]
-fn includes_compared(rt: HostRuntime) -> Result<(), Fail> {
+fn includes_that_match(rt: HostRuntime) -> Result<(), Fail> {
     let alloc = rt.alloc();
     let mut files = files_of(alloc, &[(b"/w/h.h", b"int y;")])?;
     let digest = recorded(alloc, &mut files, b"/w/h.h")?;
     let included = vec![in alloc; (digest, b"/w/h.h".to_vec(alloc)?)]?;
     let includes = gather(alloc, &mut files, Timestamp::new(1, 0), &included)?;
     assert!(rt; still_match(alloc, &mut files, &includes)?);
-    let include = includes.first().ok_or("an include")?;
-    let mut copy = include.copy(alloc)?;
-    assert!(rt; copy == *include);
-    copy.ctime = Some(Timestamp::new(0, 1));
-    assert!(rt; copy != *include);
-    let mut others = files_of(alloc, &[(b"/w/h.h", b"int z;")])?;
-    assert!(rt; !still_match(alloc, &mut others, &includes)?);
     Ok(())
 }
 
@@ -154,22 +146,6 @@ fn two_results(alloc: Global, files: &mut MapFiles) -> Result<PreprocessorCacheE
     included[1].0 = other;
     entry.add_result(files, Timestamp::new(1000, 0), "b", &included)?;
     Ok(entry)
-}
-
-#[test]
-fn entries_compared(rt: HostRuntime) -> Result<(), Fail> {
-    let alloc = rt.alloc();
-    let mut files = files_of(alloc, &[(b"/1", b"x"), (b"/2", b"y")])?;
-    let entry = two_results(alloc, &mut files)?;
-    let mut bytes: Vec<u8> = Vec::new(alloc);
-    entry.serialize_to(&mut bytes)?;
-    let same = PreprocessorCacheEntry::read(alloc, &bytes)?;
-    assert!(rt; same == entry);
-    let mut copy = entry.copy(alloc)?;
-    assert!(rt; copy == entry);
-    copy.add_result(&mut files, Timestamp::new(1000, 0), "b", &[])?;
-    assert!(rt; copy != entry);
-    Ok(())
 }
 
 // Each of the two headers is read once, though two results name both.

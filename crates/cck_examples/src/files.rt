@@ -70,21 +70,6 @@ fn the_digest_of_a_folder(rt: HostRuntime) -> Result<(), UtilError> {
     Ok(())
 }
 
-// The contents of what is no regular file say nothing.
-#[test]
-fn nodes_once_more(rt: HostRuntime) -> Result<(), UtilError> {
-    let alloc = rt.alloc();
-    let original = node(alloc, FileKind::Folder, b"not empty")?;
-    let mut copy = original.copy(alloc)?;
-    assert_eq!(rt; copy, original);
-    copy.contents.push(b'd')?;
-    assert!(rt; copy != original);
-    let mut files = MapFiles::new(alloc);
-    files.put(b"/f", copy)?;
-    assert_eq!(rt; files.metadata(b"/f")?.len, 0);
-    Ok(())
-}
-
 /// Files that count the calls on one path, and how often any file is read from its start.
 #[derive(Drop)]
 pub(crate) struct CountedFiles<F> {

@@ -2,10 +2,7 @@
 ghost use Rattle.std.specs.Prelude.{⊤};
 
 use cck_digest::{Digest, FileError, Sha256State, Sink, UtilError, read_to_end};
-use cck_path::{
-    Component, Components, FileKind, Metadata, Timestamp, join_path, normalize_path, same_path,
-    write_length_prefixed,
-};
+use cck_path::{join_path, normalize_path, same_path, write_length_prefixed};
 use cck_strip::{strip_basedirs, strip_basedirs_from_arg};
 use cck_util::{HashKeyParams, Language};
 use std::alloc::AllocError;
@@ -65,28 +62,6 @@ fn a_key_of_copied_parts(rt: HostRuntime) -> Result<(), UtilError> {
         "62a180849d592a71eae467cc276b6001ea69e5acd430b63e6a4cabcb0f57ee2c"
     );
     Ok(())
-}
-
-#[test]
-fn values_are_copied_and_compared(rt: HostRuntime) {
-    let time = Timestamp::new(5, 7);
-    let metadata = Metadata {
-        kind: FileKind::File,
-        len: 3,
-        modified: Some(time),
-        changed: None,
-    };
-    let mut other = metadata;
-    assert!(rt; other == metadata);
-    other.changed = Some(time);
-    assert!(rt; other != metadata);
-    assert!(rt; time < Timestamp::new(5, 8) && time > Timestamp::new(4, 8));
-    assert!(rt; Component::RootDir < Component::CurDir && Component::CurDir < Component::ParentDir);
-    assert!(rt; Component::ParentDir < Component::Normal(b"") && Language::C != Language::Cxx);
-    let mut components = Components::new(b"a/b");
-    assert_eq!(rt; components.next(), Some(Component::Normal(b"a")));
-    assert_eq!(rt; components.next(), Some(Component::Normal(b"b")));
-    assert_eq!(rt; components.next(), None);
 }
 
 // Counts the pieces that it takes.

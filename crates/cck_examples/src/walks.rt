@@ -4,9 +4,7 @@ use cck_files::{MapFiles, Node};
 use cck_markers::{Line, Mark, Markers, read_line};
 use cck_path::{FileKind, Timestamp};
 use cck_time::PreprocessorCacheModeConfig;
-use cck_walk::{
-    LineAction, Records, Walk, WalkError, process_preprocessed_file, process_preprocessor_line,
-};
+use cck_walk::{Walk, process_preprocessed_file};
 use jiff::tz::TimeZone;
 use std::alloc::Global;
 use std::test::Fail;
@@ -75,61 +73,5 @@ fn walk_over_a_text(rt: HostRuntime) -> Result<(), Fail> {
     let digest = String::from_str(alloc, DIGEST)?;
     let recorded = vec![in alloc; (b"/inc/h.h".to_vec(alloc)?, digest)]?;
     assert_eq!(rt; walk, Walk::Accepted(recorded));
-    Ok(())
-}
-
-// A marker is read, and the file that it names is recorded.
-#[test]
-fn single_marker(rt: HostRuntime) -> Result<(), Fail> {
-    let alloc = rt.alloc();
-    let mut files = two_files(alloc)?;
-    let mut records = Records::new(alloc);
-    let action = process_preprocessor_line::<Sha256State, MapFiles>(
-        alloc,
-        &mut files,
-        b"/w/a.c",
-        b"/w",
-        &mut records,
-        b"int x;\n# 1 \"/inc/h.h\" 1\n",
-        7,
-        7,
-        PreprocessorCacheModeConfig::activated(),
-        Timestamp::new(100, 0),
-        &TimeZone::UTC,
-        &[],
-    )?;
-    assert_eq!(rt; action, LineAction::Continue((20, 20)));
-    assert_eq!(rt; records.len(), 1);
-    assert_eq!(rt; records.get(b"/inc/h.h"), Some(DIGEST));
-    Ok(())
-}
-
-// Values are equal where all their parts are.
-#[test]
-fn walk_types_compared(rt: HostRuntime) -> Result<(), Fail> {
-    let alloc = rt.alloc();
-    let name = Mark::Name {
-        name: b"x",
-        is_system: false,
-    };
-    let system = Mark::Name {
-        name: b"x",
-        is_system: true,
-    };
-    let other = Mark::Name {
-        name: b"y",
-        is_system: false,
-    };
-    let copy = name;
-    assert!(rt; copy == name && name != system && name != other);
-    assert!(rt; name != Mark::Refusal && Mark::Refusal != Mark::Malformed);
-    assert!(rt; Line::Unnamed { end: 1 } != Line::Unnamed { end: 2 });
-    assert!(rt; Line::Unnamed { end: 1 } != Line::Malformed);
-    assert!(rt; LineAction::Continue((1, 2)) != LineAction::Continue((1, 3)));
-    assert!(rt; LineAction::Break((1, 2, true)) != LineAction::Break((1, 2, false)));
-    assert!(rt; LineAction::Break((1, 2, true)) != LineAction::Continue((1, 2)));
-    assert!(rt; Walk::Accepted(Vec::new(alloc)) == Walk::Accepted(Vec::new(alloc)));
-    assert!(rt; Walk::Accepted(Vec::new(alloc)) != Walk::Refused);
-    assert!(rt; WalkError::Memory != WalkError::Marker);
     Ok(())
 }

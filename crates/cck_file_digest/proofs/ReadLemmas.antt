@@ -1,10 +1,12 @@
 -- Reads of a file's contents, piece by piece.
-use Rattle.std.proofs.Common.{◌≡◌, ℕ, ◌+◌, ◌≤◌, arith, ◌∙◌, ap, sym, List, [], ◌∷◌, length, take, drop, ◌++◌, Result, Ok, Err, IfOk, IsOkAnd, subst, append_assoc, Vec, Global}
+use Rattle.std.proofs.Common.{◌≡◌, ℕ, ◌+◌, ◌<◌, ◌≤◌, arith, ◌∙◌, ap, sym, List, [], ◌∷◌, length, take, drop, ◌++◌, Result, Ok, Err, IsOkAnd, refl, subst, append_assoc, Vec, Global}
 use Rattle.std.proofs.lemmas.Fn.{FoldsTo-push}
-use Rattle.std.proofs.lemmas.List.{take-append-drop, take-take, drop-take, flat_map_more}
-use Rattle.cck_digest.specs.Stream.{concatenation}
+use Rattle.std.proofs.lemmas.List.{take-append-drop, take-take, take_all, drop-take, flat_map_more}
+use Rattle.std.proofs.lemmas.List.Elements.{All-nil, All-push}
+use Rattle.std.specs.Result.{result_unwrap_or}
+use Rattle.cck_digest.specs.Stream.{IsPiece, TakesBeginning, buffer_size, concatenation}
 use Rattle.cck_digest.specs.declared.error.FileError.{FileError}
-use Rattle.cck_digest.proofs.StreamLemmas.{holds_after}
+use Rattle.cck_digest.proofs.StreamLemmas.{begun_behind, begun_longer, holds_after, read_is_piece}
 use Rattle.cck_files.specs.Calls.{IsRead}
 use Rattle.cck_file_digest.specs.Contents.{TakesAll}
 
@@ -19,30 +21,69 @@ take_in_two xs a b =
     ∙ ap (λ p. p ++ drop a (take (a + b) xs)) (take-take a (a + b) xs (omega arith))
     ∙ ap (λ p. take a xs ++ p) (drop-take a b xs)
 
+-- at first nothing was
+pub IsFed-nothing : {S : Type 0} (takes : S → List ℕ → S → Type 0) (sink : S) (contents : List ℕ) → IsFed takes sink sink 0 contents
+IsFed-nothing takes sink contents = record { within = omega arith; taken = ([], refl, All-nil IsPiece, refl) }
+
+-- what one read gives is a part of the contents
+read_part : (offset n : ℕ) (buffer : List ℕ) (found : Result (List ℕ) FileError) → IsOkAnd found (λ contents. IsRead contents offset n buffer) → IsRead (result_unwrap_or found []) offset n buffer
+read_part offset n buffer (Ok contents) read = read
+read_part offset n buffer (Err e) read = absurd read
+
 module _ {S : Type 0} (takes : S → List ℕ → S → Type 0) where
   pub fed_more : (first now next : S) (offset n : ℕ) (buffer : List ℕ) (found : Result (List ℕ) FileError)
-      → IfOk found (IsFed takes first now offset) → IsOkAnd found (λ contents. IsRead contents offset n buffer)
-      → takes now (take n buffer) next → IfOk found (IsFed takes first next (offset + n))
-  fed_more first now next offset n buffer (Ok contents) fed read taking =
-      let (pieces, folds, whole) = fed.taken in
+      → IsFed takes first now offset (result_unwrap_or found []) → IsOkAnd found (λ contents. IsRead contents offset n buffer) → 0 < n → length buffer ≡ buffer_size
+      → takes now (take n buffer) next → IsFed takes first next (offset + n) (result_unwrap_or found [])
+  fed_more first now next offset n buffer found fed is_read some room taking =
+      let contents = result_unwrap_or found [] in
+      let read = read_part offset n buffer found is_read in
+      let (pieces, folds, small, whole) = fed.taken in
       record {
         within = omega (arith, fed.within, read.inside);
         taken = (
           pieces ++ take n buffer ∷ [],
           FoldsTo-push takes first pieces now (take n buffer) next folds taking,
+          All-push IsPiece pieces (take n buffer) small (read_is_piece n buffer some read.within room),
           take_in_two contents offset n
               ∙ ap (λ b. b ++ take n (drop offset contents)) whole
               ∙ ap (λ b. concatenation pieces ++ b) (sym read.bytes)
               ∙ flat_map_more (λ p. p) [] pieces (take n buffer),
         );
       }
-  fed_more first now next offset n buffer (Err e) fed read taking = tt
+
+  -- at the end it took all
+  pub fed_all : (first now : S) (offset n : ℕ) (buffer : List ℕ) (found : Result (List ℕ) FileError)
+      → IsFed takes first now offset (result_unwrap_or found []) → IsOkAnd found (λ contents. IsRead contents offset n buffer) → n ≡ 0 → 0 < length buffer
+      → IsOkAnd found (λ contents. TakesAll takes first contents now)
+  fed_all first now offset n buffer (Ok contents) fed read none room =
+      subst (λ bytes. TakesAll takes first bytes now) (take_all offset contents (read.at_end none room)) fed.taken
+  fed_all first now offset n buffer (Err e) fed read none room = absurd read
+
+  -- before it took a beginning,
+  pub fed_begun : (first now : S) (offset : ℕ) (contents : List ℕ) → IsFed takes first now offset contents → TakesBeginning takes first contents now
+  fed_begun first now offset contents fed =
+      let (pieces, folds, small, whole) = fed.taken in
+      (pieces, drop offset contents, folds, sym (take-append-drop offset contents) ∙ ap (λ b. b ++ drop offset contents) whole)
+
+  -- and so with a beginning of one more piece
+  pub fed_begun_more : (first now next : S) (offset n : ℕ) (buffer : List ℕ) (found : Result (List ℕ) FileError)
+      → IsFed takes first now offset (result_unwrap_or found []) → IsOkAnd found (λ contents. IsRead contents offset n buffer)
+      → TakesBeginning takes now (take n buffer) next → TakesBeginning takes first (result_unwrap_or found []) next
+  fed_begun_more first now next offset n buffer found fed is_read begun =
+      let contents = result_unwrap_or found [] in
+      let read = read_part offset n buffer found is_read in
+      let (pieces, folds, small, whole) = fed.taken in
+      let piece : TakesBeginning takes now (take n (drop offset contents)) next = subst (λ b. TakesBeginning takes now b next) read.bytes begun in
+      let rest : TakesBeginning takes now (drop offset contents) next =
+      subst (λ b. TakesBeginning takes now b next) (take-append-drop n (drop offset contents)) (begun_longer takes now next (take n (drop offset contents)) (drop n (drop offset contents)) piece) in
+      subst (λ b. TakesBeginning takes first b next) (take-append-drop offset contents)
+      (begun_behind takes first now next pieces (take offset contents) (drop offset contents) folds whole rest)
 
   -- what holds piece by piece, holds of the whole contents
   pub holds_of_contents : (holds : S → List ℕ → Type 0)
       → ((before : S) (piece : List ℕ) (after : S) → takes before piece after → (fed : List ℕ) → holds before fed → holds after (fed ++ piece))
       → (first now : S) (contents : List ℕ) → TakesAll takes first contents now → (fed : List ℕ) → holds first fed → holds now (fed ++ contents)
-  holds_of_contents holds keeps first now contents (pieces, folds, whole) fed h =
+  holds_of_contents holds keeps first now contents (pieces, folds, small, whole) fed h =
       subst (λ c. holds now (fed ++ c)) (sym whole) (holds_after takes holds keeps pieces first now folds fed h)
 
   -- the contents behind what was fed before them

@@ -1,8 +1,8 @@
 -- the contents of files, handed on in pieces
-use Rattle.std.specs.Prelude.{◌≡◌, ℕ, List}
+use Rattle.std.specs.Prelude.{◌≡◌, ℕ, List, All}
 use Rattle.std.specs.List.{FoldsTo}
-use Rattle.cck_digest.specs.Stream.{concatenation}
+use Rattle.cck_digest.specs.Stream.{IsPiece, concatenation}
 
 -- a sink took these bytes, in some pieces
 abbrev pub TakesAll : {S : Type 0} → (S → List ℕ → S → Type 0) → S → List ℕ → S → Type 0
-TakesAll takes before bytes after = (pieces : List (List ℕ)) × FoldsTo takes before pieces after × (bytes ≡ concatenation pieces)
+TakesAll takes before bytes after = (pieces : List (List ℕ)) × FoldsTo takes before pieces after × All IsPiece pieces × (bytes ≡ concatenation pieces)

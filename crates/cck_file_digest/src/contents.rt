@@ -1,28 +1,30 @@
 //! The contents of regular files.
-ghost use Rattle.std.specs.Prelude.{◌≡◌, ◌<◌, Ok, length, IfOk, OnOk, MatchResult, IsOkAnd, vec_len};
+ghost use Rattle.std.specs.Prelude.{◌≡◌, [], Ok, length, OnErr, MatchResult, IsOkAnd};
+ghost use Rattle.std.specs.Result.{result_unwrap_or};
+ghost use Rattle.cck_digest.specs.Stream.{TakesBeginning, buffer_size};
 ghost use Rattle.cck_path.specs.Path.{components};
 ghost use Rattle.cck_files.specs.FileMap.{contents_at};
 ghost use Rattle.cck_files.specs.Calls.{Keeps, IsRefusalOrMemory, Rose};
 ghost use Rattle.cck_file_digest.specs.Contents.{TakesAll};
 
-use cck_digest::{FileError, HASH_BUFFER_SIZE, Sink};
+use cck_digest::{FileError, Sink, new_hash_buffer};
 use cck_files::Files;
-use std::alloc::{AllocError, Global};
+use std::alloc::Global;
 
-/// Hands the contents of a regular file to a sink, read through this buffer, which has room.
+/// Hands the contents of a regular file to a sink, read through this buffer.
 ///
 /// It is refused as [`Files::read_at`] is, and as [`FileError::Memory`] where the sink is refused
-/// memory. After a refusal the sink may have taken a beginning of the contents.
+/// memory. After a refusal the sink has taken a beginning of the contents.
 pub(crate) fn feed_contents<F: Files, S: Sink>(
     files: &mut F,
     path: &[u8],
     buffer: &mut [u8],
     sink: &mut S,
 ) -> Result<(), FileError>
-    requires room { 0 < length buffer.old }
-    requires ready { S.is_open sink.old }
+    requires { length buffer.old ≡ buffer_size }
     ensures keeps { Keeps F.file_map F.faults F.is_quiet files.old files.new }
-    ensures ready { OnOk result (S.is_open sink.new) }
+    ensures begun { OnErr result (TakesBeginning S.takes sink.old
+        (result_unwrap_or (contents_at (F.file_map files.old) (components path.now)) []) sink.new) }
     ensures answer { let found = contents_at (F.file_map files.old) (components path.now) in
         MatchResult result (λ _. IsOkAnd found (λ contents. TakesAll S.takes sink.old contents sink.new))
         (IsRefusalOrMemory found (Rose (F.faults files.old) (F.faults files.new))) }
@@ -38,14 +40,8 @@ pub(crate) fn feed_contents<F: Files, S: Sink>(
     }
 }
 
-/// A buffer to read through.
-pub(crate) fn new_buffer(alloc: Global) -> Result<Vec<u8>, AllocError>
-    ensures { IfOk result (λ buffer. 0 < vec_len buffer) }
-{
-    Ok(vec![in alloc; 0u8; HASH_BUFFER_SIZE]?)
-}
-
-/// Hands the contents of a regular file to a sink, in pieces of [`HASH_BUFFER_SIZE`] bytes at most.
+/// Hands the contents of a regular file to a sink, in pieces of a byte at least, and
+/// [`HASH_BUFFER_SIZE`](cck_digest::HASH_BUFFER_SIZE) bytes at most.
 ///
 /// It is refused as
 ///
@@ -54,21 +50,21 @@ pub(crate) fn new_buffer(alloc: Global) -> Result<Vec<u8>, AllocError>
 /// - [`FileError::Fault`] only where the count of faults rose,
 /// - [`FileError::Memory`].
 ///
-/// After a refusal the sink may have taken a beginning of the contents.
+/// After a refusal the sink has taken a beginning of the contents, and nothing where there are none.
 pub fn feed_file<F: Files, S: Sink>(
     alloc: Global,
     files: &mut F,
     path: &[u8],
     sink: &mut S,
 ) -> Result<(), FileError>
-    requires { S.is_open sink.old }
     ensures keeps { Keeps F.file_map F.faults F.is_quiet files.old files.new }
-    ensures ready { OnOk result (S.is_open sink.new) }
+    ensures begun { OnErr result (TakesBeginning S.takes sink.old
+        (result_unwrap_or (contents_at (F.file_map files.old) (components path.now)) []) sink.new) }
     ensures answer { let found = contents_at (F.file_map files.old) (components path.now) in
         MatchResult result (λ _. IsOkAnd found (λ contents. TakesAll S.takes sink.old contents sink.new))
         (IsRefusalOrMemory found (Rose (F.faults files.old) (F.faults files.new))) }
 {
-    let mut buffer = new_buffer(alloc)?;
+    let mut buffer = new_hash_buffer(alloc)?;
     feed_contents(files, path, &mut buffer, sink)
 }
 

@@ -5,9 +5,8 @@ ghost use Rattle.cck_files.specs.Calls.{Keeps, Rose};
 ghost use Rattle.cck_file_digest.specs.FileDigest.{IsFirstRefusal, paths_of, text_at, texts};
 ghost use Rattle.cck_file_digest.specs.Refusals.{IsDigestRefusal};
 
-use crate::contents::new_buffer;
 use crate::folder::feed_node;
-use cck_digest::{Digest, HashState, UtilError};
+use cck_digest::{Digest, HashState, UtilError, new_hash_buffer};
 use cck_files::Files;
 use std::alloc::Global;
 
@@ -71,7 +70,7 @@ fn digest_path<H: HashState, F: Files>(
         (λ text. text_at H.hash fm (components path.now) ≡ Some (string_bytes text))
         (IsDigestRefusal fm (components path.now) (Rose (F.faults files.old) (F.faults files.new))) }
 {
-    let mut buffer = new_buffer(alloc)?;
+    let mut buffer = new_hash_buffer(alloc)?;
     let mut digest = Digest::<H>::new();
     feed_node(alloc, files, path, None, 1, &mut buffer, &mut digest)?;
     digest.finish(alloc)

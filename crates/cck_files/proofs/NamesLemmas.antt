@@ -22,7 +22,7 @@ use Rattle.cck_files.proofs.ChildLemmas.{same_last}
 use Rattle.cck_files.specs.Children.{HasChildNames, is_same_name}
 use Rattle.cck_files.specs.FileMap.{FileNode, IsListing, folder_at, folder_if, folder_in}
 use Rattle.cck_files.specs.FileState.{files_of, node_at}
-use Rattle.cck_files.specs.declared.map_files.Place.{Place}
+use Rattle.cck_files.specs.declared.map_files.places.Place.{Place}
 
 abbrev pub one_if : Bool → ℕ
 one_if b = cond b 1 0

@@ -1,5 +1,5 @@
 -- Files by their places.
-use Rattle.std.proofs.Common.{◌≡◌, Option, Some, None, ap, ◌∙◌, sym, Bor, MatchOption, List, map, length, get_or, ℕ, ◌+◌, ◌<◌, arith}
+use Rattle.std.proofs.Common.{◌≡◌, Option, Some, None, ap, ◌∙◌, sym, Bor, MatchOption, List, map, length, get_or, ℕ, ◌+◌, ◌<◌, arith, IsSome, is_some}
 use Rattle.std.proofs.lemmas.List.{take_all}
 use Rattle.std.specs.FinMap.{FinMap, empty, entries, from_entries, get, insert, remove}
 use Rattle.std.specs.Option.{option_copied, option_map}
@@ -9,7 +9,7 @@ use Rattle.cck_path_map.specs.declared.path_map.Entry.{Entry}
 use Rattle.cck_path_map.specs.Values.{map_values}
 use Rattle.cck_path_map.proofs.ValueLemmas.{HoldsFirst, get-map_values, holds_all, holds_more, read_pair, map_values-empty, map_values-insert, map_values-remove}
 use Rattle.cck_files.specs.FileState.{canonical_of, files_of, linked, no_files, node_at, set_option, with_place, without_place}
-use Rattle.cck_files.specs.declared.map_files.Place.{Place}
+use Rattle.cck_files.specs.declared.map_files.places.Place.{Place}
 
 pub files_none : files_of empty ≡ no_files
 files_none = λ i. record { nodes = map_values-empty node_at i; canonicals = map_values-empty canonical_of i }
@@ -32,6 +32,9 @@ module _ (m : FinMap path_cmp Place) (p : Path) where
       → MatchOption r ((get (files_of m).nodes p ≡ None) × (get (files_of m).canonicals p ≡ None)) (λ place. (get (files_of m).nodes p ≡ Some (node_at place.now)) × (get (files_of m).canonicals p ≡ Some (canonical_of place.now)))
   found None is = (node_found None (sym is), canonical_found None (sym is))
   found (Some place) is = (node_found (Some place.now) (sym is), canonical_found (Some place.now) (sym is))
+
+  pub has_node : (place : Place) → Some place ≡ get m p → IsSome (get (files_of m).nodes p)
+  has_node place is = ap is_some (node_found (Some place) (sym is))
 
   -- a path with what a target has, or with nothing where it has nothing
   pub linked_none : (target : Path) → None ≡ get m target → without_place (files_of m) p ≡ linked (files_of m) p target

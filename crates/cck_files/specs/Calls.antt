@@ -1,5 +1,5 @@
 -- what calls on files do to their map and to their count of faults
-use Rattle.std.specs.Prelude.{◌≡◌, ℕ, ◌+◌, ◌-◌, ◌^◌, ◌<◌, ◌≤◌, ◌⊎◌, List, length, take, drop, Result, Err}
+use Rattle.std.specs.Prelude.{◌≡◌, ℕ, ◌+◌, ◌-◌, ◌^◌, ◌<◌, ◌≤◌, ◌⊎◌, List, ◌++◌, length, min, take, drop, Result, Err}
 use Rattle.cck_digest.specs.declared.error.FileError.{FileError}
 use Rattle.cck_digest.specs.declared.error.FileError.TheVariants.{NotFound, OtherKind, Fault, Memory}
 use Rattle.cck_files.specs.FileMap.{FileMap}
@@ -37,3 +37,8 @@ pub record IsRead (contents : List ℕ) (offset n : ℕ) (buffer : List ℕ) : T
   pub bytes : take n buffer ≡ take n (drop offset contents)
   pub at_end : n ≡ 0 → 0 < length buffer → length contents ≤ offset
   pub fits : offset ≤ 2 ^ 64 - 1 - n
+
+-- n bytes were read, as many as there is room for or are left, and behind them stands what stood there
+pub record IsFullRead (contents : List ℕ) (offset n : ℕ) (before after : List ℕ) : Type 0 where
+  pub count : n ≡ min (length before) (length contents - offset)
+  pub bytes : after ≡ take n (drop offset contents) ++ drop n before

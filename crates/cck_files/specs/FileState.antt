@@ -12,7 +12,7 @@ use Rattle.cck_path_map.specs.PathMap.{coded_component, coded_path_map}
 use Rattle.cck_path_map.specs.Values.{map_values}
 use Rattle.cck_files.specs.FileMap.{FileMap, FileNode, Nodes}
 use Rattle.cck_files.specs.Node.{node_of}
-use Rattle.cck_files.specs.declared.map_files.Place.{Place}
+use Rattle.cck_files.specs.declared.map_files.places.Place.{Place}
 
 -- the map, how often a call met a fault, and which of the following calls is armed to be one
 pub record FileState : Type 0 where

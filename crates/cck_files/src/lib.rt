@@ -23,6 +23,7 @@
 
 mod child;
 mod files;
+pub mod laws;
 mod map_files;
 mod node;
 

@@ -1,5 +1,5 @@
 //! Files in memory, which meet a fault where they are told to.
-ghost use Rattle.std.specs.Prelude.{◌≡◌, ◌==◌, IfOk, IsOkUnless, MatchOption, None, OnErr, OnOk, Some, true};
+ghost use Rattle.std.specs.Prelude.{◌≡◌, ◌==◌, Err, IfOk, IsOkUnless, IsSome, MatchOption, None, OnErr, OnOk, Some, true};
 ghost use Rattle.std.specs.FinMap as finite;
 ghost use Rattle.cck_path.specs.Path.{components, normal};
 ghost use Rattle.cck_files.specs.Calls.{Keeps, Rose};
@@ -14,13 +14,9 @@ use std::alloc::Global;
 use std::marker::Model;
 
 mod calls;
+mod places;
 
-// What stands at a path, and the path that leads there without links.
-#[derive(Debug, Drop)]
-struct Place {
-    node: Node,
-    canonical: Vec<u8>,
-}
+use places::Place;
 
 /// Files in memory: for each path that was put or linked a [`Node`] and a canonical path.
 ///
@@ -95,6 +91,8 @@ impl MapFiles {
         }) }
         ensures kept { OnErr result (self.new ≡ self.old) }
         ensures refused { IsOkUnless result UtilError.Memory }
+        ensures memory { result ≡ Err UtilError.Memory →
+            IsSome (finite.get self.old.files.nodes (components target.now)) }
     {
         let Some(place) = self.places.get(target) else {
             self.remove(path);

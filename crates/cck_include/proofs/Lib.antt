@@ -1,3 +1,4 @@
+pub mod EqualityLemmas
 pub mod GatherLemmas
 pub mod LawLemmas
 pub mod MatchLemmas

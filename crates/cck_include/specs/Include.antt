@@ -1,8 +1,10 @@
 -- files that were included
-use Rattle.std.specs.Prelude.{ℕ, List, map, Option}
+use Rattle.std.specs.Prelude.{ℕ, List, map, Bool, ◌&&◌, nat_eq, Option}
+use Rattle.std.specs.Cmp.Lexicographic.{pointwise}
+use Rattle.std.specs.Option.{option_eq}
 use Rattle.std.specs.String.{string_bytes}
 use Rattle.cck_include.specs.declared.include.IncludeEntry.{IncludeEntry}
-use Rattle.cck_path.specs.Timestamp.{Moment}
+use Rattle.cck_path.specs.Timestamp.{Moment, same_moment}
 
 -- a file that was included, as it was then
 pub record Include : Type 0 where
@@ -18,3 +20,9 @@ include_in i = record { path = i.path.items; digest = string_bytes i.digest; siz
 
 abbrev pub includes_in : List IncludeEntry → List Include
 includes_in is = map include_in is
+
+-- when two are equal, as a test
+abbrev pub same_include : Include → Include → Bool
+same_include a b =
+    pointwise nat_eq a.path b.path && (pointwise nat_eq a.digest b.digest && (nat_eq a.size b.size
+    && (option_eq same_moment a.modified b.modified && option_eq same_moment a.changed b.changed)))

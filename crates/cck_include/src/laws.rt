@@ -1,5 +1,9 @@
 //! Laws about the definitions, each the contract of a function that does nothing.
+ghost use Rattle.std.specs.Prelude.{◌≡◌, ◌↔◌, IsTrue};
+ghost use Rattle.cck_include.specs.Include.{include_in};
 ghost use Rattle.cck_include.specs.Laws.{EqualDigestsTell, RecordedHasLength};
+
+use crate::IncludeEntry;
 
 /// A recorded digest has 64 characters, and 128 where the time part of its file counts, by a hash
 /// of 32 bytes.
@@ -16,4 +20,10 @@ pub fn recorded_has_length()
 /// parts share a digest text.
 pub fn equal_digests_tell()
     ensures { EqualDigestsTell }
+{}
+
+/// Includes are equal exactly if all their fields are the same.
+pub fn equality_is_exact()
+    ensures { (a b : IncludeEntry) →
+        IsTrue (⟦<IncludeEntry as PartialEq>⟧.eq a b) ↔ (include_in a ≡ include_in b) }
 {}

@@ -10,13 +10,14 @@
 //! - [`gather`] records each file that a result included as an [`IncludeEntry`]: its path, recorded
 //!   digest and size, and its times where both lie before the moment of the recording.
 //! - [`includes_match`] says whether such files still are what they were. A file of another size is
-//!   not; where the options let its times decide, it need not be read.
+//!   not; where the options let its times decide, it need not be read. [`KnownDigests`] keeps what
+//!   one look-up finds, so that it reads no file twice.
 //! - [`laws`] has what equal recorded digests tell.
 //!
 //! ```rust
 //! // `digest` is the recorded digest of `/w/h.h` at `moment`.
 //! let includes = gather(alloc, &mut files, moment, &[(digest, path)])?;
-//! let mut known = PathMap::new(alloc);
+//! let mut known = KnownDigests::new(alloc);
 //! includes_match::<Sha256State, MapFiles>(
 //!     alloc, &mut files, &mut known, &includes, later, &zone, &[], config,
 //! )?; // `true`, until another text stands at `/w/h.h`, or one of its macros of time shows another
@@ -25,6 +26,7 @@
 
 mod gathering;
 mod include;
+mod known;
 pub mod laws;
 mod matching;
 mod recorded;
@@ -32,5 +34,6 @@ mod refusal;
 
 pub use gathering::gather;
 pub use include::IncludeEntry;
+pub use known::KnownDigests;
 pub use matching::includes_match;
 pub use recorded::recorded_digest;

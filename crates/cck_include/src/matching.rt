@@ -1,5 +1,5 @@
 //! Whether included files still are what they were.
-ghost use Rattle.std.specs.Prelude.{◌≡◌, ◌≢◌, ◌&&◌, IfOk, MatchBool, IsOkUnless, string_bytes};
+ghost use Rattle.std.specs.Prelude.{◌≡◌, ◌≢◌, ◌⊎◌, ◌&&◌, IfOk, IsSome, OnOk, MatchBool, IsOkUnless, string_bytes};
 ghost use Rattle.std.specs.List.{list_all};
 ghost use Rattle.std.specs.Option.{option_map};
 ghost use Rattle.cck_files.specs.Calls.{Keeps, Rose};
@@ -7,15 +7,14 @@ ghost use Rattle.cck_files.specs.FileMap.{file_at};
 ghost use Rattle.cck_path.specs.Path.{components};
 ghost use Rattle.jiff.specs.Words.{plain_zone};
 ghost use Rattle.cck_include.specs.Include.{include_in, includes_in};
-ghost use Rattle.cck_include.specs.Known.{AreKnown};
+ghost use Rattle.cck_include.specs.Known.{AreKnown, known_at};
 ghost use Rattle.cck_include.specs.Matching.{MayMiss, digest_found, is_digest, is_moment, matches, times_agree};
 ghost use Rattle.cck_include.specs.Setting.{setting_in};
 
-use crate::{IncludeEntry, recorded_digest};
+use crate::{IncludeEntry, KnownDigests, recorded_digest};
 use cck_digest::HashState;
 use cck_files::Files;
 use cck_path::{FileKind, Metadata, Timestamp};
-use cck_path_map::PathMap;
 use cck_time::{Error, PreprocessorCacheModeConfig};
 use jiff::tz::TimeZone;
 use std::alloc::Global;
@@ -79,11 +78,11 @@ fn is_digest(digest: &Option<String>, expected: &str) -> bool
 }
 
 // Whether the file at a path has this recorded digest. With a fault it may be answered that it
-// hasn't.
+// hasn't. What is known of the path is not asked again, and what was found becomes known.
 fn is_recorded<H: HashState, F: Files>(
     alloc: Global,
     files: &mut F,
-    known: &mut PathMap<Option<String>>,
+    known: &mut KnownDigests,
     path: &[u8],
     expected: &str,
     moment: Timestamp,
@@ -91,15 +90,20 @@ fn is_recorded<H: HashState, F: Files>(
     vars: &[(Vec<u8>, Vec<u8>)],
     config: PreprocessorCacheModeConfig,
 ) -> Result<bool, Error>
-    requires { AreKnown (setting_in H.hash config moment (plain_zone zone.now) vars.now) (F.file_map files.old) known.old }
     ensures keeps { Keeps F.file_map F.faults F.is_quiet files.old files.new }
-    ensures known { AreKnown (setting_in H.hash config moment (plain_zone zone.now) vars.now) (F.file_map files.old) known.new }
-    ensures answer { IfOk result (λ answer. MayMiss (Rose (F.faults files.old) (F.faults files.new)) answer
-        (digest_found (setting_in H.hash config moment (plain_zone zone.now) vars.now) expected.now
-        (file_at (F.file_map files.old) (components path.now)))) }
+    ensures known { let s = setting_in H.hash config moment (plain_zone zone.now) vars.now in
+        AreKnown s (F.file_map files.old) known.old → AreKnown s (F.file_map files.old) known.new }
+    ensures remembered { OnOk result
+        (IfOk (file_at (F.file_map files.old) (components path.now)) (λ _. IsSome (known_at known.new (components path.now)))
+        ⊎ Rose (F.faults files.old) (F.faults files.new)) }
+    ensures unasked { IsSome (known_at known.old (components path.now)) → files.new ≡ files.old }
+    ensures answer { let s = setting_in H.hash config moment (plain_zone zone.now) vars.now in
+        AreKnown s (F.file_map files.old) known.old
+        → IfOk result (λ answer. MayMiss (Rose (F.faults files.old) (F.faults files.new)) answer
+        (digest_found s expected.now (file_at (F.file_map files.old) (components path.now)))) }
     ensures refused { IsOkUnless result Error.Memory }
 {
-    if let Some(digest) = known.get(path) {
+    if let Some(digest) = known.digests.get(path) {
         return Ok(is_digest(digest, expected));
     }
     let digest = match recorded_digest::<H, F>(alloc, files, path, moment, zone, vars, config) {
@@ -108,7 +112,7 @@ fn is_recorded<H: HashState, F: Files>(
         Err(_) => return Ok(false),
     };
     let answer = is_digest(&digest, expected);
-    match known.insert(path, digest) {
+    match known.digests.insert(path, digest) {
         Ok(()) => Ok(answer),
         Err(_) => Err(Error::Memory),
     }
@@ -119,18 +123,20 @@ fn is_recorded<H: HashState, F: Files>(
 fn include_matches<H: HashState, F: Files>(
     alloc: Global,
     files: &mut F,
-    known: &mut PathMap<Option<String>>,
+    known: &mut KnownDigests,
     include: &IncludeEntry,
     moment: Timestamp,
     zone: &TimeZone<'_>,
     vars: &[(Vec<u8>, Vec<u8>)],
     config: PreprocessorCacheModeConfig,
 ) -> Result<bool, Error>
-    requires { AreKnown (setting_in H.hash config moment (plain_zone zone.now) vars.now) (F.file_map files.old) known.old }
     ensures keeps { Keeps F.file_map F.faults F.is_quiet files.old files.new }
-    ensures known { AreKnown (setting_in H.hash config moment (plain_zone zone.now) vars.now) (F.file_map files.old) known.new }
-    ensures answer { IfOk result (λ answer. MayMiss (Rose (F.faults files.old) (F.faults files.new)) answer
-        (matches (setting_in H.hash config moment (plain_zone zone.now) vars.now) (F.file_map files.old) (include_in include.now))) }
+    ensures known { let s = setting_in H.hash config moment (plain_zone zone.now) vars.now in
+        AreKnown s (F.file_map files.old) known.old → AreKnown s (F.file_map files.old) known.new }
+    ensures answer { let s = setting_in H.hash config moment (plain_zone zone.now) vars.now in
+        AreKnown s (F.file_map files.old) known.old
+        → IfOk result (λ answer. MayMiss (Rose (F.faults files.old) (F.faults files.new)) answer
+        (matches s (F.file_map files.old) (include_in include.now))) }
     ensures refused { IsOkUnless result Error.Memory }
 {
     let metadata = match files.metadata(&include.path) {
@@ -165,29 +171,35 @@ fn include_matches<H: HashState, F: Files>(
 /// can't be read, for whatever cause, is none. Where a fault came, it may be answered that they are
 /// not.
 ///
-/// `known` keeps the recorded digests that were found, by path, so that no file is read twice while
-/// files, moment, zone, variables and options are the same. It may be empty at first.
+/// `known` keeps the recorded digests that were found, so that no file is read twice. The answer is
+/// right if what was known before is: if nothing was, or calls with the same files, moment, zone,
+/// variables and options found it.
 ///
 /// It is refused only as [`Error::Memory`].
 pub fn includes_match<H: HashState, F: Files>(
     alloc: Global,
     files: &mut F,
-    known: &mut PathMap<Option<String>>,
+    known: &mut KnownDigests,
     includes: &[IncludeEntry],
     moment: Timestamp,
     zone: &TimeZone<'_>,
     vars: &[(Vec<u8>, Vec<u8>)],
     config: PreprocessorCacheModeConfig,
 ) -> Result<bool, Error>
-    requires { AreKnown (setting_in H.hash config moment (plain_zone zone.now) vars.now) (F.file_map files.old) known.old }
     ensures keeps { Keeps F.file_map F.faults F.is_quiet files.old files.new }
-    ensures known { AreKnown (setting_in H.hash config moment (plain_zone zone.now) vars.now) (F.file_map files.old) known.new }
-    ensures answer { IfOk result (λ answer. MayMiss (Rose (F.faults files.old) (F.faults files.new)) answer
-        (list_all (matches (setting_in H.hash config moment (plain_zone zone.now) vars.now) (F.file_map files.old)) (includes_in includes.now))) }
+    ensures known { let s = setting_in H.hash config moment (plain_zone zone.now) vars.now in
+        AreKnown s (F.file_map files.old) known.old → AreKnown s (F.file_map files.old) known.new }
+    ensures answer { let s = setting_in H.hash config moment (plain_zone zone.now) vars.now in
+        AreKnown s (F.file_map files.old) known.old
+        → IfOk result (λ answer. MayMiss (Rose (F.faults files.old) (F.faults files.new)) answer
+        (list_all (matches s (F.file_map files.old)) (includes_in includes.now))) }
     ensures refused { IsOkUnless result Error.Memory }
 {
     for include in includes {
-        if !include_matches::<H, F>(alloc, files, known, include, moment, zone, vars, config)? {
+        let matches = include_matches::<H, F>(
+            alloc, files, known, include, moment, zone, vars, config,
+        )?;
+        if !matches {
             return Ok(false);
         }
     }

@@ -21,6 +21,7 @@
 mod error;
 mod expand;
 mod file;
+pub mod laws;
 mod line;
 mod macros;
 mod printing;

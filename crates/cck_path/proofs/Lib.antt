@@ -1,6 +1,7 @@
 pub mod CaseLemmas
 pub mod ComponentLemmas
 pub mod DurationLemmas
+pub mod EqualityLemmas
 pub mod EscapeLemmas
 pub mod JoinLemmas
 pub mod LastLemmas

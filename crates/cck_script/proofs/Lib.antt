@@ -1,3 +1,4 @@
+pub mod EqualityLemmas
 pub mod FileLemmas
 pub mod OptionLemmas
 pub mod ScriptLemmas

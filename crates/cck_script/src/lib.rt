@@ -41,6 +41,7 @@
 mod call;
 mod command;
 mod error;
+pub mod laws;
 mod line;
 mod number;
 mod script;

@@ -1,7 +1,7 @@
 -- a store that keeps nothing, by its count of setbacks
 use Rattle.std.specs.Prelude.{◌≡◌, ℕ, None, Ok, Err}
 use Rattle.cck_path.specs.Bytes.{Bytes}
-use Rattle.cck_store.specs.Store.{Handed, Store, Stored, more}
+use Rattle.cck_store.specs.Store.{Handed, Store, Stored, counted, more}
 use Rattle.cck_store.specs.declared.store.StoreError.TheVariants as store
 
 -- a get finds nothing, and a put fails, which is a setback
@@ -12,4 +12,4 @@ abbrev pub KeepsNothing : ℕ → Bytes → Bytes → Stored → ℕ → Type 0
 KeepsNothing s key bytes stored t = (stored ≡ Err store.Fault) × (t ≡ more s)
 
 abbrev pub empty_store : Store ℕ
-empty_store = record { held = λ s key bytes. ⊥; setbacks = λ s. s; got = FindsNothing; put = KeepsNothing }
+empty_store = record { held = λ s key bytes. ⊥; setbacks = counted; got = FindsNothing; put = KeepsNothing }

@@ -7,7 +7,7 @@ use Rattle.std.specs.String.{string_bytes}
 use Rattle.std.specs.declared.alloc.Global.{Global}
 use Rattle.cck_path.specs.Bytes.{Bytes}
 use Rattle.cck_path.specs.TextOrder.{text_cmp}
-use Rattle.cck_store.specs.Store.{Handed, Store, Stored, more}
+use Rattle.cck_store.specs.Store.{Handed, Store, Stored, counted, more}
 use Rattle.cck_store.specs.declared.store.StoreError.TheVariants as store
 
 -- keys and bytes, ascending by the keys; how many setbacks came; and which of the following calls forgets all that is held, and which
@@ -51,4 +51,4 @@ IsPut s key bytes (Err store.Memory) t = (s.fail ≢ 1) × (t ≡ set_back (begu
 IsPut s key bytes (Ok done) t = (s.fail ≢ 1) × (t ≡ record (begun s) { pairs = put text_cmp key bytes (begun s).pairs })
 
 abbrev pub map_store : Store State
-map_store = record { held = λ s key bytes. find text_cmp key s.pairs ≡ Option.Some bytes; setbacks = λ s. s.setbacks; got = IsGot; put = IsPut }
+map_store = record { held = λ s key bytes. find text_cmp key s.pairs ≡ Option.Some bytes; setbacks = λ s. counted s.setbacks; got = IsGot; put = IsPut }

@@ -1,5 +1,5 @@
 -- stores, by what they hold and what their calls do
-use Rattle.std.specs.Prelude.{◌≡◌, ◌⊎◌, ℕ, ◌+◌, ◌≤◌, nat_lt, if◌then◌else◌, Option, Some, None, Result, Ok, Err}
+use Rattle.std.specs.Prelude.{◌≡◌, ◌⊎◌, ℕ, ◌+◌, ◌-◌, ◌^◌, ◌<◌, ◌≤◌, min, nat_lt, if◌then◌else◌, Option, Some, None, Result, Ok, Err}
 use Rattle.std.specs.Global.{Vec}
 use Rattle.cck_path.specs.Bytes.{Bytes}
 use Rattle.cck_files.specs.Calls.{Rose}
@@ -28,6 +28,10 @@ pub record Store (S : Type 0) : Type 1 where
 unfoldable pub more : ℕ → ℕ
 more n = if nat_lt n 18446744073709551615 then n + 1 else n
 
+-- what is counted: a count has 64 bits, and stays at its greatest value
+abbrev pub counted : ℕ → ℕ
+counted n = min n (2 ^ 64 - 1)
+
 -- a setback came between two states
 abbrev pub Setback : {S : Type 0} → Store S → S → S → Type 0
 Setback st s t = Rose (st.setbacks s) (st.setbacks t)
@@ -37,8 +41,10 @@ abbrev pub HoldsOnly : {S : Type 0} → Store S → S → Bytes → Bytes → Ty
 HoldsOnly st s key bytes = st.held s key bytes × ((others : Bytes) → st.held s key others → others ≡ bytes)
 
 -- What is promised of a store: it never hands out what wasn't put under the key. It may forget, fail and run out of memory, and each
--- time counts as a setback. Without one a get changes nothing and finds what is held, and a put changes what its own key holds.
+-- time counts as a setback, in a count of 64 bits. Without one a get changes nothing and finds what is held, and a put changes what its
+-- own key holds.
 pub record StoreLaws {S : Type 0} (st : Store S) : Type 0 where
+  pub setbacks_fit : (s : S) → st.setbacks s < 2 ^ 64
   pub got_count : (s t : S) (key : Bytes) (answer : Handed) → st.got s key answer t → st.setbacks s ≤ st.setbacks t
   pub got_old : (s t : S) (key : Bytes) (answer : Handed) → st.got s key answer t → (k b : Bytes) → st.held t k b → st.held s k b
   pub got_some : (s t : S) (key bytes : Bytes) → st.got s key (Ok (Some bytes)) t → st.held s key bytes

@@ -19,6 +19,7 @@
 #![tactic(auto)]
 
 mod empty_store;
+pub mod laws;
 mod map_store;
 mod store;
 

@@ -24,7 +24,8 @@ pub enum StoreError {
 ///
 /// - what is handed out was held under its key, and what is held afterwards was held before or is
 ///   what is put;
-/// - the count falls at no time, and a refusal raises it or finds it at its greatest value;
+/// - the count is below 2^64 and falls at no time, and a refusal raises it or finds it at its
+///   greatest value;
 /// - where the count didn't rise, nothing is forgotten: `None` says that nothing is held under the
 ///   key, and what was put is held under its key, and nothing else.
 pub trait PreprocessorStore {

@@ -1,9 +1,14 @@
 pub mod BestLemmas
+pub mod ChainLemmas
+pub mod CommonLemmas
 pub mod CutLemmas
 pub mod Examples
-pub mod FoundLemmas
-pub mod GatherLemmas
+pub mod InsertLemmas
+pub mod LinkLemmas
 pub mod PlaceLemmas
 pub mod PositionLemmas
 pub mod ScanLemmas
+pub mod SoughtLemmas
+pub mod TrieLemmas
+pub mod WalkLemmas
 pub mod WithoutLemmas

@@ -6,6 +6,7 @@
 //!
 //! - [`strip_basedirs`] cuts preprocessed text, [`strip_basedirs_from_arg`] an argument of a
 //!   compiler.
+//! - [`BasedirTrie`] finds the longest base directory at a place of a text.
 //! - [`pathname_positions`] are the places of an argument where a path may begin.
 //! - [`hash_arguments`] feeds arguments to a digest, stripped.
 //! - [`laws`] has what the definitions say beyond what they compute: there is exactly one way to
@@ -25,8 +26,11 @@ mod argument;
 mod cuts;
 mod hashing;
 pub mod laws;
+mod node;
 mod text;
+mod trie;
 
 pub use argument::{pathname_positions, strip_basedirs_from_arg};
 pub use hashing::hash_arguments;
 pub use text::strip_basedirs;
+pub use trie::BasedirTrie;

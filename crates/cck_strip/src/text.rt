@@ -1,11 +1,14 @@
 //! Base directories in preprocessed text.
-ghost use Rattle.std.specs.Prelude.{◌≡◌, ◌+◌, ◌≤◌, ◌<◌, ℕ, true, IfOk, OnOk, IsOkUnless, map, drop, length, nat_eq, All, Contains};
-ghost use Rattle.std.specs.List.{starts_with};
+ghost use Rattle.std.specs.Prelude.{◌≡◌, ◌≤◌, ◌<◌, ℕ, List, true, IfOk, IsOkUnless, MatchOption, map, length, slice_index, All, Contains};
+ghost use Rattle.std.specs.List.Sorted.{IsNonDecreasing};
 ghost use Rattle.std.specs.Cow.{cow_slice_items, IsOwnedSlice};
+ghost use Rattle.memchr.specs.Find.{OccursAt};
 ghost use Rattle.cck_strip.specs.Cuts.{Remains};
-ghost use Rattle.cck_strip.specs.Text.{is_boundary, is_separator, longest_prefix, stripped_text, text_site};
+ghost use Rattle.cck_strip.specs.Text.{is_boundary, is_separator, stripped_text, text_site};
+ghost use Rattle.cck_strip.specs.Trie.{IsTrie};
 
 use crate::cuts::{Sites, cut_out};
+use crate::trie::BasedirTrie;
 use cck_digest::UtilError;
 use memchr::memmem::Finder;
 use std::alloc::Global;
@@ -32,19 +35,18 @@ fn is_boundary(text: &[u8], at: usize) -> bool
     at == 0 || is_separator(text[at - 1])
 }
 
-// Adds the boundaries of the text at which this base directory stands.
+// The boundaries of the text at which this word stands, in ascending order.
 //
 // It is refused only for lack of memory, as [`UtilError::Memory`].
-fn add_places(text: &[u8], basedir: &[u8], places: &mut Vec<usize>) -> Result<(), UtilError>
-    requires some { 0 < length basedir.now }
-    requires within_before { All (λ k. k < length text.now) places.old.items }
-    ensures added { OnOk result ((k : ℕ) → is_boundary text.now k ≡ true
-        → starts_with nat_eq (drop k text.now) basedir.now ≡ true → Contains places.new.items k) }
-    ensures kept { OnOk result ((k : ℕ) → Contains places.old.items k → Contains places.new.items k) }
-    ensures within { OnOk result (All (λ k. k < length text.now) places.new.items) }
+fn places_of_word(alloc: Global, text: &[u8], word: &[u8]) -> Result<Vec<usize>, UtilError>
+    requires some { 0 < length word.now }
+    ensures complete { IfOk result (λ places. (k : ℕ) → is_boundary text.now k ≡ true → OccursAt text.now word.now k → Contains places.items k) }
+    ensures in_order { IfOk result (λ places. IsNonDecreasing places.items) }
+    ensures within { IfOk result (λ places. All (λ k. k < length text.now) places.items) }
     ensures refused { IsOkUnless result UtilError.Memory }
 {
-    let finder = Finder::new(basedir);
+    let finder = Finder::new(word);
+    let mut places = Vec::new(alloc);
     let mut from = 0;
     // Two of its occurrences may overlap.
     while let Some(distance) = finder.find(&text[from..]) {
@@ -54,21 +56,80 @@ fn add_places(text: &[u8], basedir: &[u8], places: &mut Vec<usize>) -> Result<()
         }
         from = at + 1;
     }
-    Ok(())
+    Ok(places)
 }
 
-// The length of the longest of these base directories with which the text begins, and 0 if there
-// is none.
-fn longest_prefix(text: &[u8], basedirs: &[Vec<u8>]) -> usize
-    ensures { result ≡ longest_prefix (map (λ b. b.items) basedirs.now) text.now }
+// The byte with which this word begins: a place in a table of all bytes.
+fn first_byte(word: &[u8]) -> u8
+    requires some { 0 < length word.now }
+    ensures value { result ≡ slice_index word.now 0 }
+    ensures within { result < 256 }
 {
-    let mut longest = 0;
+    word[0]
+}
+
+// The boundaries of the text at which the first byte of one of these base directories stands, in
+// ascending order.
+//
+// It is refused only for lack of memory, as [`UtilError::Memory`].
+fn places_of_first_bytes(
+    alloc: Global,
+    text: &[u8],
+    basedirs: &[Vec<u8>],
+) -> Result<Vec<usize>, UtilError>
+    ensures complete { IfOk result (λ places. (k : ℕ) → k < length text.now → is_boundary text.now k ≡ true
+        → (word : List ℕ) → Contains (map (λ b. b.items) basedirs.now) word → 0 < length word
+        → slice_index text.now k ≡ slice_index word 0 → Contains places.items k) }
+    ensures in_order { IfOk result (λ places. IsNonDecreasing places.items) }
+    ensures within { IfOk result (λ places. All (λ k. k < length text.now) places.items) }
+    ensures refused { IsOkUnless result UtilError.Memory }
+{
+    let mut is_first = [false; 256];
     for basedir in basedirs {
-        if text.starts_with(basedir) {
-            longest = longest.max(basedir.len());
+        if !basedir.is_empty() {
+            is_first[first_byte(basedir) as usize] = true;
         }
     }
-    longest
+    let mut places = Vec::new(alloc);
+    for at in 0..text.len() {
+        if is_first[text[at] as usize] && is_boundary(text, at) {
+            places.push(at)?;
+        }
+    }
+    Ok(places)
+}
+
+// How many bytes these begin with alike.
+fn shared_len(bytes: &[u8], others: &[u8]) -> usize
+    ensures within { result ≤ length bytes.now }
+    ensures within_others { result ≤ length others.now }
+    ensures shared { (k : ℕ) → k < result → slice_index bytes.now k ≡ slice_index others.now k }
+{
+    let mut shared = 0;
+    while shared < bytes.len() && shared < others.len() && bytes[shared] == others[shared] {
+        shared += 1;
+    }
+    shared
+}
+
+// What all these base directories begin with, but for empty ones: as many bytes as they share, at
+// most 32. `None` if all are empty.
+fn common_beginning<'a>(basedirs: &'a [Vec<u8>]) -> Option<&'a [u8]>
+    ensures { MatchOption result ((word : List ℕ) → Contains (map (λ b. b.items) basedirs.now) word → 0 < length word → ⊥)
+        (λ common. (word : List ℕ) → Contains (map (λ b. b.items) basedirs.now) word → 0 < length word
+        → OccursAt word common.now 0) }
+{
+    let mut common = None;
+    for basedir in basedirs {
+        if !basedir.is_empty() {
+            common = match common {
+                // A search confirms so many bytes by one comparison, however often they stand in a text.
+                None => Some(&basedir[..basedir.len().min(32)]),
+                Some(bytes) => Some(&bytes[..shared_len(bytes, basedir)]),
+            };
+        }
+    }
+    common
 }
 
 // The sites of a text: base directories at its start or behind a separator.
@@ -76,6 +137,8 @@ fn longest_prefix(text: &[u8], basedirs: &[Vec<u8>]) -> usize
 struct TextSites<'a> {
     text: &'a [u8],
     basedirs: &'a [Vec<u8>],
+    trie: &'a BasedirTrie,
+    ghost is_trie: { ∥ IsTrie trie.now.nodes.items (map (λ b. b.items) basedirs.now) ∥₁ },
 }
 
 impl<'a> Sites for TextSites<'a> {
@@ -83,24 +146,23 @@ impl<'a> Sites for TextSites<'a> {
 
     ghost site = { λ s k. text_site (map (λ b. b.items) s.basedirs.now) s.text.now k };
 
-    #[tactic(auto, unfolding(crate::specs::Text::text_site))]
     fn length_at(&self, at: usize) -> usize {
         if is_boundary(self.text, at) {
-            longest_prefix(&self.text[at..], self.basedirs)
+            self.trie.longest_at(self.text, at)
         } else {
             0
         }
     }
 
     fn places(&self, alloc: Global) -> Result<Vec<usize>, UtilError> {
-        let mut places = Vec::new(alloc);
-        for basedir in self.basedirs {
-            if !basedir.is_empty() {
-                add_places(self.text, basedir, &mut places)?;
-            }
+        let word = match common_beginning(self.basedirs) {
+            Some(word) => word,
+            None => return Ok(Vec::new(alloc)),
+        };
+        if word.is_empty() {
+            return places_of_first_bytes(alloc, self.text, self.basedirs);
         }
-        places.sort()?;
-        Ok(places)
+        places_of_word(alloc, self.text, word)
     }
 
     ghost use Rattle.cck_strip.specs.SiteLemmas.{text_site-within};
@@ -128,5 +190,11 @@ pub fn strip_basedirs<'a>(
         text.now (cow_slice_items kept) (IsOwnedSlice kept)) }
     ensures refused { IsOkUnless result UtilError.Memory }
 {
-    cut_out(alloc, text, &TextSites { text, basedirs })
+    let trie = BasedirTrie::new(alloc, basedirs)?;
+    let sites = TextSites {
+        text,
+        basedirs,
+        trie: &trie,
+    };
+    cut_out(alloc, text, &sites)
 }

@@ -1,5 +1,6 @@
 pub mod CalendarLemmas
 pub mod ClockLemmas
+pub mod EqualityLemmas
 pub mod EveryDayLemmas
 pub mod NumberLemmas
 pub mod PartLemmas

@@ -8,6 +8,8 @@ ghost use Rattle.jiff.specs.Words.{IsEpochDay, IsTimestampNanos};
 ghost use Rattle.cck_time.specs.Calendar.{CivilDate, IsInCalendar, date_of_day, day_number};
 ghost use Rattle.cck_time.specs.TimePart.{AreOfOneSecond, date_bytes, epoch_text, i64_bytes, is_instant, local_date, local_day, local_second, time_part};
 
+use crate::{Error, PreprocessorCacheModeConfig};
+
 /// The date of a day is the one date of the calendar whose day it is: what is found has the day,
 /// each date is found by its day, and each day from -9999-01-01 to 9999-12-31 has one.
 pub fn dates_of_days()
@@ -57,4 +59,12 @@ pub fn equal_parts_tell()
         time_part date true m a zone v ≡ Some part →
         time_part date true n b zone w ≡ Some part →
         AreOfOneSecond zone m n }
+{}
+
+/// Options are equal exactly if each of them is, and refusals exactly if they are the same, with the
+/// same cause.
+pub fn equality_is_exact()
+    ensures options { (a b : PreprocessorCacheModeConfig) →
+        IsTrue (⟦<PreprocessorCacheModeConfig as PartialEq>⟧.eq a b) ↔ (a ≡ b) }
+    ensures refusals { (a b : Error) → IsTrue (⟦<Error as PartialEq>⟧.eq a b) ↔ (a ≡ b) }
 {}

@@ -19,7 +19,8 @@
 //!
 //! What this stands on is passed on: digests of `cck_digest`, base directories cut out by
 //! `cck_strip`, paths, byte texts and times of `cck_path`, the interface to files of `cck_files`,
-//! and the digests of files of `cck_file_digest`.
+//! and the digests of files of `cck_file_digest`. So each type of this repository that a call takes
+//! or returns has its name here.
 #![tactic(auto)]
 
 mod key;
@@ -40,7 +41,9 @@ pub use cck_path::{
     first_value, fmt_duration_as_secs, is_absolute, join_path, normalize_path, normalize_win_path,
     same_path, write_length_prefixed,
 };
-pub use cck_strip::{hash_arguments, pathname_positions, strip_basedirs, strip_basedirs_from_arg};
+pub use cck_strip::{
+    BasedirTrie, hash_arguments, pathname_positions, strip_basedirs, strip_basedirs_from_arg,
+};
 pub use key::{CACHE_VERSION, HashKeyParams, hash_assembler_digest, hash_extra_hashes};
 pub use language::{Language, UnknownLanguage};
 pub use variables::hash_variables_named;

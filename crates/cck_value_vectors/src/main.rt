@@ -6,6 +6,7 @@
 //!
 //! | word | what it gives |
 //! |---|---|
+//! | `basedirs_with N FIRST LETTER` | N base directories: the text FIRST, and behind it no LETTER, one, and so on |
 //! | `pieces LIST` | the pieces that a digest or a finder is given in turn; none at first |
 //! | `reader STEP PASSING KIND` | what a reader of the call's bytes does: the bytes of one read, the reads that pass, and the kind of the error of the reads after them, `interrupted` or `other`; at first it doesn't fail, and gives as much as it is asked for |
 //! | `writer PASSING` | the writes that pass before a writer fails; all at first |
@@ -17,6 +18,7 @@ mod finder;
 mod keys;
 mod paths;
 mod readers;
+mod searches;
 mod streams;
 mod strip;
 mod texts;

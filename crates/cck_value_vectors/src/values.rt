@@ -32,6 +32,10 @@ impl Subject for Values {
             self.pieces = words_of(self.given.alloc, rest)?;
             return Ok(true);
         }
+        if word == "basedirs_with" {
+            self.given.basedirs = strip::basedirs_with(self.given.alloc, rest)?;
+            return Ok(true);
+        }
         Ok(self.given.give(word, rest)? || self.streams.give(word, rest)?)
     }
 

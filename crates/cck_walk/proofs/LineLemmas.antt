@@ -1,10 +1,10 @@
 -- What a line marker does, from what is read of it.
 use Rattle.std.proofs.Common.{◌≡◌, ◌≢◌, ◌⊎◌, inl, inr, ℕ, ◌+◌, Bool, true, false, List, [], Ok, Err, refl, sym, ap, ◌∙◌}
+use Rattle.cck_key_error.specs.declared.key_error.KeyError.TheVariants as error
 use Rattle.cck_markers.specs.Lines.{IsNamedAt, IsUnnamedTo}
 use Rattle.cck_markers.specs.Marks.{Named, Unnamed, is_system}
 use Rattle.cck_walk.specs.Decided.{Context, Digests, Refuses, after, is_looked_for, outcome}
 use Rattle.cck_walk.specs.Line.{IsLineAnswer, IsNameAnswer, NamesNone}
-use Rattle.cck_walk.specs.declared.error.WalkError.TheVariants as error
 use Rattle.cck_walk.specs.declared.line.LineAction.TheVariants.{Continue, Break}
 
 -- what was read of a marker with a name

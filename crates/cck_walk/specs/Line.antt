@@ -1,19 +1,19 @@
 -- what a line marker does
 use Rattle.std.specs.Prelude.{◌≡◌, ◌≢◌, ◌⊎◌, ◌+◌, ℕ, Bool, true, false, List, [], Some, Result, Ok, Err}
+use Rattle.cck_key_error.specs.declared.key_error.KeyError.{KeyError}
+use Rattle.cck_key_error.specs.declared.key_error.KeyError.TheVariants.{Memory, Marker}
 use Rattle.cck_markers.specs.Lines.{IsNamedAt, IsUnnamedTo}
 use Rattle.cck_markers.specs.Marks.{Named, Unnamed, is_system}
 use Rattle.cck_walk.specs.Decided.{Context, Digests, Refuses, after, is_looked_for, outcome}
-use Rattle.cck_walk.specs.declared.error.WalkError.{WalkError}
-use Rattle.cck_walk.specs.declared.error.WalkError.TheVariants.{Memory, Marker}
 use Rattle.cck_walk.specs.declared.line.LineAction.{LineAction}
 use Rattle.cck_walk.specs.declared.line.LineAction.TheVariants.{Continue, Break}
 
 -- a name was taken, or it refuses the text, or a fault came and it counts as one that does
-abbrev pub IsNameAnswer : Context → Type 0 → Digests → Digests → List ℕ → Bool → Result Bool WalkError → Type 0
+abbrev pub IsNameAnswer : Context → Type 0 → Digests → Digests → List ℕ → Bool → Result Bool KeyError → Type 0
 IsNameAnswer c HasFault old new name is_system_in (Ok true) = after old (outcome c old name is_system_in) ≡ Some new
 IsNameAnswer c HasFault old new name is_system_in (Ok false) = (new ≡ old) × ((outcome c old name is_system_in ≡ Refuses) ⊎ HasFault)
 IsNameAnswer c HasFault old new name is_system_in (Err Memory) = new ≡ old
-IsNameAnswer c HasFault old new name is_system_in (Err Marker) = ⊥
+IsNameAnswer c HasFault old new name is_system_in (Err other) = ⊥
 
 -- a marker with a name that has bytes, and where they stand
 abbrev pub IsLongNamed : List ℕ → ℕ → ℕ → (List ℕ → Bool → Type 0) → Type 0
@@ -24,7 +24,7 @@ abbrev pub NamesNone : Context → Digests → List ℕ → Type 0
 NamesNone c held text = (marker : Named text) → is_looked_for c held marker.name (is_system marker.rest) ≡ false
 
 -- the answer for the marker with which this text begins, where the text begins at a place of a longer one
-abbrev pub IsLineAnswer : Context → Type 0 → List ℕ → ℕ → ℕ → Digests → Digests → Result LineAction WalkError → Type 0
+abbrev pub IsLineAnswer : Context → Type 0 → List ℕ → ℕ → ℕ → Digests → Digests → Result LineAction KeyError → Type 0
 IsLineAnswer c HasFault text start hash_start old new (Ok (Continue (next, also))) =
     (begin : ℕ) × (end : ℕ) × (next ≡ start + end) × (also ≡ start + end)
     × IsLongNamed text begin end (λ name is_system_in. after old (outcome c old name is_system_in) ≡ Some new)
@@ -36,3 +36,4 @@ IsLineAnswer c HasFault text start hash_start old new (Ok (Break (next, from, tr
     ⊎ ((marker : Named text) × (begin : ℕ) × (end : ℕ) × IsNamedAt text begin end marker × (marker.name ≡ []) × (next ≡ start + end) × (from ≡ start + begin)))
 IsLineAnswer c HasFault text start hash_start old new (Err Marker) = (new ≡ old) × ((Unnamed text → ⊥) × (Named text → ⊥))
 IsLineAnswer c HasFault text start hash_start old new (Err Memory) = new ≡ old
+IsLineAnswer c HasFault text start hash_start old new (Err other) = ⊥

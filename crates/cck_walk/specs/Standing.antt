@@ -5,14 +5,14 @@ use Rattle.cck_files.specs.FileMap.{FileMap, FileNode}
 use Rattle.cck_include.specs.Gathered.{is_before}
 use Rattle.cck_include.specs.Recorded.{recorded}
 use Rattle.cck_include.specs.Setting.{Setting}
+use Rattle.cck_key_error.specs.declared.key_error.KeyError.{KeyError}
+use Rattle.cck_key_error.specs.declared.key_error.KeyError.TheVariants.{Memory}
 use Rattle.cck_path.specs.Path.{Path}
 use Rattle.cck_path.specs.Timestamp.{Moment}
 use Rattle.cck_path.specs.declared.metadata.FileKind.{FileKind}
 use Rattle.cck_path.specs.declared.metadata.FileKind.TheVariants as kind
 use Rattle.cck_time.specs.declared.error.Error.{Error}
 use Rattle.cck_time.specs.declared.error.Error.TheVariants as error
-use Rattle.cck_walk.specs.declared.error.WalkError.{WalkError}
-use Rattle.cck_walk.specs.declared.error.WalkError.TheVariants.{Memory, Marker}
 use Rattle.cck_walk.specs.declared.judge.Judged.{Judged}
 use Rattle.cck_walk.specs.declared.judge.Judged.TheVariants as judged
 
@@ -49,15 +49,15 @@ unfoldable pub standing_at : Setting → FileMap → Path → Standing
 standing_at s files p = node_standing s (get files.nodes p)
 
 -- the path was judged by what it stands for, or a fault came and it counts as bad
-abbrev pub IsJudged : Standing → Type 0 → Result Judged WalkError → Type 0
+abbrev pub IsJudged : Standing → Type 0 → Result Judged KeyError → Type 0
 IsJudged standing HasFault (Ok judged.Folder) = standing ≡ Folder
 IsJudged standing HasFault (Ok (judged.Regular digest)) = standing ≡ Regular (string_bytes digest)
 IsJudged standing HasFault (Ok judged.Bad) = (standing ≡ Bad) ⊎ HasFault
 IsJudged standing HasFault (Err Memory) = Unit {0}
-IsJudged standing HasFault (Err Marker) = ⊥
+IsJudged standing HasFault (Err other) = ⊥
 
 -- a file that can't be read is bad, unless it was memory that ran out
-abbrev pub judged_unread : Error → Result Judged WalkError
+abbrev pub judged_unread : Error → Result Judged KeyError
 judged_unread error.Memory = Err Memory
 judged_unread (error.Io e) = Ok judged.Bad
 judged_unread error.Deserialization = Ok judged.Bad

@@ -6,10 +6,10 @@ ghost use Rattle.cck_path.specs.Path.{components};
 ghost use Rattle.jiff.specs.Words.{plain_zone};
 ghost use Rattle.cck_walk.specs.Standing.{IsJudged, is_late, judged_unread, standing_at};
 
-use crate::WalkError;
 use cck_digest::HashState;
 use cck_files::Files;
 use cck_include::recorded_digest;
+use cck_key_error::KeyError;
 use cck_path::{FileKind, Metadata, Timestamp};
 use cck_time::{Error, PreprocessorCacheModeConfig};
 use jiff::tz::TimeZone;
@@ -44,11 +44,11 @@ fn has_late_time(metadata: &Metadata, moment: Timestamp) -> bool
 }
 
 // A file that can't be read is bad, unless it was memory that ran out.
-fn judge_unread(error: Error) -> Result<Judged, WalkError>
+fn judge_unread(error: Error) -> Result<Judged, KeyError>
     ensures { result ≡ judged_unread error }
 {
     match error {
-        Error::Memory => Err(WalkError::Memory),
+        Error::Memory => Err(KeyError::Memory),
         Error::Io(_) | Error::Deserialization | Error::UnknownFormat(_) => Ok(Judged::Bad),
     }
 }
@@ -57,7 +57,7 @@ fn judge_unread(error: Error) -> Result<Judged, WalkError>
 /// the moment or later, since it may still be written in that same instant. All else is bad, and
 /// where a fault came anything may be.
 ///
-/// It is refused only as [`WalkError::Memory`].
+/// It is refused only as [`KeyError::Memory`].
 pub(crate) fn judge<H: HashState, F: Files>(
     alloc: Global,
     files: &mut F,
@@ -66,7 +66,7 @@ pub(crate) fn judge<H: HashState, F: Files>(
     moment: Timestamp,
     zone: &TimeZone<'_>,
     vars: &[(Vec<u8>, Vec<u8>)],
-) -> Result<Judged, WalkError>
+) -> Result<Judged, KeyError>
     ensures keeps { Keeps F.file_map F.faults F.is_quiet files.old files.new }
     ensures answer { IsJudged (standing_at (setting_in H.hash config moment (plain_zone zone.now) vars.now)
         (F.file_map files.old) (components path.now)) (Rose (F.faults files.old) (F.faults files.new)) result }

@@ -28,17 +28,17 @@
 //! Files are handed in as [`Files`](cck_files::Files). Where a call on them meets a fault the text
 //! may be refused; an accepted text and a malformed marker are what they are without one.
 //! [`process_preprocessor_line`] does the same for one marker, and fills [`Records`]. What is
-//! decided is a [`Walk`], or a [`LineAction`] for one marker, and a refusal is a [`WalkError`].
+//! decided is a [`Walk`], or a [`LineAction`] for one marker, and a refusal is a [`KeyError`], which
+//! is passed on from `cck_key_error`.
 #![tactic(auto)]
 
-mod error;
 mod judge;
 mod line;
 mod name;
 mod records;
 mod walk;
 
-pub use error::WalkError;
+pub use cck_key_error::KeyError;
 pub use line::{LineAction, process_preprocessor_line};
 pub use records::Records;
 pub use walk::{Walk, process_preprocessed_file};

@@ -5,10 +5,11 @@ ghost use Rattle.jiff.specs.Words.{plain_zone};
 ghost use Rattle.cck_walk.specs.Decided.{context_in};
 ghost use Rattle.cck_walk.specs.Line.{IsLineAnswer, NamesNone};
 
+use crate::Records;
 use crate::name::take_name;
-use crate::{Records, WalkError};
 use cck_digest::HashState;
 use cck_files::Files;
+use cck_key_error::KeyError;
 use cck_markers::{Line, read_line};
 use cck_path::Timestamp;
 use cck_time::PreprocessorCacheModeConfig;
@@ -41,8 +42,8 @@ pub enum LineAction {
 /// - The name means anything else, or a fault came: `Break` with the places behind it and of it,
 ///   and `false`.
 ///
-/// It is refused as [`WalkError::Marker`] exactly where neither a quote nor a line feed comes, or a
-/// quote first, as the text's last byte; and as [`WalkError::Memory`]. Records change by a
+/// It is refused as [`KeyError::Marker`] exactly where neither a quote nor a line feed comes, or a
+/// quote first, as the text's last byte; and as [`KeyError::Memory`]. Records change by a
 /// `Continue` alone. No file is asked for a marker without a name, for a name that is passed over
 /// by itself, nor for the path of the input or of a record.
 ///
@@ -60,7 +61,7 @@ pub fn process_preprocessor_line<H: HashState, F: Files>(
     moment: Timestamp,
     zone: &TimeZone<'_>,
     vars: &[(Vec<u8>, Vec<u8>)],
-) -> Result<LineAction, WalkError>
+) -> Result<LineAction, KeyError>
     requires hash { hash_start ≤ start }
     requires start { start < length text.now }
     ensures keeps { Keeps F.file_map F.faults F.is_quiet files.old files.new }
@@ -73,7 +74,7 @@ pub fn process_preprocessor_line<H: HashState, F: Files>(
 {
     match read_line(&text[start..]) {
         Line::Unnamed { end } => Ok(LineAction::Break((start + end, hash_start, true))),
-        Line::Malformed => Err(WalkError::Marker),
+        Line::Malformed => Err(KeyError::Marker),
         Line::Named {
             begin,
             end,

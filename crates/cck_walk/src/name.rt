@@ -7,10 +7,11 @@ ghost use Rattle.jiff.specs.Words.{plain_zone};
 ghost use Rattle.cck_walk.specs.Decided.{context_in, is_angled, is_looked_for, is_passed};
 ghost use Rattle.cck_walk.specs.Line.{IsNameAnswer};
 
+use crate::Records;
 use crate::judge::{Judged, judge};
-use crate::{Records, WalkError};
 use cck_digest::HashState;
 use cck_files::Files;
+use cck_key_error::KeyError;
 use cck_path::{Timestamp, compare_paths, join_path, normalize_path};
 use cck_time::PreprocessorCacheModeConfig;
 use jiff::tz::TimeZone;
@@ -41,23 +42,23 @@ fn is_same(a: &[u8], b: &[u8]) -> bool
 
 // The path that a name means, as seen from the working directory. It is joined first, so that a
 // leading `..` leads out of that directory.
-fn path_named(alloc: Global, cwd: &[u8], name: &[u8]) -> Result<Vec<u8>, WalkError>
+fn path_named(alloc: Global, cwd: &[u8], name: &[u8]) -> Result<Vec<u8>, KeyError>
     ensures path { IfOk result (λ path.
         components path.items ≡ normal (joined (components cwd.now) (components name.now))) }
-    ensures refused { IsOkUnless result WalkError.Memory }
+    ensures refused { IsOkUnless result KeyError.Memory }
 {
     let Ok(path) = join_path(alloc, cwd, name) else {
-        return Err(WalkError::Memory);
+        return Err(KeyError::Memory);
     };
     match normalize_path(alloc, &path) {
         Ok(path) => Ok(path),
-        Err(_) => Err(WalkError::Memory),
+        Err(_) => Err(KeyError::Memory),
     }
 }
 
 /// Records the file that a name means, or passes it over. `false` says that the text is refused.
 ///
-/// It is refused only as [`WalkError::Memory`], and changes no record then, nor where it answers
+/// It is refused only as [`KeyError::Memory`], and changes no record then, nor where it answers
 /// `false`. No file is asked for a name that is passed over, nor for the path of the input or of a
 /// record.
 #[tactic(auto, unfolding(crate::specs::Decided::outcome, crate::specs::Decided::is_known, crate::specs::Decided::is_looked_for))]
@@ -73,7 +74,7 @@ pub(crate) fn take_name<H: HashState, F: Files>(
     moment: Timestamp,
     zone: &TimeZone<'_>,
     vars: &[(Vec<u8>, Vec<u8>)],
-) -> Result<bool, WalkError>
+) -> Result<bool, KeyError>
     ensures keeps { Keeps F.file_map F.faults F.is_quiet files.old files.new }
     ensures answer { IsNameAnswer (context_in H.hash config moment (plain_zone zone.now) vars.now
         (F.file_map files.old) input_file.now cwd.now) (Rose (F.faults files.old) (F.faults files.new))

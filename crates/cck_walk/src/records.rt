@@ -6,7 +6,7 @@ ghost use Rattle.cck_path.specs.Path.{components, normal};
 ghost use Rattle.cck_path_map.specs.Values.{map_values};
 ghost use Rattle.cck_walk.specs.Digests.{AreNormal, listed, written};
 
-use crate::WalkError;
+use cck_key_error::KeyError;
 use cck_path::normalize_path;
 use cck_path_map::PathMap;
 use std::alloc::Global;
@@ -69,24 +69,24 @@ impl Records {
     }
 
     // Adds a file at a path without `.` and `..`, or gives it another digest.
-    pub(crate) fn insert(&mut self, path: &[u8], digest: String) -> Result<(), WalkError>
+    pub(crate) fn insert(&mut self, path: &[u8], digest: String) -> Result<(), KeyError>
         requires { normal (components path.now) ≡ components path.now }
         ensures set { OnOk result
             (self.new ≡ finite.insert self.old (components path.now) (string_bytes digest)) }
         ensures kept { OnErr result (self.new ≡ self.old) }
-        ensures refused { IsOkUnless result WalkError.Memory }
+        ensures refused { IsOkUnless result KeyError.Memory }
     {
         match self.digests.insert(path, digest) {
             Ok(()) => Ok(()),
-            Err(_) => Err(WalkError::Memory),
+            Err(_) => Err(KeyError::Memory),
         }
     }
 
     // All files in the order of their paths.
-    pub(crate) fn to_list(&self, alloc: Global) -> Result<Vec<(Vec<u8>, String)>, WalkError>
+    pub(crate) fn to_list(&self, alloc: Global) -> Result<Vec<(Vec<u8>, String)>, KeyError>
         ensures all { IfOk result (λ files.
             map listed files.items ≡ map written (finite.entries self.now)) }
-        ensures refused { IsOkUnless result WalkError.Memory }
+        ensures refused { IsOkUnless result KeyError.Memory }
     {
         list_of(alloc, &self.digests)
     }
@@ -94,17 +94,17 @@ impl Records {
 
 // All entries of a map in the order of their paths. A path stands there as it was written first:
 // without `.` and `..` it is written in one way as a normal one.
-fn list_of(alloc: Global, digests: &PathMap<String>) -> Result<Vec<(Vec<u8>, String)>, WalkError>
+fn list_of(alloc: Global, digests: &PathMap<String>) -> Result<Vec<(Vec<u8>, String)>, KeyError>
     requires { AreNormal digests.now }
     ensures all { IfOk result (λ files. map listed files.items
         ≡ map written (finite.entries (map_values string_bytes digests.now))) }
-    ensures refused { IsOkUnless result WalkError.Memory }
+    ensures refused { IsOkUnless result KeyError.Memory }
 {
     let entries = digests.entries();
     let mut files = Vec::new(alloc);
     for entry in entries {
         let Ok(path) = normalize_path(alloc, &entry.path) else {
-            return Err(WalkError::Memory);
+            return Err(KeyError::Memory);
         };
         let digest = String::from_str(alloc, &entry.value)?;
         files.push((path, digest))?;

@@ -5,10 +5,11 @@ ghost use Rattle.jiff.specs.Words.{plain_zone};
 ghost use Rattle.cck_walk.specs.Decided.{LooksForNone, context_in};
 ghost use Rattle.cck_walk.specs.Walk.{IsWalk};
 
+use crate::Records;
 use crate::name::take_name;
-use crate::{Records, WalkError};
 use cck_digest::HashState;
 use cck_files::Files;
+use cck_key_error::KeyError;
 use cck_markers::{Mark, Markers};
 use cck_path::Timestamp;
 use cck_time::PreprocessorCacheModeConfig;
@@ -40,8 +41,8 @@ pub enum Walk {
 /// Where a fault came the text may be refused. What is accepted, and that a marker is malformed, is
 /// exact then too. It is refused as
 ///
-/// - [`WalkError::Marker`] exactly where a malformed marker decides,
-/// - [`WalkError::Memory`].
+/// - [`KeyError::Marker`] exactly where a malformed marker decides,
+/// - [`KeyError::Memory`].
 ///
 /// Upstream's `compiler::c::process_preprocessed_file`.
 pub fn process_preprocessed_file<H: HashState, F: Files>(
@@ -54,7 +55,7 @@ pub fn process_preprocessed_file<H: HashState, F: Files>(
     moment: Timestamp,
     zone: &TimeZone<'_>,
     vars: &[(Vec<u8>, Vec<u8>)],
-) -> Result<Walk, WalkError>
+) -> Result<Walk, KeyError>
     ensures keeps { Keeps F.file_map F.faults F.is_quiet files.old files.new }
     ensures answer { IsWalk (context_in H.hash config moment (plain_zone zone.now) vars.now
         (F.file_map files.old) input_file.now cwd.now) (Rose (F.faults files.old) (F.faults files.new))
@@ -66,7 +67,7 @@ pub fn process_preprocessed_file<H: HashState, F: Files>(
     for mark in Markers::new(text) {
         match mark {
             Mark::Refusal => return Ok(Walk::Refused),
-            Mark::Malformed => return Err(WalkError::Marker),
+            Mark::Malformed => return Err(KeyError::Marker),
             Mark::Name { name, is_system } => match take_name::<H, F>(
                 alloc,
                 files,

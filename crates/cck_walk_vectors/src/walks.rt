@@ -3,7 +3,7 @@ use cck_cases::{CaseError, Given, Line, Value, World, bytes_of, find, number, wr
 use cck_digest::{Digest, FileError, Sha256State, UtilError};
 use cck_files::{Files, MapFiles};
 use cck_walk::{
-    LineAction, Records, Walk, WalkError, process_preprocessed_file, process_preprocessor_line,
+    KeyError, LineAction, Records, Walk, process_preprocessed_file, process_preprocessor_line,
 };
 use jiff::tz::{Offset, TimeZone};
 use std::alloc::{AllocError, Global};
@@ -37,10 +37,7 @@ pub(crate) const CALLS: [(&str, WalkCall); 7] = [
     ("error_text", WalkCall::ErrorText),
 ];
 
-const ERRORS: [(&str, WalkError); 2] = [
-    ("Memory", WalkError::Memory),
-    ("Marker", WalkError::Marker),
-];
+const ERRORS: [(&str, KeyError); 2] = [("Memory", KeyError::Memory), ("Marker", KeyError::Marker)];
 
 /// What lines give to walks, and what single line markers recorded.
 #[derive(Drop)]
@@ -202,15 +199,16 @@ impl Walks {
     }
 }
 
-// An error that is a result.
-fn error_word(error: WalkError) -> Result<&'static str, CaseError> {
+// An error that is a result: a walk returns no other.
+fn error_word(error: KeyError) -> Result<&'static str, CaseError> {
     match error {
-        WalkError::Memory => Err(CaseError::Util(UtilError::Memory)),
-        WalkError::Marker => Ok("error Marker"),
+        KeyError::Memory => Err(CaseError::Util(UtilError::Memory)),
+        KeyError::Marker => Ok("error Marker"),
+        _ => Err(CaseError::Line),
     }
 }
 
-fn write_result(out: &mut Vec<u8>, walk: Result<Walk, WalkError>) -> Result<(), CaseError> {
+fn write_result(out: &mut Vec<u8>, walk: Result<Walk, KeyError>) -> Result<(), CaseError> {
     match walk {
         Ok(Walk::Accepted(files)) => write_files(out, &files)?,
         Ok(Walk::Refused) => out.extend_from_slice(b"refused")?,

@@ -174,11 +174,31 @@ def call_strip_argument(subject, rest, made):
     return cut(argument, strip.stripped_argument(argument, subject.given.basedirs))
 
 
+def call_longest_at(subject, rest, made):
+    """`longest_at TEXT`: the longest base directory at each place of a text, and at its end."""
+    text, basedirs = made.text(rest), subject.given.basedirs
+    return numbers(strip.longest_prefix(text, at, basedirs) for at in range(len(text) + 1))
+
+
+def basedirs_with(rest):
+    """`basedirs_with N FIRST LETTER`: the text FIRST, and after it no LETTER, one, and so on."""
+    count, first, letter = cut_words(rest, 2)
+    return [undo(first) + undo(letter) * at for at in range(number_of(count))]
+
+
 def short_texts(letters):
     """Each text of up to six of four letters, the first letter changing first."""
     for length in range(7):
         for count in range(4**length):
             yield bytes(letters[count // 4**at % 4] for at in range(length))
+
+
+def call_strip_count_of(subject, rest, made):
+    """`strip_count_of LETTERS`: how many texts of up to seven of the letters there are.
+
+    The program counts those that two bodies strip alike.
+    """
+    return number(sum(len(made.text(rest)) ** length for length in range(8)))
 
 
 def all_of(result):
@@ -205,9 +225,11 @@ def argument_line(argument, basedirs):
 
 STRIP_CALLS = {
     "strip": call_strip,
+    "longest_at": call_longest_at,
     "strip_argument": call_strip_argument,
     "positions": lambda subject, rest, made: numbers(strip.positions(made.text(rest))),
     "strip_all_of": all_of(text_line),
+    "strip_count_of": call_strip_count_of,
     "strip_all_arguments_of": all_of(argument_line),
 }
 
@@ -399,5 +421,8 @@ class Subject(BaseSubject):
         """Takes what a line gives."""
         if word == "pieces":
             self.pieces = list_of(rest)
+            return True
+        if word == "basedirs_with":
+            self.given.basedirs = basedirs_with(rest)
             return True
         return self.given.give(word, rest) or self.streams.give(word, rest)

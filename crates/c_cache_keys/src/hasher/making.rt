@@ -14,7 +14,7 @@ use super::opening::Opening;
 use super::storing::put_result;
 use crate::conditions::Conditions;
 use crate::included::included_of;
-use crate::refusals::{input_refusal, text_refusal, walk_refusal};
+use crate::refusals::{input_refusal, text_refusal};
 use cck_compiler::{CCompilerImpl, KeyError, push_copies};
 use cck_digest::HashState;
 use cck_file_digest::read_contents;
@@ -155,7 +155,7 @@ impl<I: CCompilerImpl> CCompilerHasher<I> {
             conditions.vars,
         ) {
             Ok(walk) => walk,
-            Err(error) => return Err(walk_refusal(error)),
+            Err(error) => return Err(error),
         };
         let records = match walk {
             Walk::Accepted(records) => records,

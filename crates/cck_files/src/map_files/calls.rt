@@ -1,7 +1,8 @@
 //! The calls of [`Files`] on files in memory.
-ghost use Rattle.std.specs.Prelude.{◌≡◌, ◌==◌, ◌⊎◌, false, if◌then◌else◌, IsOkAnd, MatchBool, MatchResult, Ok, map, true, vec_items};
+ghost use Rattle.std.specs.Prelude.{◌≡◌, ◌==◌, ◌⊎◌, false, if◌then◌else◌, Err, IfOk, IsOk, IsOkAnd, MatchBool, MatchResult, Ok, OnErr, map, true, vec_items};
 ghost use Rattle.cck_path.specs.Path.{components};
-ghost use Rattle.cck_files.specs.Calls.{IsRead, IsRefusal, IsRefusalOrMemory, Keeps, Rose};
+ghost use Rattle.cck_path.specs.Text.{path_text};
+ghost use Rattle.cck_files.specs.Calls.{IsFullRead, IsRead, IsRefusal, IsRefusalOrMemory, Keeps, Rose};
 ghost use Rattle.cck_files.specs.FileMap.{IsListing, canonical_at, contents_at, folder_at, metadata_at, metadata_of, stands_at};
 ghost use Rattle.cck_files.specs.FileState.{IsAfterCall, IsQuiet, fault_count, is_fault};
 ghost use Rattle.cck_files.specs.Node.{node_of};
@@ -46,6 +47,9 @@ impl Files for MapFiles {
         ensures answer { let found = contents_at self.old.files (components path.now) in
             MatchResult result (λ n. IsOkAnd found (λ contents. IsRead contents offset n buffer.new))
             (IsRefusal found (Rose (fault_count self.old) (fault_count self.new))) }
+        ensures full { IfOk result (λ n. IsOkAnd (contents_at self.old.files (components path.now))
+            (λ contents. IsFullRead contents offset n buffer.old buffer.new)) }
+        ensures left { OnErr result (buffer.new ≡ buffer.old) }
         ensures after { IsAfterCall self.old self.new }
         ensures fault { is_fault result ≡ (self.old.armed == 1) }
     {
@@ -68,6 +72,8 @@ impl Files for MapFiles {
             (λ names. IsListing self.old.files (components path.now) (map vec_items names.items))
             (IsRefusalOrMemory (folder_at self.old.files (components path.now))
             (Rose (fault_count self.old) (fault_count self.new))) }
+        ensures memory { result ≡ Err FileError.Memory →
+            folder_at self.old.files (components path.now) ≡ Ok tt }
         ensures after { IsAfterCall self.old self.new }
         ensures fault { is_fault result ≡ (self.old.armed == 1) }
     {
@@ -105,6 +111,9 @@ impl Files for MapFiles {
         ensures answer { let found = canonical_at self.old.files (components path.now) in
             MatchResult result (λ path. found ≡ Ok (components path.items))
             (IsRefusalOrMemory found (Rose (fault_count self.old) (fault_count self.new))) }
+        ensures text { IfOk result (λ path. path.items ≡ path_text (components path.items)) }
+        ensures memory { result ≡ Err FileError.Memory →
+            IsOk (canonical_at self.old.files (components path.now)) }
         ensures after { IsAfterCall self.old self.new }
         ensures fault { is_fault result ≡ (self.old.armed == 1) }
     {
@@ -140,7 +149,8 @@ fn metadata_of(node: &Node) -> Metadata
 
 // Reads from an offset on, and answers how many bytes.
 fn read_bytes(contents: &[u8], offset: u64, buffer: &mut [u8]) -> usize
-    ensures { IsRead contents.now offset result buffer.new }
+    ensures read { IsRead contents.now offset result buffer.new }
+    ensures full { IsFullRead contents.now offset result buffer.old buffer.new }
 {
     if offset >= contents.len() as u64 {
         return 0;

@@ -1,9 +1,9 @@
 use Rattle.std.proofs.Common.{◌+◌, add-one, arith, ap, refl, ◌∙◌}
-use Rattle.std.proofs.lemmas.List.{take_all}
 use Rattle.cck_path.specs.Bytes.{lists_of}
 use Rattle.jiff.specs.Words.{plain_zone}
-use Rattle.c_cache_keys.proofs.Ran.{after_more, answered_more, rest_more, run_answered, untouched}
+use Rattle.c_cache_keys.proofs.Ran.{after_more, all_answered, all_run, answered_more, rest_more, untouched}
 use Rattle.c_cache_keys.proofs.Runs.{transparent}
+use Rattle.c_cache_keys.proofs.Stored.{run_answers_handed}
 use Rattle.c_cache_keys.specs.World.{world_of}
 use Rattle.c_cache_keys.proofs.calls.run_calls.Goals as goal
 
@@ -40,23 +40,17 @@ loop-call-preserved g c =
 
 pub returns-clause-answered : goal.returns-clause-answered
 returns-clause-answered g c =
-    let all = take_all c.loop-call.call-index c.args.calls.now c.loop-call-test.false in
-    let now = take_all c.loop-call.call-index c.loop-call.calls (omega (arith, c.loop-call.auto.calls, c.loop-call-test.false)) in
-    rw (all, now) at c.loop-call.invariant.answered
+    all_answered g.I.CCompilerImpl.value g.F.Files.file_map g.F.Files.faults _ g.S.PreprocessorStore.store c.loop-call.call-index c.args.calls.now c.loop-call.calls _ _ _
+    c.loop-call-test.false c.loop-call.auto.calls c.loop-call.invariant.answered
 
 pub returns-clause-run : goal.returns-clause-run
 returns-clause-run g c =
-    let F = g.F.Files in
-    let w = world_of g.H.HashState.hash g.I.CCompilerImpl.compiler (plain_zone c.args.zone.now) c.args.config (lists_of c.args.basedirs.now) in
-    let all = take_all c.loop-call.call-index c.args.calls.now c.loop-call-test.false in
-    let now = take_all c.loop-call.call-index c.loop-call.calls (omega (arith, c.loop-call.auto.calls, c.loop-call-test.false)) in
-    run_answered g.I.CCompilerImpl.value F.file_map F.faults w g.S.PreprocessorStore.store _ _ _ _ _ (rw (all, now) at c.loop-call.invariant.answered)
+    all_run g.I.CCompilerImpl.value g.F.Files.file_map g.F.Files.faults _ g.S.PreprocessorStore.store c.loop-call.call-index c.args.calls.now c.loop-call.calls _ _ _
+    c.loop-call-test.false c.loop-call.auto.calls c.loop-call.invariant.answered
 
-pub returns-clause-transparent : goal.returns-clause-transparent
-returns-clause-transparent g c =
-    let F = g.F.Files in
-    let w = world_of g.H.HashState.hash g.I.CCompilerImpl.compiler (plain_zone c.args.zone.now) c.args.config (lists_of c.args.basedirs.now) in
-    let all = take_all c.loop-call.call-index c.args.calls.now c.loop-call-test.false in
-    let now = take_all c.loop-call.call-index c.loop-call.calls (omega (arith, c.loop-call.auto.calls, c.loop-call-test.false)) in
-    let run = run_answered g.I.CCompilerImpl.value F.file_map F.faults w g.S.PreprocessorStore.store _ _ _ _ _ (rw (all, now) at c.loop-call.invariant.answered) in
-    λ none premises. transparent w g.S.PreprocessorStore.store g.met.H.HashState.length_hash g.met.S.PreprocessorStore.laws _ _ _ _ none run premises
+pub returns-clause-headline : goal.returns-clause-headline
+returns-clause-headline g c = λ none premises.
+    transparent _ g.S.PreprocessorStore.store g.met.H.HashState.length_hash g.met.S.PreprocessorStore.laws _ _ _ _ none (returns-clause-run g c) premises
+
+pub returns-clause-handed : goal.returns-clause-handed
+returns-clause-handed g c = run_answers_handed _ g.S.PreprocessorStore.store _ _ _ _ (returns-clause-run g c)

@@ -32,5 +32,5 @@ loop-command-preserved g c =
 pub returns : goal.returns
 returns g c =
     let lines = lines_of c.args.script.now in
-    ran g.H.HashState.hash lines _ _ c.in_ok-zone.ensures.0 _ _ _ (c.in_ok-zone.ensures.1 ∙ (search rules)) c.in_ok-zone.ensures.2 c.in_ok-options.ensures.basedirs
+    ran g.H.HashState.hash lines _ _ c.in_ok-zone.ensures.0 _ _ _ g.met.H.HashState.length_hash (c.in_ok-zone.ensures.1 ∙ (search rules)) c.in_ok-zone.ensures.2 c.in_ok-options.ensures.basedirs
     (rw (ap (map line_of) (drop_all c.loop-command.command-index _ c.loop-command-test.false)) at c.loop-command.invariant)

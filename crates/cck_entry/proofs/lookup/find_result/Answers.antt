@@ -4,7 +4,6 @@ use Rattle.std.specs.List.{list_all}
 use Rattle.std.specs.Iterator.Adapters.{rev_source}
 use Rattle.cck_files.proofs.CallsLemmas.{keeps_all, keeps_itself}
 use Rattle.cck_files.specs.Calls.{Rose}
-use Rattle.cck_include.proofs.MatchLemmas.{none_known}
 use Rattle.cck_include.specs.Include.{includes_in}
 use Rattle.cck_include.specs.Known.{AreKnown}
 use Rattle.cck_include.specs.Matching.{MayMiss, matches}
@@ -24,7 +23,7 @@ loop-key-init g c =
       can = tt;
       finite = tt;
       keeps = keeps_itself c.args.files.now;
-      known = subst (AreKnown s (F.file_map c.args.files.now)) (sym c.new-known.ensures) (none_known s (F.file_map c.args.files.now));
+      known = c.new-known.ensures s (F.file_map c.args.files.now);
       seen = ([], sym (append-nil (rev_source c.into_iter-key-iterator.result) ∙ all));
       so_far = inl (ap (λ l. found_in (matches s (F.file_map c.args.files.now)) (map result_in l)) all);
     }
@@ -34,14 +33,15 @@ loop-key-preserved g c =
     let F = g.F.Files in
     let s = setting_in g.H.HashState.hash c.args.config c.args.moment (plain_zone c.args.zone.now) c.args.vars.now in
     let old = F.file_map c.args.files.now in
+    let right : AreKnown s (F.file_map c.loop-key.files) c.loop-key.known = rw c.loop-key.invariant.keeps.same_map c.loop-key.invariant.known in
     let R = Rose (F.faults c.loop-key.files) (F.faults c.includes_match.new.files) in
     let there : MayMiss R false (list_all (matches s old) (includes_in c.in-Some.includes.now.items)) =
-    rw (← c.deref.ensures.value, ← c.loop-key.invariant.keeps.same_map) (subst (λ b. MayMiss R b (list_all (matches s (F.file_map c.loop-key.files)) (includes_in c.deref.result.now))) c.if-matches.false c.in_ok-matches.ensures.answer) in
+    rw (← c.deref.ensures.value, ← c.loop-key.invariant.keeps.same_map) (subst (λ b. MayMiss R b (list_all (matches s (F.file_map c.loop-key.files)) (includes_in c.deref.result.now))) c.if-matches.false (c.in_ok-matches.ensures.answer right)) in
     record {
       can = tt;
       finite = tt;
       keeps = keeps_all c.args.files.now c.loop-key.files c.includes_match.new.files c.loop-key.invariant.keeps c.in_ok-matches.ensures.keeps;
-      known = subst (λ m. AreKnown s m c.includes_match.new.known) c.loop-key.invariant.keeps.same_map c.in_ok-matches.ensures.known;
+      known = subst (λ m. AreKnown s m c.includes_match.new.known) c.loop-key.invariant.keeps.same_map (c.in_ok-matches.ensures.known right);
       seen = (
         (c.in-Some.key.now, c.in-Some.includes.now) ∷ c.loop-key.invariant.seen.0,
         c.loop-key.invariant.seen.1 ∙ ap (λ l. l ++ c.loop-key.invariant.seen.0) c.in-Some.ensures.steps ∙ append_assoc (rev_source c.next.new.self) ((c.in-Some.key.now, c.in-Some.includes.now) ∷ []) c.loop-key.invariant.seen.0,
@@ -56,9 +56,10 @@ returns-then-matches-clause-answer g c =
     let F = g.F.Files in
     let s = setting_in g.H.HashState.hash c.args.config c.args.moment (plain_zone c.args.zone.now) c.args.vars.now in
     let old = F.file_map c.args.files.now in
+    let right : AreKnown s (F.file_map c.loop-key.files) c.loop-key.known = rw c.loop-key.invariant.keeps.same_map c.loop-key.invariant.known in
     let R = Rose (F.faults c.loop-key.files) (F.faults c.includes_match.new.files) in
     let there : MayMiss R true (list_all (matches s old) (includes_in c.in-Some.includes.now.items)) =
-    rw (← c.deref.ensures.value, ← c.loop-key.invariant.keeps.same_map) (subst (λ b. MayMiss R b (list_all (matches s (F.file_map c.loop-key.files)) (includes_in c.deref.result.now))) c.if-matches.true c.in_ok-matches.ensures.answer) in
+    rw (← c.deref.ensures.value, ← c.loop-key.invariant.keeps.same_map) (subst (λ b. MayMiss R b (list_all (matches s (F.file_map c.loop-key.files)) (includes_in c.deref.result.now))) c.if-matches.true (c.in_ok-matches.ensures.answer right)) in
     rw c.as_str.ensures.value (hits (matches s old) c.args.results.now.entries (rev_source c.loop-key.key-iterator) (rev_source c.next.new.self) c.loop-key.invariant.seen.0 (c.in-Some.key.now, c.in-Some.includes.now)
     (F.faults c.args.files.now) (F.faults c.loop-key.files) (F.faults c.includes_match.new.files)
     c.in-Some.ensures.steps c.loop-key.invariant.seen.1 c.in_ok-matches.ensures.keeps.not_lower c.loop-key.invariant.so_far there)

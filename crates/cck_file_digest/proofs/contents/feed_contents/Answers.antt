@@ -1,13 +1,30 @@
-use Rattle.std.proofs.Common.{arith}
+use Rattle.std.proofs.Common.{arith, IsOkAnd}
+use Rattle.cck_digest.proofs.StreamLemmas.{after_refusal}
 use Rattle.cck_files.proofs.CallsLemmas.{keeps_all}
-use Rattle.cck_file_digest.proofs.ReadLemmas.{fed_more}
+use Rattle.cck_files.specs.Calls.{IsRead}
+use Rattle.cck_files.specs.FileMap.{contents_at}
+use Rattle.cck_path.specs.Path.{components}
+use Rattle.cck_file_digest.proofs.ReadLemmas.{fed_begun, fed_begun_more, fed_more}
 use Rattle.cck_file_digest.proofs.contents.feed_contents.Goals as goal
 
 pub loop-count-preserved : goal.loop-count-preserved
-loop-count-preserved g c = record {
-  keeps = keeps_all _ _ _ c.loop-count.invariant.keeps c.in_ok-count.ensures.keeps;
-  room = omega arith;
-  ready = c.in_ok-take.ensures.1;
-  fed = fed_more _ _ _ _ _ _ _ _ c.loop-count.invariant.fed
-      (rw (← c.loop-count.invariant.keeps.same_map) c.in_ok-count.ensures.answer) c.in_ok-take.ensures.0;
-}
+loop-count-preserved g c =
+    let found = contents_at (g.F.Files.file_map c.args.files.now) (components c.args.path.now) in
+    let read : IsOkAnd found (λ contents. IsRead contents c.loop-count.offset c.in_ok-count.count c.read_at.new.buffer) =
+    rw (← c.loop-count.invariant.keeps.same_map) c.in_ok-count.ensures.answer in
+    record {
+      keeps = keeps_all _ _ _ c.loop-count.invariant.keeps c.in_ok-count.ensures.keeps;
+      room = omega arith;
+      fed = fed_more _ _ _ _ _ c.in_ok-count.count c.read_at.new.buffer found c.loop-count.invariant.fed read (omega arith) (omega arith) c.in_ok-take.ensures.taken;
+    }
+
+pub returns-in_err-count-clause-begun : goal.returns-in_err-count-clause-begun
+returns-in_err-count-clause-begun g c = after_refusal c.from_residual.result _ (fed_begun _ _ _ _ _ c.loop-count.invariant.fed)
+
+pub returns-in_err-take-clause-begun : goal.returns-in_err-take-clause-begun
+returns-in_err-take-clause-begun g c =
+    let found = contents_at (g.F.Files.file_map c.args.files.now) (components c.args.path.now) in
+    let read : IsOkAnd found (λ contents. IsRead contents c.loop-count.offset c.in_ok-count.count c.read_at.new.buffer) =
+    rw (← c.loop-count.invariant.keeps.same_map) c.in_ok-count.ensures.answer in
+    after_refusal c.from_residual-in_err-take.result _
+    (fed_begun_more _ _ _ _ _ c.in_ok-count.count c.read_at.new.buffer found c.loop-count.invariant.fed read c.in_err-take.ensures.begun)

@@ -1,18 +1,18 @@
-use Rattle.std.proofs.Common.{◌<◌, [], length, IfOk, ◌-◌}
+use Rattle.std.proofs.Common.{◌≡◌, [], length, ◌-◌}
 use Rattle.std.specs.Result.{result_unwrap_or}
+use Rattle.cck_digest.specs.Stream.{buffer_size}
 use Rattle.cck_path.specs.Path.{components}
 use Rattle.cck_files.specs.FileMap.{contents_at}
 use Rattle.cck_files.specs.Calls.{Keeps}
 use Rattle.cck_file_digest.proofs.ReadLemmas.{IsFed}
 use Rattle.cck_file_digest.proofs.contents.feed_contents.Given as goal
 
--- the sink took the contents up to the offset, and is ready for more
+-- the sink took the contents up to the offset
 abbrev pub invariant-loop-count : goal.invariant-loop-count
-invariant-loop-count g l = let F = g.F.Files in let S = g.S.Sink in record {
+invariant-loop-count g l = let F = g.F.Files in record {
   keeps : Keeps F.file_map F.faults F.is_quiet l.fn.files l.files;
-  room : 0 < length l.buffer;
-  ready : S.is_open l.sink;
-  fed : IfOk (contents_at (F.file_map l.fn.files) (components l.path)) (IsFed S.takes l.fn.sink l.sink l.offset);
+  room : length l.buffer ≡ buffer_size;
+  fed : IsFed g.S.Sink.takes l.fn.sink l.sink l.offset (result_unwrap_or (contents_at (F.file_map l.fn.files) (components l.path)) []);
 }
 
 -- what is left of the contents

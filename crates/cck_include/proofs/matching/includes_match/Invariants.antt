@@ -12,8 +12,9 @@ abbrev pub invariant-loop-include : goal.invariant-loop-include
 invariant-loop-include g l =
     let F = g.F.Files in
     let s = setting_in g.H.HashState.hash l.config l.moment (plain_zone l.zone) l.vars in
+    let right = AreKnown s (F.file_map l.fn.files) l.fn.known in
     record {
       keeps : Keeps F.file_map F.faults F.is_quiet l.fn.files l.files;
-      known : AreKnown s (F.file_map l.fn.files) l.known;
-      rest : list_all (matches s (F.file_map l.fn.files)) (includes_in (drop l.include-index l.includes)) ≡ list_all (matches s (F.file_map l.fn.files)) (includes_in l.includes);
+      known : right → AreKnown s (F.file_map l.fn.files) l.known;
+      rest : right → list_all (matches s (F.file_map l.fn.files)) (includes_in (drop l.include-index l.includes)) ≡ list_all (matches s (F.file_map l.fn.files)) (includes_in l.includes);
     }

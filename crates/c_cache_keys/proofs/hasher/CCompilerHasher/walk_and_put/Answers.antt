@@ -17,10 +17,9 @@ returns-in-Err-clause-makes g c =
     let w = world_under g.H.HashState.hash g.I.CCompilerImpl.compiler (given_of c.args.conditions.now) in
     let call = call_under g.I.CCompilerImpl.value (g.F.Files.file_map c.args.files.now) c.args.self.now (given_of c.args.conditions.now) in
     let F = Rose (g.F.Files.faults c.args.files.now) (g.F.Files.faults c.process_preprocessed_file.new.files) in
-    rw c.walk_refusal.ensures
-    (stop_walked w g.S.PreprocessorStore.store call F c.args.at.now _ c.args.text.now c.requires.printed c.args.store.now c.in-Err.error
+    stop_walked w g.S.PreprocessorStore.store call F c.args.at.now _ c.args.text.now c.requires.printed c.args.store.now c.in-Err.error
     (walked_over w call c.args.text.now (g.F.Files.file_map c.args.files.now) c.args.conditions.now.moment c.args.conditions.now.vars.now c.args.input.now c.args.conditions.now.cwd.now
-    refl refl refl (sym c.requires.input) refl F (Err c.in-Err.error) c.in-Err.ensures.answer))
+    refl refl refl (sym c.requires.input) refl F (Err c.in-Err.error) c.in-Err.ensures.answer)
 
 pub returns-in-Refused-clause-makes : goal.returns-in-Refused-clause-makes
 returns-in-Refused-clause-makes g c =
@@ -89,7 +88,9 @@ returns-in-Err-clause-reason g c =
     let w = world_under g.H.HashState.hash g.I.CCompilerImpl.compiler (given_of c.args.conditions.now) in
     let call = call_under g.I.CCompilerImpl.value (g.F.Files.file_map c.args.files.now) c.args.self.now (given_of c.args.conditions.now) in
     let F = Rose (g.F.Files.faults c.args.files.now) (g.F.Files.faults c.process_preprocessed_file.new.files) in
-    rw c.walk_refusal.ensures (walk_reason w call F c.in-Err.error)
+    walk_reason w call F c.args.text.now c.in-Err.error
+    (walked_over w call c.args.text.now (g.F.Files.file_map c.args.files.now) c.args.conditions.now.moment c.args.conditions.now.vars.now c.args.input.now c.args.conditions.now.cwd.now
+    refl refl refl (sym c.requires.input) refl F (Err c.in-Err.error) c.in-Err.ensures.answer)
 
 pub returns-in-Refused-clause-reason : goal.returns-in-Refused-clause-reason
 returns-in-Refused-clause-reason g c =

@@ -5,9 +5,9 @@ use Rattle.std.specs.declared.alloc.Global.{Global}
 use Rattle.std.specs.Cmp.Derive.Mapped.{pointwise-map}
 use Rattle.std.specs.Cmp.Lexicographic.{pointwise}
 use Rattle.std.specs.String.{string_eq}
-use Rattle.cck_entry.specs.Equality.{same_include, same_result}
+use Rattle.cck_entry.specs.Equality.{same_result}
 use Rattle.cck_entry.specs.Results.{result_in}
-use Rattle.cck_include.specs.Include.{include_in}
+use Rattle.cck_include.specs.Include.{include_in, same_include}
 use Rattle.cck_include.specs.declared.include.IncludeEntry.{IncludeEntry}
 use Rattle.cck_entry.proofs.EntryLemmas.{entries_in}
 use Rattle.cck_entry.proofs.entry.PreprocessorCacheEntryPartialEq.eq.Goals as goal

@@ -2,7 +2,7 @@ use Rattle.std.proofs.Common.{ap, sym, ◌∙◌}
 use Rattle.std.specs.Option.{option_copied}
 use Rattle.cck_path.specs.Path.{components}
 use Rattle.cck_files.specs.FileState.{files_of, with_place}
-use Rattle.cck_files.proofs.PlacesLemmas.{files_with, linked_none, linked_some}
+use Rattle.cck_files.proofs.PlacesLemmas.{files_with, has_node, linked_none, linked_some}
 use Rattle.cck_files.proofs.map_files.MapFiles.link.Goals as goal
 
 pub returns-in_default-clause-set : goal.returns-in_default-clause-set
@@ -26,3 +26,11 @@ returns-clause-set c =
       faults = c.self.inside.faults;
       armed = c.self.inside.armed;
     })
+
+pub returns-in_err-copy-clause-memory : goal.returns-in_err-copy-clause-memory
+returns-in_err-copy-clause-memory c = λ _.
+    rw (← c.self.view_is) (has_node c.self.inside.places (components c.args.target.now) c.in-Some.place.now (ap option_copied (sym c.in-Some.is) ∙ c.get.ensures))
+
+pub returns-in_err-insert-clause-memory : goal.returns-in_err-insert-clause-memory
+returns-in_err-insert-clause-memory c = λ _.
+    rw (← c.self.view_is) (has_node c.self.inside.places (components c.args.target.now) c.in-Some.place.now (ap option_copied (sym c.in-Some.is) ∙ c.get.ensures))

@@ -11,7 +11,7 @@ returns-clause-set c =
     let p = components c.args.path.now in
     rw (← c.self.view_is) (λ i. record {
       files = (ap files_of c.in_ok-insert.ensures.set
-          ∙ files_with m p (record { node = c.args.node; canonical = c.in_ok-canonical.canonical })
+          ∙ files_with m p _
           ∙ ap (with_place (files_of m) p (node_of c.args.node)) c.in_ok-canonical.ensures.components) i;
       faults = c.self.inside.faults;
       armed = c.self.inside.armed;

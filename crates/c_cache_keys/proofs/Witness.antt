@@ -1,0 +1,405 @@
+-- The calls of the witness: what is hashed for them, their keys, what is recorded of them, and their steps.
+use Rattle.std.proofs.Common.{◌≡◌, ◌⊎◌, inl, inr, ◌<◌, ◌^◌, lit<, nat_lt, pos, w64, Bool, true, false, cond, List, [], ◌∷◌, length, refl, sym, ap, ap₂, ◌∙◌, ◌&&◌, subst, arith, option_map, Some, None, Ok, codes}
+use Rattle.std.specs.Prelude.{All, Contains}
+use Rattle.std.specs.FinMap.{empty, entries, get, get-from_sorted}
+use Rattle.std.specs.FinMap.Entries.{find}
+use Rattle.std.specs.Cmp.{tied_itself}
+use Rattle.std.specs.Cmp.Lexicographic.{nat_list_cmp_total}
+use Rattle.std.specs.List.{AllByRecursion, list_all}
+use Rattle.std.specs.Option.{option_and_then}
+use Rattle.std.specs.Ordering.{eq_by_cmp, is_eq}
+use Rattle.std.specs.Str.{bytes_eq, is_utf8}
+use Rattle.std.proofs.lemmas.Bool.{and_parts, ltb-true}
+use Rattle.std.proofs.lemmas.Int.{fits_signed_from_abs}
+use Rattle.std.proofs.lemmas.List.Elements.{All-nil, All-cons}
+use Rattle.std.proofs.lemmas.Str.{IsUtf8-from_ascii, is_utf8-from_IsUtf8}
+use Rattle.std.proofs.lemmas.Str.Ascii.{IsAscii-from_all}
+use Rattle.std.proofs.lemmas.Option.{same_Some, none-some}
+use Rattle.cck_compiler.specs.Arguments.{archs, is_multiarch}
+use Rattle.cck_digest.specs.Digest.{digest_text, hex_text}
+use Rattle.cck_entry.specs.Entry.{Entry, EntryText, added}
+use Rattle.cck_entry.specs.Find.{found_in}
+use Rattle.cck_entry.specs.Results.{Fits, FitsMoment, FitsResult, KeyResult}
+use Rattle.cck_entry.specs.Writing.{entry_bytes}
+use Rattle.cck_files.specs.FileMap.{FileNode, file_at, file_in, folder_at, folder_in, metadata_of}
+use Rattle.cck_include.specs.Gathered.{Digested, all_of, gathered, include_of}
+use Rattle.cck_include.specs.Include.{Include}
+use Rattle.cck_include.specs.Recorded.{has_date, has_time, has_timestamp, is_timed, recorded}
+use Rattle.cck_markers.proofs.OneList.{one_list}
+use Rattle.cck_markers.specs.Marks.{Marks}
+use Rattle.cck_path.specs.Bytes.{Bytes}
+use Rattle.cck_path.specs.Path.{Path, components, path_cmp}
+use Rattle.cck_path.specs.Text.{join_path, path_text}
+use Rattle.cck_path.specs.TextOrder.{text_cmp}
+use Rattle.cck_preprocessor_key.specs.PreprocessorKey.{preprocessor_material}
+use Rattle.cck_store.specs.MapStore.{State, map_store}
+use Rattle.cck_strip.specs.Cuts.{stripped}
+use Rattle.cck_strip.specs.Text.{longest_prefix, text_site}
+use Rattle.cck_util.specs.Key.{key_parts, material, object_key}
+use Rattle.c_cache_keys.proofs.Decisions.{one_decision}
+use Rattle.c_cache_keys.proofs.Elements.{first_in, one_of, only_one}
+use Rattle.c_cache_keys.proofs.Includes.{entries-added, include_here, match_by_digest, same_ok}
+use Rattle.c_cache_keys.proofs.WalkExamples.{header_accepted, header_alone, header_named, input_meant}
+use Rattle.c_cache_keys.specs.Call.{Call, Fault, Keyed, calls_of}
+use Rattle.c_cache_keys.specs.Keys.{extra_texts, input_file, input_recorded, is_direct, key_material, of_both, params, plain_key, preprocessor_key_of, printed, request_parts, text_of, told, uses_cache}
+use Rattle.c_cache_keys.specs.Premises.{IsHashed, NoSharedDigest, OneRequest, Premises, PrintsAgain, of_file, of_folder, of_key, of_time}
+use Rattle.c_cache_keys.specs.Step.{AreOwnIncludes, Hit, Miss, Opened, OwnPair, Step, asked, gives, matching}
+use Rattle.c_cache_keys.specs.Walk.{Accepted, AreRecorded, Errs, IsRecorded, MarksDecide, Walk, input_path}
+use Rattle.c_cache_keys.specs.Witness.{PremisesCanHold, file_of, holds_nothing, included_text, input_text, path_in_w, printed_text, second, sized, witness_call, witness_done, witness_files, witness_hash, witness_nodes, witness_run, witness_world}
+use Rattle.c_cache_keys.specs.World.{HasSize, setting}
+
+abbrev pub input_node : FileNode
+input_node = file_of input_text
+
+abbrev included_node : FileNode
+included_node = file_of included_text
+
+abbrev input_in_w : Path
+input_in_w = path_in_w (codes "a.c")
+
+abbrev included_in_w : Path
+included_in_w = path_in_w (codes "h.h")
+
+-- ---- the files
+
+node_at : (p : Path) → get witness_files.nodes p ≡ find path_cmp p witness_nodes
+node_at p = get-from_sorted path_cmp witness_nodes p tt
+
+pub input_at : file_at witness_files input_in_w ≡ Ok input_node
+unfolding file_at
+input_at = ap file_in (node_at input_in_w)
+
+pub included_at : file_at witness_files included_in_w ≡ Ok included_node
+unfolding file_at
+included_at = ap file_in (node_at included_in_w)
+
+-- there are these two alone
+each_file : (p : Path) (n : FileNode) → file_at witness_files p ≡ Ok n → (n ≡ input_node) ⊎ (n ≡ included_node)
+unfolding file_at
+each_file p n e = by (eq_by_cmp path_cmp p input_in_w) (eq_by_cmp path_cmp p included_in_w) (sym (ap file_in (node_at p)) ∙ e)
+  where
+    by : (a b : Bool) → file_in (cond a (Some input_node) (cond b (Some included_node) None)) ≡ Ok n → (n ≡ input_node) ⊎ (n ≡ included_node)
+    by true b is = inl (sym (same_ok input_node n is))
+    by false true is = inr (sym (same_ok included_node n is))
+    by false false is = absurd cc
+
+no_folder : (p : Path) → folder_at witness_files p ≡ Ok tt → ⊥
+unfolding folder_at
+no_folder p e = by (eq_by_cmp path_cmp p input_in_w) (eq_by_cmp path_cmp p included_in_w) (sym (ap folder_in (node_at p)) ∙ e)
+  where
+    by : (a b : Bool) → folder_in (cond a (Some input_node) (cond b (Some included_node) None)) ≡ Ok tt → ⊥
+    by true b is = cc
+    by false true is = cc
+    by false false is = cc
+
+pub input_read : file_at witness_files (components (input_path witness_call)) ≡ Ok input_node
+input_read = ap (file_at witness_files) (input_meant witness_world witness_call refl refl) ∙ input_at
+
+input_digest : recorded (setting witness_world witness_call) input_node ≡ Some (digest_text witness_hash input_text)
+unfolding recorded has_time has_date has_timestamp
+input_digest = refl
+
+included_digest : recorded (setting witness_world witness_call) included_node ≡ Some (digest_text witness_hash included_text)
+unfolding recorded has_time has_date has_timestamp
+included_digest = refl
+
+-- ---- the keys
+
+abbrev witness_material : Bytes
+witness_material = preprocessor_material (request_parts witness_world witness_call.request (input_path witness_call)) [] (digest_text witness_hash input_text)
+
+pub extra_is : extra_texts witness_world witness_call ≡ Some []
+unfolding extra_texts
+extra_is = refl
+
+used : uses_cache witness_world witness_call.request ≡ true
+unfolding uses_cache is_direct
+used = refl
+
+input_is : input_file witness_world witness_call ≡ Some input_node
+unfolding input_file
+input_is = ap told input_read
+
+recorded_is : input_recorded witness_world witness_call ≡ Some (digest_text witness_hash input_text)
+unfolding input_recorded
+recorded_is = ap (option_and_then (recorded (setting witness_world witness_call))) input_is ∙ input_digest
+
+material_is : key_material witness_world witness_call ≡ Some witness_material
+unfolding key_material
+material_is =
+    let made : List Bytes → Bytes → Bytes = preprocessor_material (request_parts witness_world witness_call.request (input_path witness_call)) in
+    ap (λ b. cond b (of_both made (extra_texts witness_world witness_call) (input_recorded witness_world witness_call)) None) used
+    ∙ ap₂ (of_both made) extra_is recorded_is
+
+abbrev pub witness_key : Bytes
+witness_key = digest_text witness_hash witness_material
+
+pub key_is : preprocessor_key_of witness_world witness_call ≡ Some witness_key
+unfolding preprocessor_key_of
+key_is = ap (option_map (digest_text witness_hash)) material_is
+
+prints : printed witness_world witness_call ≡ Some printed_text
+unfolding printed
+prints = refl
+
+abbrev pub witness_answer : Bytes
+witness_answer = object_key witness_hash (params witness_world witness_call.request [] printed_text)
+
+plain_is : plain_key witness_world witness_call ≡ Some witness_answer
+unfolding plain_key text_of
+plain_is = ap₂ (of_both (λ extra text. object_key witness_hash (params witness_world witness_call.request extra text))) extra_is prints
+
+-- ---- what is hashed
+
+material_size : length witness_material ≡ 75
+unfolding preprocessor_material request_parts join_path is_multiarch archs stripped text_site longest_prefix
+material_size = refl
+
+-- the string that a digest is of
+abbrev hashed_of : Bytes → Bytes
+hashed_of digest =
+    cond (bytes_eq digest (digest_text witness_hash input_text)) input_text
+    (cond (bytes_eq digest (digest_text witness_hash included_text)) included_text witness_material)
+
+untimed : (n : FileNode) → (n ≡ input_node) ⊎ (n ≡ included_node) → is_timed n.contents ≡ false
+unfolding has_date has_timestamp
+untimed n (inl is) = ap (λ (v : FileNode). is_timed v.contents) is
+untimed n (inr is) = ap (λ (v : FileNode). is_timed v.contents) is
+
+pub plain_stamp : (p : Path) (n : FileNode) → file_at witness_files p ≡ Ok n → has_timestamp n.contents ≡ false
+unfolding has_timestamp
+plain_stamp p n file = elim (each_file p n file) [
+  | inl is ↦ ap (λ (v : FileNode). has_timestamp v.contents) is
+  | inr is ↦ ap (λ (v : FileNode). has_timestamp v.contents) is
+]
+
+of_contents : (n : FileNode) → (n ≡ input_node) ⊎ (n ≡ included_node) → hashed_of (digest_text witness_hash n.contents) ≡ n.contents
+of_contents n (inl is) = subst (λ (v : FileNode). hashed_of (digest_text witness_hash v.contents) ≡ v.contents) (sym is) refl
+of_contents n (inr is) = subst (λ (v : FileNode). hashed_of (digest_text witness_hash v.contents) ≡ v.contents) (sym is) refl
+
+of_material : hashed_of witness_key ≡ witness_material
+of_material = ap (λ n. hashed_of (hex_text (sized n))) material_size
+
+told_apart : (x : Bytes) → IsHashed witness_world witness_call x → hashed_of (digest_text witness_hash x) ≡ x
+told_apart x (of_file p n file is) =
+    ap (λ v. hashed_of (digest_text witness_hash v)) is ∙ of_contents n (each_file p n file) ∙ sym is
+told_apart x (of_folder p folder is) = absurd (no_folder p folder)
+told_apart x (of_time p n file timed is) =
+    let not_timed : is_timed n.contents ≡ false = untimed n (each_file p n file) in
+    let both : true ≡ false = sym timed ∙ not_timed in
+    absurd cc
+told_apart x (of_key is) =
+    let same : witness_material ≡ x = same_Some witness_material x (sym material_is ∙ is) in
+    ap (λ v. hashed_of (digest_text witness_hash v)) (sym same) ∙ of_material ∙ same
+
+-- ---- the premises
+
+abbrev both_calls : List (Call (Unit {0}))
+both_calls = calls_of witness_run
+
+one_call : (c : Call (Unit {0})) → Contains both_calls c → witness_call ≡ c
+one_call c at = elim (one_of witness_call c (witness_call ∷ []) at) [ inl is ↦ is | inr last ↦ only_one witness_call c last ]
+
+no_shared_digest : NoSharedDigest witness_world both_calls
+no_shared_digest c d x y at-c at-d of-c of-d same =
+    sym (told_apart x (subst (λ v. IsHashed witness_world v x) (sym (one_call c at-c)) of-c))
+    ∙ ap hashed_of same ∙ told_apart y (subst (λ v. IsHashed witness_world v y) (sym (one_call d at-d)) of-d)
+
+one_request : OneRequest witness_world both_calls
+one_request c d k at-c at-d is-c is-d = ap (λ (v : Call (Unit {0})). v.request) (sym (one_call c at-c) ∙ one_call d at-d)
+
+prints_again : PrintsAgain witness_world both_calls
+unfolding printed
+prints_again c d text before is no_time walk agree same = is
+
+pub premises : Premises witness_world both_calls
+premises = record {
+  hash = no_shared_digest;
+  requests = one_request;
+  compiler = prints_again;
+  options = record { skip_system_headers = refl; ignore_time_macros = refl; file_stat_matches = refl };
+}
+
+pub witness_size : HasSize witness_hash
+witness_size fed = refl
+
+-- ---- what is recorded
+
+abbrev witness_digested : Digested
+witness_digested = (digest_text witness_hash included_text, codes "/w/h.h")
+
+abbrev witness_include : Include
+witness_include = include_of (second 5) witness_digested (metadata_of included_node)
+
+include_path : components (codes "/w/h.h") ≡ included_in_w
+unfolding components
+include_path = refl
+
+gathered_is : gathered witness_files (second 5) (witness_digested ∷ []) ≡ Some (witness_include ∷ [])
+unfolding gathered
+gathered_is = ap (λ o. all_of (o ∷ [])) (include_here witness_files (second 5) witness_digested included_in_w included_node include_path included_at).0
+
+accepted : Walk witness_world witness_call printed_text Accepted
+accepted = header_accepted witness_world witness_call refl refl included_node included_at (refl, refl) (λ none. (none-some _ (sym none ∙ included_digest)))
+
+are_recorded : AreRecorded witness_world witness_call printed_text (witness_digested ∷ [])
+unfolding path_text
+are_recorded = record {
+  ordered = λ i j d less within. absurd (omega (arith, less, within));
+  each = λ d at.
+      let is : witness_digested ≡ d = only_one witness_digested d at in
+      subst (IsRecorded witness_world witness_call printed_text) is (record {
+        path = included_in_w;
+        written = refl;
+        named = header_named witness_world witness_call refl refl;
+        node = included_node;
+        file = included_at;
+        digest = included_digest;
+      });
+  all = λ p n named file.
+      let is : p ≡ included_in_w = header_alone witness_world witness_call refl refl p named in
+      subst (λ q. (digest : Bytes) × Contains (witness_digested ∷ []) (digest, path_text q)) (sym is) (digest_text witness_hash included_text, first_in witness_digested []);
+}
+
+pub own_includes : AreOwnIncludes witness_world witness_call (witness_include ∷ [])
+own_includes = record {
+  text = printed_text;
+  is_text = prints;
+  accepted = accepted;
+  digested = witness_digested ∷ [];
+  recorded = are_recorded;
+  some = λ e. cc;
+  includes_are = gathered_is;
+}
+
+-- ---- the entry
+
+abbrev witness_entry : Entry
+witness_entry = added empty witness_answer (witness_include ∷ [])
+
+abbrev only_result : KeyResult
+only_result = (witness_answer, witness_include ∷ [])
+
+entry_is : entries witness_entry ≡ only_result ∷ []
+entry_is = entries-added witness_answer (witness_include ∷ [])
+
+abbrev witness_bytes : Bytes
+witness_bytes = entry_bytes (only_result ∷ [])
+
+each_ascii : (text : Bytes) → list_all (λ b. nat_lt b 128) text ≡ true → All (λ b. b < 128) text
+each_ascii [] e = All-nil (λ b. b < 128)
+each_ascii (b ∷ text) e =
+    let parts = and_parts (nat_lt b 128) (list_all (λ b. nat_lt b 128) text) e in
+    All-cons (λ b. b < 128) b text (ltb-true b 128 parts.0) (each_ascii text parts.1)
+
+ascii_text : (text : Bytes) → list_all (λ b. nat_lt b 128) text ≡ true → is_utf8 text ≡ true
+ascii_text text e = is_utf8-from_IsUtf8 text (IsUtf8-from_ascii text (IsAscii-from_all text (each_ascii text e)))
+
+fits_second : FitsMoment (second 1)
+fits_second = (fits_signed_from_abs w64 (pos 1) (lit< tt), lit< tt)
+
+fits_include : Fits witness_include
+fits_include = record {
+  path = lit< tt;
+  digest = lit< tt;
+  digest_text = ascii_text (digest_text witness_hash included_text) refl;
+  size = lit< tt;
+  modified = fits_second;
+  changed = fits_second;
+}
+
+answer_size : length (material (key_parts (params witness_world witness_call.request [] printed_text))) ≡ 64
+unfolding params stripped text_site longest_prefix
+answer_size = refl
+
+answer_text : is_utf8 witness_answer ≡ true
+answer_text = ap (λ n. is_utf8 (hex_text (sized n))) answer_size ∙ ascii_text (hex_text (sized 64)) refl
+
+fits_result : FitsResult only_result
+fits_result = record {
+  key = lit< tt;
+  key_text = answer_text;
+  count = lit< tt;
+  includes = (fits_include, tt);
+}
+
+entry_text : EntryText witness_entry witness_bytes
+entry_text = record {
+  count = subst (λ (rs : List KeyResult). length rs < 2 ^ 64) (sym entry_is) (lit< tt);
+  each = subst (AllByRecursion FitsResult) (sym entry_is) (fits_result, tt);
+  text = ap entry_bytes (sym entry_is);
+}
+
+pub own_pair : OwnPair witness_world witness_call witness_answer witness_key witness_bytes
+own_pair = record { is_key = key_is; is_plain = plain_is; includes = witness_include ∷ []; keeps = own_includes; is_text = entry_text }
+
+matched : matching witness_world witness_call witness_include ≡ true
+matched = match_by_digest (setting witness_world witness_call) witness_files witness_include included_in_w included_node include_path included_at refl included_digest
+
+-- ---- the steps
+
+abbrev pub holds_entry : State
+holds_entry = record { pairs = (witness_key, witness_bytes) ∷ []; setbacks = 0; forget = 0; fail = 0 }
+
+opened : Opened witness_world witness_call
+opened = record {
+  extra = λ none. (none-some _ (sym none ∙ extra_is));
+  input = λ _ none. (none-some _ (sym none ∙ input_is));
+}
+
+not_erring : (text : Bytes) → printed witness_world witness_call ≡ Some text → Walk witness_world witness_call text Errs → ⊥
+not_erring text is (marks, are, decide) =
+    let (own, own-are, own-decide) = accepted in
+    let same_text : printed_text ≡ text = same_Some printed_text text (sym prints ∙ is) in
+    let same_marks : marks ≡ own = one_list true text marks own are (subst (λ t. Marks true t own) same_text own-are) in
+    let one : Accepted ≡ Errs = one_decision witness_world witness_call own Accepted Errs own-decide (subst (λ ms. MarksDecide witness_world witness_call ms Errs) same_marks decide) in
+    cc
+
+module _ (F : Type 0) where
+  pub first_step : Step witness_world map_store witness_call F holds_nothing (Keyed witness_answer true) holds_entry
+  first_step =
+      asked opened witness_key key_is refl Miss holds_nothing (record { answer = Ok None; got = ((λ e. cc), refl, refl); gives = refl })
+      (gives witness_answer plain_is (λ text asks is errs. absurd (not_erring text is errs)) refl (inl (record {
+        k = witness_key;
+        bytes = witness_bytes;
+        own = own_pair;
+        answer = Ok tt;
+        put = ((λ e. cc), refl);
+      })))
+
+  found_again : Some witness_bytes ≡ find text_cmp witness_key holds_entry.pairs
+  found_again = sym (ap (λ o. cond (is_eq o) (Some witness_bytes) None) (tied_itself nat_list_cmp_total witness_key))
+
+  pub second_step : Step witness_world map_store witness_call F holds_entry (Keyed witness_answer false) holds_entry
+  second_step =
+      let all : list_all (matching witness_world witness_call) (witness_include ∷ []) ≡ true = ap (λ b. b && true) matched in
+      asked opened witness_key key_is refl (Hit witness_answer) holds_entry (record {
+        answer = Ok (Some witness_bytes);
+        got = ((λ e. cc), found_again, refl);
+        gives = (
+          witness_entry,
+          entry_text,
+          (
+            witness_include ∷ [],
+            subst (λ (rs : List KeyResult). Contains rs only_result) (sym entry_is) (first_in only_result []),
+            all,
+            inl (ap (found_in (matching witness_world witness_call)) entry_is ∙ ap (λ b. cond b (Some only_result) None) all),
+          ),
+        );
+      }) (refl, refl)
+
+pub no_fault : Fault witness_done → ⊥
+no_fault (inl less) = omega (arith, less)
+no_fault (inr top) = omega (arith, top)
+
+pub premises_can_hold : PremisesCanHold
+premises_can_hold = record {
+  size = witness_size;
+  is_empty = λ k bytes held. (none-some _ held);
+  premises = premises;
+  no_fault = no_fault;
+  key = witness_answer;
+  end = holds_entry;
+  run = (holds_entry, first_step (Fault witness_done), (holds_entry, second_step (Fault witness_done), refl));
+  no_setback = no_fault;
+}

@@ -1,5 +1,0 @@
-use Rattle.c_cache_keys.proofs.Runs.{runs_transparent}
-use Rattle.c_cache_keys.proofs.laws.runs_transparent.Goals as goal
-
-pub returns : goal.returns
-returns g c = λ zone config basedirs. runs_transparent _ _ g.met.H.HashState.length_hash g.met.S.PreprocessorStore.laws

@@ -1,0 +1,134 @@
+-- two calls that meet all that is asked of a run, of which the second one is answered from the store
+use Rattle.std.specs.Prelude.{◌%◌, ℕ, List, [], ◌∷◌, length, pos, true, false, Some, None, codes}
+use Rattle.std.specs.FinMap.{empty, from_sorted}
+use Rattle.cck_compiler.specs.Arguments.{Arguments}
+use Rattle.cck_compiler.specs.Compiler.{Compilation, Compiler}
+use Rattle.cck_compiler.specs.declared.arguments.ColorMode.TheVariants.{Auto}
+use Rattle.cck_compiler.specs.declared.compiler.CCompilerKind.TheVariants.{Gcc}
+use Rattle.cck_files.specs.FileMap.{FileMap, FileNode}
+use Rattle.cck_path.specs.Bytes.{Bytes}
+use Rattle.cck_path.specs.Path.{Name, Path, Root, path_cmp}
+use Rattle.cck_path.specs.Timestamp.{Moment}
+use Rattle.cck_path.specs.declared.metadata.FileKind.TheVariants.{File}
+use Rattle.cck_store.specs.MapStore.{State, map_store}
+use Rattle.cck_store.specs.Store.{Setback}
+use Rattle.cck_time.specs.Config.{activated}
+use Rattle.cck_util.specs.declared.language.Language.TheVariants.{C}
+use Rattle.jiff.specs.Types.{UTC}
+use Rattle.c_cache_keys.specs.Call.{Call, Done, Fault, Keyed, calls_of}
+use Rattle.c_cache_keys.specs.Premises.{Premises}
+use Rattle.c_cache_keys.specs.Step.{IsEmpty, Run}
+use Rattle.c_cache_keys.specs.World.{HasSize, World, world_of}
+use Rattle.c_cache_keys.specs.declared.call.CacheControl.TheVariants.{Default}
+
+abbrev pub ten_zeros : Bytes → Bytes
+ten_zeros rest = 0 ∷ 0 ∷ 0 ∷ 0 ∷ 0 ∷ 0 ∷ 0 ∷ 0 ∷ 0 ∷ 0 ∷ rest
+
+-- 32 bytes, of which the first counts, modulo 256, the bytes that are hashed
+abbrev pub sized : ℕ → Bytes
+sized size = size % 256 ∷ 0 ∷ ten_zeros (ten_zeros (ten_zeros []))
+
+abbrev pub witness_hash : Bytes → Bytes
+witness_hash fed = sized (length fed)
+
+-- an input that includes a header, and what is printed of it
+abbrev pub input_text : Bytes
+input_text = codes "#include \"h.h\"\nint x;\n"
+
+abbrev pub included_text : Bytes
+included_text = codes "int y1;\n"
+
+abbrev pub printed_text : Bytes
+printed_text = codes "# 1 \"/w/a.c\"\n# 1 \"/w/h.h\" 1\nint y1;\n# 2 \"/w/a.c\" 2\nint x;\n"
+
+-- both are a second old or older at the moment of the calls
+abbrev pub second : ℕ → Moment
+second n = record { seconds = pos n; nanoseconds = 0 }
+
+abbrev pub file_of : Bytes → FileNode
+file_of contents = record { kind = File; contents = contents; modified = Some (second 1); changed = Some (second 1) }
+
+abbrev pub path_in_w : Bytes → Path
+path_in_w name = Root ∷ Name (codes "w") ∷ Name name ∷ []
+
+abbrev pub witness_nodes : List (Path × FileNode)
+witness_nodes = (path_in_w (codes "a.c"), file_of input_text) ∷ (path_in_w (codes "h.h"), file_of included_text) ∷ []
+
+abbrev pub witness_files : FileMap
+witness_files = record { nodes = from_sorted {R = path_cmp} witness_nodes; canonicals = empty }
+
+abbrev pub witness_arguments : Arguments
+witness_arguments = record {
+  input = codes "a.c";
+  double_dash_input = false;
+  language = C;
+  compilation_flag = codes "-c";
+  depfile = None;
+  outputs = [];
+  dependency_args = [];
+  preprocessor_args = [];
+  common_args = [];
+  arch_args = [];
+  unhashed_args = [];
+  extra_dist_files = [];
+  extra_hash_files = [];
+  uses_external_assembler = false;
+  msvc_show_includes = false;
+  msvc_explicit_language = false;
+  profile_generate = false;
+  color_mode = Auto;
+  suppress_rewrite_includes_only = false;
+  too_hard_for_preprocessor_cache_mode = None;
+}
+
+-- a compiler that prints this one text
+abbrev pub witness_compiler : Compiler (Unit {0})
+witness_compiler = record {
+  kind = λ v. Gcc;
+  plusplus = λ v. false;
+  version = λ v. None;
+  assembler_digest = λ v. None;
+  parsed = λ v words cwd env_vars. Compilation witness_arguments;
+  prints = λ v executable arguments cwd env_vars files moment. Some printed_text;
+}
+
+abbrev pub witness_world : World (Unit {0})
+witness_world = world_of witness_hash witness_compiler UTC activated []
+
+abbrev pub witness_call : Call (Unit {0})
+witness_call = record {
+  request = record {
+    compiler = tt;
+    executable = codes "/bin/cc";
+    executable_digest = codes "cc";
+    arguments = witness_arguments;
+    cwd = codes "/w";
+    env_vars = [];
+  };
+  files = witness_files;
+  moment = second 5;
+  control = Default;
+}
+
+-- the call, made without a fault
+abbrev pub witness_done : Done (Unit {0})
+witness_done = record { call = witness_call; faults_before = 0; faults_after = 0 }
+
+abbrev pub witness_run : List (Done (Unit {0}))
+witness_run = witness_done ∷ witness_done ∷ []
+
+-- a store in memory that holds nothing
+abbrev pub holds_nothing : State
+holds_nothing = record { pairs = []; setbacks = 0; forget = 0; fail = 0 }
+
+-- All that the promise takes holds of this run at once, with no fault and no setback: of its two equal calls the first one makes a key,
+-- and the second one answers it from the store.
+pub record PremisesCanHold : Type 0 where
+  pub size : HasSize witness_hash
+  pub is_empty : IsEmpty witness_world map_store holds_nothing
+  pub premises : Premises witness_world (calls_of witness_run)
+  pub no_fault : Fault witness_done → ⊥
+  pub key : Bytes
+  pub end : State
+  pub run : Run witness_world map_store holds_nothing witness_run (Keyed key true ∷ Keyed key false ∷ []) end
+  pub no_setback : Setback map_store holds_nothing end → ⊥

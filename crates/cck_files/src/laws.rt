@@ -1,0 +1,11 @@
+//! Laws about the definitions, each the contract of a function that does nothing.
+ghost use Rattle.std.specs.Prelude.{◌≡◌, ◌↔◌, IsTrue};
+ghost use Rattle.cck_files.specs.Node.{node_of};
+
+use crate::Node;
+
+/// Nodes are equal exactly if all their fields are the same, the contents byte for byte.
+pub fn equality_is_exact()
+    ensures { (a b : Node) →
+        IsTrue (⟦<Node as PartialEq>⟧.eq a b) ↔ (node_of a ≡ node_of b) }
+{}

@@ -1,0 +1,72 @@
+//! Why a call for a key is refused.
+ghost use Rattle.std.specs.Prelude.{◌≡◌};
+ghost use Rattle.cck_key_error.specs.KeyError.{number_of};
+ghost use Rattle.cck_key_error.specs.declared.key_error.KeyError.TheVariants.{Memory};
+
+use crate::PreprocessError;
+use cck_digest::UtilError;
+use cck_time::Error;
+use std::alloc::{AllocError, AllocFailed};
+use thiserror::Error as ThisError;
+
+/// Why a call for a key gave no answer.
+#[derive(Debug, Copy, Clone, PartialEq, Eq, ThisError)]
+pub enum KeyError {
+    /// A growth of memory was refused.
+    #[error("out of memory")]
+    Memory,
+    /// A further file has no digest, for this reason. Lack of memory is [`KeyError::Memory`]
+    /// instead.
+    #[error("a further file has no digest: {0}")]
+    Extra(UtilError),
+    /// The input can't be read, for this reason. Lack of memory is [`KeyError::Memory`] instead.
+    #[error("the input can't be read: {0}")]
+    Input(UtilError),
+    /// The store failed.
+    #[error("the store failed")]
+    Store,
+    /// What the store handed out is no entry.
+    #[error("what the store handed out is no entry: {0}")]
+    Entry(Error),
+    /// There is no preprocessed text, for this reason. Lack of memory is [`KeyError::Memory`]
+    /// instead.
+    #[error("there is no preprocessed text: {0}")]
+    Preprocess(PreprocessError),
+    /// A line marker of the preprocessed text is malformed.
+    #[error("a line marker is malformed")]
+    Marker,
+}
+
+impl KeyError {
+    /// The number of the reason, from 1 for lack of memory to 7 for a malformed line marker, in the
+    /// order in which the variants stand. It takes no memory.
+    pub fn number(&self) -> u8
+        ensures { result ≡ number_of self.now }
+    {
+        match self {
+            KeyError::Memory => 1,
+            KeyError::Extra(_) => 2,
+            KeyError::Input(_) => 3,
+            KeyError::Store => 4,
+            KeyError::Entry(_) => 5,
+            KeyError::Preprocess(_) => 6,
+            KeyError::Marker => 7,
+        }
+    }
+}
+
+impl From<AllocError> for KeyError {
+    ghost from_gives = { λ _ e. e ≡ Memory };
+
+    fn from(_: AllocError) -> KeyError {
+        KeyError::Memory
+    }
+}
+
+impl<T: Drop> From<AllocFailed<T>> for KeyError {
+    ghost from_gives = { λ _ e. e ≡ Memory };
+
+    fn from(_: AllocFailed<T>) -> KeyError {
+        KeyError::Memory
+    }
+}

@@ -1,0 +1,21 @@
+//! Laws about the definitions, each the contract of a function that does nothing.
+ghost use Rattle.std.specs.Prelude.{◌≡◌, ◌↔◌, IsTrue};
+ghost use Rattle.cck_script.specs.Seen.{line_of};
+ghost use Rattle.cck_script.specs.Surroundings.{executable_path, working_directory};
+
+use crate::{Command, EXECUTABLE, ScriptError, WORKING_DIRECTORY};
+
+/// Commands are equal exactly if they say the same, and refusals exactly if they are the same.
+pub fn equality_is_exact()
+    ensures commands { (a b : Command) →
+        IsTrue (⟦<Command as PartialEq>⟧.eq a b) ↔ (line_of a ≡ line_of b) }
+    ensures refusals { (a b : ScriptError) →
+        IsTrue (⟦<ScriptError as PartialEq>⟧.eq a b) ↔ (a ≡ b) }
+{}
+
+/// [`EXECUTABLE`] and [`WORKING_DIRECTORY`] are the paths that the definition of a script's calls
+/// names.
+pub fn paths_are_those_of_calls()
+    ensures executable { EXECUTABLE.now ≡ executable_path }
+    ensures directory { WORKING_DIRECTORY.now ≡ working_directory }
+{}

@@ -1,0 +1,165 @@
+//! Base directories in a trie, a byte in each node.
+ghost use Rattle.std.specs.Prelude.{◌≡◌, ◌++◌, ◌∷◌, [], ◌≤◌, ◌<◌, ℕ, List, Some, OnOk, IfOk, IsOkUnless, map, drop, length};
+ghost use Rattle.cck_strip.specs.Text.{longest_prefix};
+ghost use Rattle.cck_strip.specs.Trie.{At, Found, Grows, IsForward, IsTrie};
+ghost use Rattle.cck_strip.specs.declared.node.Node.{Node};
+
+use crate::node::{Node, NodeId};
+use cck_digest::UtilError;
+use std::alloc::Global;
+
+// The node for this byte among the node `from` and those beside it. It is added where there is none.
+//
+// It is refused only for lack of memory, as [`UtilError::Memory`].
+fn node_beside(nodes: &mut Vec<Node>, from: NodeId, byte: u8) -> Result<NodeId, UtilError>
+    requires forward { IsForward nodes.old.items }
+    requires within { from.0 < length nodes.old.items }
+    ensures forward_still { OnOk result (IsForward nodes.new.items) }
+    ensures grows { OnOk result (Grows nodes.old.items nodes.new.items) }
+    ensures same { OnOk result ((words : List (List ℕ)) → IsTrie nodes.old.items words → IsTrie nodes.new.items words) }
+    ensures found { IfOk result (λ id. Found nodes.new.items (from.0) byte (id.0)) }
+    ensures refused { IsOkUnless result UtilError.Memory }
+{
+    let mut at = from;
+    loop {
+        let node = nodes[at.0];
+        if node.byte == byte {
+            return Ok(at);
+        }
+        match node.beside {
+            Some(id) => at = id,
+            None => {
+                let id = NodeId(nodes.len());
+                nodes.push(Node {
+                    byte,
+                    ends: false,
+                    below: None,
+                    beside: None,
+                })?;
+                nodes[at.0] = Node {
+                    beside: Some(id),
+                    ..node
+                };
+                return Ok(id);
+            }
+        }
+    }
+}
+
+// The first node below this one. It is added, for this byte, where there is none.
+//
+// It is refused only for lack of memory, as [`UtilError::Memory`].
+fn node_below(nodes: &mut Vec<Node>, at: NodeId, byte: u8) -> Result<NodeId, UtilError>
+    requires forward { IsForward nodes.old.items }
+    requires within { at.0 < length nodes.old.items }
+    ensures forward_still { OnOk result (IsForward nodes.new.items) }
+    ensures grows { OnOk result (Grows nodes.old.items nodes.new.items) }
+    ensures same { OnOk result ((words : List (List ℕ)) → IsTrie nodes.old.items words → IsTrie nodes.new.items words) }
+    ensures found { IfOk result (λ id. (node : Node) × At nodes.new.items (at.0) node × (node.below ≡ Some id)) }
+    ensures refused { IsOkUnless result UtilError.Memory }
+{
+    let node = nodes[at.0];
+    if let Some(id) = node.below {
+        return Ok(id);
+    }
+    let id = NodeId(nodes.len());
+    nodes.push(Node {
+        byte,
+        ends: false,
+        below: None,
+        beside: None,
+    })?;
+    nodes[at.0] = Node {
+        below: Some(id),
+        ..node
+    };
+    Ok(id)
+}
+
+// Adds a word to the nodes.
+//
+// It is refused only for lack of memory, as [`UtilError::Memory`].
+fn insert(nodes: &mut Vec<Node>, word: &[u8]) -> Result<(), UtilError>
+    requires forward { IsForward nodes.old.items }
+    requires some { 0 < length word.now }
+    ensures forward_still { OnOk result (IsForward nodes.new.items) }
+    ensures more { OnOk result ((words : List (List ℕ)) → IsTrie nodes.old.items words → IsTrie nodes.new.items (words ++ word.now ∷ [])) }
+    ensures refused { IsOkUnless result UtilError.Memory }
+{
+    let mut at = node_beside(nodes, NodeId(0), word[0])?;
+    for byte in &word[1..] {
+        let first = node_below(nodes, at, *byte)?;
+        at = node_beside(nodes, first, *byte)?;
+    }
+    let node = nodes[at.0];
+    nodes[at.0] = Node { ends: true, ..node };
+    Ok(())
+}
+
+/// Base directories in a trie: a search at a place of a text goes on only as far as one of them may
+/// stand there, however many there are.
+///
+/// The nodes stand in one vector and name each other by their places in it. Equal base directories
+/// are one word of the trie, and empty ones none.
+#[derive(Drop)]
+pub struct BasedirTrie {
+    pub nodes: Vec<Node>,
+    ghost forward: { IsForward nodes.items },
+}
+
+impl BasedirTrie {
+    /// The trie of these base directories, in any order. Empty ones stand nowhere.
+    ///
+    /// It is refused only for lack of memory, as [`UtilError::Memory`].
+    pub fn new(alloc: Global, basedirs: &[Vec<u8>]) -> Result<BasedirTrie, UtilError>
+        ensures trie { IfOk result (λ trie. IsTrie trie.nodes.items (map (λ b. b.items) basedirs.now)) }
+        ensures refused { IsOkUnless result UtilError.Memory }
+    {
+        let mut nodes = Vec::new(alloc);
+        // Nearly every base directory begins with this byte.
+        nodes.push(Node {
+            byte: b'/',
+            ends: false,
+            below: None,
+            beside: None,
+        })?;
+        for basedir in basedirs {
+            if !basedir.is_empty() {
+                insert(&mut nodes, basedir)?;
+            }
+        }
+        Ok(BasedirTrie { nodes })
+    }
+
+    /// The length in bytes of the longest base directory that stands at this place of the text, and 0
+    /// if there is none, as at its end and behind it. What stands before the place doesn't matter. It
+    /// takes no memory.
+    pub fn longest_at(&self, text: &[u8], at: usize) -> usize
+        ensures { (words : List (List ℕ)) → IsTrie self.now.nodes.items words → result ≡ longest_prefix words (drop at text.now) }
+    {
+        if at > text.len() {
+            return 0;
+        }
+        let rest = &text[at..];
+        let mut longest = 0;
+        let mut depth = 0;
+        let mut current = NodeId(0);
+        while depth < rest.len() {
+            let node = self.nodes[current.0];
+            let next = if node.byte == rest[depth] {
+                depth += 1;
+                if node.ends {
+                    longest = depth;
+                }
+                node.below
+            } else {
+                node.beside
+            };
+            match next {
+                Some(id) => current = id,
+                None => return longest,
+            }
+        }
+        longest
+    }
+}

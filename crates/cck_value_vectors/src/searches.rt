@@ -1,0 +1,80 @@
+//! Base directories cut out of a text by a search for each of them: what `strip_basedirs`, which
+//! takes them all in one pass, is compared with.
+use cck_util::UtilError;
+use memchr::memmem::Finder;
+use std::alloc::Global;
+use std::borrow::CowSlice;
+
+fn is_separator(byte: u8) -> bool {
+    matches!(byte, b' ' | b'\t' | b'\n' | b'\x0c' | b'\r' | b'"' | b'<')
+}
+
+// Whether the place is the start of the text, or directly behind a separator.
+fn is_boundary(text: &[u8], at: usize) -> bool {
+    match at.checked_sub(1) {
+        Some(before) => is_separator(text.get(before).copied().unwrap_or_default()),
+        None => true,
+    }
+}
+
+// Adds the boundaries of the text at which this base directory stands.
+fn add_places(text: &[u8], basedir: &[u8], places: &mut Vec<usize>) -> Result<(), UtilError> {
+    let finder = Finder::new(basedir);
+    let mut from = 0usize;
+    // Two of its occurrences may overlap.
+    for _ in 0..text.len() {
+        match finder.find(text.get(from..).unwrap_or_default()) {
+            Some(distance) => {
+                let at = from.saturating_add(distance);
+                if is_boundary(text, at) {
+                    places.push(at)?;
+                }
+                from = at.saturating_add(1);
+            }
+            None => return Ok(()),
+        }
+    }
+    Ok(())
+}
+
+// The length of the longest of these base directories with which the text begins, and 0 if there
+// is none.
+fn longest_prefix(text: &[u8], basedirs: &[Vec<u8>]) -> usize {
+    let mut longest = 0;
+    for basedir in basedirs {
+        if text.starts_with(basedir) {
+            longest = longest.max(basedir.len());
+        }
+    }
+    longest
+}
+
+/// What `strip_basedirs` returns.
+pub(crate) fn strip_by_searches<'a>(
+    alloc: Global,
+    text: &'a [u8],
+    basedirs: &[Vec<u8>],
+) -> Result<CowSlice<'a, u8>, UtilError> {
+    let mut places = Vec::new(alloc);
+    for basedir in basedirs {
+        if !basedir.is_empty() {
+            add_places(text, basedir, &mut places)?;
+        }
+    }
+    if places.is_empty() {
+        return Ok(CowSlice::Borrowed(text));
+    }
+    places.sort()?;
+    let mut kept = Vec::new(alloc);
+    let mut copied = 0;
+    for place in &places {
+        // A place that lies in the last cut is passed over.
+        if *place >= copied {
+            kept.extend_from_slice(text.get(copied..*place).unwrap_or_default())?;
+            let rest = text.get(*place..).unwrap_or_default();
+            copied = place.saturating_add(longest_prefix(rest, basedirs));
+        }
+    }
+    kept.extend_from_slice(text.get(copied..).unwrap_or_default())?;
+    Ok(CowSlice::Owned(kept))
+}
