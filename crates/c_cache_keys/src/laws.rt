@@ -1,5 +1,5 @@
 //! Laws about calls and runs, over the definitions alone: each is the contract of a function that
-//! does nothing, and all but the last hold for every hash, compiler and store.
+//! does nothing, and all but the last two hold for every hash, compiler and store.
 ghost use Rattle.std.specs.Prelude.{◌≡◌, ◌↔◌, ℕ, IsTrue, List};
 ghost use Rattle.cck_time.specs.declared.config.PreprocessorCacheModeConfig.{PreprocessorCacheModeConfig};
 ghost use Rattle.jiff.specs.Types.{TimeZone};
