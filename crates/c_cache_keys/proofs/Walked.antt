@@ -114,7 +114,7 @@ module _ {V : Type 0} (w : World V) (c : Call V) (text : Bytes) where
   walked F (Ok (answer.Accepted files)) (digests, decides, is) =
       (verdict_told (Accepts digests) decides, subst (AreRecorded w c text) (sym (handed_on files.items (entries digests) is)) (all_recorded digests decides))
   walked F (Ok answer.Refused) (inl decides) = inl (verdict_told IsRefused decides)
-  walked F (Ok answer.Refused) (inr fault) = inr fault
+  walked F (Ok answer.Refused) (inr fault) = inr fault.0
   walked F (Err error.Marker) decides = verdict_told Errs decides
   walked F (Err error.Memory) h = tt
   walked F (Err (error.Extra e)) h = absurd h

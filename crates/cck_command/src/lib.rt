@@ -37,6 +37,7 @@
 
 mod answers;
 mod failed;
+pub mod laws;
 mod mini_compiler;
 mod program;
 mod request;

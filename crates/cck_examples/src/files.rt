@@ -104,6 +104,8 @@ impl<F: Files> Files for CountedFiles<F> {
 
     ghost is_quiet = { λ files. F.is_quiet files.inner };
 
+    ghost is_call = { λ before path after. F.is_call before.inner path after.inner };
+
     fn metadata(&mut self, path: &[u8]) -> Result<Metadata, FileError> {
         self.note(path);
         self.inner.metadata(path)

@@ -4,7 +4,7 @@ ghost use Rattle.std.specs.Result.{result_unwrap_or};
 ghost use Rattle.cck_digest.specs.Stream.{TakesBeginning, buffer_size};
 ghost use Rattle.cck_path.specs.Path.{components};
 ghost use Rattle.cck_files.specs.FileMap.{contents_at};
-ghost use Rattle.cck_files.specs.Calls.{Keeps, IsRefusalOrMemory, Rose};
+ghost use Rattle.cck_files.specs.Calls.{AreCalls, Keeps, IsRefusalOrMemory, Rose};
 ghost use Rattle.cck_file_digest.specs.Contents.{TakesAll};
 
 use cck_digest::{FileError, Sink, new_hash_buffer};
@@ -23,6 +23,7 @@ pub(crate) fn feed_contents<F: Files, S: Sink>(
 ) -> Result<(), FileError>
     requires { length buffer.old ≡ buffer_size }
     ensures keeps { Keeps F.file_map F.faults F.is_quiet files.old files.new }
+    ensures calls { AreCalls F.is_call (λ p. p ≡ components path.now) files.old files.new }
     ensures begun { OnErr result (TakesBeginning S.takes sink.old
         (result_unwrap_or (contents_at (F.file_map files.old) (components path.now)) []) sink.new) }
     ensures answer { let found = contents_at (F.file_map files.old) (components path.now) in
@@ -51,6 +52,7 @@ pub(crate) fn feed_contents<F: Files, S: Sink>(
 /// - [`FileError::Memory`].
 ///
 /// After a refusal the sink has taken a beginning of the contents, and nothing where there are none.
+/// No call on files is made but at this path.
 pub fn feed_file<F: Files, S: Sink>(
     alloc: Global,
     files: &mut F,
@@ -58,6 +60,7 @@ pub fn feed_file<F: Files, S: Sink>(
     sink: &mut S,
 ) -> Result<(), FileError>
     ensures keeps { Keeps F.file_map F.faults F.is_quiet files.old files.new }
+    ensures calls { AreCalls F.is_call (λ p. p ≡ components path.now) files.old files.new }
     ensures begun { OnErr result (TakesBeginning S.takes sink.old
         (result_unwrap_or (contents_at (F.file_map files.old) (components path.now)) []) sink.new) }
     ensures answer { let found = contents_at (F.file_map files.old) (components path.now) in

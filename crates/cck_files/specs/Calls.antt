@@ -2,6 +2,7 @@
 use Rattle.std.specs.Prelude.{◌≡◌, ℕ, ◌+◌, ◌-◌, ◌^◌, ◌<◌, ◌≤◌, ◌⊎◌, List, ◌++◌, length, min, take, drop, Result, Err}
 use Rattle.cck_digest.specs.declared.error.FileError.{FileError}
 use Rattle.cck_digest.specs.declared.error.FileError.TheVariants.{NotFound, OtherKind, Fault, Memory}
+use Rattle.cck_path.specs.Path.{Path}
 use Rattle.cck_files.specs.FileMap.{FileMap}
 
 -- a count of 64 bits rose: it is higher, or at its greatest value, where it stays
@@ -14,6 +15,11 @@ pub record Keeps {F : Type 0} (file_map : F → FileMap) (faults : F → ℕ) (i
   pub not_lower : faults before ≤ faults after
   pub stays_quiet : is_quiet before → is_quiet after
   pub stays_calm : is_quiet before → faults after ≡ faults before
+
+-- calls lead from one state to another, each of them at such a path
+pub data AreCalls {F : Type 0} (is_call : F → Path → F → Type 0) (At : Path → Type 0) (before : F) : F → Type 0 where
+  none : {after : F} → after ≡ before → AreCalls is_call At before after
+  one_more : {after : F} (between : F) (p : Path) → AreCalls is_call At before between → At p → is_call between p after → AreCalls is_call At before after
 
 -- the refusal of a call: the map's own, or a fault where one came, or lack of memory where it can come
 abbrev pub IsRefusalWhere : {X : Type 0} → Result X FileError → Type 0 → Type 0 → FileError → Type 0

@@ -1,6 +1,6 @@
 //! The interface to files.
 ghost use Rattle.std.specs.Prelude.{◌≡◌, ℕ, ◌^◌, ◌+◌, ◌<◌, ◌⊎◌, Ok, length, map, MatchResult, MatchBool, IsOkAnd, vec_items, true, false};
-ghost use Rattle.cck_path.specs.Path.{components};
+ghost use Rattle.cck_path.specs.Path.{Path, components};
 
 use cck_digest::FileError;
 use cck_path::Metadata;
@@ -12,7 +12,8 @@ use std::alloc::Global;
 /// count of faults, which has 64 bits and stays at its greatest value. Links are followed in the
 /// map. Each answer is the map's own, or, only where the count rose, a fault. An implementation
 /// also says which of its states are *quiet*: no call on them meets a fault or leaves quiet
-/// states.
+/// states. And it says which states a call at a path leads to, so that the contract of a function
+/// over all files can tell at which paths it makes calls.
 ///
 /// Paths are compared by components. Every call is refused as
 ///
@@ -36,9 +37,13 @@ pub trait Files {
     // No call meets a fault from here on.
     ghost is_quiet: { Self → Type 0 };
 
+    // A call at this path leads from one state to another.
+    ghost is_call: { Self → Path → Self → Type 0 };
+
     /// What is known of what stands at a path. It takes no memory, and asks for no kind.
     fn metadata(&mut self, path: &[u8]) -> Result<Metadata, FileError>
         ensures keeps { Keeps file_map faults is_quiet self.old self.new }
+        ensures call { is_call self.old (components path.now) self.new }
         ensures answer { let found = metadata_at (file_map self.old) (components path.now) in
             MatchResult result (λ metadata. found ≡ Ok metadata)
             (IsRefusal found (Rose (faults self.old) (faults self.new))) };
@@ -49,6 +54,7 @@ pub trait Files {
     /// stands in the buffer behind them, or after a refusal, is open. It takes no memory.
     fn read_at(&mut self, path: &[u8], offset: u64, buffer: &mut [u8]) -> Result<usize, FileError>
         ensures keeps { Keeps file_map faults is_quiet self.old self.new }
+        ensures call { is_call self.old (components path.now) self.new }
         ensures answer { let found = contents_at (file_map self.old) (components path.now) in
             MatchResult result (λ n. IsOkAnd found (λ contents. IsRead contents offset n buffer.new))
             (IsRefusal found (Rose (faults self.old) (faults self.new))) };
@@ -57,6 +63,7 @@ pub trait Files {
     /// component is no name has none.
     fn read_dir(&mut self, alloc: Global, path: &[u8]) -> Result<Vec<Vec<u8>>, FileError>
         ensures keeps { Keeps file_map faults is_quiet self.old self.new }
+        ensures call { is_call self.old (components path.now) self.new }
         ensures answer { MatchResult result
             (λ names. IsListing (file_map self.old) (components path.now) (map vec_items names.items))
             (IsRefusalOrMemory (folder_at (file_map self.old) (components path.now))
@@ -65,6 +72,7 @@ pub trait Files {
     /// Whether something stands at a path. `false` may stand for a fault too. It takes no memory.
     fn exists(&mut self, path: &[u8]) -> bool
         ensures keeps { Keeps file_map faults is_quiet self.old self.new }
+        ensures call { is_call self.old (components path.now) self.new }
         ensures answer { let stands = stands_at (file_map self.old) (components path.now) in
             MatchBool result (stands ≡ true)
             ((stands ≡ false) ⊎ Rose (faults self.old) (faults self.new)) };
@@ -73,6 +81,7 @@ pub trait Files {
     /// [`FileError::NotFound`] only where the path has no canonical one.
     fn canonical(&mut self, alloc: Global, path: &[u8]) -> Result<Vec<u8>, FileError>
         ensures keeps { Keeps file_map faults is_quiet self.old self.new }
+        ensures call { is_call self.old (components path.now) self.new }
         ensures answer { let found = canonical_at (file_map self.old) (components path.now) in
             MatchResult result (λ path. found ≡ Ok (components path.items))
             (IsRefusalOrMemory found (Rose (faults self.old) (faults self.new))) };

@@ -2,7 +2,7 @@
 ghost use Rattle.std.specs.Prelude.{◌≡◌, ◌||◌, IfOk, IsOkAnd, IsOkUnless, MatchResult, map, string_bytes};
 ghost use Rattle.std.specs.Option.{option_map};
 ghost use Rattle.cck_digest.specs.Digest.{digest_text};
-ghost use Rattle.cck_files.specs.Calls.{IsRefusalOrMemory, Keeps, Rose};
+ghost use Rattle.cck_files.specs.Calls.{AreCalls, IsRefusalOrMemory, Keeps, Rose};
 ghost use Rattle.cck_files.specs.FileMap.{contents_at, file_at};
 ghost use Rattle.cck_path.specs.Bytes.{variables_of};
 ghost use Rattle.cck_path.specs.Path.{components};
@@ -38,6 +38,7 @@ fn read_once<H: HashState, F: Files>(
     path: &[u8],
 ) -> Result<Scan, FileError>
     ensures keeps { Keeps F.file_map F.faults F.is_quiet files.old files.new }
+    ensures calls { AreCalls F.is_call (λ p. p ≡ components path.now) files.old files.new }
     ensures answer { let found = contents_at (F.file_map files.old) (components path.now) in
         MatchResult result (λ scan. IsOkAnd found (IsScanOf H.hash scan))
         (IsRefusalOrMemory found (Rose (F.faults files.old) (F.faults files.new))) }
@@ -119,7 +120,7 @@ fn digest_of<H: HashState>(
 /// - [`OtherKind`](FileError::OtherKind) where what stands there is no regular file,
 /// - [`Fault`](FileError::Fault) only where a fault came,
 ///
-/// and as [`Error::Memory`].
+/// and as [`Error::Memory`]. No call on files is made but at this path.
 pub fn recorded_digest<H: HashState, F: Files>(
     alloc: Global,
     files: &mut F,
@@ -130,6 +131,7 @@ pub fn recorded_digest<H: HashState, F: Files>(
     config: PreprocessorCacheModeConfig,
 ) -> Result<Option<String>, Error>
     ensures keeps { Keeps F.file_map F.faults F.is_quiet files.old files.new }
+    ensures calls { AreCalls F.is_call (λ p. p ≡ components path.now) files.old files.new }
     ensures answer { let found = file_at (F.file_map files.old) (components path.now) in
         MatchResult result (λ digest. IsOkAnd found (λ file. option_map string_bytes digest
         ≡ recorded (setting_in H.hash config moment (plain_zone zone.now) vars.now) file))

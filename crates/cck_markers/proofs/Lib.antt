@@ -1,5 +1,6 @@
 pub mod Cuts
 pub mod EachText
+pub mod EqualityLemmas
 pub mod ItemLemmas
 pub mod LastMark
 pub mod LineLemmas

@@ -1,6 +1,10 @@
 //! Laws about the definitions, each the contract of a function that does nothing.
-ghost use Rattle.std.specs.Prelude.{◌≡◌, ◌++◌, ◌∷◌, [], ℕ, Bool, List};
-ghost use Rattle.cck_markers.specs.Marks.{HasOneList, Malformed, Mark, Marks, Named, Refusal, Unnamed};
+ghost use Rattle.std.specs.Prelude.{◌≡◌, ◌↔◌, ◌++◌, ◌∷◌, [], ℕ, Bool, IsTrue, List};
+ghost use Rattle.cck_markers.specs.Markers.{mark_of};
+ghost use Rattle.cck_markers.specs.Marks.{HasOneList, Malformed, Marks, Named, Refusal, Unnamed};
+ghost use Rattle.cck_markers.specs.Marks as marks;
+
+use crate::Mark;
 
 /// Each text has a list of marks, and only one.
 pub fn one_list_of_marks()
@@ -9,9 +13,9 @@ pub fn one_list_of_marks()
 
 /// Nothing stands behind a refusal or a malformed marker in a list of marks.
 pub fn nothing_behind_the_last_mark()
-    ensures refusal { (starts_line : Bool) (text : List ℕ) (before behind : List Mark) →
+    ensures refusal { (starts_line : Bool) (text : List ℕ) (before behind : List marks.Mark) →
         Marks starts_line text (before ++ Refusal ∷ behind) → behind ≡ [] }
-    ensures malformed { (starts_line : Bool) (text : List ℕ) (before behind : List Mark) →
+    ensures malformed { (starts_line : Bool) (text : List ℕ) (before behind : List marks.Mark) →
         Marks starts_line text (before ++ Malformed ∷ behind) → behind ≡ [] }
 {}
 
@@ -21,4 +25,10 @@ pub fn one_name_at_one_place()
     ensures unnamed { (text : List ℕ) (a b : Unnamed text) → a.front ≡ b.front }
     ensures named { (text : List ℕ) (a b : Named text) →
         (a.front ≡ b.front) × (a.name ≡ b.name) × (a.rest ≡ b.rest) }
+{}
+
+/// Marks are equal exactly if they say the same, names byte for byte.
+pub fn equality_is_exact()
+    ensures { (a b : Mark) →
+        IsTrue (⟦<Mark<'static> as PartialEq>⟧.eq a b) ↔ (mark_of a ≡ mark_of b) }
 {}

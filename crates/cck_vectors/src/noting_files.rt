@@ -28,7 +28,7 @@ impl NotingFiles {
     // Counts a call on a path, where it is the one that is counted on.
     fn note(&mut self, path: &[u8])
         ensures same_files { self.new.files ≡ self.old.files }
-        ensures noted { IsNoted self.old path.now self.new }
+        ensures noted { IsNoted self.old (components path.now) self.new }
     {
         if same_path(&self.path, path) {
             self.count = self.count.saturating_add(1);
@@ -45,12 +45,14 @@ impl Files for NotingFiles {
 
     ghost is_quiet = { is_quiet };
 
+    ghost is_call = { IsNoted };
+
     fn metadata(&mut self, path: &[u8]) -> Result<Metadata, FileError>
         ensures keeps { Keeps map_of faults_of is_quiet self.old self.new }
         ensures answer { let found = metadata_at (map_of self.old) (components path.now) in
             MatchResult result (λ metadata. found ≡ Ok metadata)
             (IsRefusal found (Rose (faults_of self.old) (faults_of self.new))) }
-        ensures noted { IsNoted self.old path.now self.new }
+        ensures call { IsNoted self.old (components path.now) self.new }
     {
         self.note(path);
         self.files.metadata(path)
@@ -61,7 +63,7 @@ impl Files for NotingFiles {
         ensures answer { let found = contents_at (map_of self.old) (components path.now) in
             MatchResult result (λ n. IsOkAnd found (λ contents. IsRead contents offset n buffer.new))
             (IsRefusal found (Rose (faults_of self.old) (faults_of self.new))) }
-        ensures noted { IsNoted self.old path.now self.new }
+        ensures call { IsNoted self.old (components path.now) self.new }
     {
         self.note(path);
         self.files.read_at(path, offset, buffer)
@@ -73,7 +75,7 @@ impl Files for NotingFiles {
             (λ names. IsListing (map_of self.old) (components path.now) (map vec_items names.items))
             (IsRefusalOrMemory (folder_at (map_of self.old) (components path.now))
             (Rose (faults_of self.old) (faults_of self.new))) }
-        ensures noted { IsNoted self.old path.now self.new }
+        ensures call { IsNoted self.old (components path.now) self.new }
     {
         self.note(path);
         self.files.read_dir(alloc, path)
@@ -84,7 +86,7 @@ impl Files for NotingFiles {
         ensures answer { let stands = stands_at (map_of self.old) (components path.now) in
             MatchBool result (stands ≡ true)
             ((stands ≡ false) ⊎ Rose (faults_of self.old) (faults_of self.new)) }
-        ensures noted { IsNoted self.old path.now self.new }
+        ensures call { IsNoted self.old (components path.now) self.new }
     {
         self.note(path);
         self.files.exists(path)
@@ -95,7 +97,7 @@ impl Files for NotingFiles {
         ensures answer { let found = canonical_at (map_of self.old) (components path.now) in
             MatchResult result (λ path. found ≡ Ok (components path.items))
             (IsRefusalOrMemory found (Rose (faults_of self.old) (faults_of self.new))) }
-        ensures noted { IsNoted self.old path.now self.new }
+        ensures call { IsNoted self.old (components path.now) self.new }
     {
         self.note(path);
         self.files.canonical(alloc, path)

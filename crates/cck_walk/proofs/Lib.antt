@@ -1,4 +1,5 @@
 pub mod JudgeLemmas
 pub mod LineLemmas
+pub mod NameLemmas
 pub mod RecordLemmas
 pub mod WalkLemmas

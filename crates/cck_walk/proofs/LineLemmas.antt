@@ -3,8 +3,9 @@ use Rattle.std.proofs.Common.{◌≡◌, ◌≢◌, ◌⊎◌, inl, inr, ℕ, �
 use Rattle.cck_key_error.specs.declared.key_error.KeyError.TheVariants as error
 use Rattle.cck_markers.specs.Lines.{IsNamedAt, IsUnnamedTo}
 use Rattle.cck_markers.specs.Marks.{Named, Unnamed, is_system}
-use Rattle.cck_walk.specs.Decided.{Context, Digests, Refuses, after, is_looked_for, outcome}
-use Rattle.cck_walk.specs.Line.{IsLineAnswer, IsNameAnswer, NamesNone}
+use Rattle.cck_path.specs.Path.{Path}
+use Rattle.cck_walk.specs.Decided.{Context, Digests, IsLookedFor, Refuses, after, is_looked_for, outcome, path_named}
+use Rattle.cck_walk.specs.Line.{IsLineAnswer, IsLineLookedFor, IsNameAnswer}
 use Rattle.cck_walk.specs.declared.line.LineAction.TheVariants.{Continue, Break}
 
 -- what was read of a marker with a name
@@ -31,12 +32,13 @@ module _ (c : Context) (HasFault : Type 0) (text : List ℕ) (start hash : ℕ) 
     same_look : is_looked_for c old r.0.name (is_system r.0.rest) ≡ is_looked_for c old name is_system_in
     same_look i = is_looked_for c old (r.2 i) (r.3 i)
 
-    pub looks_for_none : NamesNone c old text → is_looked_for c old name is_system_in ≡ false
-    looks_for_none none = sym same_look ∙ none r.0
+    pub line_looked_for : (p : Path) → IsLookedFor c old name is_system_in p → IsLineLookedFor c old text p
+    line_looked_for p looked_for = (r.0, (same_look ∙ looked_for.0, looked_for.1 ∙ ap (path_named c) (sym r.2)))
 
-    stopped : (outcome c old name is_system_in ≡ Refuses) ⊎ HasFault → (outcome c old r.0.name (is_system r.0.rest) ≡ Refuses) ⊎ HasFault
+    stopped : (outcome c old name is_system_in ≡ Refuses) ⊎ (HasFault × (is_looked_for c old name is_system_in ≡ true))
+        → (outcome c old r.0.name (is_system r.0.rest) ≡ Refuses) ⊎ (HasFault × (is_looked_for c old r.0.name (is_system r.0.rest) ≡ true))
     stopped (inl e) = inl (same_outcome ∙ e)
-    stopped (inr f) = inr f
+    stopped (inr fault) = inr (fault.0, same_look ∙ fault.1)
 
     pub stops : (new : Digests) → name ≢ [] → IsNameAnswer c HasFault old new name is_system_in (Ok false) → IsLineAnswer c HasFault text start hash old new (Ok (Break (start + end, start + begin, false)))
     stops new some does = (begin, end, refl, refl, does.0, (r.0, r.1, λ e. some (sym r.2 ∙ e), stopped does.1))

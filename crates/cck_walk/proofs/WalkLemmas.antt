@@ -1,12 +1,16 @@
 -- What the marks decide that were read.
-use Rattle.std.proofs.Common.{◌≡◌, ◌⊎◌, ◌||◌, inl, inr, not, if◌then◌else◌, ℕ, Bool, true, false, List, [], ◌∷◌, Some, refl, sym, ap, ◌∙◌}
-use Rattle.std.proofs.lemmas.Option.{same_Some}
+use Rattle.std.proofs.Common.{◌≡◌, ◌⊎◌, ◌||◌, ◌++◌, inl, inr, not, if◌then◌else◌, ℕ, Bool, true, false, List, [], ◌∷◌, Option, Some, None, refl, sym, ap, subst, ◌∙◌}
+use Rattle.std.proofs.lemmas.Bool.{false≢true}
+use Rattle.std.proofs.lemmas.List.{append_assoc}
 use Rattle.std.specs.List.{AllByRecursion}
 use Rattle.std.specs.FinMap.{empty}
+use Rattle.cck_files.proofs.CallsLemmas.{calls_all, calls_among}
+use Rattle.cck_files.specs.Calls.{AreCalls}
 use Rattle.cck_markers.proofs.EachText.{each_text}
 use Rattle.cck_markers.specs.Markers.{Gives, MarksLeft, Unread, whole}
 use Rattle.cck_markers.specs.Marks.{Mark, Name, Refusal, Malformed}
-use Rattle.cck_walk.specs.Decided.{Accepts, AsksForNone, Context, TextDecides, Digests, Errs, IsRefused, Outcome, Passes, Refuses, after, decided, is_known, is_looked_for, is_passed, outcome, path_named, standing_outcome}
+use Rattle.cck_path.specs.Path.{Path}
+use Rattle.cck_walk.specs.Decided.{Accepts, Asked, AsksForNone, Context, TextDecides, Digests, Errs, IsLookedFor, IsRefused, LooksForNone, Outcome, Passes, Refuses, after, decided, is_known, is_looked_for, is_passed, outcome, path_named, standing_outcome}
 use Rattle.cck_walk.specs.Standing.{standing_at}
 
 passed_by : (passed known : Bool) (o : Outcome) → not (passed || known) ≡ false → (if passed then Passes else if known then Passes else o) ≡ Passes
@@ -21,60 +25,105 @@ passed_over c held name is_system e =
     let p = path_named c name in
     passed_by (is_passed c.setting.config.skip_system_headers name is_system) (is_known c held p) (standing_outcome p (standing_at c.setting c.files p)) e
 
--- no file is looked for by what is left
-abbrev pub LeftForNone : Context → Unread → Type 0
-LeftForNone c unread = (marks : List Mark) → MarksLeft unread marks → AllByRecursion (AsksForNone c) marks
+-- marks by which no file is looked for lead to no digests
+no_digests : (c : Context) (d : Digests) (before marks : List Mark) (held : Digests) → d ≡ empty → AllByRecursion (AsksForNone c) (before ++ marks) → decided c (Some d) before ≡ Accepts held
+    → (held ≡ empty) × AllByRecursion (AsksForNone c) marks
+unfolding decided
+no_digests c d [] marks held nothing none e = let same : d ≡ held = cc in (sym same ∙ nothing, none)
+no_digests c d (Refusal ∷ before) marks held nothing none e = absurd cc
+no_digests c d (Malformed ∷ before) marks held nothing none e = absurd cc
+no_digests c d (Name name is_system ∷ before) marks held nothing none e =
+    let here : is_looked_for c d name is_system ≡ false = ap (λ (x : Digests). is_looked_for c x name is_system) nothing ∙ none.0 in
+    no_digests c d before marks held nothing none.1 (ap (λ o. decided c (after d o) before) (sym (passed_over c d name is_system here)) ∙ e)
 
-module _ (c : Context) (old new : Unread) (held : Digests) (name : List ℕ) (is_system : Bool) (nothing : held ≡ empty) (none : LeftForNone c old) (gives : Gives old (Name name is_system ∷ []) new) where
-  pub none_here : is_looked_for c held name is_system ≡ false
-  none_here =
-      let rest = each_text new.starts_line new.text in
-      ap (λ (d : Digests). is_looked_for c d name is_system) nothing ∙ (none (Name name is_system ∷ rest.0) (gives rest.0 rest.1)).0
+-- a text that looks for no file looks for no path
+pub none_asked : (c : Context) (text : List ℕ) → LooksForNone c text → (p : Path) → Asked c text p → ⊥
+none_asked c text none p asked =
+    let so = no_digests c empty asked.before (Name asked.name asked.is_system ∷ asked.behind) asked.held refl (none _ asked.marks) asked.undecided in
+    let here : is_looked_for c asked.held asked.name asked.is_system ≡ false = ap (λ (x : Digests). is_looked_for c x asked.name asked.is_system) so.0 ∙ so.1.0 in
+    false≢true (sym here ∙ asked.looked_for.0)
 
-  pub none_behind : LeftForNone c new
-  none_behind marks left = (none (Name name is_system ∷ marks) (gives marks left)).1
+-- marks that decide nothing, and what follows them
+decided_on : (c : Context) (o : Option Digests) (before marks : List Mark) (held : Digests) → decided c o before ≡ Accepts held → decided c o (before ++ marks) ≡ decided c (Some held) marks
+unfolding decided
+decided_on c None before marks held e = absurd cc
+decided_on c (Some d) [] marks held e = let same : d ≡ held = cc in ap (λ (x : Digests). decided c (Some x) marks) same
+decided_on c (Some d) (Refusal ∷ before) marks held e = absurd cc
+decided_on c (Some d) (Malformed ∷ before) marks held e = absurd cc
+decided_on c (Some d) (Name name is_system ∷ before) marks held e = decided_on c (after d (outcome c d name is_system)) before marks held e
 
-  -- and there are no digests behind it either
-  pub nothing_more : (more : Digests) → after held (outcome c held name is_system) ≡ Some more → more ≡ empty
-  nothing_more more does = sym (same_Some held more (ap (after held) (sym (passed_over c held name is_system none_here)) ∙ does)) ∙ nothing
+-- the marks before what is left decide nothing, and lead to these digests
+pub record Passed (c : Context) (text : List ℕ) (unread : Unread) (held : Digests) : Type 0 where
+  pub before : List Mark
+  pub gives : Gives (whole text) before unread
+  pub undecided : decided c (Some empty) before ≡ Accepts held
 
 module _ (c : Context) (text : List ℕ) where
-  -- what is left decides, with these digests, what all of the text decides
-  abbrev pub Leads : Unread → Digests → Type 0
-  Leads unread held = (marks : List Mark) → MarksLeft unread marks → (all : List Mark) × MarksLeft (whole text) all × (decided c (Some empty) all ≡ decided c (Some held) marks)
-
-  -- a name was taken
-  pub leads_on : (old new : Unread) (held more : Digests) (name : List ℕ) (is_system : Bool) → Leads old held → Gives old (Name name is_system ∷ []) new → after held (outcome c held name is_system) ≡ Some more → Leads new more
+  pub at_start : (unread : Unread) (held : Digests) → unread ≡ whole text → held ≡ empty → Passed c text unread held
   unfolding decided
-  leads_on old new held more name is_system leads gives does marks left =
-      let all = leads (Name name is_system ∷ marks) (gives marks left) in
-      (all.0, all.1, all.2 ∙ ap (λ o. decided c o marks) does)
+  at_start unread held same nothing = record { before = []; gives = λ marks left. subst (λ (u : Unread). MarksLeft u marks) same left; undecided = ap Accepts (sym nothing) }
 
-  pub accepted : (unread : Unread) (held : Digests) → Leads unread held → MarksLeft unread [] → TextDecides c text (Accepts held)
-  unfolding decided
-  accepted unread held leads left = leads [] left
+  module _ (old : Unread) (held : Digests) (passed : Passed c text old held) where
+    -- what is left decides, with these digests, what all of the text decides
+    leads : (marks : List Mark) → MarksLeft old marks → (all : List Mark) × MarksLeft (whole text) all × (decided c (Some empty) all ≡ decided c (Some held) marks)
+    leads marks left = (passed.before ++ marks, passed.gives marks left, decided_on c (Some empty) passed.before marks held passed.undecided)
 
-  pub refused : (old new : Unread) (held : Digests) → Leads old held → Gives old (Refusal ∷ []) new → TextDecides c text IsRefused
-  unfolding decided
-  refused old new held leads gives =
-      let rest = each_text new.starts_line new.text in
-      leads (Refusal ∷ rest.0) (gives rest.0 rest.1)
+    pub accepted : MarksLeft old [] → TextDecides c text (Accepts held)
+    unfolding decided
+    accepted left = leads [] left
 
-  pub malformed : (old new : Unread) (held : Digests) → Leads old held → Gives old (Malformed ∷ []) new → TextDecides c text Errs
-  unfolding decided
-  malformed old new held leads gives =
-      let rest = each_text new.starts_line new.text in
-      leads (Malformed ∷ rest.0) (gives rest.0 rest.1)
+    module _ (new : Unread) where
+      pub refused : Gives old (Refusal ∷ []) new → TextDecides c text IsRefused
+      unfolding decided
+      refused gives =
+          let rest = each_text new.starts_line new.text in
+          leads (Refusal ∷ rest.0) (gives rest.0 rest.1)
 
-  -- a name refuses
-  pub refused_name : (old new : Unread) (held : Digests) (name : List ℕ) (is_system : Bool) → Leads old held → Gives old (Name name is_system ∷ []) new → outcome c held name is_system ≡ Refuses → TextDecides c text IsRefused
-  unfolding decided
-  refused_name old new held name is_system leads gives why =
-      let rest = each_text new.starts_line new.text in
-      let all = leads (Name name is_system ∷ rest.0) (gives rest.0 rest.1) in
-      (all.0, all.1, all.2 ∙ ap (λ o. decided c (after held o) rest.0) why)
+      pub malformed : Gives old (Malformed ∷ []) new → TextDecides c text Errs
+      unfolding decided
+      malformed gives =
+          let rest = each_text new.starts_line new.text in
+          leads (Malformed ∷ rest.0) (gives rest.0 rest.1)
 
-  -- or a fault came
-  pub refused_by : (P Q : Type 0) (old new : Unread) (held : Digests) (name : List ℕ) (is_system : Bool) → Leads old held → Gives old (Name name is_system ∷ []) new → (P → Q) → (outcome c held name is_system ≡ Refuses) ⊎ P → TextDecides c text IsRefused ⊎ Q
-  refused_by P Q old new held name is_system leads gives f (inl why) = inl (refused_name old new held name is_system leads gives why)
-  refused_by P Q old new held name is_system leads gives f (inr p) = inr (f p)
+      module _ (name : List ℕ) (is_system : Bool) (gives : Gives old (Name name is_system ∷ []) new) where
+        -- a name was taken
+        pub passed_on : (more : Digests) → after held (outcome c held name is_system) ≡ Some more → Passed c text new more
+        unfolding decided
+        passed_on more does = record {
+          before = passed.before ++ Name name is_system ∷ [];
+          gives = λ marks left. subst (MarksLeft (whole text)) (sym (append_assoc passed.before (Name name is_system ∷ []) marks)) (passed.gives (Name name is_system ∷ marks) (gives marks left));
+          undecided = decided_on c (Some empty) passed.before (Name name is_system ∷ []) held passed.undecided ∙ ap (λ o. decided c o []) does;
+        }
+
+        -- the name's path is looked for
+        asked : (p : Path) → IsLookedFor c held name is_system p → Asked c text p
+        asked p looked_for =
+            let rest = each_text new.starts_line new.text in
+            record {
+              before = passed.before;
+              name = name;
+              is_system = is_system;
+              behind = rest.0;
+              marks = passed.gives (Name name is_system ∷ rest.0) (gives rest.0 rest.1);
+              held = held;
+              undecided = passed.undecided;
+              looked_for = looked_for;
+            }
+
+        -- what is called for the name is called for the text
+        pub calls_on : {F : Type 0} {is_call : F → Path → F → Type 0} (first between last : F) → AreCalls is_call (Asked c text) first between → AreCalls is_call (IsLookedFor c held name is_system) between last
+            → AreCalls is_call (Asked c text) first last
+        calls_on first between last before here = calls_all (Asked c text) first between last before (calls_among (IsLookedFor c held name is_system) (Asked c text) between last asked here)
+
+        -- the name refuses
+        refused_name : outcome c held name is_system ≡ Refuses → TextDecides c text IsRefused
+        unfolding decided
+        refused_name why =
+            let rest = each_text new.starts_line new.text in
+            let all = leads (Name name is_system ∷ rest.0) (gives rest.0 rest.1) in
+            (all.0, all.1, all.2 ∙ ap (λ o. decided c (after held o) rest.0) why)
+
+        -- or a fault came where its path was looked for
+        pub refused_by : (P Q : Type 0) → (P → Q) → (outcome c held name is_system ≡ Refuses) ⊎ (P × (is_looked_for c held name is_system ≡ true)) → TextDecides c text IsRefused ⊎ (Q × (p : Path) × Asked c text p)
+        refused_by P Q f (inl why) = inl (refused_name why)
+        refused_by P Q f (inr fault) = inr (f fault.0, path_named c name, asked (path_named c name) (fault.1, refl))

@@ -1,5 +1,5 @@
 -- what the marks of a text decide
-use Rattle.std.specs.Prelude.{◌≡◌, ◌&&◌, ◌||◌, ◌==◌, ◌-◌, if◌then◌else◌, ℕ, nat_le, Bool, true, List, [], ◌∷◌, length, slice_index, is_some, not, false, Option, Some, None}
+use Rattle.std.specs.Prelude.{◌≡◌, ◌&&◌, ◌||◌, ◌==◌, ◌-◌, if◌then◌else◌, ℕ, nat_le, Bool, true, List, [], ◌∷◌, ◌++◌, length, slice_index, is_some, not, false, Option, Some, None}
 use Rattle.std.specs.FinMap.{FinMap, empty, get, insert}
 use Rattle.std.specs.List.{AllByRecursion}
 use Rattle.std.specs.Ordering.{eq_by_cmp}
@@ -54,6 +54,10 @@ is_known c held p = is_some (get held p) || eq_by_cmp path_cmp p c.input
 unfoldable pub is_looked_for : Context → Digests → List ℕ → Bool → Bool
 is_looked_for c held name is_system = not (is_passed c.setting.config.skip_system_headers name is_system || is_known c held (path_named c name))
 
+-- the path that is looked for by this name
+abbrev pub IsLookedFor : Context → Digests → List ℕ → Bool → Path → Type 0
+IsLookedFor c held name is_system p = (is_looked_for c held name is_system ≡ true) × (p ≡ path_named c name)
+
 -- what comes of a name: nothing, the digest of a path, or that the text is refused
 pub data Outcome : Type 0 where
   Passes : Outcome
@@ -90,6 +94,17 @@ decided c (Some held) [] = Accepts held
 decided c (Some held) (Refusal ∷ marks) = IsRefused
 decided c (Some held) (Malformed ∷ marks) = Errs
 decided c (Some held) (Name name is_system ∷ marks) = decided c (after held (outcome c held name is_system)) marks
+
+-- a path that is looked for by a name of the text, where no mark before the name decides
+pub record Asked (c : Context) (text : List ℕ) (p : Path) : Type 0 where
+  pub before : List Mark
+  pub name : List ℕ
+  pub is_system : Bool
+  pub behind : List Mark
+  pub marks : Marks true text (before ++ Name name is_system ∷ behind)
+  pub held : Digests
+  pub undecided : decided c (Some empty) before ≡ Accepts held
+  pub looked_for : IsLookedFor c held name is_system p
 
 -- by this mark no file is looked for
 abbrev pub AsksForNone : Context → Mark → Type 0

@@ -4,14 +4,15 @@ use Rattle.cck_key_error.specs.declared.key_error.KeyError.{KeyError}
 use Rattle.cck_key_error.specs.declared.key_error.KeyError.TheVariants.{Memory, Marker}
 use Rattle.cck_markers.specs.Lines.{IsNamedAt, IsUnnamedTo}
 use Rattle.cck_markers.specs.Marks.{Named, Unnamed, is_system}
-use Rattle.cck_walk.specs.Decided.{Context, Digests, Refuses, after, is_looked_for, outcome}
+use Rattle.cck_path.specs.Path.{Path}
+use Rattle.cck_walk.specs.Decided.{Context, Digests, IsLookedFor, Refuses, after, is_looked_for, outcome}
 use Rattle.cck_walk.specs.declared.line.LineAction.{LineAction}
 use Rattle.cck_walk.specs.declared.line.LineAction.TheVariants.{Continue, Break}
 
--- a name was taken, or it refuses the text, or a fault came and it counts as one that does
+-- a name was taken, or it refuses the text, or a fault came where a file is looked for, and it counts as one that does
 abbrev pub IsNameAnswer : Context → Type 0 → Digests → Digests → List ℕ → Bool → Result Bool KeyError → Type 0
 IsNameAnswer c HasFault old new name is_system_in (Ok true) = after old (outcome c old name is_system_in) ≡ Some new
-IsNameAnswer c HasFault old new name is_system_in (Ok false) = (new ≡ old) × ((outcome c old name is_system_in ≡ Refuses) ⊎ HasFault)
+IsNameAnswer c HasFault old new name is_system_in (Ok false) = (new ≡ old) × ((outcome c old name is_system_in ≡ Refuses) ⊎ (HasFault × (is_looked_for c old name is_system_in ≡ true)))
 IsNameAnswer c HasFault old new name is_system_in (Err Memory) = new ≡ old
 IsNameAnswer c HasFault old new name is_system_in (Err other) = ⊥
 
@@ -19,9 +20,9 @@ IsNameAnswer c HasFault old new name is_system_in (Err other) = ⊥
 abbrev pub IsLongNamed : List ℕ → ℕ → ℕ → (List ℕ → Bool → Type 0) → Type 0
 IsLongNamed text begin end Does = (marker : Named text) × IsNamedAt text begin end marker × (marker.name ≢ []) × Does marker.name (is_system marker.rest)
 
--- no file is looked for by the name of the marker with which this text begins
-abbrev pub NamesNone : Context → Digests → List ℕ → Type 0
-NamesNone c held text = (marker : Named text) → is_looked_for c held marker.name (is_system marker.rest) ≡ false
+-- the path that is looked for by the name of the marker with which this text begins
+abbrev pub IsLineLookedFor : Context → Digests → List ℕ → Path → Type 0
+IsLineLookedFor c held text p = (marker : Named text) × IsLookedFor c held marker.name (is_system marker.rest) p
 
 -- the answer for the marker with which this text begins, where the text begins at a place of a longer one
 abbrev pub IsLineAnswer : Context → Type 0 → List ℕ → ℕ → ℕ → Digests → Digests → Result LineAction KeyError → Type 0
@@ -30,7 +31,7 @@ IsLineAnswer c HasFault text start hash_start old new (Ok (Continue (next, also)
     × IsLongNamed text begin end (λ name is_system_in. after old (outcome c old name is_system_in) ≡ Some new)
 IsLineAnswer c HasFault text start hash_start old new (Ok (Break (next, from, false))) =
     (begin : ℕ) × (end : ℕ) × (next ≡ start + end) × (from ≡ start + begin) × (new ≡ old)
-    × IsLongNamed text begin end (λ name is_system_in. (outcome c old name is_system_in ≡ Refuses) ⊎ HasFault)
+    × IsLongNamed text begin end (λ name is_system_in. (outcome c old name is_system_in ≡ Refuses) ⊎ (HasFault × (is_looked_for c old name is_system_in ≡ true)))
 IsLineAnswer c HasFault text start hash_start old new (Ok (Break (next, from, true))) =
     (new ≡ old) × (((end : ℕ) × IsUnnamedTo text end × (next ≡ start + end) × (from ≡ hash_start))
     ⊎ ((marker : Named text) × (begin : ℕ) × (end : ℕ) × IsNamedAt text begin end marker × (marker.name ≡ []) × (next ≡ start + end) × (from ≡ start + begin)))

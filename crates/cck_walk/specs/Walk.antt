@@ -3,15 +3,16 @@ use Rattle.std.specs.Prelude.{◌≡◌, ◌⊎◌, ℕ, List, map, Result, Ok, 
 use Rattle.std.specs.FinMap.{entries}
 use Rattle.cck_key_error.specs.declared.key_error.KeyError.{KeyError}
 use Rattle.cck_key_error.specs.declared.key_error.KeyError.TheVariants.{Memory, Marker}
-use Rattle.cck_walk.specs.Decided.{Accepts, Context, TextDecides, Digests, Errs, IsRefused}
+use Rattle.cck_path.specs.Path.{Path}
+use Rattle.cck_walk.specs.Decided.{Accepts, Asked, Context, TextDecides, Digests, Errs, IsRefused}
 use Rattle.cck_walk.specs.Digests.{listed, written}
 use Rattle.cck_walk.specs.declared.walk.Walk.{Walk}
 use Rattle.cck_walk.specs.declared.walk.Walk.TheVariants.{Accepted, Refused}
 
--- the text decides it; with a fault it may be refused whatever it decides
+-- the text decides it; with a fault, where a path is looked for, it may be refused whatever it decides
 abbrev pub IsWalk : Context → Type 0 → List ℕ → Result Walk KeyError → Type 0
 IsWalk c HasFault text (Ok (Accepted files)) = (digests : Digests) × TextDecides c text (Accepts digests) × (map listed files.items ≡ map written (entries digests))
-IsWalk c HasFault text (Ok Refused) = TextDecides c text IsRefused ⊎ HasFault
+IsWalk c HasFault text (Ok Refused) = TextDecides c text IsRefused ⊎ (HasFault × (p : Path) × Asked c text p)
 IsWalk c HasFault text (Err Marker) = TextDecides c text Errs
 IsWalk c HasFault text (Err Memory) = Unit {0}
 IsWalk c HasFault text (Err other) = ⊥

@@ -1,6 +1,6 @@
 //! What a path stands for.
 ghost use Rattle.std.specs.Prelude.{◌≡◌, ◌||◌};
-ghost use Rattle.cck_files.specs.Calls.{Keeps, Rose};
+ghost use Rattle.cck_files.specs.Calls.{AreCalls, Keeps, Rose};
 ghost use Rattle.cck_include.specs.Setting.{setting_in};
 ghost use Rattle.cck_path.specs.Path.{components};
 ghost use Rattle.jiff.specs.Words.{plain_zone};
@@ -68,6 +68,7 @@ pub(crate) fn judge<H: HashState, F: Files>(
     vars: &[(Vec<u8>, Vec<u8>)],
 ) -> Result<Judged, KeyError>
     ensures keeps { Keeps F.file_map F.faults F.is_quiet files.old files.new }
+    ensures calls { AreCalls F.is_call (λ p. p ≡ components path.now) files.old files.new }
     ensures answer { IsJudged (standing_at (setting_in H.hash config moment (plain_zone zone.now) vars.now)
         (F.file_map files.old) (components path.now)) (Rose (F.faults files.old) (F.faults files.new)) result }
 {

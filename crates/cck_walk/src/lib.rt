@@ -15,7 +15,8 @@
 //!   recorded digest. So does `.incbin` with a quote behind it, since no marker names the file
 //!   that it includes.
 //!
-//! The first such name, inclusion or malformed marker decides. No file behind it is looked at.
+//! The first such name, inclusion or malformed marker decides. No file that is named after it is
+//! looked at.
 //!
 //! ```rust
 //! let text = b"# 1 \"a.c\"\n# 1 \"../inc/h.h\" 1\n# 1 \"<built-in>\"\n";
@@ -29,10 +30,11 @@
 //! may be refused; an accepted text and a malformed marker are what they are without one.
 //! [`process_preprocessor_line`] does the same for one marker, and fills [`Records`]. What is
 //! decided is a [`Walk`], or a [`LineAction`] for one marker, and a refusal is a [`KeyError`], which
-//! is passed on from `cck_key_error`.
+//! is passed on from `cck_key_error`. [`laws`] has when no file is looked at.
 #![tactic(auto)]
 
 mod judge;
+pub mod laws;
 mod line;
 mod name;
 mod records;

@@ -1,9 +1,9 @@
 //! One line marker.
-ghost use Rattle.std.specs.Prelude.{◌≡◌, ◌≤◌, ◌<◌, drop, length};
-ghost use Rattle.cck_files.specs.Calls.{Keeps, Rose};
+ghost use Rattle.std.specs.Prelude.{◌≤◌, ◌<◌, drop, length};
+ghost use Rattle.cck_files.specs.Calls.{AreCalls, Keeps, Rose};
 ghost use Rattle.jiff.specs.Words.{plain_zone};
 ghost use Rattle.cck_walk.specs.Decided.{context_in};
-ghost use Rattle.cck_walk.specs.Line.{IsLineAnswer, NamesNone};
+ghost use Rattle.cck_walk.specs.Line.{IsLineAnswer, IsLineLookedFor};
 
 use crate::Records;
 use crate::name::take_name;
@@ -44,8 +44,9 @@ pub enum LineAction {
 ///
 /// It is refused as [`KeyError::Marker`] exactly where neither a quote nor a line feed comes, or a
 /// quote first, as the text's last byte; and as [`KeyError::Memory`]. Records change by a
-/// `Continue` alone. No file is asked for a marker without a name, for a name that is passed over
-/// by itself, nor for the path of the input or of a record.
+/// `Continue` alone. Calls on files are made at the path that the name means alone, and none for a
+/// marker without a name, for a name that is passed over by itself, nor for the path of the input or
+/// of a record. So a fault can come only where that path is looked for.
 ///
 /// Upstream's `compiler::c::process_preprocessor_line`.
 pub fn process_preprocessor_line<H: HashState, F: Files>(
@@ -65,12 +66,12 @@ pub fn process_preprocessor_line<H: HashState, F: Files>(
     requires hash { hash_start ≤ start }
     requires start { start < length text.now }
     ensures keeps { Keeps F.file_map F.faults F.is_quiet files.old files.new }
+    ensures calls { AreCalls F.is_call (IsLineLookedFor (context_in H.hash config moment
+        (plain_zone zone.now) vars.now (F.file_map files.old) input_file.now cwd.now) records.old
+        (drop start text.now)) files.old files.new }
     ensures answer { IsLineAnswer (context_in H.hash config moment (plain_zone zone.now) vars.now
         (F.file_map files.old) input_file.now cwd.now) (Rose (F.faults files.old) (F.faults files.new))
         (drop start text.now) start hash_start records.old records.new result }
-    ensures untouched { NamesNone (context_in H.hash config moment (plain_zone zone.now) vars.now
-        (F.file_map files.old) input_file.now cwd.now) records.old (drop start text.now)
-        → files.new ≡ files.old }
 {
     match read_line(&text[start..]) {
         Line::Unnamed { end } => Ok(LineAction::Break((start + end, hash_start, true))),

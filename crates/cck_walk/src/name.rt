@@ -1,10 +1,10 @@
 //! What a line marker's name does.
 ghost use Rattle.std.specs.Prelude.{◌≡◌, IfOk, IsOkUnless, false};
 ghost use Rattle.std.specs.Ordering.{eq_by_cmp};
-ghost use Rattle.cck_files.specs.Calls.{Keeps, Rose};
+ghost use Rattle.cck_files.specs.Calls.{AreCalls, Keeps, Rose};
 ghost use Rattle.cck_path.specs.Path.{components, joined, normal, path_cmp};
 ghost use Rattle.jiff.specs.Words.{plain_zone};
-ghost use Rattle.cck_walk.specs.Decided.{context_in, is_angled, is_looked_for, is_passed};
+ghost use Rattle.cck_walk.specs.Decided.{IsLookedFor, context_in, is_angled, is_passed};
 ghost use Rattle.cck_walk.specs.Line.{IsNameAnswer};
 
 use crate::Records;
@@ -59,8 +59,8 @@ fn path_named(alloc: Global, cwd: &[u8], name: &[u8]) -> Result<Vec<u8>, KeyErro
 /// Records the file that a name means, or passes it over. `false` says that the text is refused.
 ///
 /// It is refused only as [`KeyError::Memory`], and changes no record then, nor where it answers
-/// `false`. No file is asked for a name that is passed over, nor for the path of the input or of a
-/// record.
+/// `false`. Calls on files are made at the path that the name means alone, and none for a name that is
+/// passed over, nor for the path of the input or of a record.
 #[tactic(auto, unfolding(crate::specs::Decided::outcome, crate::specs::Decided::is_known, crate::specs::Decided::is_looked_for))]
 pub(crate) fn take_name<H: HashState, F: Files>(
     alloc: Global,
@@ -76,12 +76,12 @@ pub(crate) fn take_name<H: HashState, F: Files>(
     vars: &[(Vec<u8>, Vec<u8>)],
 ) -> Result<bool, KeyError>
     ensures keeps { Keeps F.file_map F.faults F.is_quiet files.old files.new }
+    ensures calls { AreCalls F.is_call (IsLookedFor (context_in H.hash config moment
+        (plain_zone zone.now) vars.now (F.file_map files.old) input_file.now cwd.now) records.old
+        name.now is_system) files.old files.new }
     ensures answer { IsNameAnswer (context_in H.hash config moment (plain_zone zone.now) vars.now
         (F.file_map files.old) input_file.now cwd.now) (Rose (F.faults files.old) (F.faults files.new))
         records.old records.new name.now is_system result }
-    ensures untouched { is_looked_for (context_in H.hash config moment (plain_zone zone.now) vars.now
-        (F.file_map files.old) input_file.now cwd.now) records.old name.now is_system ≡ false
-        → files.new ≡ files.old }
 {
     if is_passed(name, is_system, config.skip_system_headers) {
         return Ok(true);

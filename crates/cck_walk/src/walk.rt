@@ -1,8 +1,7 @@
 //! The walk over a text.
-ghost use Rattle.std.specs.Prelude.{◌≡◌};
-ghost use Rattle.cck_files.specs.Calls.{Keeps, Rose};
+ghost use Rattle.cck_files.specs.Calls.{AreCalls, Keeps, Rose};
 ghost use Rattle.jiff.specs.Words.{plain_zone};
-ghost use Rattle.cck_walk.specs.Decided.{LooksForNone, context_in};
+ghost use Rattle.cck_walk.specs.Decided.{Asked, context_in};
 ghost use Rattle.cck_walk.specs.Walk.{IsWalk};
 
 use crate::Records;
@@ -35,11 +34,12 @@ pub enum Walk {
 /// Names are joined to the working directory and normalised. Passed over are empty names, names in
 /// angles, the input, and the names of system headers where the options skip these. `input_file` is
 /// compared as it is handed in, so it has to be joined and normalised where the input is to be
-/// passed over. No file is asked for a name that is passed over, nor for a path that has a digest
+/// passed over. Calls on files are made at the paths alone that names before the deciding mark, and
+/// that mark itself, mean, and none for a name that is passed over, nor for a path that has a digest
 /// already.
 ///
-/// Where a fault came the text may be refused. What is accepted, and that a marker is malformed, is
-/// exact then too. It is refused as
+/// Where a fault came, and a path was looked for, the text may be refused. What is accepted, and that
+/// a marker is malformed, is exact then too. It is refused as
 ///
 /// - [`KeyError::Marker`] exactly where a malformed marker decides,
 /// - [`KeyError::Memory`].
@@ -57,11 +57,11 @@ pub fn process_preprocessed_file<H: HashState, F: Files>(
     vars: &[(Vec<u8>, Vec<u8>)],
 ) -> Result<Walk, KeyError>
     ensures keeps { Keeps F.file_map F.faults F.is_quiet files.old files.new }
+    ensures calls { AreCalls F.is_call (Asked (context_in H.hash config moment (plain_zone zone.now)
+        vars.now (F.file_map files.old) input_file.now cwd.now) text.now) files.old files.new }
     ensures answer { IsWalk (context_in H.hash config moment (plain_zone zone.now) vars.now
         (F.file_map files.old) input_file.now cwd.now) (Rose (F.faults files.old) (F.faults files.new))
         text.now result }
-    ensures untouched { LooksForNone (context_in H.hash config moment (plain_zone zone.now) vars.now
-        (F.file_map files.old) input_file.now cwd.now) text.now → files.new ≡ files.old }
 {
     let mut records = Records::new(alloc);
     for mark in Markers::new(text) {

@@ -23,13 +23,15 @@ impl Files for MapFiles {
 
     ghost is_quiet = { IsQuiet };
 
+    ghost is_call = { λ before path after. IsAfterCall before after };
+
     #[tactic(auto, unfolding(crate::specs::FileMap::metadata_at))]
     fn metadata(&mut self, path: &[u8]) -> Result<Metadata, FileError>
         ensures keeps { Keeps (λ files. files.files) fault_count IsQuiet self.old self.new }
         ensures answer { let found = metadata_at self.old.files (components path.now) in
             MatchResult result (λ metadata. found ≡ Ok metadata)
             (IsRefusal found (Rose (fault_count self.old) (fault_count self.new))) }
-        ensures after { IsAfterCall self.old self.new }
+        ensures call { IsAfterCall self.old self.new }
         ensures fault { is_fault result ≡ (self.old.armed == 1) }
     {
         if self.fails() {
@@ -50,7 +52,7 @@ impl Files for MapFiles {
         ensures full { IfOk result (λ n. IsOkAnd (contents_at self.old.files (components path.now))
             (λ contents. IsFullRead contents offset n buffer.old buffer.new)) }
         ensures left { OnErr result (buffer.new ≡ buffer.old) }
-        ensures after { IsAfterCall self.old self.new }
+        ensures call { IsAfterCall self.old self.new }
         ensures fault { is_fault result ≡ (self.old.armed == 1) }
     {
         if self.fails() {
@@ -74,7 +76,7 @@ impl Files for MapFiles {
             (Rose (fault_count self.old) (fault_count self.new))) }
         ensures memory { result ≡ Err FileError.Memory →
             folder_at self.old.files (components path.now) ≡ Ok tt }
-        ensures after { IsAfterCall self.old self.new }
+        ensures call { IsAfterCall self.old self.new }
         ensures fault { is_fault result ≡ (self.old.armed == 1) }
     {
         if self.fails() {
@@ -95,7 +97,7 @@ impl Files for MapFiles {
         ensures answer { let stands = stands_at self.old.files (components path.now) in
             MatchBool result (stands ≡ true)
             ((stands ≡ false) ⊎ Rose (fault_count self.old) (fault_count self.new)) }
-        ensures after { IsAfterCall self.old self.new }
+        ensures call { IsAfterCall self.old self.new }
         ensures fault { result ≡ (if self.old.armed == 1 then false
             else stands_at self.old.files (components path.now)) }
     {
@@ -114,7 +116,7 @@ impl Files for MapFiles {
         ensures text { IfOk result (λ path. path.items ≡ path_text (components path.items)) }
         ensures memory { result ≡ Err FileError.Memory →
             IsOk (canonical_at self.old.files (components path.now)) }
-        ensures after { IsAfterCall self.old self.new }
+        ensures call { IsAfterCall self.old self.new }
         ensures fault { is_fault result ≡ (self.old.armed == 1) }
     {
         if self.fails() {

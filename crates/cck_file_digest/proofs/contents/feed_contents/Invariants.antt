@@ -3,7 +3,7 @@ use Rattle.std.specs.Result.{result_unwrap_or}
 use Rattle.cck_digest.specs.Stream.{buffer_size}
 use Rattle.cck_path.specs.Path.{components}
 use Rattle.cck_files.specs.FileMap.{contents_at}
-use Rattle.cck_files.specs.Calls.{Keeps}
+use Rattle.cck_files.specs.Calls.{AreCalls, Keeps}
 use Rattle.cck_file_digest.proofs.ReadLemmas.{IsFed}
 use Rattle.cck_file_digest.proofs.contents.feed_contents.Given as goal
 
@@ -11,6 +11,7 @@ use Rattle.cck_file_digest.proofs.contents.feed_contents.Given as goal
 abbrev pub invariant-loop-count : goal.invariant-loop-count
 invariant-loop-count g l = let F = g.F.Files in record {
   keeps : Keeps F.file_map F.faults F.is_quiet l.fn.files l.files;
+  calls : AreCalls F.is_call (λ p. p ≡ components l.path) l.fn.files l.files;
   room : length l.buffer ≡ buffer_size;
   fed : IsFed g.S.Sink.takes l.fn.sink l.sink l.offset (result_unwrap_or (contents_at (F.file_map l.fn.files) (components l.path)) []);
 }

@@ -1,5 +1,5 @@
-use Rattle.std.proofs.Common.{IsOkAnd}
-use Rattle.cck_files.proofs.CallsLemmas.{rose_earlier}
+use Rattle.std.proofs.Common.{IsOkAnd, refl}
+use Rattle.cck_files.proofs.CallsLemmas.{calls_all, one_call, rose_earlier}
 use Rattle.cck_files.specs.Calls.{IsRefusalOrMemory, Rose}
 use Rattle.cck_files.specs.FileMap.{contents_at}
 use Rattle.cck_include.proofs.RecordedLemmas.{recorded_counting, recorded_ignoring, without_contents, without_metadata}
@@ -40,3 +40,15 @@ returns-clause-answer g c =
     let there : IsOkAnd (contents_at old (components c.args.path.now)) (IsScanOf H.hash c.in-Ok-read_once.scan) = rw (← c.in-Ok.ensures.keeps.same_map) c.in-Ok-read_once.ensures.answer in
     recorded_counting (setting_in H.hash c.args.config c.args.moment (plain_zone c.args.zone.now) c.args.vars.now) old (components c.args.path.now) c.in-Ok-read_once.scan c.in-Ok.metadata
     (Rose (F.faults c.args.files.now) (F.faults c.read_once.new.files)) c.digest_of.result c.if-config.false c.in-Ok.ensures.answer there c.digest_of.ensures.digest c.digest_of.ensures.refused
+
+pub returns-in-Err-clause-calls : goal.returns-in-Err-clause-calls
+returns-in-Err-clause-calls g c = one_call _ _ _ (components c.args.path.now) refl c.in-Err.ensures.call
+
+pub returns-in-Err-read_once-clause-calls : goal.returns-in-Err-read_once-clause-calls
+returns-in-Err-read_once-clause-calls g c = calls_all _ _ _ _ (one_call _ _ _ (components c.args.path.now) refl c.in-Ok.ensures.call) c.in-Err-read_once.ensures.calls
+
+pub returns-then-config-clause-calls : goal.returns-then-config-clause-calls
+returns-then-config-clause-calls g c = calls_all _ _ _ _ (one_call _ _ _ (components c.args.path.now) refl c.in-Ok.ensures.call) c.in-Ok-read_once.ensures.calls
+
+pub returns-clause-calls : goal.returns-clause-calls
+returns-clause-calls g c = calls_all _ _ _ _ (one_call _ _ _ (components c.args.path.now) refl c.in-Ok.ensures.call) c.in-Ok-read_once.ensures.calls

@@ -1,6 +1,6 @@
-use Rattle.std.proofs.Common.{IsOkAnd, inl, ◌≡◌}
+use Rattle.std.proofs.Common.{IsOkAnd, inl, ◌≡◌, refl}
 use Rattle.std.specs.Prelude.{Some, None, Option, List, ℕ, string_bytes}
-use Rattle.cck_files.proofs.CallsLemmas.{rose_earlier}
+use Rattle.cck_files.proofs.CallsLemmas.{calls_all, one_call, rose_earlier}
 use Rattle.cck_files.specs.Calls.{Rose}
 use Rattle.cck_files.specs.FileMap.{file_at}
 use Rattle.cck_include.specs.Recorded.{recorded}
@@ -67,3 +67,24 @@ returns-in-Err-recorded_digest-clause-answer g c =
     rw c.judge_unread.ensures
     (unread_at s old p c.in-Ok.metadata c.in-Ok.ensures.answer c.in-File.is R S c.in-Err-recorded_digest.error
     (rose_earlier (F.faults c.args.files.now) (F.faults c.metadata.new.self) (F.faults c.recorded_digest.new.files) c.in-Ok.ensures.keeps.not_lower) there)
+
+pub returns-in-Err-clause-calls : goal.returns-in-Err-clause-calls
+returns-in-Err-clause-calls g c = one_call _ _ _ (components c.args.path.now) refl c.in-Err.ensures.call
+
+pub returns-in-Folder-clause-calls : goal.returns-in-Folder-clause-calls
+returns-in-Folder-clause-calls g c = one_call _ _ _ (components c.args.path.now) refl c.in-Ok.ensures.call
+
+pub returns-in-Other-clause-calls : goal.returns-in-Other-clause-calls
+returns-in-Other-clause-calls g c = one_call _ _ _ (components c.args.path.now) refl c.in-Ok.ensures.call
+
+pub returns-then-has_late_time-clause-calls : goal.returns-then-has_late_time-clause-calls
+returns-then-has_late_time-clause-calls g c = one_call _ _ _ (components c.args.path.now) refl c.in-Ok.ensures.call
+
+pub returns-in-Ok-Some-clause-calls : goal.returns-in-Ok-Some-clause-calls
+returns-in-Ok-Some-clause-calls g c = calls_all _ _ _ _ (one_call _ _ _ (components c.args.path.now) refl c.in-Ok.ensures.call) c.in-Ok-Some.ensures.calls
+
+pub returns-in-Ok-None-clause-calls : goal.returns-in-Ok-None-clause-calls
+returns-in-Ok-None-clause-calls g c = calls_all _ _ _ _ (one_call _ _ _ (components c.args.path.now) refl c.in-Ok.ensures.call) c.in-Ok-None.ensures.calls
+
+pub returns-in-Err-recorded_digest-clause-calls : goal.returns-in-Err-recorded_digest-clause-calls
+returns-in-Err-recorded_digest-clause-calls g c = calls_all _ _ _ _ (one_call _ _ _ (components c.args.path.now) refl c.in-Ok.ensures.call) c.in-Err-recorded_digest.ensures.calls

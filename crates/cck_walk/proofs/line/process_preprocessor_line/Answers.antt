@@ -1,12 +1,13 @@
-use Rattle.std.proofs.Common.{drop, sym, ap, length, subst}
+use Rattle.std.proofs.Common.{drop, refl, sym, ap, length, subst}
 use Rattle.std.proofs.lemmas.Bool.{eqb-true, eqb-false}
 use Rattle.std.proofs.lemmas.List.{nil_from_length}
-use Rattle.cck_files.specs.Calls.{Rose}
+use Rattle.cck_files.proofs.CallsLemmas.{calls_among}
+use Rattle.cck_files.specs.Calls.{Rose, none}
 use Rattle.cck_markers.proofs.Cuts.{slice_from}
 use Rattle.cck_markers.specs.Lines.{IsUnnamedTo}
 use Rattle.jiff.specs.Words.{plain_zone}
 use Rattle.cck_walk.specs.Decided.{context_in}
-use Rattle.cck_walk.proofs.LineLemmas.{IsReadAt, goes_on, looks_for_none, stops, unnamed, unwritten}
+use Rattle.cck_walk.proofs.LineLemmas.{IsReadAt, goes_on, line_looked_for, stops, unnamed, unwritten}
 use Rattle.cck_walk.proofs.line.process_preprocessor_line.Goals as goal
 
 pub returns-in-Unnamed-clause-answer : goal.returns-in-Unnamed-clause-answer
@@ -42,26 +43,35 @@ returns-in-Ok-false-clause-answer g c =
     (subst (λ t. IsReadAt t n.begin n.end n.name.now n.is_system) (slice_from c.args.text.now c.args.start) n.ensures) c.take_name.new.records
     (λ none. eqb-false _ 0 (sym c.if-is_empty.ensures) (ap length none)) (rw c.in-Ok-false.field-0-test at c.in-Ok-false.ensures.answer)
 
-pub returns-in-Ok-true-clause-untouched : goal.returns-in-Ok-true-clause-untouched
-returns-in-Ok-true-clause-untouched g c =
+pub returns-in-Ok-true-clause-calls : goal.returns-in-Ok-true-clause-calls
+returns-in-Ok-true-clause-calls g c =
     let F = g.F.Files in
     let x = context_in g.H.HashState.hash c.args.config c.args.moment (plain_zone c.args.zone.now) c.args.vars.now (F.file_map c.args.files.now) c.args.input_file.now c.args.cwd.now in
     let n = c.in-Named in
-    λ none. c.take_name.ensures.untouched (looks_for_none x (Rose (F.faults c.args.files.now) (F.faults c.take_name.new.files)) (drop c.args.start c.args.text.now) c.args.start c.args.hash_start c.args.records.now n.begin n.end n.name.now n.is_system
-    (subst (λ t. IsReadAt t n.begin n.end n.name.now n.is_system) (slice_from c.args.text.now c.args.start) n.ensures) none)
+    calls_among _ _ _ _ (line_looked_for x (Rose (F.faults c.args.files.now) (F.faults c.take_name.new.files)) (drop c.args.start c.args.text.now) c.args.start c.args.hash_start c.args.records.now n.begin n.end n.name.now n.is_system
+    (subst (λ t. IsReadAt t n.begin n.end n.name.now n.is_system) (slice_from c.args.text.now c.args.start) n.ensures)) c.take_name.ensures.calls
 
-pub returns-in-Ok-false-clause-untouched : goal.returns-in-Ok-false-clause-untouched
-returns-in-Ok-false-clause-untouched g c =
+pub returns-in-Ok-false-clause-calls : goal.returns-in-Ok-false-clause-calls
+returns-in-Ok-false-clause-calls g c =
     let F = g.F.Files in
     let x = context_in g.H.HashState.hash c.args.config c.args.moment (plain_zone c.args.zone.now) c.args.vars.now (F.file_map c.args.files.now) c.args.input_file.now c.args.cwd.now in
     let n = c.in-Named in
-    λ none. c.take_name.ensures.untouched (looks_for_none x (Rose (F.faults c.args.files.now) (F.faults c.take_name.new.files)) (drop c.args.start c.args.text.now) c.args.start c.args.hash_start c.args.records.now n.begin n.end n.name.now n.is_system
-    (subst (λ t. IsReadAt t n.begin n.end n.name.now n.is_system) (slice_from c.args.text.now c.args.start) n.ensures) none)
+    calls_among _ _ _ _ (line_looked_for x (Rose (F.faults c.args.files.now) (F.faults c.take_name.new.files)) (drop c.args.start c.args.text.now) c.args.start c.args.hash_start c.args.records.now n.begin n.end n.name.now n.is_system
+    (subst (λ t. IsReadAt t n.begin n.end n.name.now n.is_system) (slice_from c.args.text.now c.args.start) n.ensures)) c.take_name.ensures.calls
 
-pub returns-in-Err-clause-untouched : goal.returns-in-Err-clause-untouched
-returns-in-Err-clause-untouched g c =
+pub returns-in-Err-clause-calls : goal.returns-in-Err-clause-calls
+returns-in-Err-clause-calls g c =
     let F = g.F.Files in
     let x = context_in g.H.HashState.hash c.args.config c.args.moment (plain_zone c.args.zone.now) c.args.vars.now (F.file_map c.args.files.now) c.args.input_file.now c.args.cwd.now in
     let n = c.in-Named in
-    λ none. c.take_name.ensures.untouched (looks_for_none x (Rose (F.faults c.args.files.now) (F.faults c.take_name.new.files)) (drop c.args.start c.args.text.now) c.args.start c.args.hash_start c.args.records.now n.begin n.end n.name.now n.is_system
-    (subst (λ t. IsReadAt t n.begin n.end n.name.now n.is_system) (slice_from c.args.text.now c.args.start) n.ensures) none)
+    calls_among _ _ _ _ (line_looked_for x (Rose (F.faults c.args.files.now) (F.faults c.take_name.new.files)) (drop c.args.start c.args.text.now) c.args.start c.args.hash_start c.args.records.now n.begin n.end n.name.now n.is_system
+    (subst (λ t. IsReadAt t n.begin n.end n.name.now n.is_system) (slice_from c.args.text.now c.args.start) n.ensures)) c.take_name.ensures.calls
+
+pub returns-then-is_empty-clause-calls : goal.returns-then-is_empty-clause-calls
+returns-then-is_empty-clause-calls g c = none refl
+
+pub returns-in-Unnamed-clause-calls : goal.returns-in-Unnamed-clause-calls
+returns-in-Unnamed-clause-calls g c = none refl
+
+pub returns-in-Malformed-clause-calls : goal.returns-in-Malformed-clause-calls
+returns-in-Malformed-clause-calls g c = none refl

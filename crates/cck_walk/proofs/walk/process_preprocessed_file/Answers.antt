@@ -1,11 +1,11 @@
-use Rattle.std.proofs.Common.{◌≡◌, ◌⊎◌, ◌∷◌, ◌∙◌, [], Some, false, inl}
-use Rattle.cck_files.proofs.CallsLemmas.{keeps_all, rose_earlier}
-use Rattle.cck_files.specs.Calls.{Rose}
+use Rattle.std.proofs.Common.{◌≡◌, ◌⊎◌, ◌∷◌, ◌∙◌, [], Some, inl, refl, true}
+use Rattle.cck_files.proofs.CallsLemmas.{keeps_all, keeps_itself, rose_earlier}
+use Rattle.cck_files.specs.Calls.{AreCalls, Rose, none}
 use Rattle.cck_markers.specs.Markers.{Gives}
 use Rattle.cck_markers.specs.Marks.{Malformed, Name, Refusal}
 use Rattle.jiff.specs.Words.{plain_zone}
-use Rattle.cck_walk.proofs.WalkLemmas.{accepted, leads_on, malformed, none_behind, none_here, nothing_more, refused, refused_by}
-use Rattle.cck_walk.specs.Decided.{Refuses, after, context_in, is_looked_for, outcome}
+use Rattle.cck_walk.proofs.WalkLemmas.{accepted, at_start, calls_on, malformed, passed_on, refused, refused_by}
+use Rattle.cck_walk.specs.Decided.{IsLookedFor, Refuses, after, context_in, is_looked_for, outcome}
 use Rattle.cck_walk.proofs.walk.process_preprocessed_file.Goals as goal
 
 pub returns-in-Refusal-clause-answer : goal.returns-in-Refusal-clause-answer
@@ -13,14 +13,24 @@ returns-in-Refusal-clause-answer g c =
     let F = g.F.Files in
     let x = context_in g.H.HashState.hash c.args.config c.args.moment (plain_zone c.args.zone.now) c.args.vars.now (F.file_map c.args.files.now) c.args.input_file.now c.args.cwd.now in
     let gives : Gives c.loop-mark.mark-iterator (Refusal ∷ []) c.next.new.self = rw c.in-Refusal.is at c.in-Some.ensures.steps in
-    inl (refused x c.args.text.now c.loop-mark.mark-iterator c.next.new.self c.loop-mark.records c.loop-mark.invariant.leads gives)
+    inl (refused x c.args.text.now c.loop-mark.mark-iterator c.loop-mark.records c.loop-mark.invariant.passed c.next.new.self gives)
 
 pub returns-in-Malformed-clause-answer : goal.returns-in-Malformed-clause-answer
 returns-in-Malformed-clause-answer g c =
     let F = g.F.Files in
     let x = context_in g.H.HashState.hash c.args.config c.args.moment (plain_zone c.args.zone.now) c.args.vars.now (F.file_map c.args.files.now) c.args.input_file.now c.args.cwd.now in
     let gives : Gives c.loop-mark.mark-iterator (Malformed ∷ []) c.next.new.self = rw c.in-Malformed.is at c.in-Some.ensures.steps in
-    malformed x c.args.text.now c.loop-mark.mark-iterator c.next.new.self c.loop-mark.records c.loop-mark.invariant.leads gives
+    malformed x c.args.text.now c.loop-mark.mark-iterator c.loop-mark.records c.loop-mark.invariant.passed c.next.new.self gives
+
+pub loop-mark-init : goal.loop-mark-init
+loop-mark-init g c =
+    let F = g.F.Files in
+    let x = context_in g.H.HashState.hash c.args.config c.args.moment (plain_zone c.args.zone.now) c.args.vars.now (F.file_map c.args.files.now) c.args.input_file.now c.args.cwd.now in
+    record {
+      keeps = keeps_itself c.args.files.now;
+      calls = none refl;
+      passed = at_start x c.args.text.now c.into_iter-mark-iterator.result c.new-records.result (c.into_iter-mark-iterator.ensures.into_iter_gives ∙ c.new-mark-items.ensures) c.new-records.ensures;
+    }
 
 pub loop-mark-preserved : goal.loop-mark-preserved
 loop-mark-preserved g c =
@@ -31,15 +41,38 @@ loop-mark-preserved g c =
     let gives : Gives c.loop-mark.mark-iterator (Name name c.in-Name.is_system ∷ []) c.next.new.self = rw c.in-Name.is at c.in-Some.ensures.steps in
     let does : after held (outcome x held name c.in-Name.is_system) ≡ Some c.take_name.new.records =
     rw (← c.loop-mark.invariant.keeps.same_map) (rw c.in-Ok-true.field-0-test at c.in-Ok-true.ensures.answer) in
+    let calls : AreCalls F.is_call (IsLookedFor x held name c.in-Name.is_system) c.loop-mark.files c.take_name.new.files =
+    rw (← c.loop-mark.invariant.keeps.same_map) c.take_name.ensures.calls in
     record {
       keeps = keeps_all c.args.files.now c.loop-mark.files c.take_name.new.files c.loop-mark.invariant.keeps c.in-Ok-true.ensures.keeps;
-      untouched = λ none.
-          let q = c.loop-mark.invariant.untouched none in
-          let here : is_looked_for (context_in g.H.HashState.hash c.args.config c.args.moment (plain_zone c.args.zone.now) c.args.vars.now (F.file_map c.loop-mark.files) c.args.input_file.now c.args.cwd.now) held name c.in-Name.is_system ≡ false =
-          rw c.loop-mark.invariant.keeps.same_map (none_here x c.loop-mark.mark-iterator c.next.new.self held name c.in-Name.is_system q.1 q.2 gives) in
-          (c.take_name.ensures.untouched here ∙ q.0, nothing_more x c.loop-mark.mark-iterator c.next.new.self held name c.in-Name.is_system q.1 q.2 gives c.take_name.new.records does, none_behind x c.loop-mark.mark-iterator c.next.new.self held name c.in-Name.is_system q.1 q.2 gives);
-      leads = leads_on x c.args.text.now c.loop-mark.mark-iterator c.next.new.self held c.take_name.new.records name c.in-Name.is_system c.loop-mark.invariant.leads gives does;
+      calls = calls_on x c.args.text.now c.loop-mark.mark-iterator held c.loop-mark.invariant.passed c.next.new.self name c.in-Name.is_system gives
+          c.args.files.now c.loop-mark.files c.take_name.new.files c.loop-mark.invariant.calls calls;
+      passed = passed_on x c.args.text.now c.loop-mark.mark-iterator held c.loop-mark.invariant.passed c.next.new.self name c.in-Name.is_system gives c.take_name.new.records does;
     }
+
+pub returns-in-Ok-false-clause-calls : goal.returns-in-Ok-false-clause-calls
+returns-in-Ok-false-clause-calls g c =
+    let F = g.F.Files in
+    let x = context_in g.H.HashState.hash c.args.config c.args.moment (plain_zone c.args.zone.now) c.args.vars.now (F.file_map c.args.files.now) c.args.input_file.now c.args.cwd.now in
+    let name = c.in-Name.name.now in
+    let held = c.loop-mark.records in
+    let gives : Gives c.loop-mark.mark-iterator (Name name c.in-Name.is_system ∷ []) c.next.new.self = rw c.in-Name.is at c.in-Some.ensures.steps in
+    let calls : AreCalls F.is_call (IsLookedFor x held name c.in-Name.is_system) c.loop-mark.files c.take_name.new.files =
+    rw (← c.loop-mark.invariant.keeps.same_map) c.take_name.ensures.calls in
+    calls_on x c.args.text.now c.loop-mark.mark-iterator held c.loop-mark.invariant.passed c.next.new.self name c.in-Name.is_system gives
+    c.args.files.now c.loop-mark.files c.take_name.new.files c.loop-mark.invariant.calls calls
+
+pub returns-in-Err-clause-calls : goal.returns-in-Err-clause-calls
+returns-in-Err-clause-calls g c =
+    let F = g.F.Files in
+    let x = context_in g.H.HashState.hash c.args.config c.args.moment (plain_zone c.args.zone.now) c.args.vars.now (F.file_map c.args.files.now) c.args.input_file.now c.args.cwd.now in
+    let name = c.in-Name.name.now in
+    let held = c.loop-mark.records in
+    let gives : Gives c.loop-mark.mark-iterator (Name name c.in-Name.is_system ∷ []) c.next.new.self = rw c.in-Name.is at c.in-Some.ensures.steps in
+    let calls : AreCalls F.is_call (IsLookedFor x held name c.in-Name.is_system) c.loop-mark.files c.take_name.new.files =
+    rw (← c.loop-mark.invariant.keeps.same_map) c.take_name.ensures.calls in
+    calls_on x c.args.text.now c.loop-mark.mark-iterator held c.loop-mark.invariant.passed c.next.new.self name c.in-Name.is_system gives
+    c.args.files.now c.loop-mark.files c.take_name.new.files c.loop-mark.invariant.calls calls
 
 pub returns-in-Ok-false-clause-answer : goal.returns-in-Ok-false-clause-answer
 returns-in-Ok-false-clause-answer g c =
@@ -50,39 +83,13 @@ returns-in-Ok-false-clause-answer g c =
     let R = Rose (F.faults c.loop-mark.files) (F.faults c.take_name.new.files) in
     let S = Rose (F.faults c.args.files.now) (F.faults c.take_name.new.files) in
     let gives : Gives c.loop-mark.mark-iterator (Name name c.in-Name.is_system ∷ []) c.next.new.self = rw c.in-Name.is at c.in-Some.ensures.steps in
-    let why : (c.take_name.new.records ≡ held) × ((outcome x held name c.in-Name.is_system ≡ Refuses) ⊎ R) =
+    let why : (c.take_name.new.records ≡ held) × ((outcome x held name c.in-Name.is_system ≡ Refuses) ⊎ (R × (is_looked_for x held name c.in-Name.is_system ≡ true))) =
     rw (← c.loop-mark.invariant.keeps.same_map) (rw c.in-Ok-false.field-0-test at c.in-Ok-false.ensures.answer) in
-    refused_by x c.args.text.now R S c.loop-mark.mark-iterator c.next.new.self held name c.in-Name.is_system c.loop-mark.invariant.leads gives
+    refused_by x c.args.text.now c.loop-mark.mark-iterator held c.loop-mark.invariant.passed c.next.new.self name c.in-Name.is_system gives R S
     (rose_earlier (F.faults c.args.files.now) (F.faults c.loop-mark.files) (F.faults c.take_name.new.files) c.loop-mark.invariant.keeps.not_lower) why.1
 
 pub returns-in-Ok-clause-answer : goal.returns-in-Ok-clause-answer
 returns-in-Ok-clause-answer g c =
     let F = g.F.Files in
     let x = context_in g.H.HashState.hash c.args.config c.args.moment (plain_zone c.args.zone.now) c.args.vars.now (F.file_map c.args.files.now) c.args.input_file.now c.args.cwd.now in
-    (c.loop-mark.records, accepted x c.args.text.now c.loop-mark.mark-iterator c.loop-mark.records c.loop-mark.invariant.leads c.in-None.ensures.steps.0, c.in-Ok.ensures.all)
-
-pub returns-in-Ok-false-clause-untouched : goal.returns-in-Ok-false-clause-untouched
-returns-in-Ok-false-clause-untouched g c =
-    let F = g.F.Files in
-    let x = context_in g.H.HashState.hash c.args.config c.args.moment (plain_zone c.args.zone.now) c.args.vars.now (F.file_map c.args.files.now) c.args.input_file.now c.args.cwd.now in
-    let name = c.in-Name.name.now in
-    let held = c.loop-mark.records in
-    let gives : Gives c.loop-mark.mark-iterator (Name name c.in-Name.is_system ∷ []) c.next.new.self = rw c.in-Name.is at c.in-Some.ensures.steps in
-    λ none.
-    let q = c.loop-mark.invariant.untouched none in
-    let here : is_looked_for (context_in g.H.HashState.hash c.args.config c.args.moment (plain_zone c.args.zone.now) c.args.vars.now (F.file_map c.loop-mark.files) c.args.input_file.now c.args.cwd.now) held name c.in-Name.is_system ≡ false =
-    rw c.loop-mark.invariant.keeps.same_map (none_here x c.loop-mark.mark-iterator c.next.new.self held name c.in-Name.is_system q.1 q.2 gives) in
-    c.take_name.ensures.untouched here ∙ q.0
-
-pub returns-in-Err-clause-untouched : goal.returns-in-Err-clause-untouched
-returns-in-Err-clause-untouched g c =
-    let F = g.F.Files in
-    let x = context_in g.H.HashState.hash c.args.config c.args.moment (plain_zone c.args.zone.now) c.args.vars.now (F.file_map c.args.files.now) c.args.input_file.now c.args.cwd.now in
-    let name = c.in-Name.name.now in
-    let held = c.loop-mark.records in
-    let gives : Gives c.loop-mark.mark-iterator (Name name c.in-Name.is_system ∷ []) c.next.new.self = rw c.in-Name.is at c.in-Some.ensures.steps in
-    λ none.
-    let q = c.loop-mark.invariant.untouched none in
-    let here : is_looked_for (context_in g.H.HashState.hash c.args.config c.args.moment (plain_zone c.args.zone.now) c.args.vars.now (F.file_map c.loop-mark.files) c.args.input_file.now c.args.cwd.now) held name c.in-Name.is_system ≡ false =
-    rw c.loop-mark.invariant.keeps.same_map (none_here x c.loop-mark.mark-iterator c.next.new.self held name c.in-Name.is_system q.1 q.2 gives) in
-    c.take_name.ensures.untouched here ∙ q.0
+    (c.loop-mark.records, accepted x c.args.text.now c.loop-mark.mark-iterator c.loop-mark.records c.loop-mark.invariant.passed c.in-None.ensures.steps.0, c.in-Ok.ensures.all)

@@ -1,0 +1,9 @@
+//! Laws about the definitions, each the contract of a function that does nothing.
+ghost use Rattle.std.specs.Prelude.{◌≡◌, ◌↔◌, IsTrue};
+
+use crate::Status;
+
+/// Statuses are equal exactly if they are the same.
+pub fn equality_is_exact()
+    ensures { (a b : Status) → IsTrue (⟦<Status as PartialEq>⟧.eq a b) ↔ (a ≡ b) }
+{}
