@@ -1,5 +1,5 @@
 -- what is read of one line marker
-use Rattle.std.specs.Prelude.{◌≡◌, ◌≤◌, ℕ, ◌+◌, List, length}
+use Rattle.std.specs.Prelude.{◌≡◌, ◌≤◌, ℕ, ◌+◌, List, Bool, length}
 use Rattle.cck_markers.specs.Marks.{Named, Unnamed, is_system}
 use Rattle.cck_markers.specs.declared.line.Line.{Line}
 use Rattle.cck_markers.specs.declared.line.Line.TheVariants as line
@@ -20,3 +20,14 @@ IsLine text (line.Unnamed end) = IsUnnamedTo text end
 IsLine text (line.Named begin end name is_system_in) =
     (marker : Named text) × IsNamedAt text begin end marker × (marker.name ≡ name.now) × (is_system marker.rest ≡ is_system_in)
 IsLine text line.Malformed = (Unnamed text → ⊥) × (Named text → ⊥)
+
+-- what was read of a marker, with a name as a list of bytes
+pub data LineRead : Type 0 where
+  UnnamedTo : ℕ → LineRead
+  NamedFrom : ℕ → ℕ → List ℕ → Bool → LineRead
+  MalformedLine : LineRead
+
+abbrev pub read_of : Line → LineRead
+read_of (line.Unnamed end) = UnnamedTo end
+read_of (line.Named begin end name is_system_in) = NamedFrom begin end name.now is_system_in
+read_of line.Malformed = MalformedLine

@@ -1,10 +1,11 @@
 //! Laws about the definitions, each the contract of a function that does nothing.
 ghost use Rattle.std.specs.Prelude.{◌≡◌, ◌↔◌, ◌++◌, ◌∷◌, [], ℕ, Bool, IsTrue, List};
+ghost use Rattle.cck_markers.specs.Lines.{read_of};
 ghost use Rattle.cck_markers.specs.Markers.{mark_of};
 ghost use Rattle.cck_markers.specs.Marks.{HasOneList, Malformed, Marks, Named, Refusal, Unnamed};
 ghost use Rattle.cck_markers.specs.Marks as marks;
 
-use crate::Mark;
+use crate::{Line, Mark};
 
 /// Each text has a list of marks, and only one.
 pub fn one_list_of_marks()
@@ -29,6 +30,8 @@ pub fn one_name_at_one_place()
 
 /// Marks are equal exactly if they say the same, names byte for byte.
 pub fn equality_is_exact()
-    ensures { (a b : Mark) →
+    ensures marks { (a b : Mark) →
         IsTrue (⟦<Mark<'static> as PartialEq>⟧.eq a b) ↔ (mark_of a ≡ mark_of b) }
+    ensures lines { (a b : Line) →
+        IsTrue (⟦<Line<'static> as PartialEq>⟧.eq a b) ↔ (read_of a ≡ read_of b) }
 {}

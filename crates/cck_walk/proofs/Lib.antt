@@ -1,3 +1,4 @@
+pub mod EqualityLemmas
 pub mod JudgeLemmas
 pub mod LineLemmas
 pub mod NameLemmas

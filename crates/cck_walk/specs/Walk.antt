@@ -1,5 +1,5 @@
 -- what a walk over a text answers
-use Rattle.std.specs.Prelude.{◌≡◌, ◌⊎◌, ℕ, List, map, Result, Ok, Err}
+use Rattle.std.specs.Prelude.{◌≡◌, ◌⊎◌, ℕ, List, map, Option, Some, None, Result, Ok, Err}
 use Rattle.std.specs.FinMap.{entries}
 use Rattle.cck_key_error.specs.declared.key_error.KeyError.{KeyError}
 use Rattle.cck_key_error.specs.declared.key_error.KeyError.TheVariants.{Memory, Marker}
@@ -16,3 +16,8 @@ IsWalk c HasFault text (Ok Refused) = TextDecides c text IsRefused ⊎ (HasFault
 IsWalk c HasFault text (Err Marker) = TextDecides c text Errs
 IsWalk c HasFault text (Err Memory) = Unit {0}
 IsWalk c HasFault text (Err other) = ⊥
+
+-- the paths and digests of an accepted text, in order, and none of a refused one
+abbrev pub accepted_of : Walk → Option (List (List ℕ × List ℕ))
+accepted_of (Accepted files) = Some (map listed files.items)
+accepted_of Refused = None

@@ -30,7 +30,8 @@
 //! may be refused; an accepted text and a malformed marker are what they are without one.
 //! [`process_preprocessor_line`] does the same for one marker, and fills [`Records`]. What is
 //! decided is a [`Walk`], or a [`LineAction`] for one marker, and a refusal is a [`KeyError`], which
-//! is passed on from `cck_key_error`. [`laws`] has when no file is looked at.
+//! is passed on from `cck_key_error`. [`laws`] has what `==` says of walks, and when no
+//! file is looked at.
 #![tactic(auto)]
 
 mod judge;
