@@ -28,7 +28,8 @@ pub fn one_name_at_one_place()
         (a.front ≡ b.front) × (a.name ≡ b.name) × (a.rest ≡ b.rest) }
 {}
 
-/// Marks are equal exactly if they say the same, names byte for byte.
+/// Marks, and what is read of line markers, are equal exactly if they say the same, names byte for
+/// byte.
 pub fn equality_is_exact()
     ensures marks { (a b : Mark) →
         IsTrue (⟦<Mark<'static> as PartialEq>⟧.eq a b) ↔ (mark_of a ≡ mark_of b) }
