@@ -1,12 +1,14 @@
 -- Written texts by which no file is looked for, and one by which a file is.
-use Rattle.std.proofs.Common.{◌≡◌, true, false, List, [], codes, refl, subst}
+use Rattle.std.proofs.Common.{◌≡◌, ◌∙◌, true, false, List, [], codes, refl, subst, sym}
+use Rattle.std.proofs.lemmas.Bool.{false≢true}
 use Rattle.std.specs.FinMap.{empty, get-empty}
 use Rattle.std.specs.List.{AllByRecursion}
 use Rattle.cck_markers.proofs.OneList.{one_list}
 use Rattle.cck_markers.specs.Marks.{Mark, Marks}
 use Rattle.cck_path.specs.Bytes.{Bytes}
-use Rattle.cck_path.specs.Path.{components, path_cmp}
-use Rattle.cck_walk.specs.Decided.{AsksForNone, Context, LooksForNone, is_angled, is_known, is_looked_for, is_passed, path_named}
+use Rattle.cck_path.specs.Path.{Path, components, path_cmp}
+use Rattle.cck_walk.proofs.WalkLemmas.{none_asked}
+use Rattle.cck_walk.specs.Decided.{Asked, AsksForNone, Context, LooksForNone, decided, is_angled, is_known, is_looked_for, is_passed, path_named}
 use Rattle.c_cache_keys.proofs.MarkExamples.{inclusion_marks, missing_header_marks, short_text_marks, system_header_marks}
 
 module _ (c : Context) where
@@ -26,10 +28,28 @@ module _ (c : Context) where
   unfolding is_looked_for is_passed is_angled
   system_header skips = by_marks _ _ system_header_marks (rw skips refl, tt)
 
-  -- a header is looked for, missing or not
-  header : c.setting.config.skip_system_headers ≡ false → c.cwd ≡ components (codes "/w") → c.input ≡ components (codes "/w/a.c") → LooksForNone c (codes "# 1 \"missing.h\"") → ⊥
-  unfolding is_looked_for is_passed is_angled is_known components
-  header skips cwd input none =
-      let looked : is_looked_for c empty (codes "missing.h") false ≡ true = rw (get-empty {X = Bytes} path_cmp (path_named c (codes "missing.h")), skips, cwd, input) refl in
-      let passed : is_looked_for c empty (codes "missing.h") false ≡ false = (none _ missing_header_marks).0 in
-      cc
+  -- and no path is looked for behind it
+  nothing_asked : (p : Path) → Asked c (codes "x .incbin \"f\"") p → ⊥
+  nothing_asked = none_asked c _ inclusion
+
+  module _ (skips : c.setting.config.skip_system_headers ≡ false) (cwd : c.cwd ≡ components (codes "/w")) (input : c.input ≡ components (codes "/w/a.c")) where
+    -- a header is looked for, missing or not
+    header_is_looked_for : is_looked_for c empty (codes "missing.h") false ≡ true
+    unfolding is_looked_for is_passed is_angled is_known components
+    header_is_looked_for = rw (get-empty {X = Bytes} path_cmp (path_named c (codes "missing.h")), skips, cwd, input) refl
+
+    header : LooksForNone c (codes "# 1 \"missing.h\"") → ⊥
+    header none = false≢true (sym (none _ missing_header_marks).0 ∙ header_is_looked_for)
+
+    header_asked : Asked c (codes "# 1 \"missing.h\"") (path_named c (codes "missing.h"))
+    unfolding decided
+    header_asked = record {
+      before = [];
+      name = codes "missing.h";
+      is_system = false;
+      behind = [];
+      marks = missing_header_marks;
+      held = empty;
+      undecided = refl;
+      looked_for = (header_is_looked_for, refl);
+    }

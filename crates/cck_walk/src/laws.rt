@@ -1,10 +1,12 @@
 //! Laws about the definitions, each the contract of a function that does nothing.
 ghost use Rattle.std.specs.Prelude.{◌≡◌, ◌↔◌, IsTrue, List, ℕ};
+ghost use Rattle.cck_files.specs.Calls.{AreCalls};
 ghost use Rattle.cck_path.specs.Path.{Path};
 ghost use Rattle.cck_walk.specs.Decided.{Asked, Context, LooksForNone};
 ghost use Rattle.cck_walk.specs.Walk.{accepted_of};
 
 use crate::Walk;
+use cck_files::Files;
 
 /// What walks decide is equal exactly if it is the same, paths and digests byte for byte and in one
 /// order.
@@ -13,8 +15,11 @@ pub fn equality_is_exact()
         IsTrue (⟦<Walk as PartialEq>⟧.eq a b) ↔ (accepted_of a ≡ accepted_of b) }
 {}
 
-/// Where no name of a text is one that a file is looked for by, no path is looked for: so a walk over
-/// the text makes no call on files.
-pub fn nothing_is_asked()
-    ensures { (c : Context) (text : List ℕ) → LooksForNone c text → (p : Path) → Asked c text p → ⊥ }
+/// Where no file is looked for by a name of a text, no path is, and a walk over the text leaves the
+/// files as they were.
+pub fn nothing_is_asked<F: Files>()
+    ensures path { (c : Context) (text : List ℕ) → LooksForNone c text →
+        (p : Path) → Asked c text p → ⊥ }
+    ensures files { (c : Context) (text : List ℕ) → LooksForNone c text →
+        (before after : F) → AreCalls F.is_call (Asked c text) before after → after ≡ before }
 {}

@@ -44,9 +44,9 @@ pub enum LineAction {
 ///
 /// It is refused as [`KeyError::Marker`] exactly where neither a quote nor a line feed comes, or a
 /// quote first, as the text's last byte; and as [`KeyError::Memory`]. Records change by a
-/// `Continue` alone. Calls on files are made at the path that the name means alone, and none for a
+/// `Continue` alone. Calls on files are made only at the path that the name means, and none for a
 /// marker without a name, for a name that is passed over by itself, nor for the path of the input or
-/// of a record. So a fault can come only where that path is looked for.
+/// of a record.
 ///
 /// Upstream's `compiler::c::process_preprocessor_line`.
 pub fn process_preprocessor_line<H: HashState, F: Files>(

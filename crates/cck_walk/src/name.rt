@@ -59,7 +59,7 @@ fn path_named(alloc: Global, cwd: &[u8], name: &[u8]) -> Result<Vec<u8>, KeyErro
 /// Records the file that a name means, or passes it over. `false` says that the text is refused.
 ///
 /// It is refused only as [`KeyError::Memory`], and changes no record then, nor where it answers
-/// `false`. Calls on files are made at the path that the name means alone, and none for a name that is
+/// `false`. Calls on files are made only at the path that the name means, and none for a name that is
 /// passed over, nor for the path of the input or of a record.
 #[tactic(auto, unfolding(crate::specs::Decided::outcome, crate::specs::Decided::is_known, crate::specs::Decided::is_looked_for))]
 pub(crate) fn take_name<H: HashState, F: Files>(

@@ -34,9 +34,8 @@ pub enum Walk {
 /// Names are joined to the working directory and normalised. Passed over are empty names, names in
 /// angles, the input, and the names of system headers where the options skip these. `input_file` is
 /// compared as it is handed in, so it has to be joined and normalised where the input is to be
-/// passed over. Calls on files are made at the paths alone that names before the deciding mark, and
-/// that mark itself, mean, and none for a name that is passed over, nor for a path that has a digest
-/// already.
+/// passed over. Calls on files are made only at the paths of names up to the deciding mark, and none
+/// for a name that is passed over, nor for a path that has a digest already.
 ///
 /// Where a fault came, and a path was looked for, the text may be refused. What is accepted, and that
 /// a marker is malformed, is exact then too. It is refused as
