@@ -5,14 +5,15 @@ ghost use Rattle.cck_path.specs.Path.{Path};
 ghost use Rattle.cck_walk.specs.Decided.{Asked, Context, LooksForNone};
 ghost use Rattle.cck_walk.specs.Walk.{accepted_of};
 
-use crate::Walk;
+use crate::{LineAction, Walk};
 use cck_files::Files;
 
 /// What walks decide is equal exactly if it is the same, paths and digests byte for byte and in one
-/// order.
+/// order; and what to do behind a line marker is equal exactly if all of its fields are.
 pub fn equality_is_exact()
-    ensures { (a b : Walk) →
+    ensures walks { (a b : Walk) →
         IsTrue (⟦<Walk as PartialEq>⟧.eq a b) ↔ (accepted_of a ≡ accepted_of b) }
+    ensures actions { (a b : LineAction) → IsTrue (⟦<LineAction as PartialEq>⟧.eq a b) ↔ (a ≡ b) }
 {}
 
 /// Where no file is looked for by a name of a text, no path is, and a walk over the text leaves the
