@@ -82,7 +82,7 @@ def run_lines(lines):
 
 
 def run_script(text):
-    """`IsRunPrinted` and `wrong_text`: what is printed of a script, and the exit status."""
+    """`IsOutput` for a script: what is printed of it, and the exit status."""
     try:
         lines = parse(text)
     except WrongLine as wrong:

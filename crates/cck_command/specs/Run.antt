@@ -14,7 +14,7 @@ use Rattle.cck_script.specs.Calls.{asked_calls}
 use Rattle.cck_script.specs.Surroundings.{AreFiles, executable_path, variables, working_directory}
 use Rattle.cck_script.specs.Calls as script
 use Rattle.cck_script.specs.Lines.{Line}
-use Rattle.cck_script.specs.Script.{basedirs_of, fail_of, forget_of, lines_said, zone_of}
+use Rattle.cck_script.specs.Script.{basedirs_of, fail_of, forget_of, zone_of}
 use Rattle.cck_time.specs.Config.{activated}
 use Rattle.c_cache_keys.specs.Call.{Answer, Done, Keyed, Refused, calls_of, Why, Memory, Extra, ExtraFault, Input, InputFault, Store, Damaged, NoText, TextFault, Marker}
 use Rattle.c_cache_keys.specs.Laws.{AllAnswerHanded, IsTransparent}
@@ -90,10 +90,6 @@ pub record Ran (hash : Bytes → Bytes) (lines : List Line) (printed : Bytes) : 
   pub headline : Premises (run_world hash zone lines) (calls_of done) → AllZip (IsTransparent (run_world hash zone lines)) (calls_of done) answers
   pub handed : AllAnswerHanded (run_world hash zone lines) map_store (armed_by lines) done answers end
   pub printed_are : printed ≡ flat_map answer_line answers
-
--- what is printed for this text, a script without a wrong line
-abbrev pub IsRunPrinted : (Bytes → Bytes) → Bytes → (Bytes → Type 0) → Type 0
-IsRunPrinted hash text IsPrinted = (printed : Bytes) × Ran hash (lines_said text) printed × IsPrinted printed
 
 -- what is printed for a script whose first wrong line has this number
 abbrev pub wrong_text : ℕ → Bytes

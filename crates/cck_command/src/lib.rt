@@ -39,6 +39,7 @@ mod answers;
 mod failed;
 pub mod laws;
 mod mini_compiler;
+mod printing;
 mod program;
 mod request;
 mod run;

@@ -1,110 +1,114 @@
 //! The program, over any reader and any writer.
-ghost use Rattle.std.specs.Prelude.{◌≡◌, ◌≢◌, None, IfOk, OnOk, IfSome, map, string_bytes};
+ghost use Rattle.std.specs.Prelude.{◌≡◌, ◌≢◌, None, IfOk, IfSome, map, string_bytes};
+ghost use Rattle.std.specs.Cow.{cow_slice_items};
 ghost use Rattle.std.specs.Io.KnownBytes.{Appends};
-ghost use Rattle.cck_script.specs.Script.{wrong_line};
-ghost use Rattle.cck_command.specs.Program.{key_line, usage_line};
-ghost use Rattle.cck_command.specs.Request.{AskNoKey, AskNothing, KeyCommand, run_words, words_of};
-ghost use Rattle.cck_command.specs.Run.{IsRunPrinted, wrong_text};
+ghost use Rattle.cck_path.specs.Bytes.{Bytes};
+ghost use Rattle.cck_script.specs.Script.{lines_said, wrong_line};
+ghost use Rattle.cck_command.specs.Printing.{AppendsBeginning};
+ghost use Rattle.cck_command.specs.Program.{IsCutShort, IsOutput, IsSomeOutput, key_line, refused_line};
+ghost use Rattle.cck_command.specs.Request.{AskNothing};
+ghost use Rattle.cck_command.specs.Run.{Ran, wrong_text};
 
 use crate::answers::wrong_text;
 use crate::failed::Failed;
+use crate::printing::print;
 use crate::request::{KeyRequest, asks_to_run, bytes_of};
 use crate::run::run_script;
 use crate::status::Status;
 use cck_script::{Script, ScriptError};
 use cck_util::{HashKeyParams, HashState, read_all};
 use std::alloc::Global;
+use std::borrow::CowSlice;
 use std::io::{Read, Write};
 
 const USAGE: &[u8] = b"cck: usage: cck key DIGEST LANGUAGE [ARG..] | cck run\n";
 
 const REFUSED: &[u8] = b"cck: refused\n";
 
-// Writes all of these bytes, through to where the writer keeps them.
-fn print<W: Write>(writer: &mut W, bytes: &[u8]) -> Result<(), Failed>
-    ensures { OnOk result (Appends (W.contents writer.old) (W.contents writer.new) bytes.now) }
-{
-    writer.write_all(bytes)?;
-    writer.flush()?;
-    Ok(())
+// What the program prints, and how it then ends.
+#[derive(Drop)]
+struct Output {
+    status: Status,
+    text: CowSlice<'static, u8>,
 }
 
-// Reads all there is, and prints its key.
-fn print_key<H: HashState, R: Read, W: Write>(
+// Reads all there is: its key is printed.
+fn key_output<H: HashState, R: Read>(
     alloc: Global,
     request: &KeyRequest<'_>,
     reader: &mut R,
-    writer: &mut W,
-) -> Result<(), Failed>
-    ensures { OnOk result (IfSome (R.remaining reader.old) (λ text.
-        Appends (W.contents writer.old) (W.contents writer.new) (key_line H.hash request.now text))) }
+) -> Result<Output, Failed>
+    ensures { IfOk result (λ output. (output.status ≡ Status.Done) × IfSome (R.remaining reader.old) (λ input.
+        cow_slice_items output.text ≡ key_line H.hash request.now input)) }
 {
     let arguments = bytes_of(alloc, request.arguments)?;
     let text = read_all(alloc, reader)?;
     let params = HashKeyParams::new(request.compiler_digest, request.language, &arguments, &text);
     let mut line = params.compute::<H>(alloc)?;
     line.push('\n')?;
-    print(writer, line.as_bytes())
+    Ok(Output {
+        status: Status::Done,
+        text: CowSlice::Owned(line.into_bytes()),
+    })
 }
 
-// Prints the key that these words ask for, or how the program is used.
-fn print_answer<H: HashState, R: Read, W: Write>(
-    alloc: Global,
-    words: &[String],
-    reader: &mut R,
-    writer: &mut W,
-) -> Result<Status, Failed>
-    ensures usage { AskNoKey (map string_bytes words.now) → IfOk result (λ status.
-        (status ≡ Status.Usage) × Appends (W.contents writer.old) (W.contents writer.new) usage_line) }
-    ensures unread { AskNoKey (map string_bytes words.now) → reader.new ≡ reader.old }
-    ensures key { (request : KeyCommand) → map string_bytes words.now ≡ words_of request → IfOk result (λ status.
-        (status ≡ Status.Done) × IfSome (R.remaining reader.old) (λ text.
-        Appends (W.contents writer.old) (W.contents writer.new) (key_line H.hash request text))) }
-{
-    match KeyRequest::from_words(words) {
-        None => {
-            print(writer, USAGE)?;
-            Ok(Status::Usage)
-        }
-        Some(request) => {
-            print_key::<H, R, W>(alloc, &request, reader, writer)?;
-            Ok(Status::Done)
-        }
-    }
-}
-
-// Reads all there is as a script, and prints the lines of its calls' answers, or the number of its
-// first wrong line with nothing run.
-fn print_run<H: HashState, R: Read, W: Write>(
-    alloc: Global,
-    reader: &mut R,
-    writer: &mut W,
-) -> Result<Status, Failed>
-    ensures status { IfOk result (λ status. status ≢ Status.Refused) }
-    ensures wrong { IfOk result (λ status. IfSome (R.remaining reader.old) (λ text. IfSome (wrong_line text) (λ number.
-        (status ≡ Status.Usage) × Appends (W.contents writer.old) (W.contents writer.new) (wrong_text number)))) }
-    ensures ran { IfOk result (λ status. IfSome (R.remaining reader.old) (λ text. wrong_line text ≡ None →
-        (status ≡ Status.Done) × IsRunPrinted H.hash text (Appends (W.contents writer.old) (W.contents writer.new)))) }
+// Reads all there is as a script: the lines of its calls' answers are printed, or the number of its
+// first wrong line, with nothing run.
+fn run_output<H: HashState, R: Read>(alloc: Global, reader: &mut R) -> Result<Output, Failed>
+    ensures ended { IfOk result (λ output. output.status ≢ Status.Refused) }
+    ensures wrong { IfOk result (λ output. IfSome (R.remaining reader.old) (λ input. IfSome (wrong_line input) (λ number.
+        (output.status ≡ Status.Usage) × (cow_slice_items output.text ≡ wrong_text number)))) }
+    ensures ran { IfOk result (λ output. IfSome (R.remaining reader.old) (λ input. wrong_line input ≡ None →
+        (output.status ≡ Status.Done) × Ran H.hash (lines_said input) (cow_slice_items output.text))) }
 {
     let text = read_all(alloc, reader)?;
     match Script::parse(alloc, &text) {
         Ok(script) => {
             let lines = run_script::<H>(alloc, &script)?;
-            print(writer, &lines)?;
-            Ok(Status::Done)
+            Ok(Output {
+                status: Status::Done,
+                text: CowSlice::Owned(lines),
+            })
         }
         Err(ScriptError::Line(number)) => {
             let line = wrong_text(alloc, number)?;
-            print(writer, line.as_bytes())?;
-            Ok(Status::Usage)
+            Ok(Output {
+                status: Status::Usage,
+                text: CowSlice::Owned(line.into_bytes()),
+            })
         }
         Err(ScriptError::Memory) => Err(Failed),
     }
 }
 
-/// Tries once to say that input, output or memory failed, whether or not that can be written.
+// What is printed for these words. The words are judged before anything is read.
+fn output_of<H: HashState, R: Read>(
+    alloc: Global,
+    words: &[String],
+    reader: &mut R,
+) -> Result<Output, Failed>
+    ensures ended { IfOk result (λ output. output.status ≢ Status.Refused) }
+    ensures output { IfOk result (λ output. IsOutput H.hash (map string_bytes words.now) (R.remaining reader.old)
+        output.status (cow_slice_items output.text)) }
+    ensures unread { AskNothing (map string_bytes words.now) → reader.new ≡ reader.old }
+{
+    if asks_to_run(words) {
+        return run_output::<H, R>(alloc, reader);
+    }
+    match KeyRequest::from_words(words) {
+        Some(request) => key_output::<H, R>(alloc, &request, reader),
+        None => Ok(Output {
+            status: Status::Usage,
+            text: CowSlice::Borrowed(USAGE),
+        }),
+    }
+}
+
+/// Tries once to say that input, output or memory failed, whether or not that can be written. A
+/// beginning of the line `cck: refused` is written, which may be none or all of it.
 pub fn refuse<W: Write>(writer: &mut W) -> Status
-    ensures { result ≡ Status.Refused }
+    ensures status { result ≡ Status.Refused }
+    ensures begun { AppendsBeginning (W.contents writer.old) (W.contents writer.new) refused_line }
 {
     let _ = print(writer, REFUSED);
     Status::Refused
@@ -123,33 +127,28 @@ pub fn refuse<W: Write>(writer: &mut W) -> Status
 ///   printed key is the plain key of its call; and whether they do or not, each stored key that
 ///   matches is printed as a hit, by a call that may use the store and isn't `error 1`.
 /// - Where a read, a write or a growth of memory outside a call failed: [`Status::Refused`], after
-///   one try to write `cck: refused`. How much was read and written before is not said.
+///   one try to write `cck: refused`. All that is printed is made before anything is written, so
+///   what is written is then a beginning of that line, or a beginning of what would have been
+///   printed with a beginning of that line after it. How much was read is not said.
 pub fn engine<H: HashState, R: Read, W: Write>(
     alloc: Global,
     words: &[String],
     reader: &mut R,
     writer: &mut W,
 ) -> Status
-    ensures usage { AskNothing (map string_bytes words.now) → result ≢ Status.Refused →
-        (result ≡ Status.Usage) × Appends (W.contents writer.old) (W.contents writer.new) usage_line }
+    ensures printed { result ≢ Status.Refused → (text : Bytes)
+        × IsOutput H.hash (map string_bytes words.now) (R.remaining reader.old) result text
+        × Appends (W.contents writer.old) (W.contents writer.new) text }
+    ensures refused { result ≡ Status.Refused →
+        IsCutShort (IsSomeOutput H.hash (map string_bytes words.now) (R.remaining reader.old))
+        (W.contents writer.old) (W.contents writer.new) }
     ensures unread { AskNothing (map string_bytes words.now) → reader.new ≡ reader.old }
-    ensures key { (request : KeyCommand) → map string_bytes words.now ≡ words_of request → result ≢ Status.Refused →
-        (result ≡ Status.Done) × IfSome (R.remaining reader.old) (λ text.
-        Appends (W.contents writer.old) (W.contents writer.new) (key_line H.hash request text)) }
-    ensures wrong { map string_bytes words.now ≡ run_words → result ≢ Status.Refused →
-        IfSome (R.remaining reader.old) (λ text. IfSome (wrong_line text) (λ number.
-        (result ≡ Status.Usage) × Appends (W.contents writer.old) (W.contents writer.new) (wrong_text number))) }
-    ensures ran { map string_bytes words.now ≡ run_words → result ≢ Status.Refused →
-        IfSome (R.remaining reader.old) (λ text. wrong_line text ≡ None →
-        (result ≡ Status.Done) × IsRunPrinted H.hash text (Appends (W.contents writer.old) (W.contents writer.new))) }
 {
-    let printed = if asks_to_run(words) {
-        print_run::<H, R, W>(alloc, reader, writer)
-    } else {
-        print_answer::<H, R, W>(alloc, words, reader, writer)
-    };
-    match printed {
-        Ok(status) => status,
+    match output_of::<H, R>(alloc, words, reader) {
+        Ok(output) => match print(writer, output.text.as_slice()) {
+            Ok(()) => output.status,
+            Err(Failed) => refuse(writer),
+        },
         Err(Failed) => refuse(writer),
     }
 }

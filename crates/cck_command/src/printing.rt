@@ -1,0 +1,44 @@
+//! Bytes written, and what stays of them after an error.
+ghost use Rattle.std.specs.Prelude.{OnErr, OnOk};
+ghost use Rattle.std.specs.Io.KnownBytes.{Appends};
+ghost use Rattle.cck_command.specs.Printing.{AppendsBeginning};
+
+use crate::failed::Failed;
+use std::io::{ErrorKind, Write};
+
+/// Writes all of these bytes, through to where the writer keeps them. A beginning of them is written
+/// in any case, which may be none or all after an error.
+pub fn print<W: Write>(writer: &mut W, bytes: &[u8]) -> Result<(), Failed>
+    ensures whole { OnOk result (Appends (W.contents writer.old) (W.contents writer.new) bytes.now) }
+    ensures begun { AppendsBeginning (W.contents writer.old) (W.contents writer.new) bytes.now }
+{
+    write_bytes(writer, bytes)?;
+    match writer.flush() {
+        Ok(()) => Ok(()),
+        Err(_) => Err(Failed),
+    }
+}
+
+// Writes all of these bytes. It does what `write_all` does, whose contract leaves open what is
+// written after an error.
+fn write_bytes<W: Write>(writer: &mut W, bytes: &[u8]) -> Result<(), Failed>
+    ensures whole { OnOk result (Appends (W.contents writer.old) (W.contents writer.new) bytes.now) }
+    ensures begun { OnErr result (AppendsBeginning (W.contents writer.old) (W.contents writer.new) bytes.now) }
+{
+    let mut written = 0;
+    for _ in 0..u64::MAX {
+        if written == bytes.len() {
+            return Ok(());
+        }
+        match writer.write(&bytes[written..]) {
+            Ok(0) => return Err(Failed),
+            Ok(taken) => written += taken,
+            Err(error) => {
+                if error.kind() != ErrorKind::Interrupted {
+                    return Err(Failed);
+                }
+            }
+        }
+    }
+    Err(Failed)
+}
