@@ -1,7 +1,8 @@
 #!/bin/sh
-# Times Markers over two texts of 64 MB, beside one search of the kit's memchr for each line's end
-# in the same bytes, and prints a table. The texts are system headers as gcc -E leaves them, and one
-# with a marker at every other line.
+# Times Markers over texts of 64 MB, beside one search of the kit's memchr for each line's end in the
+# same bytes, and prints a table. The texts are system headers as gcc -E leaves them, one with a
+# marker at every other line, and four of short lines: line feeds alone, lines of `#`, lines of `_`,
+# and lines of `# 1 2 3 4`.
 #
 #     bench/markers.sh [FOLDER]
 #
@@ -13,6 +14,7 @@ top=$(cd "$here/.." && pwd)
 folder=${1:-$(mktemp -d)}
 . "$here/headers.sh"
 . "$here/dense.sh"
+. "$here/short_lines.sh"
 
 rm -rf "$folder/work"
 mkdir -p "$folder/work/crates/markers_bench/src"
@@ -29,7 +31,7 @@ if ! (cd "$folder/work/crates/markers_bench" && rt run < /dev/null > "$folder/bu
 fi
 
 echo 'text         markers  line ends  ratio   (milliseconds, best of 11)'
-for text in headers dense; do
+for text in headers dense feeds hashes underscores digits; do
     "$folder/work/crates/markers_bench/out/markers_bench" < "$folder/$text.i" |
         awk -v text="$text" '{
             printf "%-12s %7.1f  %9.1f  %5.2f   (%d bytes, %d names, %d other marks, %d lines)\n",

@@ -5,10 +5,11 @@ use Rattle.std.specs.List.{starts_with}
 use Rattle.std.proofs.lemmas.Bool.{eqb-true, ltb-true, false_from_ne_true}
 use Rattle.std.proofs.lemmas.List.{drop_more, length-drop, get_or-drop, get_or_append_left}
 use Rattle.memchr.specs.Find.{Nowhere, OccursAt}
-use Rattle.cck_markers.specs.Marks.{Mark, Short, Marker, Hidden, Inclusion, Plain, what, is_marker, is_hidden, is_inclusion, plain}
+use Rattle.cck_markers.specs.Marks.{Mark, Short, Marker, Hidden, Inclusion, Plain, Marks, what, is_marker, is_hidden, is_inclusion, at_end, unnamed, named, malformed, hidden, hidden_to_end, refused, plain}
 use Rattle.cck_markers.specs.Markers.{Unread, Gives}
-use Rattle.cck_markers.specs.Searches.{AreKnown, ArePlain, starts_line_at}
+use Rattle.cck_markers.specs.Searches.{AreKnown, ArePlain, IsSearchFor, starts_line_at}
 use Rattle.cck_markers.specs.declared.search.Searches.{Searches}
+use Rattle.cck_markers.specs.declared.search.WordSearch.{WordSearch}
 use Rattle.cck_markers.proofs.Cuts.{slice_from}
 use Rattle.cck_markers.proofs.EachText.{any_true, behind_word, marker_starts}
 use Rattle.cck_markers.proofs.ItemLemmas.{gives_both, gives_nothing}
@@ -93,13 +94,36 @@ known_behind text word size left known within = λ place low high at.
       reads = λ j l. ap (λ (k : ℕ). get_or text k 0) (omega arith) ∙ sym (get_or-drop size text (place + j) 0) ∙ at.reads j l;
     })
 
+search_behind : (word : List ℕ) (search : WordSearch) (text : List ℕ) (size : ℕ) → IsSearchFor word search text → size ≤ length text → IsSearchFor word search (drop size text)
+search_behind word search text size known within = record { word_is = known.word_is; known = known_behind text word size search.left known.known within }
+
 pub known_after : (searches : Searches) (text : List ℕ) (size : ℕ) → AreKnown searches text → size ≤ length text → AreKnown searches (drop size text)
 known_after searches text size known within =
     record {
-      marker = known_behind text (10 ∷ 35 ∷ []) size searches.marker known.marker within;
-      hidden = known_behind text (10 ∷ codes "__________") size searches.hidden known.hidden within;
-      inclusion = known_behind text (codes ".incbin") size searches.inclusion known.inclusion within;
+      marker = search_behind _ searches.marker text size known.marker within;
+      hidden = search_behind _ searches.hidden text size known.hidden within;
+      inclusion = search_behind _ searches.inclusion text size known.inclusion within;
     }
+
+-- marks are as they are where no line starts, if what stands there is
+pub same_marks : (a b : Bool) (text : List ℕ) (marks : List Mark) → what a text ≡ what b text → Marks b text marks → Marks a text marks
+same_marks a b text marks same (at_end is none) = at_end (same ∙ is) none
+same_marks a b text marks same (unnamed is marker more) = unnamed (same ∙ is) marker more
+same_marks a b text marks same (named is marker rest more all) = named (same ∙ is) marker rest more all
+same_marks a b text marks same (malformed is u n all) = malformed (same ∙ is) u n all
+same_marks a b text marks same (hidden is front rest cut free more) = hidden (same ∙ is) front rest cut free more
+same_marks a b text marks same (hidden_to_end is free none) = hidden_to_end (same ∙ is) free none
+same_marks a b text marks same (refused is all) = refused (same ∙ is) all
+same_marks a b text marks same (plain is byte rest cut more) = plain (same ∙ is) byte rest cut more
+
+-- a line that begins with neither `#` nor `_` is neither a marker nor skipped
+pub unmarked : (starts_line : Bool) (text : List ℕ) → starts_with nat_eq text (codes "#") ≡ false → starts_with nat_eq text (codes "_") ≡ false → what starts_line text ≡ what false text
+unfolding what
+unmarked false text no-hash no-underscore = refl
+unmarked true text no-hash no-underscore =
+    let no-marker : is_marker text ≡ false = false_from_ne_true _ (λ e. let hash = marker_starts text e in let apart = rw hash.1 at no-hash in cc) in
+    let no-hidden : is_hidden text ≡ false = false_from_ne_true _ (λ e. let word = hidden_starts text e in let apart = rw word.1 at no-underscore in cc) in
+    rw (no-marker, no-hidden) refl
 
 starts_behind : (text : List ℕ) (size : ℕ) → size ≢ 0 → starts_line_at text size ≡ (get_or text (size - 1) 0 == 10)
 starts_behind text zero some = absurd (some refl)

@@ -3,16 +3,22 @@ use Rattle.std.specs.Prelude.{◌≡◌, ℕ, ◌-◌, ◌<◌, zero, suc, Bool,
 use Rattle.memchr.specs.Find.{Nowhere, OccursAt}
 use Rattle.cck_markers.specs.Marks.{Plain, what}
 use Rattle.cck_markers.specs.declared.search.Searches.{Searches}
+use Rattle.cck_markers.specs.declared.search.WordSearch.{WordSearch}
 
 -- the word stands nowhere before the place from which so many bytes are left
 abbrev pub IsKnown : ℕ → List ℕ → List ℕ → Type 0
 IsKnown left word text = Nowhere (OccursAt text word) 0 (length text - left)
 
+-- a search is for this word, and the word stands nowhere before the place that it keeps
+pub record IsSearchFor (word : List ℕ) (search : WordSearch) (text : List ℕ) : Type 0 where
+  pub word_is : search.finder ≡ word
+  pub known : IsKnown search.left word text
+
 -- a line's end and `#`, a line's end and ten underscores, and `.incbin`
 pub record AreKnown (searches : Searches) (text : List ℕ) : Type 0 where
-  pub marker : IsKnown searches.marker (10 ∷ 35 ∷ []) text
-  pub hidden : IsKnown searches.hidden (10 ∷ codes "__________") text
-  pub inclusion : IsKnown searches.inclusion (codes ".incbin") text
+  pub marker : IsSearchFor (10 ∷ 35 ∷ []) searches.marker text
+  pub hidden : IsSearchFor (10 ∷ codes "__________") searches.hidden text
+  pub inclusion : IsSearchFor (codes ".incbin") searches.inclusion text
 
 -- whether a line starts at this place of what is left of a text, if none starts at its first
 abbrev pub starts_line_at : List ℕ → ℕ → Bool

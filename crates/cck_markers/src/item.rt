@@ -1,5 +1,5 @@
 //! One item of a text: a marker, a line that is skipped, an inclusion, or a byte.
-ghost use Rattle.std.specs.Prelude.{◌≡◌, Some};
+ghost use Rattle.std.specs.Prelude.{◌≡◌, ◌<◌, Some, false, length};
 ghost use Rattle.cck_markers.specs.Items.{BeginsWith, what_of};
 ghost use Rattle.cck_markers.specs.Marks.{Marker, is_hidden, is_inclusion, is_marker, what};
 
@@ -30,11 +30,16 @@ pub(crate) struct Item<'a> {
     pub(crate) starts_line: bool,
 }
 
-// Whether a line that starts here is a marker.
+// Whether a line that starts here is a marker. The first byte is compared by itself, here and below,
+// since it decides most lines.
 #[tactic(auto, unfolding(crate::specs::Marks::is_marker))]
 fn is_marker(text: &[u8]) -> bool
+    requires { 0 < length text.now }
     ensures { result ≡ is_marker text.now }
 {
+    if text[0] != b'#' {
+        return false;
+    }
     text.starts_with(b"# ") && text.len() > 2 && text[2].is_ascii_digit()
         || text.starts_with(b"#pragma GCC pch_preprocess")
         || text.starts_with(b"#line ")
@@ -43,19 +48,35 @@ fn is_marker(text: &[u8]) -> bool
 // Whether a line that starts here is skipped.
 #[tactic(auto, unfolding(crate::specs::Marks::is_hidden))]
 fn is_hidden(text: &[u8]) -> bool
+    requires { 0 < length text.now }
     ensures { result ≡ is_hidden text.now }
 {
+    if text[0] != b'_' {
+        return false;
+    }
     text.starts_with(b"__________")
 }
 
 // Whether the bytes of a file are included here.
 #[tactic(auto, unfolding(crate::specs::Marks::is_inclusion))]
 fn is_inclusion(text: &[u8]) -> bool
+    requires { 0 < length text.now }
     ensures { result ≡ is_inclusion text.now }
 {
+    if text[0] != b'.' {
+        return false;
+    }
     text.starts_with(b".incbin\"")
         || text.starts_with(b".incbin \"")
         || text.starts_with(b".incbin \\\"")
+}
+
+/// Whether a line starts here that may be a marker or may be skipped: such a line begins with `#` or
+/// `_`.
+pub(crate) fn may_be_marked(text: &[u8], starts_line: bool) -> bool
+    ensures { result ≡ false → what starts_line text.now ≡ what false text.now }
+{
+    starts_line && (text.starts_with(b"#") || text.starts_with(b"_"))
 }
 
 // What stands where this text is left, by whether a line starts there.

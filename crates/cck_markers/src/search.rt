@@ -1,11 +1,11 @@
 //! How far nothing but plain bytes stands, by searches for words.
-ghost use Rattle.std.specs.Prelude.{◌≤◌, ◌<◌, ◌^◌, ℕ, List, [], length};
+ghost use Rattle.std.specs.Prelude.{◌≡◌, ◌≤◌, ◌<◌, ◌-◌, ◌^◌, ℕ, List, [], length};
 ghost use Rattle.memchr.specs.Find.{Nowhere, OccursAt};
 ghost use Rattle.cck_markers.specs.Markers.{Gives};
-ghost use Rattle.cck_markers.specs.Searches.{AreKnown, ArePlain, IsKnown};
+ghost use Rattle.cck_markers.specs.Searches.{AreKnown, ArePlain, IsKnown, IsSearchFor};
 
-use crate::item::LEAST_LEFT;
-use memchr::memmem;
+use crate::item::{LEAST_LEFT, may_be_marked};
+use memchr::memmem::Finder;
 
 // A line's end and what each marker begins with.
 const MARKER: &[u8] = b"\n#";
@@ -16,41 +16,62 @@ const HIDDEN: &[u8] = b"\n__________";
 // What each inclusion begins with.
 const INCLUSION: &[u8] = b".incbin";
 
-// The first place of the word in what is left of a text, or the end. `left` keeps how many bytes
-// are left from there on, so that no search is made until that place is passed.
-fn first_place(left: &mut usize, word: &[u8], rest: &[u8]) -> usize
-    requires known { IsKnown left.old word.now rest.now }
-    ensures known { IsKnown left.new word.now rest.now }
-    ensures within { result ≤ length rest.now }
-    ensures nowhere { Nowhere (OccursAt rest.now word.now) 0 result }
-{
-    if *left <= rest.len() {
-        return rest.len() - *left;
+// A search for a word in what is left of a text. It keeps how many bytes were left where it found
+// the word last: 0 where the word stands nowhere, and more than there are before the first search.
+#[derive(Debug, Drop)]
+struct WordSearch {
+    finder: Finder<'static>,
+    left: usize,
+}
+
+impl WordSearch {
+    // A search that was not made yet.
+    fn new(word: &'static [u8]) -> WordSearch
+        ensures { result ≡ record { finder = word.now; left = 2 ^ 64 - 1 } }
+    {
+        WordSearch {
+            finder: Finder::new(word),
+            left: usize::MAX,
+        }
     }
-    let found = bytes_left(word, rest);
-    *left = found;
-    rest.len() - found
+
+    // The first place of the word in what is left of a text, or the end. No search is made until
+    // the place that was found last is passed.
+    fn first_place(&mut self, rest: &[u8]) -> usize
+        ensures known { (word : List ℕ) → IsSearchFor word self.old rest.now → IsSearchFor word self.new rest.now }
+        ensures within { result ≤ length rest.now }
+        ensures nowhere { (word : List ℕ) → IsSearchFor word self.old rest.now → Nowhere (OccursAt rest.now word) 0 result }
+    {
+        if self.left <= rest.len() {
+            return rest.len() - self.left;
+        }
+        let found = bytes_left(&self.finder, rest);
+        self.left = found;
+        rest.len() - found
+    }
 }
 
 // How many bytes are left where the word stands first, or 0.
-fn bytes_left(word: &[u8], rest: &[u8]) -> usize
+fn bytes_left(finder: &Finder<'_>, rest: &[u8]) -> usize
     ensures within { result ≤ length rest.now }
-    ensures nowhere { IsKnown result word.now rest.now }
+    ensures nowhere { IsKnown result finder.now rest.now }
 {
-    match memmem::find(rest, word) {
+    // A word at the start, as in a text of short lines, is found without a search.
+    if rest.starts_with(finder.needle()) {
+        return rest.len();
+    }
+    match finder.find(rest) {
         Some(place) => rest.len() - place,
         None => 0,
     }
 }
 
-/// The searches for all that isn't a plain byte. Each keeps how many bytes of the text are left
-/// where it found its word last: 0 where the word stands nowhere, and more than there are before
-/// the first search.
-#[derive(Debug, Clone, Copy)]
+/// The searches for all that isn't a plain byte.
+#[derive(Debug, Drop)]
 pub(crate) struct Searches {
-    marker: usize,
-    hidden: usize,
-    inclusion: usize,
+    marker: WordSearch,
+    hidden: WordSearch,
+    inclusion: WordSearch,
 }
 
 impl Searches {
@@ -59,14 +80,14 @@ impl Searches {
         ensures { (text : List ℕ) → length text < 2 ^ 64 → AreKnown result text }
     {
         Searches {
-            marker: usize::MAX,
-            hidden: usize::MAX,
-            inclusion: usize::MAX,
+            marker: WordSearch::new(MARKER),
+            hidden: WordSearch::new(HIDDEN),
+            inclusion: WordSearch::new(INCLUSION),
         }
     }
 
     /// What is left behind plain bytes, and whether a line starts there. None are passed where a
-    /// line starts.
+    /// line starts that may be a marker or may be skipped.
     pub(crate) fn skip_plain<'a>(&mut self, text: &'a [u8], starts_line: bool) -> (&'a [u8], bool)
         requires known { AreKnown self.old text.now }
         ensures known { AreKnown self.new result.0.now }
@@ -74,8 +95,8 @@ impl Searches {
         ensures passed { Gives (record { starts_line = starts_line; text = text.now }) []
             (record { starts_line = result.1; text = result.0.now }) }
     {
-        if starts_line {
-            return (text, true);
+        if may_be_marked(text, starts_line) {
+            return (text, starts_line);
         }
         let size = self.plain_size(text);
         if size == 0 {
@@ -91,9 +112,9 @@ impl Searches {
         ensures within { result ≤ length text.now }
         ensures plain { ArePlain text.now result }
     {
-        let marker = first_place(&mut self.marker, MARKER, text);
-        let hidden = first_place(&mut self.hidden, HIDDEN, text);
-        let inclusion = first_place(&mut self.inclusion, INCLUSION, text);
+        let marker = self.marker.first_place(text);
+        let hidden = self.hidden.first_place(text);
+        let inclusion = self.inclusion.first_place(text);
         let last = text.len().saturating_sub(LEAST_LEFT - 1);
         inclusion.min(marker.min(hidden) + 1).min(last)
     }
