@@ -1,12 +1,12 @@
 -- Reads of a file's contents, piece by piece.
 use Rattle.std.proofs.Common.{◌≡◌, ℕ, ◌+◌, ◌<◌, ◌≤◌, arith, ◌∙◌, ap, sym, List, [], ◌∷◌, length, take, drop, ◌++◌, Result, Ok, Err, IsOkAnd, refl, subst, append_assoc, Vec, Global}
 use Rattle.std.proofs.lemmas.Fn.{FoldsTo-push}
-use Rattle.std.proofs.lemmas.List.{take-append-drop, take-take, take_all, drop-take, flat_map_more}
+use Rattle.std.proofs.lemmas.List.{length-take-le, take-append-drop, take-take, take_all, drop-take, flat_map_more}
 use Rattle.std.proofs.lemmas.List.Elements.{All-nil, All-push}
 use Rattle.std.specs.Result.{result_unwrap_or}
-use Rattle.cck_digest.specs.Stream.{IsPiece, TakesBeginning, buffer_size, concatenation}
+use Rattle.cck_digest.specs.Stream.{IsPiece, TakesBeginning, concatenation}
 use Rattle.cck_digest.specs.declared.error.FileError.{FileError}
-use Rattle.cck_digest.proofs.StreamLemmas.{begun_behind, begun_longer, holds_after, read_is_piece}
+use Rattle.cck_digest.proofs.StreamLemmas.{begun_behind, begun_longer, holds_after}
 use Rattle.cck_files.specs.Calls.{IsRead}
 use Rattle.cck_file_digest.specs.Contents.{TakesAll}
 
@@ -21,6 +21,12 @@ take_in_two xs a b =
     ∙ ap (λ p. p ++ drop a (take (a + b) xs)) (take-take a (a + b) xs (omega arith))
     ∙ ap (λ p. take a xs ++ p) (drop-take a b xs)
 
+-- what was read into a buffer is no longer than it
+beginning_is_piece : (count : ℕ) (buffer : List ℕ) → 0 < count → count ≤ length buffer → IsPiece buffer → IsPiece (take count buffer)
+beginning_is_piece count buffer some within room =
+    let long = length-take-le count buffer within in
+    (omega (arith, long), omega (arith, long, room.1))
+
 -- at first nothing was
 pub IsFed-nothing : {S : Type 0} (takes : S → List ℕ → S → Type 0) (sink : S) (contents : List ℕ) → IsFed takes sink sink 0 contents
 IsFed-nothing takes sink contents = record { within = omega arith; taken = ([], refl, All-nil IsPiece, refl) }
@@ -32,7 +38,7 @@ read_part offset n buffer (Err e) read = absurd read
 
 module _ {S : Type 0} (takes : S → List ℕ → S → Type 0) where
   pub fed_more : (first now next : S) (offset n : ℕ) (buffer : List ℕ) (found : Result (List ℕ) FileError)
-      → IsFed takes first now offset (result_unwrap_or found []) → IsOkAnd found (λ contents. IsRead contents offset n buffer) → 0 < n → length buffer ≡ buffer_size
+      → IsFed takes first now offset (result_unwrap_or found []) → IsOkAnd found (λ contents. IsRead contents offset n buffer) → 0 < n → IsPiece buffer
       → takes now (take n buffer) next → IsFed takes first next (offset + n) (result_unwrap_or found [])
   fed_more first now next offset n buffer found fed is_read some room taking =
       let contents = result_unwrap_or found [] in
@@ -43,7 +49,7 @@ module _ {S : Type 0} (takes : S → List ℕ → S → Type 0) where
         taken = (
           pieces ++ take n buffer ∷ [],
           FoldsTo-push takes first pieces now (take n buffer) next folds taking,
-          All-push IsPiece pieces (take n buffer) small (read_is_piece n buffer some read.within room),
+          All-push IsPiece pieces (take n buffer) small (beginning_is_piece n buffer some read.within room),
           take_in_two contents offset n
               ∙ ap (λ b. b ++ take n (drop offset contents)) whole
               ∙ ap (λ b. concatenation pieces ++ b) (sym read.bytes)

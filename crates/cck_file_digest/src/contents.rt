@@ -1,17 +1,18 @@
 //! The contents of regular files.
-ghost use Rattle.std.specs.Prelude.{◌≡◌, [], Ok, length, OnErr, MatchResult, IsOkAnd};
+ghost use Rattle.std.specs.Prelude.{◌≡◌, ◌≤◌, ◌<◌, [], Ok, OnErr, MatchResult, IsOkAnd};
 ghost use Rattle.std.specs.Result.{result_unwrap_or};
-ghost use Rattle.cck_digest.specs.Stream.{TakesBeginning, buffer_size};
+ghost use Rattle.cck_digest.specs.Stream.{IsPiece, TakesBeginning, buffer_size};
 ghost use Rattle.cck_path.specs.Path.{components};
 ghost use Rattle.cck_files.specs.FileMap.{contents_at};
 ghost use Rattle.cck_files.specs.Calls.{AreCalls, Keeps, IsRefusalOrMemory, Rose};
 ghost use Rattle.cck_file_digest.specs.Contents.{TakesAll};
 
-use cck_digest::{FileError, Sink, new_hash_buffer};
+use cck_digest::{FileError, HASH_BUFFER_SIZE, Sink};
 use cck_files::Files;
 use std::alloc::Global;
 
-/// Hands the contents of a regular file to a sink, read through this buffer.
+/// Hands the contents of a regular file to a sink, read through this buffer. It has a byte at least,
+/// and [`HASH_BUFFER_SIZE`](cck_digest::HASH_BUFFER_SIZE) bytes at most.
 ///
 /// It is refused as [`Files::read_at`] is, and as [`FileError::Memory`] where the sink is refused
 /// memory. After a refusal the sink has taken a beginning of the contents.
@@ -21,7 +22,7 @@ pub(crate) fn feed_contents<F: Files, S: Sink>(
     buffer: &mut [u8],
     sink: &mut S,
 ) -> Result<(), FileError>
-    requires { length buffer.old ≡ buffer_size }
+    requires { IsPiece buffer.old }
     ensures keeps { Keeps F.file_map F.faults F.is_quiet files.old files.new }
     ensures calls { AreCalls F.is_call (λ p. p ≡ components path.now) files.old files.new }
     ensures begun { OnErr result (TakesBeginning S.takes sink.old
@@ -67,8 +68,41 @@ pub fn feed_file<F: Files, S: Sink>(
         MatchResult result (λ _. IsOkAnd found (λ contents. TakesAll S.takes sink.old contents sink.new))
         (IsRefusalOrMemory found (Rose (F.faults files.old) (F.faults files.new))) }
 {
-    let mut buffer = new_hash_buffer(alloc)?;
+    feed_file_of_size(alloc, files, path, HASH_BUFFER_SIZE as u64, sink)
+}
+
+/// The same as [`feed_file`], for a file that has this size by its metadata: the contents are read
+/// through a buffer with room for them and one byte more, so that a small file takes little memory.
+/// Contents of any other length are handed over too.
+pub fn feed_file_of_size<F: Files, S: Sink>(
+    alloc: Global,
+    files: &mut F,
+    path: &[u8],
+    size: u64,
+    sink: &mut S,
+) -> Result<(), FileError>
+    ensures keeps { Keeps F.file_map F.faults F.is_quiet files.old files.new }
+    ensures calls { AreCalls F.is_call (λ p. p ≡ components path.now) files.old files.new }
+    ensures begun { OnErr result (TakesBeginning S.takes sink.old
+        (result_unwrap_or (contents_at (F.file_map files.old) (components path.now)) []) sink.new) }
+    ensures answer { let found = contents_at (F.file_map files.old) (components path.now) in
+        MatchResult result (λ _. IsOkAnd found (λ contents. TakesAll S.takes sink.old contents sink.new))
+        (IsRefusalOrMemory found (Rose (F.faults files.old) (F.faults files.new))) }
+{
+    let mut buffer = vec![in alloc; 0u8; room_for(size)]?;
     feed_contents(files, path, &mut buffer, sink)
+}
+
+// How many bytes a buffer has for contents of this size.
+fn room_for(size: u64) -> usize
+    ensures some { 0 < result }
+    ensures most { result ≤ buffer_size }
+{
+    if size < HASH_BUFFER_SIZE as u64 {
+        size as usize + 1
+    } else {
+        HASH_BUFFER_SIZE
+    }
 }
 
 /// The contents of a regular file. It is refused as [`feed_file`] is.

@@ -1,7 +1,7 @@
 //! What is fed for a file or a folder.
 ghost use Rattle.std.specs.Prelude.{◌≡◌, ℕ, List, ◌++◌, ◌≤◌, length, map, vec_items, true, Ok, IfOk, OnOk, IsOkUnless, MatchResult, IsOkAnd};
 ghost use Rattle.std.specs.Option.{option_copied};
-ghost use Rattle.cck_digest.specs.Stream.{buffer_size};
+ghost use Rattle.cck_digest.specs.Stream.{IsPiece};
 ghost use Rattle.cck_path.specs.Path.{components};
 ghost use Rattle.cck_files.specs.FileMap.{contents_at, folder_at, stands_at};
 ghost use Rattle.cck_files.specs.Calls.{Keeps, IsRefusalOrMemory, Rose};
@@ -45,7 +45,7 @@ fn feed_named<H: HashState, F: Files>(
     buffer: &mut [u8],
     digest: &mut Digest<H>,
 ) -> Result<(), FileError>
-    requires { length buffer.old ≡ buffer_size }
+    requires { IsPiece buffer.old }
     ensures keeps { Keeps F.file_map F.faults F.is_quiet files.old files.new }
     ensures answer { let found = contents_at (F.file_map files.old) (components path.now) in
         MatchResult result (λ _. IsOkAnd found (λ contents. (fed : List ℕ) → H.holds digest.old fed
@@ -108,7 +108,7 @@ pub(crate) fn feed_node<H: HashState, F: Files>(
     buffer: &mut [u8],
     digest: &mut Digest<H>,
 ) -> Result<(), UtilError>
-    requires room { length buffer.old ≡ buffer_size }
+    requires room { IsPiece buffer.old }
     requires level { level ≤ 101 }
     ensures keeps { Keeps F.file_map F.faults F.is_quiet files.old files.new }
     ensures answer { let fm = F.file_map files.old in MatchResult result

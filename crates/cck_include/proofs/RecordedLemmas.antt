@@ -56,11 +56,11 @@ ignoring : (s : Setting) (n : FileNode) (text : List ℕ) → s.config.ignore_ti
 unfolding recorded
 ignoring s n text ignores is = rw ignores (ap Some is)
 
-pub recorded_ignoring : (s : Setting) (files : FileMap) (p : Path) (scan : Scan) → s.config.ignore_time_macros ≡ true
-    → IsOkAnd (contents_at files p) (IsScanOf s.hash scan) → IsOkAnd (file_at files p) (λ n. Some (string_bytes scan.text) ≡ recorded s n)
-recorded_ignoring s files p scan ignores read =
-    let (n, is, told) = with_contents files p (contents_at files p) (IsScanOf s.hash scan) refl read in
-    rw is (ignoring s n (string_bytes scan.text) ignores told.text)
+pub recorded_ignoring : (s : Setting) (files : FileMap) (p : Path) (text : List ℕ) → s.config.ignore_time_macros ≡ true
+    → IsOkAnd (contents_at files p) (λ contents. text ≡ digest_text s.hash contents) → IsOkAnd (file_at files p) (λ n. Some text ≡ recorded s n)
+recorded_ignoring s files p text ignores read =
+    let (n, is, told) = with_contents files p (contents_at files p) (λ contents. text ≡ digest_text s.hash contents) refl read in
+    rw is (ignoring s n text ignores told)
 
 -- and where they count
 counting : (s : Setting) (n : FileNode) (scan : Scan) (o : Option (List ℕ)) → s.config.ignore_time_macros ≡ false → IsScanOf s.hash scan n.contents

@@ -15,7 +15,7 @@ ghost use Rattle.cck_include.specs.Setting.{setting_in};
 
 use crate::refusal::io_error;
 use cck_digest::{Digest, FileError, HashState, WatchedDigest};
-use cck_file_digest::feed_file;
+use cck_file_digest::feed_file_of_size;
 use cck_files::Files;
 use cck_path::Timestamp;
 use cck_time::{Error, PreprocessorCacheModeConfig, local_time_part};
@@ -31,11 +31,12 @@ struct Scan {
     has_timestamp: bool,
 }
 
-// Reads a regular file once, for its digest and its macros of time.
+// Reads a regular file of this size once, for its digest and its macros of time.
 fn read_once<H: HashState, F: Files>(
     alloc: Global,
     files: &mut F,
     path: &[u8],
+    size: u64,
 ) -> Result<Scan, FileError>
     ensures keeps { Keeps F.file_map F.faults F.is_quiet files.old files.new }
     ensures calls { AreCalls F.is_call (λ p. p ≡ components path.now) files.old files.new }
@@ -44,7 +45,7 @@ fn read_once<H: HashState, F: Files>(
         (IsRefusalOrMemory found (Rose (F.faults files.old) (F.faults files.new))) }
 {
     let mut watched = WatchedDigest::<H>::new();
-    feed_file(alloc, files, path, &mut watched)?;
+    feed_file_of_size(alloc, files, path, size, &mut watched)?;
     let (text, finder) = match watched.finish(alloc) {
         Ok(finished) => finished,
         Err(_) => return Err(FileError::Memory),
@@ -55,6 +56,27 @@ fn read_once<H: HashState, F: Files>(
         has_date: finder.found_date(),
         has_timestamp: finder.found_timestamp(),
     })
+}
+
+// The digest text of the contents of a regular file of this size. No macros are searched for.
+fn contents_text<H: HashState, F: Files>(
+    alloc: Global,
+    files: &mut F,
+    path: &[u8],
+    size: u64,
+) -> Result<String, FileError>
+    ensures keeps { Keeps F.file_map F.faults F.is_quiet files.old files.new }
+    ensures calls { AreCalls F.is_call (λ p. p ≡ components path.now) files.old files.new }
+    ensures answer { let found = contents_at (F.file_map files.old) (components path.now) in
+        MatchResult result (λ text. IsOkAnd found (λ contents. string_bytes text ≡ digest_text H.hash contents))
+        (IsRefusalOrMemory found (Rose (F.faults files.old) (F.faults files.new))) }
+{
+    let mut digest = Digest::<H>::new();
+    feed_file_of_size(alloc, files, path, size, &mut digest)?;
+    match digest.finish(alloc) {
+        Ok(text) => Ok(text),
+        Err(_) => Err(FileError::Memory),
+    }
 }
 
 // The digest text of some bytes.
@@ -141,12 +163,15 @@ pub fn recorded_digest<H: HashState, F: Files>(
         Ok(metadata) => metadata,
         Err(error) => return Err(io_error(error)),
     };
-    let scan = match read_once::<H, F>(alloc, files, path) {
+    if config.ignore_time_macros {
+        return match contents_text::<H, F>(alloc, files, path, metadata.len) {
+            Ok(text) => Ok(Some(text)),
+            Err(error) => Err(io_error(error)),
+        };
+    }
+    let scan = match read_once::<H, F>(alloc, files, path, metadata.len) {
         Ok(scan) => scan,
         Err(error) => return Err(io_error(error)),
     };
-    if config.ignore_time_macros {
-        return Ok(Some(scan.text));
-    }
     digest_of::<H>(alloc, scan, metadata.modified, moment, zone, vars)
 }

@@ -1,7 +1,7 @@
-use Rattle.std.proofs.Common.{◌≡◌, length, ◌-◌, map, take}
+use Rattle.std.proofs.Common.{◌-◌, map, take}
 use Rattle.std.specs.Prelude.{flat_map, vec_items}
 use Rattle.std.specs.Option.{option_copied}
-use Rattle.cck_digest.specs.Stream.{buffer_size}
+use Rattle.cck_digest.specs.Stream.{IsPiece}
 use Rattle.cck_path.specs.Path.{components}
 use Rattle.cck_files.specs.Calls.{Keeps}
 use Rattle.cck_file_digest.specs.Folder.{IsFedNodes}
@@ -16,6 +16,6 @@ decreases-feed_node g l = 101 - l.level
 abbrev pub invariant-loop-child : goal.invariant-loop-child
 invariant-loop-child g l = let F = g.F.Files in record {
   keeps : Keeps F.file_map F.faults F.is_quiet l.fn.files l.files;
-  room : length l.buffer ≡ buffer_size;
+  room : IsPiece l.buffer;
   fed : IsFedNodes g.H.HashState.holds l.level (option_copied l.name) (flat_map (child_nodes (F.file_map l.fn.files).nodes (components l.path)) (take l.child-index (map vec_items l.child-items))) l.fn.digest l.digest;
 }

@@ -22,4 +22,4 @@ returns-clause-answer g c =
       date = same_test c.found_date.result (has_date contents) (Has contents date_macro) (c.found_date.ensures contents follows) (has_iff contents date_macro);
       timestamp = same_test c.found_timestamp.result (has_timestamp contents) (Has contents timestamp_macro) (c.found_timestamp.ensures contents follows) (has_iff contents timestamp_macro);
     })
-    c.in_ok-feed_file.ensures.answer
+    c.in_ok-feed_file_of_size.ensures.answer

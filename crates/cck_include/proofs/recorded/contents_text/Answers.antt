@@ -1,0 +1,14 @@
+use Rattle.std.proofs.Common.{[]}
+use Rattle.cck_file_digest.proofs.ReadLemmas.{holds_of_contents}
+use Rattle.cck_files.specs.FileMap.{contents_at}
+use Rattle.cck_include.proofs.RecordedLemmas.{ok_by}
+use Rattle.cck_path.specs.Path.{components}
+use Rattle.cck_include.proofs.recorded.contents_text.Goals as goal
+
+pub returns-in-Ok-clause-answer : goal.returns-in-Ok-clause-answer
+returns-in-Ok-clause-answer g c =
+    let F = g.F.Files in
+    ok_by (contents_at (F.file_map c.args.files.now) (components c.args.path.now)) _ _
+    (λ contents taken.
+    c.in-Ok.ensures.text contents (holds_of_contents _ g.H.HashState.holds (λ before piece after step. step) _ _ contents taken [] c.new-digest.ensures))
+    c.in_ok-feed_file_of_size.ensures.answer
