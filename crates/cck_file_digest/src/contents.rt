@@ -116,7 +116,23 @@ pub fn read_contents<F: Files>(
         MatchResult result (λ contents. found ≡ Ok contents.items)
         (IsRefusalOrMemory found (Rose (F.faults files.old) (F.faults files.new))) }
 {
+    read_contents_of_size(alloc, files, path, HASH_BUFFER_SIZE as u64)
+}
+
+/// The same as [`read_contents`], for a file that has this size by its metadata, as
+/// [`feed_file_of_size`] reads it.
+pub fn read_contents_of_size<F: Files>(
+    alloc: Global,
+    files: &mut F,
+    path: &[u8],
+    size: u64,
+) -> Result<Vec<u8>, FileError>
+    ensures keeps { Keeps F.file_map F.faults F.is_quiet files.old files.new }
+    ensures answer { let found = contents_at (F.file_map files.old) (components path.now) in
+        MatchResult result (λ contents. found ≡ Ok contents.items)
+        (IsRefusalOrMemory found (Rose (F.faults files.old) (F.faults files.new))) }
+{
     let mut contents = Vec::new(alloc);
-    feed_file(alloc, files, path, &mut contents)?;
+    feed_file_of_size(alloc, files, path, size, &mut contents)?;
     Ok(contents)
 }

@@ -7,9 +7,9 @@
 //!
 //! - [`DigestFiles`] has the calls `file` and `reader` of a [`Digest`](cck_digest::Digest), and
 //!   [`hash_all`] digests many paths.
-//! - [`feed_file`] hands a file's contents to any [`Sink`](cck_digest::Sink), [`feed_file_of_size`]
-//!   does so through a buffer of the size that the caller knows, and [`read_contents`] gives the
-//!   contents whole.
+//! - [`feed_file`] hands a file's contents to any [`Sink`](cck_digest::Sink), and [`read_contents`]
+//!   gives them whole; [`feed_file_of_size`] and [`read_contents_of_size`] do so through a buffer for
+//!   the size that the caller knows.
 //! - [`sorted_names`] lists the children of a folder.
 //! - [`laws`] has what the definitions say beyond what they compute.
 //!
@@ -30,6 +30,6 @@ mod file_digest;
 mod folder;
 pub mod laws;
 
-pub use contents::{feed_file, feed_file_of_size, read_contents};
+pub use contents::{feed_file, feed_file_of_size, read_contents, read_contents_of_size};
 pub use file_digest::{DigestFiles, hash_all};
 pub use folder::sorted_names;

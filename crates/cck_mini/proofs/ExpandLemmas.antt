@@ -1,8 +1,13 @@
 -- Expanding piece by piece, and lines one by one.
-use Rattle.std.proofs.Common.{◌≡◌, ℕ, zero, suc, ◌+◌, ◌-◌, ◌<◌, ◌≤◌, [], ◌∷◌, ◌++◌, length, refl, ap, sym, ◌∙◌, drop, take, Option, Some, None, Bool, true, false, nat_lt, arith, cond, length-drop, ltb-true, ltb-false}
-use Rattle.std.specs.List.{position, position_or_len}
-use Rattle.std.proofs.lemmas.Bool.Decides.{nat_tests}
-use Rattle.std.proofs.lemmas.List.{append-nil, take_all}
+use Rattle.std.proofs.Common.{◌≡◌, ℕ, zero, suc, ◌+◌, ◌-◌, ◌<◌, ◌≤◌, [], ◌∷◌, ◌++◌, length, get_or, refl, ap, sym, ◌∙◌, drop, take, Option, Some, None, Bool, true, false, nat_lt, arith, cond, length-drop, ltb-true, ltb-false}
+use Rattle.std.specs.List.{position, position_or_len, starts_with}
+use Rattle.std.specs.Prelude.{codes, nat_eq}
+use Rattle.std.proofs.lemmas.Bool.{false_from_ne_true}
+use Rattle.std.proofs.lemmas.Bool.Decides.{Decides-eqb, nat_tests}
+use Rattle.std.proofs.lemmas.List.{append-nil, get_or-drop, length-append, take-append-le, take_all}
+use Rattle.std.proofs.lemmas.Slice.Eq.{starts_is}
+use Rattle.memchr.proofs.lemmas.MatchLemmas.{OccursAt-from_part}
+use Rattle.memchr.specs.Find.{OccursAt}
 use Rattle.cck_path.specs.Bytes.{Bytes}
 use Rattle.cck_mini.specs.Printed.{Macros, macro_at, piece_or, expanded, expanded_behind, lines_in, onto_line, is_lf}
 
@@ -24,10 +29,43 @@ unfolding expanded
 piece_found m [] value n e p h = absurd (omega arith)
 piece_found m (b ∷ bs) value n e p h = ap (λ found. piece_or found (b ∷ expanded_behind m 0 bs) (λ k. expanded_behind m k bs)) e ∙ ap (λ t. value ++ t) (skipped_one m n b bs p ∙ ap (λ t. expanded_behind m 0 t) (tail_range (b ∷ bs) n))
 
-pub piece_plain : (m : Macros) (text : Bytes) → macro_at m text ≡ None → 0 < length text → expanded m text ≡ take 1 text ++ expanded m (take (length text - 1) (drop 1 text))
+-- bytes at which no macro stands are kept
+plain_bytes : (m : Macros) (size : ℕ) (text : Bytes) → size ≤ length text → ((place : ℕ) → place < size → macro_at m (drop place text) ≡ None)
+    → expanded m text ≡ take size text ++ expanded m (drop size text)
 unfolding expanded
-piece_plain m [] e h = absurd (omega arith)
-piece_plain m (b ∷ bs) e h = ap (λ found. piece_or found (b ∷ expanded_behind m 0 bs) (λ k. expanded_behind m k bs)) e ∙ ap (λ t. b ∷ expanded_behind m 0 t) (tail_range (b ∷ bs) 1)
+plain_bytes m zero text within none = refl
+plain_bytes m (suc size) [] within none = absurd (omega arith)
+plain_bytes m (suc size) (b ∷ bs) within none =
+    ap (λ found. piece_or found (b ∷ expanded_behind m 0 bs) (λ k. expanded_behind m k bs)) (none 0 (omega arith))
+    ∙ ap (λ t. b ∷ t) (plain_bytes m size bs (omega arith) (λ place l. none (suc place) (omega arith)))
+
+-- where no two underscores stand, no macro does
+no_macro : (m : Macros) (text : Bytes) (place : ℕ) → (OccursAt text (codes "__") place → ⊥) → macro_at m (drop place text) ≡ None
+unfolding macro_at
+no_macro m text place free = rw (miss (codes "__DATE__") refl (omega arith), miss (codes "__TIME__") refl (omega arith), miss (codes "__TIMESTAMP__") refl (omega arith)) refl
+  where
+    miss : (word : Bytes) → take 2 word ≡ codes "__" → 2 ≤ length word → starts_with nat_eq (drop place text) word ≡ false
+    miss word begins long = false_from_ne_true _ (λ e.
+        let is = (starts_is Decides-eqb (drop place text) word (starts_with nat_eq (drop place text) word) refl).0 e in
+        free (OccursAt-from_part text (codes "__") place (omega (arith, ap length is, length-append word (drop (length word) (drop place text)), length-drop place text))
+        (ap (take 2) is ∙ take-append-le 2 word (drop (length word) (drop place text)) long ∙ begins)))
+
+-- a word that stands behind the first byte stands in the text without it
+pub occurs_behind : (text word : Bytes) (place : ℕ) → 0 < place → OccursAt text word place → OccursAt (take (length text - 1) (drop 1 text)) word (place - 1)
+occurs_behind text word place some at =
+    rw (← tail_range text 1) (record {
+      fits = omega (arith, at.fits, length-drop 1 text, some);
+      reads = λ j l. get_or-drop 1 text (place - 1 + j) 0 ∙ ap (λ (k : ℕ). get_or text k 0) (omega (arith, some)) ∙ at.reads j l;
+    })
+
+pub piece_plain : (m : Macros) (text : Bytes) (size : ℕ) → macro_at m text ≡ None → size ≤ length text → ((place : ℕ) → 0 < place → place < size → OccursAt text (codes "__") place → ⊥)
+    → expanded m text ≡ take size text ++ expanded m (take (length text - size) (drop size text))
+piece_plain m text size first within nowhere =
+    plain_bytes m size text within each ∙ ap (λ t. take size text ++ expanded m t) (tail_range text size)
+  where
+    each : (place : ℕ) → place < size → macro_at m (drop place text) ≡ None
+    each zero l = first
+    each (suc place) l = no_macro m text (suc place) (nowhere (suc place) (omega arith) l)
 
 pub expand_end : (m : Macros) (left out whole : Bytes) → length left ≡ 0 → out ++ expanded m left ≡ whole → out ≡ whole
 unfolding expanded

@@ -1,11 +1,13 @@
 //! Macros replaced.
-ghost use Rattle.std.specs.Prelude.{◌≡◌, ◌++◌, ◌<◌, ◌≤◌, IfSome, IsOkUnless, OnOk, length};
+ghost use Rattle.std.specs.Prelude.{◌≡◌, ◌++◌, ◌<◌, ◌≤◌, ℕ, IfSome, IsOkUnless, OnOk, codes, length};
 ghost use Rattle.std.specs.Option.{option_map};
+ghost use Rattle.memchr.specs.Find.{OccursAt};
 ghost use Rattle.cck_mini.specs.Printed.{expanded, macro_at};
 ghost use Rattle.cck_mini.specs.Seen.{macros_seen};
 
 use crate::error::PrintError;
 use crate::macros::Macros;
+use memchr::memmem;
 
 // Printed bytes, and the text that is left to expand.
 #[derive(Clone, Copy)]
@@ -38,7 +40,8 @@ pub(crate) fn expand(out: &mut Vec<u8>, macros: &Macros, text: &[u8]) -> Result<
     Ok(())
 }
 
-// What is printed for the front of a text: a macro's text, or one byte.
+// What is printed for the front of a text: a macro's text, or the bytes before the next place where
+// a macro may stand.
 fn next_piece<'a>(macros: &'a Macros, left: &'a [u8]) -> Piece<'a>
     requires { 0 < length left.now }
     ensures text { expanded (macros_seen macros.now) left.now
@@ -50,10 +53,27 @@ fn next_piece<'a>(macros: &'a Macros, left: &'a [u8]) -> Piece<'a>
             text: found.text,
             rest: &left[found.length..],
         },
-        None => Piece {
-            text: &left[..1],
-            rest: &left[1..],
-        },
+        None => {
+            let size = plain_size(left);
+            Piece {
+                text: &left[..size],
+                rest: &left[size..],
+            }
+        }
+    }
+}
+
+// How many bytes there are from the first one on before two underscores, with which each macro
+// begins. What stands at the first byte doesn't matter.
+fn plain_size(left: &[u8]) -> usize
+    requires { 0 < length left.now }
+    ensures some { 0 < result }
+    ensures within { result ≤ length left.now }
+    ensures plain { (place : ℕ) → 0 < place → place < result → OccursAt left.now (codes "__") place → ⊥ }
+{
+    match memmem::find(&left[1..], b"__") {
+        Some(place) => place + 1,
+        None => left.len(),
     }
 }
 

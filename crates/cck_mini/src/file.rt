@@ -5,7 +5,7 @@ ghost use Rattle.cck_mini.specs.Printed.{text_at};
 ghost use Rattle.cck_mini.specs.Refusal.{IsPrintRefusal};
 
 use crate::error::{PrintError, print_error};
-use cck_file_digest::read_contents;
+use cck_file_digest::read_contents_of_size;
 use cck_files::Files;
 use cck_path::Timestamp;
 use std::alloc::Global;
@@ -37,7 +37,7 @@ pub(crate) fn read_file<F: Files>(
         Ok(metadata) => metadata,
         Err(error) => return Err(print_error(error)),
     };
-    match read_contents(alloc, files, path) {
+    match read_contents_of_size(alloc, files, path, metadata.len) {
         Ok(contents) => Ok(FileText {
             contents,
             modified: metadata.modified,

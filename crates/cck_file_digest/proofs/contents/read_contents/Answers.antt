@@ -1,5 +1,0 @@
-use Rattle.cck_file_digest.proofs.ReadLemmas.{contents_read}
-use Rattle.cck_file_digest.proofs.contents.read_contents.Goals as goal
-
-pub returns-clause-answer : goal.returns-clause-answer
-returns-clause-answer g c = contents_read _ _ _ c.new-contents.ensures.items c.in_ok-feed_file.ensures.answer
