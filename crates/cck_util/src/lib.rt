@@ -33,7 +33,9 @@ pub use cck_digest::{
     Digest, FileError, HASH_BUFFER_SIZE, HashState, Sha256State, Sink, TimeMacroFinder, UtilError,
     WatchedDigest, hash_len_prefixed, hex, read_all, read_to_end,
 };
-pub use cck_file_digest::{DigestFiles, feed_file, hash_all, read_contents};
+pub use cck_file_digest::{
+    DigestFiles, feed_file, feed_file_of_size, hash_all, read_contents, read_contents_of_size,
+};
 pub use cck_files::{Files, MapFiles, Node};
 pub use cck_path::{
     Component, Components, FileKind, Metadata, MetadataCtimeExt, OsStrExt, Timestamp,
