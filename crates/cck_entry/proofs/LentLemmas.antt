@@ -1,15 +1,22 @@
 -- Results where they stand in bytes, and the entry that has them.
-use Rattle.std.proofs.Common.{◌≡◌, ℕ, zero, suc, ◌+◌, ◌<◌, Bool, true, false, ◌&&◌, List, [], ◌∷◌, ◌++◌, append_assoc, drop, drop-cons, get_or, length, map, Some, refl, sym, ap, ◌∙◌, arith}
+use Rattle.std.proofs.Common.{◌≡◌, ℕ, zero, suc, ◌+◌, ◌<◌, true, false, List, [], ◌∷◌, ◌++◌, append_assoc, drop, drop-cons, get_or, length, map, Some, refl, sym, ap, ◌∙◌, arith}
 use Rattle.std.specs.Prelude.{slice_get}
+use Rattle.std.specs.Cmp.{tied_itself}
 use Rattle.std.specs.Cmp.Lexicographic.{nat_list_cmp_total}
 use Rattle.std.specs.List.{AllByRecursion}
-use Rattle.std.specs.Ordering.{is_lt}
+use Rattle.std.specs.Map.{keys_of}
+use Rattle.std.specs.Option.{option_map}
+use Rattle.std.specs.Ordering.{is_lt, ordering_reverse}
+use Rattle.std.specs.declared.cmp.Ordering.TheVariants.{Less}
 use Rattle.std.specs.FinMap.{empty, entries, entries-from_sorted, is_sorted, same_entries_map}
 use Rattle.std.specs.FinMap.Entries.{below_all}
 use Rattle.std.proofs.lemmas.Bool.{and_parts, and_from}
 use Rattle.std.proofs.lemmas.Float.{T_from_true}
-use Rattle.std.proofs.Math.Bool.{and-false}
+use Rattle.std.proofs.lemmas.List.{length-map}
+use Rattle.std.proofs.lemmas.List.Elements.{All-from_recursion}
+use Rattle.std.proofs.lemmas.Option.{same_Some, slice_get-map}
 use Rattle.cck_include.specs.Include.{Include}
+use Rattle.cck_path.proofs.LastLemmas.{decided_by_last}
 use Rattle.cck_path.proofs.TestLemmas.{less_is}
 use Rattle.cck_path.specs.TextOrder.{text_cmp}
 use Rattle.cck_entry.specs.Entry.{include_count}
@@ -31,36 +38,28 @@ pub sorted_push : (rs : List KeyResult) (r : KeyResult) → is_sorted text_cmp r
 sorted_push [] r s h = refl
 sorted_push (x ∷ rs) r s h = and_from _ _ (below_push x.0 rs r (and_parts _ _ s).0 (and_parts _ _ h).0) (sorted_push rs r (and_parts _ _ s).1 (and_parts _ _ h).1)
 
-below_one : (k : List ℕ) (rs : List ResultRef) (i : ℕ) (r : ResultRef) → below_all text_cmp k (map result_lent rs) ≡ true → slice_get rs i ≡ Some r → is_lt (text_cmp k r.key.now) ≡ true
+below_one : (k : List ℕ) (rs : List KeyResult) (i : ℕ) (r : KeyResult) → below_all text_cmp k rs ≡ true → slice_get rs i ≡ Some r → text_cmp k r.0 ≡ Less
 below_one k [] i r h at = absurd cc
-below_one k (x ∷ rs) zero r h at =
-    let same : x ≡ r = cc in
-    ap (λ (y : ResultRef). is_lt (text_cmp k y.key.now)) (sym same) ∙ (and_parts _ _ h).0
+below_one k (x ∷ rs) zero r h at = ap (λ (y : KeyResult). text_cmp k y.0) (sym (same_Some x r at)) ∙ less_is _ (and_parts _ _ h).0
 below_one k (x ∷ rs) (suc i) r h at = below_one k rs i r (and_parts _ _ h).1 at
 
-after_by : (x last k : List ℕ) (b : Bool) → is_lt (text_cmp last k) ≡ b → is_lt (text_cmp x last) ≡ true → (is_lt (text_cmp x k) && b) ≡ b
-after_by x last k false e lt = and-false (is_lt (text_cmp x k))
-after_by x last k true e lt =
-    let below : is_lt (text_cmp x k) ≡ true = ap is_lt (nat_list_cmp_total.trans x last k (less_is _ lt) (less_is _ e)) in
-    rw below refl
+-- none is above the last
+none_above : (rs : List KeyResult) (i : ℕ) (last : KeyResult) → i + 1 ≡ length rs → slice_get rs i ≡ Some last → is_sorted text_cmp rs ≡ true → AllByRecursion (λ q. is_lt (text_cmp last.0 q) ≡ false) (keys_of rs)
+none_above [] i last e at s = tt
+none_above (r ∷ []) zero last e at s = (ap (λ (y : KeyResult). is_lt (text_cmp y.0 r.0)) (sym (same_Some r last at)) ∙ ap is_lt (tied_itself nat_list_cmp_total r.0), tt)
+none_above (r ∷ []) (suc i) last e at s = absurd (omega arith)
+none_above (r ∷ x ∷ rs) zero last e at s = absurd (omega arith)
+none_above (r ∷ x ∷ rs) (suc i) last e at s =
+    let above = nat_list_cmp_total.antisymm last.0 r.0 ∙ ap ordering_reverse (below_one r.0 (x ∷ rs) i last (and_parts _ _ s).0 at) in
+    (ap is_lt above, none_above (x ∷ rs) i last (omega arith) at (and_parts _ _ s).1)
 
-and_true : (b : Bool) → (b && true) ≡ b
-and_true true = refl
-and_true false = refl
-
--- the last of keys that ascend decides
+-- so the last decides
 pub after_last : (rs : List ResultRef) (i : ℕ) (k : List ℕ) (last : ResultRef) → i + 1 ≡ length rs → slice_get rs i ≡ Some last → is_sorted text_cmp (map result_lent rs) ≡ true
     → is_lt (text_cmp last.key.now k) ≡ comes_after (map result_lent rs) k
-after_last [] i k last e at s = absurd (omega arith)
-after_last (r ∷ []) zero k last e at s =
-    let same : r ≡ last = cc in
-    ap (λ (y : ResultRef). is_lt (text_cmp y.key.now k)) (sym same) ∙ sym (and_true (is_lt (text_cmp r.key.now k)))
-after_last (r ∷ []) (suc i) k last e at s = absurd (omega arith)
-after_last (r ∷ x ∷ rs) zero k last e at s = absurd (omega arith)
-after_last (r ∷ x ∷ rs) (suc i) k last e at s =
-    let rest = after_last (x ∷ rs) i k last (omega arith) at (and_parts _ _ s).1 in
-    let lt = below_one r.key.now (x ∷ rs) i last (and_parts _ _ s).0 at in
-    sym (ap (λ b. is_lt (text_cmp r.key.now k) && b) (sym rest) ∙ after_by r.key.now last.key.now k (is_lt (text_cmp last.key.now k)) refl lt)
+after_last rs i k last e at s =
+    let place : slice_get (map result_lent rs) i ≡ Some (result_lent last) = slice_get-map result_lent rs i ∙ ap (option_map result_lent) at in
+    decided_by_last nat_list_cmp_total (map result_lent rs) last.key.now k (result_lent last).1 i
+    (All-from_recursion _ _ (none_above (map result_lent rs) i (result_lent last) (e ∙ sym (length-map rs result_lent)) place s)) place
 
 -- ---- the entry
 

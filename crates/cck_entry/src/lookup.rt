@@ -56,9 +56,12 @@ impl PreprocessorCacheEntry {
 }
 
 impl<'a> EntryView<'a> {
-    /// The key of the result whose included files all still are what they were, as
-    /// [`PreprocessorCacheEntry::lookup_result_digest`] finds it, in the bytes that were read. Of
-    /// a result only the includes up to the first that differs are read.
+    /// The key of the result whose included files all still are what they were, the greatest by its
+    /// bytes where there are several, if there is one. The key is a part of the bytes that were read.
+    ///
+    /// It is what [`PreprocessorCacheEntry::lookup_result_digest`] finds, by the same calls on the
+    /// files: where a fault came, the answer may be none, or another key whose files all are what
+    /// they were.
     ///
     /// It is refused only as [`Error::Memory`].
     pub fn lookup_result_digest<H: HashState, F: Files>(
