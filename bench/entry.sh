@@ -1,7 +1,7 @@
 #!/bin/sh
 # Times reading an entry of 100 results of 100 includes each, and looking up in it the result whose
-# includes all match, which comes last, beside hashing each of the 100 headers of 4 KiB once, and
-# prints a table.
+# includes all match, which comes last, as a map and as a view of the bytes, beside hashing each of
+# the 100 headers of 4 KiB once, and prints a table.
 #
 #     bench/entry.sh [FOLDER]
 #
@@ -32,9 +32,11 @@ fi
 echo 'what                        milliseconds  ratio   (best of 11)'
 "$folder/work/crates/entry_bench/out/entry_bench" |
     awk '{
-        if (NF != 4) { print; exit 1 }
+        if (NF != 6) { print; exit 1 }
         printf "%-27s %12.2f  %5.2f\n", "hashing 100 headers", $1 / 1000, 1
-        printf "%-27s %12.2f  %5.2f   (%d bytes)\n", "read", $2 / 1000, $2 / $1, $4
+        printf "%-27s %12.2f  %5.2f   (%d bytes)\n", "read", $2 / 1000, $2 / $1, $6
         printf "%-27s %12.2f  %5.2f   (each header read once)\n", "lookup_result_digest",
             $3 / 1000, $3 / $1
+        printf "%-27s %12.2f  %5.2f\n", "read of a view", $4 / 1000, $4 / $1
+        printf "%-27s %12.2f  %5.2f\n", "lookup_result_digest of it", $5 / 1000, $5 / $1
     }'

@@ -9,17 +9,17 @@ use Rattle.std.specs.declared.cmp.Ordering.TheVariants.{Less}
 use Rattle.std.specs.String.{string_cmp, string_bytes}
 use Rattle.std.specs.List.{flat_map, AllByRecursion}
 use Rattle.std.specs.List.Sorted.{IsStrictlySortedBy}
-use Rattle.std.specs.Map.{keys_of, values_of}
+use Rattle.std.specs.Map.{keys_of}
 use Rattle.std.specs.FinMap.{entries, entries_sorted, entries-from_sorted, from_sorted, same_entries_map, is_sorted, empty, len-entries, len-empty}
 use Rattle.std.specs.FinMap.Entries.{below_all}
-use Rattle.std.proofs.lemmas.List.{length-append, length-map, nil_from_length}
+use Rattle.std.proofs.lemmas.List.{length-append, nil_from_length}
 use Rattle.std.proofs.lemmas.List.Concat.{flat_map-cons}
 use Rattle.std.specs.Int.{w64, to_le_bytes}
 use Rattle.std.proofs.lemmas.Option.{same_Some}
 use Rattle.std.proofs.lemmas.Bool.{and_parts, and_from}
 use Rattle.std.proofs.lemmas.Float.{T_from_true}
 use Rattle.cck_include.specs.declared.include.IncludeEntry.{IncludeEntry}
-use Rattle.cck_include.specs.Include.{Include, include_in}
+use Rattle.cck_include.specs.Include.{Include}
 use Rattle.cck_digest.specs.Digest.{length_prefixed}
 use Rattle.cck_path.specs.TextOrder.{text_cmp}
 use Rattle.cck_time.specs.declared.error.Error.{Error}
@@ -28,7 +28,7 @@ use Rattle.cck_path.proofs.TestLemmas.{true_from_T}
 use Rattle.cck_entry.specs.Results.{KeyResult, result_in, FitsResult}
 use Rattle.cck_entry.specs.Writing.{entry_bytes, include_bytes, result_bytes}
 use Rattle.cck_entry.specs.Reading.{entry_at, comes_after, Fails}
-use Rattle.cck_entry.specs.Entry.{Entry, EntryText, entry_in, include_count, lengths, IsReadFrom}
+use Rattle.cck_entry.specs.Entry.{Entry, EntryText, entry_in, include_count, IsReadFrom}
 use Rattle.cck_entry.proofs.FieldLemmas.{IsBytes}
 use Rattle.cck_entry.proofs.TextLemmas.{Ascends, IsEntry, entry_takes, entry_again, includes_long}
 
@@ -79,7 +79,7 @@ below_from [] a b r h = refl
 below_from (x ∷ rs) a b r h =
     and_from _ _ (after_one a b r x.0 h.0) (below_from rs a (b ++ x ∷ []) r (subst (λ (f : List KeyResult). Ascends f rs) (append_assoc a (r ∷ b) (x ∷ [])) h.1))
 
-sorted_from : (rs front : List KeyResult) → Ascends front rs → is_sorted text_cmp rs ≡ true
+pub sorted_from : (rs front : List KeyResult) → Ascends front rs → is_sorted text_cmp rs ≡ true
 sorted_from [] front h = refl
 sorted_from (r ∷ rs) front h = and_from _ _ (below_from rs front [] r h.1) (sorted_from rs (front ++ r ∷ []) h.1)
 
@@ -88,7 +88,7 @@ below_at : (key : List ℕ) (front : List KeyResult) (r : KeyResult) (behind : L
 below_at key [] r behind h = (and_parts _ _ h).0
 below_at key (x ∷ front) r behind h = below_at key front r behind (and_parts _ _ h).1
 
-after_front : (front : List KeyResult) (r : KeyResult) (behind : List KeyResult) → is_sorted text_cmp (front ++ r ∷ behind) ≡ true → comes_after front (r.0) ≡ true
+pub after_front : (front : List KeyResult) (r : KeyResult) (behind : List KeyResult) → is_sorted text_cmp (front ++ r ∷ behind) ≡ true → comes_after front (r.0) ≡ true
 after_front [] r behind h = refl
 after_front (x ∷ front) r behind h = and_from _ _ (below_at x.0 front r behind (and_parts _ _ h).0) (after_front front r behind (and_parts _ _ h).1)
 
@@ -132,10 +132,6 @@ one_entry rest rs e fits is h =
     same_entries_map (from_sorted rs) e (entries-from_sorted text_cmp rs (T_from_true _ (sorted_from rs [] t.0.ascends)) ∙ found)
 
 -- ---- how many includes there are
-
-pub count_in : (es : List (String Global × Vec IncludeEntry)) → include_count (map result_in es) ≡ lengths (values_of es)
-count_in [] = refl
-count_in (e ∷ es) = let rest = count_in es in omega (arith, rest, length-map e.1.items include_in)
 
 counts_long : (rs : List KeyResult) → 26 * include_count rs ≤ length (flat_map result_bytes rs)
 counts_long [] = omega arith

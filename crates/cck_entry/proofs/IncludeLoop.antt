@@ -1,41 +1,101 @@
 -- Reading includes one after the other, as a loop does.
-use Rattle.std.proofs.Common.{◌≡◌, ℕ, suc, ◌-◌, ◌+◌, ◌≤◌, ◌<◌, List, [], ◌∷◌, ◌++◌, Option, Some, None, refl, sym, ap, ◌∙◌, append_assoc, arith}
-use Rattle.std.proofs.lemmas.List.{append-nil}
+use Rattle.std.proofs.Common.{◌≡◌, ℕ, zero, suc, ◌-◌, ◌+◌, ◌≤◌, ◌<◌, List, [], ◌∷◌, length, Option, Some, None, IsSome, refl, sym, ap, subst, ◌∙◌, arith}
+use Rattle.std.specs.Option.{option_map}
 use Rattle.cck_time.specs.declared.error.Error.{Error}
 use Rattle.cck_time.specs.declared.error.Error.TheVariants.{Io, Deserialization, UnknownFormat, Memory}
 use Rattle.cck_include.specs.Include.{Include}
+use Rattle.cck_entry.specs.Lent.{begun, includes_begun}
 use Rattle.cck_entry.specs.Reading.{◌>>=◌, Fails, include_at, includes_at}
 
--- what was read before, and what is still read
-abbrev pub with_front : {X : Type 0} → List X → Option (List X × List ℕ) → Option (List X × List ℕ)
-with_front front read = read >>= λ x. Some (front ++ x.0, x.1)
+abbrev Read : Type 0
+Read = Option (List Include × List ℕ)
 
-pub regroup : {X : Type 0} (front : List X) (n : X) (read : Option (List X × List ℕ)) → with_front front (read >>= λ x. Some (n ∷ x.0, x.1)) ≡ with_front (front ++ n ∷ []) read
-regroup front n (Some x) = ap (λ ns. Some (ns, x.1)) (simp append_assoc)
-regroup front n None = refl
+-- the includes after one
+abbrev with_one : Include → Read → Read
+with_one n read = read >>= λ x. Some (n ∷ x.0, x.1)
 
-pub goes_on : (front : List Include) (count i : ℕ) (bytes : List ℕ) (n : Include) (after : List ℕ) (total : Option (List Include × List ℕ)) → i < count → include_at bytes ≡ Some (n, after)
-    → with_front front (includes_at (count - i) bytes) ≡ total → with_front (front ++ n ∷ []) (includes_at (count - (i + 1)) after) ≡ total
+-- the bytes behind
+abbrev behind : Read → Option (List ℕ)
+behind read = option_map (λ x. x.1) read
+
+next_at : (count i : ℕ) (bytes : List ℕ) (n : Include) (after : List ℕ) → i < count → include_at bytes ≡ Some (n, after)
+    → includes_at (count - i) bytes ≡ with_one n (includes_at (count - (i + 1)) after)
 unfolding includes_at
-goes_on front count i bytes n after total lt h so_far =
+next_at count i bytes n after lt h =
     let k : count - i ≡ suc (count - (i + 1)) = omega arith in
-    let one : with_front front (includes_at (count - i) bytes) ≡ with_front (front ++ n ∷ []) (includes_at (count - (i + 1)) after) = rw (k, h) (regroup front n (includes_at (count - (i + 1)) after)) in
-    sym one ∙ so_far
+    rw (k, h) refl
 
-pub ends : (e : Error) (front : List Include) (count i : ℕ) (bytes : List ℕ) (total : Option (List Include × List ℕ)) → i < count → Fails e (include_at bytes)
-    → with_front front (includes_at (count - i) bytes) ≡ total → Fails e total
+none_at : (count i : ℕ) (bytes : List ℕ) → i < count → include_at bytes ≡ None → includes_at (count - i) bytes ≡ None
 unfolding includes_at
-ends Memory front count i bytes total lt h so_far = tt
-ends Deserialization front count i bytes total lt h so_far =
+none_at count i bytes lt h =
     let k : count - i ≡ suc (count - (i + 1)) = omega arith in
-    let one : with_front front (includes_at (count - i) bytes) ≡ None = rw (k, h) refl in
-    sym so_far ∙ one
-ends (Io e) front count i bytes total lt h so_far = h
-ends (UnknownFormat b) front count i bytes total lt h so_far = h
+    rw (k, h) refl
 
-pub is_done : (front : List Include) (count i : ℕ) (bytes : List ℕ) (total : Option (List Include × List ℕ)) → count ≤ i → with_front front (includes_at (count - i) bytes) ≡ total → total ≡ Some (front, bytes)
+done_at : (count i : ℕ) (bytes : List ℕ) → count ≤ i → includes_at (count - i) bytes ≡ Some ([], bytes)
 unfolding includes_at
-is_done front count i bytes total le so_far =
+done_at count i bytes le =
     let k : count - i ≡ 0 = omega arith in
-    let one : with_front front (includes_at (count - i) bytes) ≡ Some (front, bytes) = rw k (ap (λ ns. Some (ns, bytes)) (append-nil front)) in
-    sym so_far ∙ one
+    rw k refl
+
+-- ---- what stands behind them
+
+same_behind : (n : Include) (read : Read) → behind (with_one n read) ≡ behind read
+same_behind n (Some x) = refl
+same_behind n None = refl
+
+pub skips_on : (count i : ℕ) (bytes : List ℕ) (n : Include) (after : List ℕ) (total : Option (List ℕ)) → i < count → include_at bytes ≡ Some (n, after)
+    → behind (includes_at (count - i) bytes) ≡ total → behind (includes_at (count - (i + 1)) after) ≡ total
+skips_on count i bytes n after total lt h so_far =
+    sym (ap behind (next_at count i bytes n after lt h) ∙ same_behind n (includes_at (count - (i + 1)) after)) ∙ so_far
+
+pub ends : (e : Error) (count i : ℕ) (bytes : List ℕ) (total : Option (List ℕ)) → i < count → Fails e (include_at bytes) → behind (includes_at (count - i) bytes) ≡ total → Fails e total
+ends Memory count i bytes total lt h so_far = tt
+ends Deserialization count i bytes total lt h so_far = sym so_far ∙ ap behind (none_at count i bytes lt h)
+ends (Io e) count i bytes total lt h so_far = h
+ends (UnknownFormat b) count i bytes total lt h so_far = h
+
+pub is_behind : (count i : ℕ) (bytes : List ℕ) (total : Option (List ℕ)) → count ≤ i → behind (includes_at (count - i) bytes) ≡ total → total ≡ Some bytes
+is_behind count i bytes total le so_far = sym so_far ∙ ap behind (done_at count i bytes le)
+
+-- ---- includes that are known to stand there
+
+from_one : (n : Include) (read : Read) → IsSome (with_one n read) → (begun (with_one n read) ≡ n ∷ begun read) × IsSome read
+from_one n (Some x) h = (refl, refl)
+from_one n None h = absurd cc
+
+pub begun_next : (count i : ℕ) (bytes : List ℕ) (n : Include) (after : List ℕ) → i < count → include_at bytes ≡ Some (n, after) → IsSome (includes_at (count - i) bytes)
+    → (includes_begun (count - i) bytes ≡ n ∷ includes_begun (count - (i + 1)) after) × IsSome (includes_at (count - (i + 1)) after)
+begun_next count i bytes n after lt h whole =
+    let is = next_at count i bytes n after lt h in
+    let one = from_one n (includes_at (count - (i + 1)) after) (subst IsSome is whole) in
+    (ap begun is ∙ one.0, one.1)
+
+-- only memory can be missing
+pub begun_ends : (e : Error) (count i : ℕ) (bytes : List ℕ) → i < count → Fails e (include_at bytes) → IsSome (includes_at (count - i) bytes) → e ≡ Memory
+begun_ends Memory count i bytes lt h whole = refl
+begun_ends Deserialization count i bytes lt h whole =
+    let none : IsSome {T = List Include × List ℕ} None = subst IsSome (none_at count i bytes lt h) whole in
+    absurd cc
+begun_ends (Io e) count i bytes lt h whole = absurd h
+begun_ends (UnknownFormat b) count i bytes lt h whole = absurd h
+
+pub begun_done : (count i : ℕ) (bytes : List ℕ) → count ≤ i → includes_begun (count - i) bytes ≡ []
+begun_done count i bytes le = ap begun (done_at count i bytes le)
+
+-- all of what was skipped
+pub begun_all : (read : Read) (rest : List ℕ) → behind read ≡ Some rest → read ≡ Some (begun read, rest)
+begun_all (Some x) rest h = let same : x.1 ≡ rest = cc in ap (λ (r : List ℕ). Some (x.0, r)) same
+begun_all None rest h = absurd cc
+
+begun_by : (n : ℕ) (bytes : List ℕ) (o : Option (Include × List ℕ)) → include_at bytes ≡ o → ((after : List ℕ) → IsSome (includes_at n after) → length (includes_begun n after) ≡ n) → IsSome (includes_at (suc n) bytes)
+    → length (includes_begun (suc n) bytes) ≡ suc n
+unfolding includes_at
+begun_by n bytes None is others h = let none : IsSome {T = List Include × List ℕ} None = rw is at h in absurd cc
+begun_by n bytes (Some x) is others h =
+    let one = from_one x.0 (includes_at n x.1) (rw is at h) in
+    rw is (ap length one.0 ∙ ap suc (others x.1 one.1))
+
+pub begun_length : (n : ℕ) (bytes : List ℕ) → IsSome (includes_at n bytes) → length (includes_begun n bytes) ≡ n
+unfolding includes_at
+begun_length zero bytes h = refl
+begun_length (suc n) bytes h = begun_by n bytes (include_at bytes) refl (begun_length n) h

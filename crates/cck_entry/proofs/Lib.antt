@@ -6,6 +6,7 @@ pub mod GreatestLemmas
 pub mod IncludeLoop
 pub mod InsertLemmas
 pub mod LawLemmas
+pub mod LentLemmas
 pub mod LookupLemmas
 pub mod ResultLoop
 pub mod TextLemmas

@@ -42,11 +42,6 @@ abbrev pub include_count : List KeyResult → ℕ
 include_count [] = 0
 include_count (r ∷ rs) = length (r.1) + include_count rs
 
--- the same of the lists that a map holds
-abbrev pub lengths : List (Vec IncludeEntry) → ℕ
-lengths [] = 0
-lengths (v ∷ vs) = length v.items + lengths vs
-
 -- These bytes are the entry's text: no key stands twice, the keys ascend, and all numbers fit.
 pub record EntryText (e : Entry) (bytes : List ℕ) : Type 0 where
   pub count : length (entries e) < 2 ^ 64

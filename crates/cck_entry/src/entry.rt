@@ -5,14 +5,13 @@ ghost use Rattle.std.specs.Io.KnownBytes.{Appends};
 ghost use Rattle.std.specs.String.{string_bytes};
 ghost use Rattle.cck_digest.specs.declared.error.UtilError.TheVariants as util;
 ghost use Rattle.cck_include.specs.Include.{includes_in};
-ghost use Rattle.cck_entry.specs.Entry.{Entry, EntryText, IsEntryOrMemory, IsReadFrom, Reads, added, include_count, is_over};
+ghost use Rattle.cck_entry.specs.Entry.{Entry, EntryText, IsEntryOrMemory, Reads, added, include_count, is_over};
 ghost use Rattle.cck_entry.specs.Results.{result_in};
 
-use crate::reading::read_entry;
-use crate::results::{Results, copy_results, insert_counted, total};
+use crate::results::{Results, copy_results, insert_counted};
 use crate::writing::write_entry;
+use crate::{EntryView, lent};
 use cck_include::IncludeEntry;
-use cck_preprocessor_key::FORMAT_VERSION;
 use cck_time::Error;
 use std::alloc::Global;
 use std::collections::BTreeMap;
@@ -77,13 +76,10 @@ impl PreprocessorCacheEntry {
         ensures reads { Reads result bytes.now }
         ensures only { (e : Entry) → EntryText e bytes.now → IsEntryOrMemory e result }
     {
-        let Some((version, rest)) = bytes.split_first() else {
-            return Ok(PreprocessorCacheEntry::new(alloc));
-        };
-        if *version != FORMAT_VERSION {
-            return Err(Error::UnknownFormat(*version));
+        match EntryView::read(alloc, bytes) {
+            Ok(view) => copy_view(alloc, &view),
+            Err(error) => Err(error),
         }
-        read_body(alloc, rest)
     }
 
     /// Writes the entry's text, the only one that it has.
@@ -206,21 +202,17 @@ impl Eq for PreprocessorCacheEntry {
     ghost laws = { entry_equiv };
 }
 
-/// The entry of the bytes behind the format.
-fn read_body(alloc: Global, rest: &[u8]) -> Result<PreprocessorCacheEntry, Error>
-    ensures { IsReadFrom rest.now result }
+/// The entry that a view is of, in memory of its own.
+fn copy_view(alloc: Global, view: &EntryView<'_>) -> Result<PreprocessorCacheEntry, Error>
+    ensures value { IfOk result (λ copy. copy ≡ view.now) }
+    ensures err { IfErr result (λ e. e ≡ Error.Memory) }
 {
-    match read_entry(alloc, rest) {
-        Ok(results) => {
-            let number_of_entries = total(&results);
-            Ok(PreprocessorCacheEntry {
-                alloc,
-                number_of_entries,
-                results,
-            })
-        }
-        Err(error) => Err(error),
-    }
+    let results = lent::copy_results(alloc, view.results())?;
+    Ok(PreprocessorCacheEntry {
+        alloc,
+        number_of_entries: view.number_of_entries(),
+        results,
+    })
 }
 
 /// Whether so many results are too many, or so many includes with those to be added.

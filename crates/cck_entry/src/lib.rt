@@ -13,12 +13,15 @@
 //!   its [`recorded_digest`], which tells its contents and what the macros of time in them show.
 //! - [`PreprocessorCacheEntry::serialize_to`] writes an entry and [`PreprocessorCacheEntry::read`]
 //!   reads it back. Other bytes are refused, each for a named cause.
+//! - [`EntryView`] is an entry in its bytes, which [`EntryView::read`] accepts and refuses alike.
+//!   [`EntryView::lookup_result_digest`] finds the same result, and nothing but the places of the
+//!   results is kept in memory.
 //! - [`laws`] has what the definitions say beyond what they compute.
 //!
 //! What these calls take and return is passed on too: hash functions and errors of `cck_digest`,
 //! files of `cck_files`, their metadata and moments of `cck_path`, [`Language`] of `cck_util`, and
-//! [`KnownDigests`] of `cck_include`, which [`includes_match`] keeps digests in. Zones are those of
-//! `jiff`.
+//! [`KnownDigests`] of `cck_include`, which [`includes_match`] and [`include_matches`] keep digests
+//! in, the latter of an [`IncludeRef`]. Zones are those of `jiff`.
 //!
 //! An entry is written in one way only. Numbers have their lowest byte first:
 //!
@@ -39,22 +42,31 @@
 //! entry.serialize_to(&mut bytes)?;
 //! let same = PreprocessorCacheEntry::read(alloc, &bytes)?; // equal to `entry`
 //! let key = same.lookup_result_digest::<Sha256State, _>(alloc, &mut files, later, &zone, &vars, config)?;
+//!
+//! let view = EntryView::read(alloc, &bytes)?; // for the look-up alone
+//! let key = view.lookup_result_digest::<Sha256State, _>(alloc, &mut files, later, &zone, &vars, config)?;
 //! ```
 #![tactic(auto)]
 
 mod adding;
 mod entry;
 pub mod laws;
+mod lent;
 mod lookup;
 mod reading;
 mod results;
+mod view;
 mod writing;
 
 pub use cck_digest::{FileError, HashState, Sha256State, UtilError};
 pub use cck_files::{Files, MapFiles, Node};
-pub use cck_include::{IncludeEntry, KnownDigests, gather, includes_match, recorded_digest};
+pub use cck_include::{
+    IncludeEntry, IncludeRef, KnownDigests, gather, include_matches, includes_match,
+    recorded_digest,
+};
 pub use cck_path::{FileKind, Metadata, Timestamp};
 pub use cck_preprocessor_key::{FORMAT_VERSION, preprocessor_cache_entry_hash_key};
 pub use cck_time::{Error, PreprocessorCacheModeConfig, local_time_part};
 pub use cck_util::{Language, UnknownLanguage};
 pub use entry::PreprocessorCacheEntry;
+pub use view::EntryView;

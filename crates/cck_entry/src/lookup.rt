@@ -1,19 +1,24 @@
 //! Which result of an entry still stands.
 ghost use Rattle.std.specs.Prelude.{IfOk, IsOkUnless, map};
 ghost use Rattle.std.specs.FinMap.{entries};
+ghost use Rattle.std.specs.List.{AllByRecursion, list_all};
 ghost use Rattle.std.specs.Option.{option_map};
 ghost use Rattle.cck_files.specs.Calls.{Keeps, Rose};
-ghost use Rattle.cck_include.specs.Matching.{matches};
+ghost use Rattle.cck_include.specs.Known.{AreKnown};
+ghost use Rattle.cck_include.specs.Matching.{MayMiss, matches};
 ghost use Rattle.cck_include.specs.Setting.{setting_in};
 ghost use Rattle.jiff.specs.Words.{plain_zone};
 ghost use Rattle.cck_entry.specs.Find.{IsLookup};
+ghost use Rattle.cck_entry.specs.Lent.{IsWhole, includes_begun, result_lent};
 ghost use Rattle.cck_entry.specs.Results.{result_in};
 
-use crate::PreprocessorCacheEntry;
+use crate::lent::ResultRef;
+use crate::reading::read_include;
 use crate::results::Results;
+use crate::{EntryView, PreprocessorCacheEntry};
 use cck_digest::HashState;
 use cck_files::Files;
-use cck_include::{KnownDigests, includes_match};
+use cck_include::{KnownDigests, include_matches, includes_match};
 use cck_path::Timestamp;
 use cck_time::{Error, PreprocessorCacheModeConfig};
 use jiff::tz::TimeZone;
@@ -50,6 +55,34 @@ impl PreprocessorCacheEntry {
     }
 }
 
+impl<'a> EntryView<'a> {
+    /// The key of the result whose included files all still are what they were, the greatest by its
+    /// bytes where there are several, if there is one. The key is a part of the bytes that were read.
+    ///
+    /// It is what [`PreprocessorCacheEntry::lookup_result_digest`] finds, by the same calls on the
+    /// files: where a fault came, the answer may be none, or another key whose files all are what
+    /// they were.
+    ///
+    /// It is refused only as [`Error::Memory`].
+    pub fn lookup_result_digest<H: HashState, F: Files>(
+        &self,
+        alloc: Global,
+        files: &mut F,
+        moment: Timestamp,
+        zone: &TimeZone<'_>,
+        vars: &[(Vec<u8>, Vec<u8>)],
+        config: PreprocessorCacheModeConfig,
+    ) -> Result<Option<&'a str>, Error>
+        ensures keeps { Keeps F.file_map F.faults F.is_quiet files.old files.new }
+        ensures answer { IfOk result (λ key. IsLookup
+            (matches (setting_in H.hash config moment (plain_zone zone.now) vars.now) (F.file_map files.old))
+            (entries self.now) (Rose (F.faults files.old) (F.faults files.new)) (option_map (λ k. k.now) key)) }
+        ensures refused { IsOkUnless result Error.Memory }
+    {
+        find_lent::<H, F>(alloc, self.results(), files, moment, zone, vars, config)
+    }
+}
+
 // The same in the map of results, from the greatest key down.
 fn find_result<'a, H: HashState, F: Files>(
     alloc: Global,
@@ -76,4 +109,71 @@ fn find_result<'a, H: HashState, F: Files>(
         }
     }
     Ok(None)
+}
+
+// The same in the results of a view.
+fn find_lent<'a, H: HashState, F: Files>(
+    alloc: Global,
+    results: &[ResultRef<'a>],
+    files: &mut F,
+    moment: Timestamp,
+    zone: &TimeZone<'_>,
+    vars: &[(Vec<u8>, Vec<u8>)],
+    config: PreprocessorCacheModeConfig,
+) -> Result<Option<&'a str>, Error>
+    requires { AllByRecursion IsWhole results.now }
+    ensures keeps { Keeps F.file_map F.faults F.is_quiet files.old files.new }
+    ensures answer { IfOk result (λ key. IsLookup
+        (matches (setting_in H.hash config moment (plain_zone zone.now) vars.now) (F.file_map files.old))
+        (map result_lent results.now) (Rose (F.faults files.old) (F.faults files.new)) (option_map (λ k. k.now) key)) }
+    ensures refused { IsOkUnless result Error.Memory }
+{
+    let mut known = KnownDigests::new(alloc);
+    for lent in results.iter().rev() {
+        let stands = lent_matches::<H, F>(
+            alloc, files, &mut known, lent, moment, zone, vars, config,
+        )?;
+        if stands {
+            return Ok(Some(lent.key));
+        }
+    }
+    Ok(None)
+}
+
+// Whether the includes of a view's result all still are what they were.
+fn lent_matches<H: HashState, F: Files>(
+    alloc: Global,
+    files: &mut F,
+    known: &mut KnownDigests,
+    lent: &ResultRef<'_>,
+    moment: Timestamp,
+    zone: &TimeZone<'_>,
+    vars: &[(Vec<u8>, Vec<u8>)],
+    config: PreprocessorCacheModeConfig,
+) -> Result<bool, Error>
+    requires { IsWhole lent.now }
+    ensures keeps { Keeps F.file_map F.faults F.is_quiet files.old files.new }
+    ensures known { let s = setting_in H.hash config moment (plain_zone zone.now) vars.now in
+        AreKnown s (F.file_map files.old) known.old → AreKnown s (F.file_map files.old) known.new }
+    ensures answer { let s = setting_in H.hash config moment (plain_zone zone.now) vars.now in
+        AreKnown s (F.file_map files.old) known.old
+        → IfOk result (λ answer. MayMiss (Rose (F.faults files.old) (F.faults files.new)) answer
+        (list_all (matches s (F.file_map files.old)) (includes_begun lent.now.count lent.now.includes.now))) }
+    ensures refused { IsOkUnless result Error.Memory }
+{
+    let mut rest = lent.includes;
+    for _ in 0..lent.count {
+        let (include, after) = match read_include(rest) {
+            Ok(read) => read,
+            Err(error) => return Err(error)
+        };
+        let matches = include_matches::<H, F>(
+            alloc, files, known, &include, moment, zone, vars, config,
+        )?;
+        if !matches {
+            return Ok(false);
+        }
+        rest = after;
+    }
+    Ok(true)
 }

@@ -1,18 +1,19 @@
 //! What bytes are read as, from the left: each call takes what they begin with, and hands back the
-//! bytes behind it. All lengths and counts are looked at before memory is taken for them.
-ghost use Rattle.std.specs.Prelude.{[], map};
+//! bytes behind it. Keys, paths and digests are left where they stand. All lengths and counts are
+//! looked at before memory is taken for them.
+ghost use Rattle.std.specs.Prelude.{[], IfOk, map};
 ghost use Rattle.std.specs.Int.{w32, w64};
-ghost use Rattle.std.specs.String.{string_bytes};
-ghost use Rattle.cck_include.specs.Include.{include_in, includes_in};
-ghost use Rattle.cck_entry.specs.Results.{result_in};
-ghost use Rattle.cck_entry.specs.Reading.{Gives, counted_at, entry_at, include_at, includes_at, length_prefixed_at, moment_at, number_at, result_at, results_from, text_at, time_at};
+ghost use Rattle.std.specs.List.{AllByRecursion};
+ghost use Rattle.std.specs.Option.{option_map};
+ghost use Rattle.cck_include.specs.Include.{include_lent};
+ghost use Rattle.cck_entry.specs.Lent.{IsWhole, result_lent};
+ghost use Rattle.cck_entry.specs.Reading.{Gives, entry_at, include_at, includes_at, length_prefixed_at, moment_at, number_at, result_at, results_from, text_at, time_at};
 
-use crate::results::{Results, comes_last, put_last};
-use cck_include::IncludeEntry;
+use crate::lent::{ResultRef, comes_last};
+use cck_include::IncludeRef;
 use cck_path::Timestamp;
 use cck_time::Error;
 use std::alloc::Global;
-use std::collections::BTreeMap;
 
 /// How many bytes an include takes at least: two lengths, a size and two times that are none.
 const SHORTEST_INCLUDE: usize = 26;
@@ -102,10 +103,10 @@ fn read_time(bytes: &[u8]) -> Result<(Option<Timestamp>, &[u8]), Error>
     }
 }
 
-/// An include.
+/// An include, with its path and its digest where they stand.
 #[tactic(auto, unfolding(crate::specs::Reading::include_at))]
-fn read_include(alloc: Global, bytes: &[u8]) -> Result<(IncludeEntry, &[u8]), Error>
-    ensures { Gives (λ x. (include_in x.0, x.1.now)) result (include_at bytes.now) }
+pub(crate) fn read_include(bytes: &[u8]) -> Result<(IncludeRef<'_>, &[u8]), Error>
+    ensures { Gives (λ x. (include_lent x.0, x.1.now)) result (include_at bytes.now) }
 {
     let (path, rest) = read_length_prefixed(bytes)?;
     let (digest, rest) = read_text(rest)?;
@@ -118,10 +119,8 @@ fn read_include(alloc: Global, bytes: &[u8]) -> Result<(IncludeEntry, &[u8]), Er
         Ok(read) => read,
         Err(error) => return Err(error)
     };
-    let path = Vec::from_slice(alloc, path)?;
-    let digest = String::from_str(alloc, digest)?;
     Ok((
-        IncludeEntry {
+        IncludeRef {
             path,
             digest,
             file_size,
@@ -132,66 +131,64 @@ fn read_include(alloc: Global, bytes: &[u8]) -> Result<(IncludeEntry, &[u8]), Er
     ))
 }
 
-/// So many includes.
-fn read_includes(
+/// What stands behind so many includes.
+fn skip_includes(count: u64, bytes: &[u8]) -> Result<&[u8], Error>
+    ensures { Gives (λ rest. rest.now) result (option_map (λ x. x.1) (includes_at count bytes.now)) }
+{
+    let mut rest = bytes;
+    for _ in 0..count {
+        let (_, after) = match read_include(rest) {
+            Ok(read) => read,
+            Err(error) => return Err(error)
+        };
+        rest = after;
+    }
+    Ok(rest)
+}
+
+/// A result, with its key and its includes where they stand.
+#[tactic(auto, unfolding(crate::specs::Reading::counted_at, crate::specs::Reading::result_at))]
+fn read_result(bytes: &[u8]) -> Result<(ResultRef<'_>, &[u8]), Error>
+    ensures read { Gives (λ x. (result_lent x.0, x.1.now)) result (result_at bytes.now) }
+    ensures whole { IfOk result (λ x. IsWhole x.0) }
+{
+    let (key, rest) = read_text(bytes)?;
+    let (count, includes) = read_u64(rest)?;
+    if ((includes.len() / SHORTEST_INCLUDE) as u64) < count {
+        return Err(Error::Deserialization);
+    }
+    let rest = skip_includes(count, includes)?;
+    Ok((
+        ResultRef {
+            key,
+            count,
+            includes,
+        },
+        rest,
+    ))
+}
+
+/// So many results, whose keys ascend. The memory for all of them is taken at once.
+fn read_results(
     alloc: Global,
     count: u64,
     bytes: &[u8],
-) -> Result<(Vec<IncludeEntry>, &[u8]), Error>
-    ensures { Gives (λ x. (includes_in x.0.items, x.1.now)) result (includes_at count bytes.now) }
+) -> Result<(Vec<ResultRef<'_>>, &[u8]), Error>
+    ensures read { Gives
+        (λ x. (map result_lent x.0.items, x.1.now)) result (results_from [] count bytes.now) }
+    ensures whole { IfOk result (λ x. AllByRecursion IsWhole x.0.items) }
 {
-    let mut includes = Vec::new(alloc);
+    let mut results = Vec::with_capacity(alloc, count as usize)?;
     let mut rest = bytes;
     for _ in 0..count {
-        let (include, after) = match read_include(alloc, rest) {
+        let (lent, after) = match read_result(rest) {
             Ok(read) => read,
             Err(error) => return Err(error)
         };
-        includes.push(include)?;
-        rest = after;
-    }
-    Ok((includes, rest))
-}
-
-/// Includes behind their count.
-#[tactic(auto, unfolding(crate::specs::Reading::counted_at))]
-fn read_counted_includes(alloc: Global, bytes: &[u8]) -> Result<(Vec<IncludeEntry>, &[u8]), Error>
-    ensures { Gives (λ x. (includes_in x.0.items, x.1.now)) result (counted_at bytes.now) }
-{
-    let (count, rest) = read_u64(bytes)?;
-    if ((rest.len() / SHORTEST_INCLUDE) as u64) < count {
-        return Err(Error::Deserialization);
-    }
-    read_includes(alloc, count, rest)
-}
-
-/// A key and its includes.
-#[tactic(auto, unfolding(crate::specs::Reading::result_at))]
-fn read_result(alloc: Global, bytes: &[u8]) -> Result<(String, Vec<IncludeEntry>, &[u8]), Error>
-    ensures { Gives
-        (λ x. ((string_bytes x.0, includes_in x.1.items), x.2.now)) result (result_at bytes.now) }
-{
-    let (key, rest) = read_text(bytes)?;
-    let (includes, rest) = read_counted_includes(alloc, rest)?;
-    Ok((String::from_str(alloc, key)?, includes, rest))
-}
-
-/// So many results, whose keys ascend.
-fn read_results(alloc: Global, count: u64, bytes: &[u8]) -> Result<(Results, &[u8]), Error>
-    ensures { Gives
-        (λ x. (map result_in x.0.entries, x.1.now)) result (results_from [] count bytes.now) }
-{
-    let mut results = BTreeMap::new(alloc);
-    let mut rest = bytes;
-    for _ in 0..count {
-        let (key, includes, after) = match read_result(alloc, rest) {
-            Ok(read) => read,
-            Err(error) => return Err(error)
-        };
-        if !comes_last(&results, &key) {
+        if !comes_last(&results, lent.key) {
             return Err(Error::Deserialization);
         }
-        put_last(&mut results, key, includes)?;
+        results.push(lent)?;
         rest = after;
     }
     Ok((results, rest))
@@ -199,17 +196,15 @@ fn read_results(alloc: Global, count: u64, bytes: &[u8]) -> Result<(Results, &[u
 
 /// The results that make up the whole of the bytes, which stand behind the format.
 #[tactic(auto, unfolding(crate::specs::Reading::entry_at))]
-pub(crate) fn read_entry(alloc: Global, bytes: &[u8]) -> Result<Results, Error>
-    ensures { Gives (λ x. map result_in x.entries) result (entry_at bytes.now) }
+pub(crate) fn read_entry(alloc: Global, bytes: &[u8]) -> Result<Vec<ResultRef<'_>>, Error>
+    ensures read { Gives (λ x. map result_lent x.items) result (entry_at bytes.now) }
+    ensures whole { IfOk result (λ x. AllByRecursion IsWhole x.items) }
 {
     let (count, rest) = read_u64(bytes)?;
     if ((rest.len() / SHORTEST_RESULT) as u64) < count {
         return Err(Error::Deserialization);
     }
-    let (results, rest) = match read_results(alloc, count, rest) {
-        Ok(read) => read,
-        Err(error) => return Err(error)
-    };
+    let (results, rest) = read_results(alloc, count, rest)?;
     if !rest.is_empty() {
         return Err(Error::Deserialization);
     }

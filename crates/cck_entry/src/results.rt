@@ -1,9 +1,9 @@
 //! The results of an entry, as a map holds them.
-ghost use Rattle.std.specs.Prelude.{◌≡◌, ◌<◌, ◌≤◌, ◌+◌, ◌^◌, ◌++◌, ◌∷◌, [], length, map, true, IfErr, IfOk, OnErr, OnOk};
-ghost use Rattle.std.specs.BTreeMap.{IsOrdered, values};
+ghost use Rattle.std.specs.Prelude.{◌≡◌, ◌≤◌, ◌+◌, ◌++◌, ◌∷◌, [], length, map, true, IfErr, IfOk, OnErr, OnOk};
+ghost use Rattle.std.specs.BTreeMap.{IsOrdered};
 ghost use Rattle.std.specs.FinMap.{insert};
 ghost use Rattle.std.specs.String.{string_bytes, string_cmp};
-ghost use Rattle.cck_entry.specs.Entry.{entry_in, include_count, lengths};
+ghost use Rattle.cck_entry.specs.Entry.{entry_in, include_count};
 ghost use Rattle.cck_entry.specs.Results.{result_in};
 ghost use Rattle.cck_include.specs.Include.{includes_in};
 ghost use Rattle.cck_entry.specs.Reading.{comes_after};
@@ -15,29 +15,6 @@ use std::collections::BTreeMap;
 
 /// Keys, and the files that the result of each included.
 pub(crate) type Results = BTreeMap<String, Vec<IncludeEntry>>;
-
-/// How many includes all results have together.
-pub(crate) fn total(results: &Results) -> usize
-    requires { lengths (values results.now) < 2 ^ 64 }
-    ensures total { result ≡ lengths (values results.now) }
-    ensures ordered { IsOrdered string_cmp results.now }
-{
-    let mut count = 0;
-    for includes in results.values() {
-        count += includes.as_slice().len();
-    }
-    count
-}
-
-/// Whether a key comes after all others.
-pub(crate) fn comes_last(results: &Results, key: &String) -> bool
-    ensures { result ≡ comes_after (map result_in results.now.entries) (string_bytes key.now) }
-{
-    match results.last_key_value() {
-        None => true,
-        Some((last, _)) => last < key,
-    }
-}
 
 /// Puts a result at the end, whose key comes after all others.
 pub(crate) fn put_last(

@@ -1,9 +1,9 @@
 //! Time parts, recorded digests, preprocessor keys and entries.
 use crate::files::{CountedFiles, files_of};
 use cck_entry::{
-    Error, FileKind, IncludeEntry, KnownDigests, Language, MapFiles, Node, PreprocessorCacheEntry,
-    PreprocessorCacheModeConfig, Sha256State, Timestamp, gather, includes_match, local_time_part,
-    preprocessor_cache_entry_hash_key, recorded_digest,
+    EntryView, Error, FileKind, IncludeEntry, KnownDigests, Language, MapFiles, Node,
+    PreprocessorCacheEntry, PreprocessorCacheModeConfig, Sha256State, Timestamp, gather,
+    includes_match, local_time_part, preprocessor_cache_entry_hash_key, recorded_digest,
 };
 use jiff::tz::{Offset, TimeZone};
 use std::alloc::Global;
@@ -170,5 +170,26 @@ fn each_header_is_read_once(rt: HostRuntime) -> Result<(), Fail> {
     )?;
     assert!(rt; found == Some("a"));
     assert_eq!(rt; files.reads, 2);
+    Ok(())
+}
+
+// The same in the entry's bytes, as a call finds a stored key.
+#[test]
+fn a_stored_entry_is_looked_up_in_its_bytes(rt: HostRuntime) -> Result<(), Fail> {
+    let alloc = rt.alloc();
+    let mut files = files_of(alloc, &[(b"/1", b"x"), (b"/2", b"y")])?;
+    let mut bytes: Vec<u8> = Vec::new(alloc);
+    two_results(alloc, &mut files)?.serialize_to(&mut bytes)?;
+    let view = EntryView::read(alloc, &bytes)?;
+    assert_eq!(rt; (view.result_count(), view.number_of_entries()), (2, 4));
+    let found = view.lookup_result_digest::<Sha256State, MapFiles>(
+        alloc,
+        &mut files,
+        Timestamp::new(2000, 0),
+        &TimeZone::UTC,
+        &[],
+        PreprocessorCacheModeConfig::activated(),
+    )?;
+    assert!(rt; found == Some("a"));
     Ok(())
 }

@@ -2,8 +2,9 @@
 use crate::cases::Cases;
 use crate::shown::{write_counts, write_entry, write_includes};
 use cck_cases::{CaseError, FailingWriter, Line, Value, number, words_of};
-use cck_entry::{Error, KnownDigests, PreprocessorCacheEntry, gather, includes_match};
+use cck_entry::{EntryView, Error, KnownDigests, PreprocessorCacheEntry, gather, includes_match};
 use cck_util::{Digest, MapFiles, Sha256State, UtilError};
+use std::alloc::Global;
 
 #[derive(Clone, Copy)]
 pub(crate) enum EntryCall {
@@ -45,7 +46,7 @@ pub(crate) fn call<'a>(
 ) -> Result<Value<'a>, CaseError> {
     match call {
         EntryCall::Read => read(cases, line.bytes),
-        EntryCall::Prefixes => Ok(Value::Word(prefixes(cases, line.bytes))),
+        EntryCall::Prefixes => Ok(Value::Word(prefixes(cases, line.bytes)?)),
         EntryCall::Show => show(cases),
         EntryCall::Debug => debug(cases),
         EntryCall::Written => Ok(Value::Bytes(written(cases)?)),
@@ -55,15 +56,36 @@ pub(crate) fn call<'a>(
         EntryCall::AddEach => add_each(cases, number(line.rest)?),
         EntryCall::Gather => gathered(cases),
         EntryCall::Matches => matches(cases, line.rest),
-        EntryCall::LookUp => Ok(Value::Part(look_up(cases)?)),
+        EntryCall::LookUp => shown_look_up(cases),
         EntryCall::LookUpAmong => look_up_among(cases, line.rest),
     }
 }
 
-// Keeps the entry of these bytes, and shows it.
+// Keeps the entry of these bytes, and shows it. It is said where a view of them is another one.
 fn read<'a>(cases: &'a mut Cases, bytes: &[u8]) -> Result<Value<'a>, CaseError> {
-    cases.entry = PreprocessorCacheEntry::read(cases.alloc, bytes)?;
+    let entry = PreprocessorCacheEntry::read(cases.alloc, bytes);
+    if !is_viewed_alike(cases.alloc, bytes, &entry)? {
+        return Ok(Value::Word("viewed as another entry"));
+    }
+    cases.entry = entry?;
     show(cases)
+}
+
+// Whether a view of these bytes has as many results and includes, or is refused as they are.
+fn is_viewed_alike(
+    alloc: Global,
+    bytes: &[u8],
+    entry: &Result<PreprocessorCacheEntry, Error>,
+) -> Result<bool, Error> {
+    match (EntryView::read(alloc, bytes), entry) {
+        (Err(Error::Memory), _) | (_, Err(Error::Memory)) => Err(Error::Memory),
+        (Ok(view), Ok(entry)) => Ok(
+            view.result_count() == entry.result_count()
+                && view.number_of_entries() == entry.number_of_entries(),
+        ),
+        (Err(viewed), Err(read)) => Ok(viewed == *read),
+        _ => Ok(false),
+    }
 }
 
 // The counts, and a line for each result and each include. It is said where a copy of the entry is
@@ -77,17 +99,16 @@ fn show<'a>(cases: &'a Cases) -> Result<Value<'a>, CaseError> {
     Ok(Value::Bytes(text))
 }
 
-// Whether each beginning that isn't empty is damaged.
-fn prefixes(cases: &Cases, bytes: &[u8]) -> &'static str {
+// Whether each beginning that isn't empty is damaged, for a view too.
+fn prefixes(cases: &Cases, bytes: &[u8]) -> Result<&'static str, CaseError> {
     for end in 1..bytes.len() {
-        if !matches!(
-            PreprocessorCacheEntry::read(cases.alloc, &bytes[..end]),
-            Err(Error::Deserialization)
-        ) {
-            return "not each is damaged";
+        let entry = PreprocessorCacheEntry::read(cases.alloc, &bytes[..end]);
+        let is_viewed_alike = is_viewed_alike(cases.alloc, &bytes[..end], &entry)?;
+        if !matches!(entry, Err(Error::Deserialization)) || !is_viewed_alike {
+            return Ok("not each is damaged");
         }
     }
-    "each is damaged"
+    Ok("each is damaged")
 }
 
 fn debug<'a>(cases: &'a Cases) -> Result<Value<'a>, CaseError> {
@@ -176,6 +197,26 @@ fn matches<'a>(cases: &'a mut Cases, key: &str) -> Result<Value<'a>, CaseError> 
         &cases.given.variables,
         cases.world.config,
     )?))
+}
+
+// The key of the result that still matches. It is said where a view of the entry's bytes, with the
+// same files, finds another one.
+fn shown_look_up<'a>(cases: &'a mut Cases) -> Result<Value<'a>, CaseError> {
+    let bytes = written(cases)?;
+    let view = EntryView::read(cases.alloc, &bytes)?;
+    let viewed = view.lookup_result_digest::<Sha256State, MapFiles>(
+        cases.alloc,
+        &mut cases.world.files.copy(cases.alloc)?,
+        cases.world.moment,
+        &cases.wanted.zone,
+        &cases.given.variables,
+        cases.world.config,
+    )?;
+    let found = look_up(cases)?;
+    if viewed.map(|key| key.as_bytes()) != found {
+        return Ok(Value::Word("found as another key in a view"));
+    }
+    Ok(Value::Part(found))
 }
 
 // The key of the result that still matches.

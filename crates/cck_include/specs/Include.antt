@@ -4,6 +4,7 @@ use Rattle.std.specs.Cmp.Lexicographic.{pointwise}
 use Rattle.std.specs.Option.{option_eq}
 use Rattle.std.specs.String.{string_bytes}
 use Rattle.cck_include.specs.declared.include.IncludeEntry.{IncludeEntry}
+use Rattle.cck_include.specs.declared.include.IncludeRef.{IncludeRef}
 use Rattle.cck_path.specs.Timestamp.{Moment, same_moment}
 
 -- a file that was included, as it was then
@@ -20,6 +21,10 @@ include_in i = record { path = i.path.items; digest = string_bytes i.digest; siz
 
 abbrev pub includes_in : List IncludeEntry → List Include
 includes_in is = map include_in is
+
+-- what is recorded in one value whose path and digest stand elsewhere
+abbrev pub include_lent : IncludeRef → Include
+include_lent i = record { path = i.path.now; digest = i.digest.now; size = i.file_size; modified = i.mtime; changed = i.ctime }
 
 -- when two are equal, as a test
 abbrev pub same_include : Include → Include → Bool

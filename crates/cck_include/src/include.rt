@@ -1,6 +1,6 @@
 //! Files that were included.
 ghost use Rattle.std.specs.Prelude.{◌≡◌, IfErr, IfOk};
-ghost use Rattle.cck_include.specs.Include.{include_in};
+ghost use Rattle.cck_include.specs.Include.{include_in, include_lent};
 
 use cck_path::Timestamp;
 use cck_time::Error;
@@ -24,6 +24,19 @@ pub struct IncludeEntry {
 }
 
 impl IncludeEntry {
+    /// The same values, where they are. It takes no memory.
+    pub fn lend(&self) -> IncludeRef<'_>
+        ensures { include_lent result ≡ include_in self.now }
+    {
+        IncludeRef {
+            path: &self.path,
+            digest: &self.digest,
+            file_size: self.file_size,
+            mtime: self.mtime,
+            ctime: self.ctime,
+        }
+    }
+
     /// The same values, in memory of their own.
     ///
     /// [`Error::Memory`] is the only refusal.
@@ -31,9 +44,37 @@ impl IncludeEntry {
         ensures value { IfOk result (λ copy. include_in copy ≡ include_in self.now) }
         ensures err { IfErr result (λ e. e ≡ Error.Memory) }
     {
+        self.lend().copy(alloc)
+    }
+}
+
+/// A file that was included, with its path and its digest where they stand: in an
+/// [`IncludeEntry`], or in the bytes of an entry. The fields are those of an [`IncludeEntry`].
+#[derive(Clone, Copy, Debug)]
+pub struct IncludeRef<'a> {
+    /// The path of the file, any bytes.
+    pub path: &'a [u8],
+    /// The digest that was recorded of the file.
+    pub digest: &'a str,
+    /// How many bytes the file had.
+    pub file_size: u64,
+    /// When its contents were last modified, if that is to be compared.
+    pub mtime: Option<Timestamp>,
+    /// When the file was last changed, if that is to be compared.
+    pub ctime: Option<Timestamp>,
+}
+
+impl IncludeRef<'_> {
+    /// The same values, in memory of their own.
+    ///
+    /// [`Error::Memory`] is the only refusal.
+    pub fn copy(&self, alloc: Global) -> Result<IncludeEntry, Error>
+        ensures value { IfOk result (λ copy. include_in copy ≡ include_lent self.now) }
+        ensures err { IfErr result (λ e. e ≡ Error.Memory) }
+    {
         Ok(IncludeEntry {
-            path: Vec::from_slice(alloc, &self.path)?,
-            digest: String::from_str(alloc, &self.digest)?,
+            path: Vec::from_slice(alloc, self.path)?,
+            digest: String::from_str(alloc, self.digest)?,
             file_size: self.file_size,
             mtime: self.mtime,
             ctime: self.ctime,

@@ -10,8 +10,9 @@
 //! - [`gather`] records each file that a result included as an [`IncludeEntry`]: its path, recorded
 //!   digest and size, and its times where both lie before the moment of the recording.
 //! - [`includes_match`] says whether such files still are what they were. A file of another size is
-//!   not; where the options let its times decide, it need not be read. [`KnownDigests`] keeps what
-//!   one look-up finds, so that it reads no file twice.
+//!   not; where the options let its times decide, it need not be read. [`include_matches`] says it
+//!   of one file, an [`IncludeRef`], whose path and digest may stand in other bytes.
+//!   [`KnownDigests`] keeps what one look-up finds, so that it reads no file twice.
 //! - [`laws`] has what equal recorded digests tell.
 //!
 //! ```rust
@@ -33,7 +34,7 @@ mod recorded;
 mod refusal;
 
 pub use gathering::gather;
-pub use include::IncludeEntry;
+pub use include::{IncludeEntry, IncludeRef};
 pub use known::KnownDigests;
-pub use matching::includes_match;
+pub use matching::{include_matches, includes_match};
 pub use recorded::recorded_digest;

@@ -6,12 +6,12 @@ ghost use Rattle.cck_files.specs.Calls.{Keeps, Rose};
 ghost use Rattle.cck_files.specs.FileMap.{file_at};
 ghost use Rattle.cck_path.specs.Path.{components};
 ghost use Rattle.jiff.specs.Words.{plain_zone};
-ghost use Rattle.cck_include.specs.Include.{include_in, includes_in};
+ghost use Rattle.cck_include.specs.Include.{include_lent, includes_in};
 ghost use Rattle.cck_include.specs.Known.{AreKnown, known_at};
 ghost use Rattle.cck_include.specs.Matching.{MayMiss, digest_found, is_digest, is_moment, matches, times_agree};
 ghost use Rattle.cck_include.specs.Setting.{setting_in};
 
-use crate::{IncludeEntry, KnownDigests, recorded_digest};
+use crate::{IncludeEntry, IncludeRef, KnownDigests, recorded_digest};
 use cck_digest::HashState;
 use cck_files::Files;
 use cck_path::{FileKind, Metadata, Timestamp};
@@ -40,7 +40,7 @@ fn is_moment(time: Option<Timestamp>, expected: Timestamp) -> bool
 }
 
 // Whether the times that were recorded are the file's.
-fn times_agree(include: &IncludeEntry, metadata: &Metadata, uses_changed: bool) -> bool
+fn times_agree(include: &IncludeRef<'_>, metadata: &Metadata, uses_changed: bool) -> bool
     ensures { result ≡ times_agree uses_changed include.now.mtime include.now.ctime
         metadata.now.modified metadata.now.changed }
 {
@@ -57,7 +57,7 @@ fn times_agree(include: &IncludeEntry, metadata: &Metadata, uses_changed: bool) 
 
 // Whether the times alone are enough, by these options.
 fn times_accept(
-    include: &IncludeEntry,
+    include: &IncludeRef<'_>,
     metadata: &Metadata,
     config: PreprocessorCacheModeConfig,
 ) -> bool
@@ -118,13 +118,15 @@ fn is_recorded<H: HashState, F: Files>(
     }
 }
 
-// Whether what stands at the path of an include is what was included. With a fault it may be
-// answered that it isn't.
-fn include_matches<H: HashState, F: Files>(
+/// Whether this included file still is what it was, as [`includes_match`] has it of several. Where
+/// a fault came, it may be answered that it isn't. `known` is that of [`includes_match`].
+///
+/// It is refused only as [`Error::Memory`].
+pub fn include_matches<H: HashState, F: Files>(
     alloc: Global,
     files: &mut F,
     known: &mut KnownDigests,
-    include: &IncludeEntry,
+    include: &IncludeRef<'_>,
     moment: Timestamp,
     zone: &TimeZone<'_>,
     vars: &[(Vec<u8>, Vec<u8>)],
@@ -136,10 +138,10 @@ fn include_matches<H: HashState, F: Files>(
     ensures answer { let s = setting_in H.hash config moment (plain_zone zone.now) vars.now in
         AreKnown s (F.file_map files.old) known.old
         → IfOk result (λ answer. MayMiss (Rose (F.faults files.old) (F.faults files.new)) answer
-        (matches s (F.file_map files.old) (include_in include.now))) }
+        (matches s (F.file_map files.old) (include_lent include.now))) }
     ensures refused { IsOkUnless result Error.Memory }
 {
-    let metadata = match files.metadata(&include.path) {
+    let metadata = match files.metadata(include.path) {
         Ok(metadata) => metadata,
         Err(_) => return Ok(false),
     };
@@ -156,8 +158,8 @@ fn include_matches<H: HashState, F: Files>(
         alloc,
         files,
         known,
-        &include.path,
-        &include.digest,
+        include.path,
+        include.digest,
         moment,
         zone,
         vars,
@@ -197,7 +199,14 @@ pub fn includes_match<H: HashState, F: Files>(
 {
     for include in includes {
         let matches = include_matches::<H, F>(
-            alloc, files, known, include, moment, zone, vars, config,
+            alloc,
+            files,
+            known,
+            &include.lend(),
+            moment,
+            zone,
+            vars,
+            config,
         )?;
         if !matches {
             return Ok(false);

@@ -13,7 +13,7 @@ use crate::conditions::Conditions;
 use crate::refusals::entry_refusal;
 use cck_compiler::KeyError;
 use cck_digest::HashState;
-use cck_entry::PreprocessorCacheEntry;
+use cck_entry::EntryView;
 use cck_files::Files;
 use cck_store::{PreprocessorStore, StoreError};
 use std::alloc::Global;
@@ -66,11 +66,11 @@ fn ask<H: HashState, F: Files, S: PreprocessorStore>(
         Err(StoreError::Fault) => return Err(KeyError::Store),
         Err(StoreError::Memory) => return Err(KeyError::Memory),
     };
-    let entry = match PreprocessorCacheEntry::read(alloc, &bytes) {
-        Ok(entry) => entry,
+    let view = match EntryView::read(alloc, &bytes) {
+        Ok(view) => view,
         Err(error) => return Err(entry_refusal(error)),
     };
-    let found = match entry.lookup_result_digest::<H, F>(
+    let found = match view.lookup_result_digest::<H, F>(
         alloc,
         files,
         conditions.moment,

@@ -46,7 +46,7 @@ loop-key-preserved g c =
         (c.in-Some.key.now, c.in-Some.includes.now) ∷ c.loop-key.invariant.seen.0,
         c.loop-key.invariant.seen.1 ∙ ap (λ l. l ++ c.loop-key.invariant.seen.0) c.in-Some.ensures.steps ∙ append_assoc (rev_source c.next.new.self) ((c.in-Some.key.now, c.in-Some.includes.now) ∷ []) c.loop-key.invariant.seen.0,
       );
-      so_far = misses (matches s old) (rev_source c.loop-key.key-iterator) (rev_source c.next.new.self) (c.in-Some.key.now, c.in-Some.includes.now) _
+      so_far = misses result_in (matches s old) (rev_source c.loop-key.key-iterator) (rev_source c.next.new.self) (c.in-Some.key.now, c.in-Some.includes.now) _
           (F.faults c.args.files.now) (F.faults c.loop-key.files) (F.faults c.includes_match.new.files)
           c.in-Some.ensures.steps c.loop-key.invariant.keeps.not_lower c.in_ok-matches.ensures.keeps.not_lower c.loop-key.invariant.so_far there;
     }
@@ -60,6 +60,6 @@ returns-then-matches-clause-answer g c =
     let R = Rose (F.faults c.loop-key.files) (F.faults c.includes_match.new.files) in
     let there : MayMiss R true (list_all (matches s old) (includes_in c.in-Some.includes.now.items)) =
     rw (← c.deref.ensures.value, ← c.loop-key.invariant.keeps.same_map) (subst (λ b. MayMiss R b (list_all (matches s (F.file_map c.loop-key.files)) (includes_in c.deref.result.now))) c.if-matches.true (c.in_ok-matches.ensures.answer right)) in
-    rw c.as_str.ensures.value (hits (matches s old) c.args.results.now.entries (rev_source c.loop-key.key-iterator) (rev_source c.next.new.self) c.loop-key.invariant.seen.0 (c.in-Some.key.now, c.in-Some.includes.now)
+    rw c.as_str.ensures.value (hits result_in (matches s old) c.args.results.now.entries (rev_source c.loop-key.key-iterator) (rev_source c.next.new.self) c.loop-key.invariant.seen.0 (c.in-Some.key.now, c.in-Some.includes.now)
     (F.faults c.args.files.now) (F.faults c.loop-key.files) (F.faults c.includes_match.new.files)
     c.in-Some.ensures.steps c.loop-key.invariant.seen.1 c.in_ok-matches.ensures.keeps.not_lower c.loop-key.invariant.so_far there)

@@ -1,8 +1,8 @@
-use Rattle.std.proofs.Common.{rules, ◌≡◌, ◌+◌, true, subst, drop, arith}
+use Rattle.std.proofs.Common.{rules, ◌≡◌, ◌+◌, true, subst, drop}
 use Rattle.cck_files.proofs.CallsLemmas.{keeps_all}
 use Rattle.cck_files.specs.Calls.{Rose}
 use Rattle.cck_include.proofs.MatchLemmas.{all_more, rest_here}
-use Rattle.cck_include.specs.Include.{include_in, includes_in}
+use Rattle.cck_include.specs.Include.{include_in, include_lent, includes_in}
 use Rattle.cck_include.specs.Known.{AreKnown}
 use Rattle.cck_include.specs.Matching.{MayMiss, matches}
 use Rattle.cck_include.specs.Setting.{setting_in}
@@ -28,7 +28,7 @@ loop-include-preserved g c =
     let R = Rose (F.faults c.loop-include.files) (F.faults c.include_matches.new.files) in
     let is : c.in_ok-matches.matches ≡ true = search rules in
     let fits : AreKnown s old c.args.known.now → matches s old (include_in x) ≡ true = λ right.
-    rw (← c.loop-include.invariant.keeps.same_map) (subst (λ b. MayMiss R b (matches s (F.file_map c.loop-include.files) (include_in x))) is (c.in_ok-matches.ensures.answer (before right))) in
+    rw (← c.lend.ensures, ← c.loop-include.invariant.keeps.same_map) (subst (λ b. MayMiss R b (matches s (F.file_map c.loop-include.files) (include_lent c.lend.result))) is (c.in_ok-matches.ensures.answer (before right))) in
     record {
       keeps = keeps_all _ _ _ c.loop-include.invariant.keeps c.in_ok-matches.ensures.keeps;
       known = λ right. subst (λ m. AreKnown s m c.include_matches.new.known) c.loop-include.invariant.keeps.same_map (c.include_matches.ensures.known (before right));

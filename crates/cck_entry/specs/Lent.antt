@@ -1,0 +1,42 @@
+-- results where they stand in the bytes of an entry
+use Rattle.std.specs.Prelude.{◌≡◌, ℕ, ◌+◌, List, [], ◌∷◌, map, true, Option, Some, None, IsSome}
+use Rattle.std.specs.FinMap.{from_sorted, is_sorted}
+use Rattle.std.specs.List.{AllByRecursion}
+use Rattle.cck_include.specs.Include.{Include}
+use Rattle.cck_path.specs.TextOrder.{text_cmp}
+use Rattle.cck_entry.specs.Entry.{Entry, include_count}
+use Rattle.cck_entry.specs.Reading.{includes_at}
+use Rattle.cck_entry.specs.Results.{KeyResult}
+use Rattle.cck_entry.specs.declared.lent.ResultRef.{ResultRef}
+
+-- the includes that were read, if they were
+abbrev pub begun : Option (List Include × List ℕ) → List Include
+begun None = []
+begun (Some x) = x.0
+
+-- so many includes that bytes begin with, and none where they begin with something else
+abbrev pub includes_begun : ℕ → List ℕ → List Include
+includes_begun n bytes = begun (includes_at n bytes)
+
+-- the result that is lent
+abbrev pub result_lent : ResultRef → KeyResult
+result_lent r = (r.key.now, includes_begun r.count r.includes.now)
+
+-- all of its includes can be read
+abbrev pub IsWhole : ResultRef → Type 0
+IsWhole r = IsSome (includes_at r.count r.includes.now)
+
+-- how many includes all have together
+abbrev pub counts : List ResultRef → ℕ
+counts [] = 0
+counts (r ∷ rs) = r.count + counts rs
+
+-- the entry that has these results
+abbrev pub entry_lent : List ResultRef → Entry
+entry_lent rs = from_sorted (map result_lent rs)
+
+-- what a view keeps: its keys ascend, each result is whole, and their includes are so many together
+pub record IsView (rs : List ResultRef) (number : ℕ) : Type 0 where
+  pub ascend : is_sorted text_cmp (map result_lent rs) ≡ true
+  pub whole : AllByRecursion IsWhole rs
+  pub count : number ≡ include_count (map result_lent rs)

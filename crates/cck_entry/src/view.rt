@@ -1,0 +1,116 @@
+//! Entries that are looked at where their bytes lie.
+ghost use Rattle.std.specs.Prelude.{◌≡◌, map, true};
+ghost use Rattle.std.specs.FinMap.{empty, entries, is_sorted, len};
+ghost use Rattle.std.specs.List.{AllByRecursion};
+ghost use Rattle.cck_path.specs.TextOrder.{text_cmp};
+ghost use Rattle.cck_entry.specs.Entry.{Entry, EntryText, IsEntryOrMemory, IsReadFrom, Reads, include_count};
+ghost use Rattle.cck_entry.specs.Lent.{IsWhole, result_lent};
+
+use crate::lent::{ResultRef, total};
+use crate::reading::read_entry;
+use cck_preprocessor_key::FORMAT_VERSION;
+use cck_time::Error;
+use std::alloc::Global;
+use std::fmt::{Debug, Formatter};
+use std::marker::Model;
+
+/// An entry in the bytes of its text: it knows where each result stands there, and copies no key,
+/// path or digest. It is for a look-up in what a store hands out; the entry that grows is
+/// [`PreprocessorCacheEntry`](crate::PreprocessorCacheEntry).
+#[derive(Drop)]
+pub struct EntryView<'a> {
+    /// How many includes all results have together.
+    number_of_entries: usize,
+    results: Vec<ResultRef<'a>>,
+}
+
+impl<'a> Model for EntryView<'a> {
+    ghost use Rattle.cck_entry.specs.Entry.{Entry, entry_code};
+    ghost use Rattle.cck_entry.specs.Lent.{IsView, entry_lent};
+
+    ghost Value = { Entry };
+
+    ghost coded = { entry_code };
+
+    ghost view = { λ a. entry_lent a.results.items };
+
+    ghost invariant = { λ a. IsView a.results.items a.number_of_entries };
+}
+
+impl<'a> EntryView<'a> {
+    /// The view without results.
+    fn new(alloc: Global) -> EntryView<'a>
+        ensures { result ≡ empty }
+    {
+        EntryView {
+            number_of_entries: 0,
+            results: Vec::new(alloc),
+        }
+    }
+
+    /// The entry whose text these bytes are; for no bytes it is the one without results.
+    ///
+    /// It accepts and refuses as
+    /// [`PreprocessorCacheEntry::read`](crate::PreprocessorCacheEntry::read):
+    /// [`Error::UnknownFormat`] names a first byte other than 1, [`Error::Deserialization`] says that
+    /// the bytes begin with 1 and are the text of no entry, and [`Error::Memory`] that memory was
+    /// refused. Memory is taken once, for as many results as the bytes name, after this count was
+    /// judged by the bytes left.
+    pub fn read(alloc: Global, bytes: &'a [u8]) -> Result<EntryView<'a>, Error>
+        ensures reads { Reads result bytes.now }
+        ensures only { (e : Entry) → EntryText e bytes.now → IsEntryOrMemory e result }
+    {
+        let Some((version, rest)) = bytes.split_first() else {
+            return Ok(EntryView::new(alloc));
+        };
+        if *version != FORMAT_VERSION {
+            return Err(Error::UnknownFormat(*version));
+        }
+        read_body(alloc, rest)
+    }
+
+    /// How many results there are.
+    pub fn result_count(&self) -> usize
+        ensures { result ≡ len self.now }
+    {
+        self.results.len()
+    }
+
+    /// How many includes all results have together, known without going over them.
+    pub fn number_of_entries(&self) -> usize
+        ensures { result ≡ include_count (entries self.now) }
+    {
+        self.number_of_entries
+    }
+
+    /// The results, in the order of their keys' bytes.
+    pub(crate) fn results(&self) -> &[ResultRef<'a>]
+        ensures entries { entries self.now ≡ map result_lent result.now }
+        ensures ascend { is_sorted text_cmp (map result_lent result.now) ≡ true }
+        ensures whole { AllByRecursion IsWhole result.now }
+    {
+        &self.results
+    }
+}
+
+impl Debug for EntryView<'_> {
+    fn fmt<W: std::fmt::Write>(&self, f: &mut Formatter<W>) -> std::fmt::Result {
+        f.debug_struct("EntryView")
+            .field("number_of_entries", &self.number_of_entries)
+            .field("result_count", &self.results.len())
+            .finish()
+    }
+}
+
+/// The entry of the bytes behind the format.
+fn read_body(alloc: Global, rest: &[u8]) -> Result<EntryView<'_>, Error>
+    ensures { IsReadFrom rest.now result }
+{
+    match read_entry(alloc, rest) {
+        Ok(results) => Ok(EntryView {
+            number_of_entries: total(&results),
+            results,
+        }),
+        Err(error) => Err(error),
+    }
+}
