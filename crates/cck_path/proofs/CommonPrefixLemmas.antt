@@ -1,7 +1,7 @@
 -- The order of two paths that begin with the same bytes.
 use Rattle.std.proofs.Common.{◌≡◌, ℕ, zero, suc, ◌+◌, ◌<◌, ◌≤◌, List, [], ◌∷◌, ◌++◌, length, get_or, take, drop, Bool, true, false, cond, Equal, refl, sym, ap, ◌∙◌, arith, nat_eq}
 use Rattle.std.specs.List.{common_prefix_len}
-use Rattle.std.proofs.lemmas.Bool.{eqb-true}
+use Rattle.std.proofs.lemmas.Bool.{eq-eqb, eqb-true}
 use Rattle.std.proofs.lemmas.List.{take-append-drop, get_or-take}
 use Rattle.std.proofs.lemmas.List.Sums.{common_prefix_len-le}
 use Rattle.std.proofs.Math.Seq.{take-length}
@@ -20,6 +20,15 @@ same_prefix (x ∷ a) (y ∷ b) (suc n) h = by_test (nat_eq x y) refl h (same_pr
     by_test : (t : Bool) → nat_eq x y ≡ t → suc n ≤ cond t (1 + common_prefix_len nat_eq a b) 0 → (n ≤ common_prefix_len nat_eq a b → take n a ≡ take n b) → x ∷ take n a ≡ y ∷ take n b
     by_test true e le more = ap (λ c. c ∷ take n a) (eqb-true x y e) ∙ ap (λ s. y ∷ s) (more (omega arith))
     by_test false e le more = absurd (omega arith)
+
+-- bytes that are the same at the beginning of both texts count, and then those after them
+pub same_front : (n : ℕ) (a b : List ℕ) → n ≤ length a → n ≤ length b → take n a ≡ take n b → common_prefix_len nat_eq a b ≡ n + common_prefix_len nat_eq (drop n a) (drop n b)
+same_front zero a b in_a in_b e = omega arith
+same_front (suc n) [] b in_a in_b e = absurd (omega arith)
+same_front (suc n) (x ∷ a) [] in_a in_b e = absurd (omega arith)
+same_front (suc n) (x ∷ a) (y ∷ b) in_a in_b e =
+    let more = same_front n a b (omega arith) (omega arith) (ap (drop 1) e) in
+    ap (λ t. cond t (1 + common_prefix_len nat_eq a b) 0) (eq-eqb x y (ap (λ s. get_or s 0 0) e)) ∙ omega (arith, more)
 
 ends_cons : (c : ℕ) (s : List ℕ) → ends_in_slash s ≡ true → ends_in_slash (c ∷ s) ≡ true
 ends_cons c [] e = cc

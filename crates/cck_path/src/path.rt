@@ -1,5 +1,5 @@
 //! Paths: byte strings that are read as lists of components.
-ghost use Rattle.std.specs.Prelude.{◌≡◌, ◌≢◌, ◌++◌, ◌<◌, ◌≤◌, ◌∷◌, [], length, map, nat_eq, OnOk, IfOk, IsOkUnless, MatchOption, MatchBool, option_to_list};
+ghost use Rattle.std.specs.Prelude.{◌≡◌, ◌≢◌, ◌++◌, ◌<◌, ◌≤◌, ◌∷◌, ◌+◌, [], drop, length, map, nat_eq, OnOk, IfOk, IsOkUnless, MatchOption, MatchBool, option_to_list};
 ghost use Rattle.std.specs.List.{common_prefix_len, join_with_byte};
 ghost use Rattle.std.specs.Option.{option_copied, option_map, option_and_then};
 ghost use Rattle.std.specs.Iterator.{YieldsFirstBy, at_most};
@@ -15,6 +15,9 @@ use memchr::{memchr, memrchr};
 use std::alloc::Global;
 use std::cmp::Ordering;
 use std::io::Write;
+
+// Texts are compared by so many bytes at once as long as they are the same.
+const CHUNK_LEN: usize = 32;
 
 /// A component of a path, as `std::path::Component` on Unix. Components are ordered as listed here,
 /// and names by their bytes.
@@ -186,9 +189,26 @@ fn common_prefix_len(a: &[u8], b: &[u8]) -> usize
     ensures in_first { result ≤ length a.now }
     ensures in_second { result ≤ length b.now }
 {
-    let mut at = 0;
+    let mut at = same_chunks_len(a, b);
     while at < a.len() && at < b.len() && a[at] == b[at] {
         at += 1;
+    }
+    at
+}
+
+// How many bytes the chunks have that are the same at the beginning of both texts.
+fn same_chunks_len(a: &[u8], b: &[u8]) -> usize
+    ensures in_first { result ≤ length a.now }
+    ensures in_second { result ≤ length b.now }
+    ensures counted { common_prefix_len nat_eq a.now b.now
+        ≡ result + common_prefix_len nat_eq (drop result a.now) (drop result b.now) }
+{
+    let mut at = 0;
+    while CHUNK_LEN <= a.len() - at
+        && CHUNK_LEN <= b.len() - at
+        && a[at..at + CHUNK_LEN] == b[at..at + CHUNK_LEN]
+    {
+        at += CHUNK_LEN;
     }
     at
 }
