@@ -34,7 +34,7 @@ fn a_map_of_paths(rt: HostRuntime) -> Result<(), Fail> {
     map.insert(b"/a-b", 2)?;
     map.insert(b"/a/x", 1)?;
     assert_eq!(rt; map.get(b"//a/./x/").copied(), Some(1));
-    let first = map.entries().first().ok_or("an entry")?;
+    let first = map.entries().next().ok_or("an entry")?;
     assert_eq!(rt; first.path.as_slice(), b"/a/x".as_slice());
     assert_eq!(rt; map.remove(b"/a-b/"), Some(2));
     assert_eq!(rt; map.len(), 1);

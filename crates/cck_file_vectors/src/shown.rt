@@ -1,7 +1,7 @@
 //! How results are written that several calls return.
 use cck_cases::write_moment;
 use cck_entry::{IncludeEntry, PreprocessorCacheEntry};
-use cck_path_map::Entry;
+use cck_path_map::Entries;
 use cck_util::{FileKind, Metadata};
 use std::alloc::{AllocError, Global};
 
@@ -16,7 +16,7 @@ fn end_line(text: &mut Vec<u8>) -> Result<(), AllocError> {
 /// Writes a line for each path and its value.
 pub(crate) fn write_pairs(
     text: &mut Vec<u8>,
-    entries: &[Entry<Vec<u8>>],
+    entries: Entries<'_, Vec<u8>>,
 ) -> Result<(), AllocError> {
     for entry in entries {
         end_line(text)?;

@@ -37,9 +37,8 @@ pub(crate) fn child_names<V>(
         HasChildNames paths.now (components folder.now) (map vec_items names.items)) }
     ensures refused { IsOkUnless result FileError.Memory }
 {
-    let entries = paths.entries();
     let mut names = Vec::new(alloc);
-    for entry in entries {
+    for entry in paths.entries() {
         if let Some(name) = child_name(folder, &entry.path) {
             names.push(name.to_vec(alloc)?)?;
         }

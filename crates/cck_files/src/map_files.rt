@@ -187,9 +187,8 @@ fn copy_places(alloc: Global, places: &PathMap<Place>) -> Result<PathMap<Place>,
     ensures same { IfOk result (λ copy. files_of copy ≡ files_of places.now) }
     ensures refused { IsOkUnless result UtilError.Memory }
 {
-    let entries = places.entries();
     let mut copy = PathMap::new(alloc);
-    for entry in entries {
+    for entry in places.entries() {
         let place = entry.value.copy(alloc)?;
         copy.insert(&entry.path, place)?;
     }

@@ -1,4 +1,5 @@
 pub mod CaseLemmas
+pub mod CommonPrefixLemmas
 pub mod ComponentLemmas
 pub mod DurationLemmas
 pub mod EqualityLemmas

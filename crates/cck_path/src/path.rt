@@ -1,6 +1,6 @@
 //! Paths: byte strings that are read as lists of components.
-ghost use Rattle.std.specs.Prelude.{◌≡◌, ◌≢◌, ◌++◌, ◌<◌, ◌∷◌, [], length, map, OnOk, IfOk, IsOkUnless, MatchOption, MatchBool, option_to_list};
-ghost use Rattle.std.specs.List.{join_with_byte};
+ghost use Rattle.std.specs.Prelude.{◌≡◌, ◌≢◌, ◌++◌, ◌<◌, ◌≤◌, ◌∷◌, ◌+◌, [], drop, length, map, nat_eq, OnOk, IfOk, IsOkUnless, MatchOption, MatchBool, option_to_list};
+ghost use Rattle.std.specs.List.{common_prefix_len, join_with_byte};
 ghost use Rattle.std.specs.Option.{option_copied, option_map, option_and_then};
 ghost use Rattle.std.specs.Iterator.{YieldsFirstBy, at_most};
 ghost use Rattle.std.specs.Io.KnownBytes.{Appends};
@@ -15,6 +15,9 @@ use memchr::{memchr, memrchr};
 use std::alloc::Global;
 use std::cmp::Ordering;
 use std::io::Write;
+
+// Texts are compared by so many bytes at once as long as they are the same.
+const CHUNK_LEN: usize = 32;
 
 /// A component of a path, as `std::path::Component` on Unix. Components are ordered as listed here,
 /// and names by their bytes.
@@ -52,6 +55,16 @@ impl<'a> Components<'a> {
         Components {
             rest: path,
             has_started: false,
+        }
+    }
+
+    // The components of what follows a `/` in a path. It has no root, and its first `.` is left out.
+    fn after(rest: &'a [u8]) -> Components<'a>
+        ensures { components_left result ≡ inner_components rest.now }
+    {
+        Components {
+            rest,
+            has_started: true,
         }
     }
 }
@@ -141,10 +154,63 @@ fn part_component(part: &[u8]) -> Option<Component<'_>>
 
 /// The order of two paths: that of their lists of components, with a beginning before what it
 /// begins. It takes no memory.
+///
+/// Paths of the same bytes are equal at once. Else components are read only from the part on in
+/// which the first different byte stands.
+#[tactic(auto, using(crate::proofs::CommonPrefixLemmas::same_bytes))]
 pub fn compare_paths(a: &[u8], b: &[u8]) -> Ordering
     ensures { result ≡ path_cmp (components a.now) (components b.now) }
 {
-    Components::new(a).cmp(Components::new(b))
+    let same = common_prefix_len(a, b);
+    if same == a.len() && same == b.len() {
+        return Ordering::Equal;
+    }
+    match memrchr(b'/', &a[..same]) {
+        Some(slash) => {
+            compare_components(
+                Components::after(&a[slash + 1..]),
+                Components::after(&b[slash + 1..]),
+            )
+        }
+        None => compare_components(Components::new(a), Components::new(b)),
+    }
+}
+
+// The order of two lists of components.
+fn compare_components(a: Components<'_>, b: Components<'_>) -> Ordering
+    ensures { result ≡ path_cmp (components_left a.entry) (components_left b.entry) }
+{
+    a.cmp(b)
+}
+
+// How many bytes are the same at the beginning of both texts.
+fn common_prefix_len(a: &[u8], b: &[u8]) -> usize
+    ensures count { result ≡ common_prefix_len nat_eq a.now b.now }
+    ensures in_first { result ≤ length a.now }
+    ensures in_second { result ≤ length b.now }
+{
+    let mut at = same_chunks_len(a, b);
+    while at < a.len() && at < b.len() && a[at] == b[at] {
+        at += 1;
+    }
+    at
+}
+
+// How many bytes the chunks have that are the same at the beginning of both texts.
+fn same_chunks_len(a: &[u8], b: &[u8]) -> usize
+    ensures in_first { result ≤ length a.now }
+    ensures in_second { result ≤ length b.now }
+    ensures counted { common_prefix_len nat_eq a.now b.now
+        ≡ result + common_prefix_len nat_eq (drop result a.now) (drop result b.now) }
+{
+    let mut at = 0;
+    while CHUNK_LEN <= a.len() - at
+        && CHUNK_LEN <= b.len() - at
+        && a[at..at + CHUNK_LEN] == b[at..at + CHUNK_LEN]
+    {
+        at += CHUNK_LEN;
+    }
+    at
 }
 
 /// Whether two paths have the same components. It takes no memory.

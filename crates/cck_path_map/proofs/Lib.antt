@@ -1,2 +1,4 @@
+pub mod BlockLemmas
+pub mod EntriesLemmas
 pub mod PlaceLemmas
 pub mod ValueLemmas

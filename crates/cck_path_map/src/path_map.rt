@@ -1,12 +1,14 @@
 //! A map keyed by paths.
-ghost use Rattle.std.specs.Prelude.{◌≡◌, ◌==◌, IfOk, IfErr, IsOk, IsOkUnless, OnErr, OnOk, length, map, true};
+ghost use Rattle.std.specs.Prelude.{◌≡◌, ◌==◌, IsOk, IsOkUnless, OnErr, OnOk, map, true};
 ghost use Rattle.std.specs.FinMap as finite;
 ghost use Rattle.std.specs.Option.{option_copied};
 ghost use Rattle.cck_path.specs.Path.{components};
-ghost use Rattle.cck_path_map.specs.PathMap.{IsGapFor, IsInOrder, IsPlaceOf, pair_of};
+ghost use Rattle.cck_path_map.specs.Entries.{entries_left};
+ghost use Rattle.cck_path_map.specs.PathMap.{pair_of};
 
+use crate::blocks::{insert_at, remove_at, search};
+use crate::entries::Entries;
 use cck_digest::UtilError;
-use cck_path::compare_paths;
 use std::alloc::Global;
 use std::marker::Model;
 
@@ -23,26 +25,29 @@ pub struct Entry<V> {
 /// A map from paths to values, where paths are told apart by their components alone.
 ///
 /// With n paths a look-up compares about log n of them. A new path and a removal also move the
-/// entries behind it.
+/// entries of one block, some hundred, and now and then the list of blocks.
 #[derive(Debug, Drop)]
 pub struct PathMap<V> {
     alloc: Global,
-    entries: Vec<Entry<V>>,
+    count: usize,
+    blocks: Vec<Vec<Entry<V>>>,
 }
 
 impl<V> Model for PathMap<V> {
-    ghost use Rattle.std.specs.Prelude.{map};
+    ghost use Rattle.std.specs.Prelude.{◌≡◌, length, map};
     ghost use Rattle.std.specs.FinMap.{FinMap, from_sorted};
     ghost use Rattle.cck_path.specs.Path.{path_cmp};
-    ghost use Rattle.cck_path_map.specs.PathMap.{coded_path_map, IsInOrder, pair_of};
+    ghost use Rattle.cck_path_map.specs.Blocks.{AreOrderedBlocks, entries_of};
+    ghost use Rattle.cck_path_map.specs.PathMap.{coded_path_map, pair_of};
 
     ghost Value = { FinMap path_cmp V };
 
     ghost coded = { coded_path_map V.code };
 
-    ghost view = { λ a. from_sorted (map pair_of a.entries.items) };
+    ghost view = { λ a. from_sorted (map pair_of (entries_of a.blocks.items)) };
 
-    ghost invariant = { λ a. IsInOrder a.entries.items };
+    ghost invariant = { λ a.
+        AreOrderedBlocks a.blocks.items × (a.count ≡ length (entries_of a.blocks.items)) };
 }
 
 impl<V> PathMap<V> {
@@ -52,7 +57,8 @@ impl<V> PathMap<V> {
     {
         PathMap {
             alloc,
-            entries: Vec::new(alloc),
+            count: 0,
+            blocks: Vec::new(alloc),
         }
     }
 
@@ -60,30 +66,33 @@ impl<V> PathMap<V> {
     pub fn len(&self) -> usize
         ensures { result ≡ finite.len self.now }
     {
-        self.entries().len()
+        self.count
     }
 
     /// Whether no path has a value.
     pub fn is_empty(&self) -> bool
         ensures { result ≡ (finite.len self.now == 0) }
     {
-        self.entries().is_empty()
+        self.len() == 0
     }
 
     /// The paths and their values, in the order of the paths, which is
-    /// [`compare_paths`]'s.
-    pub fn entries(&self) -> &[Entry<V>]
-        ensures { map pair_of result.now ≡ finite.entries self.now }
+    /// [`compare_paths`]'s. It takes no memory.
+    pub fn entries(&self) -> Entries<'_, V>
+        ensures { map pair_of (entries_left result) ≡ finite.entries self.now }
     {
-        &self.entries
+        Entries {
+            block: &[],
+            blocks: &self.blocks,
+        }
     }
 
     /// The value of a path, if it has one. It takes no memory.
     pub fn get(&self, path: &[u8]) -> Option<&V>
         ensures { option_copied result ≡ finite.get self.now (components path.now) }
     {
-        match search(&self.entries, path) {
-            Ok(at) => Some(&self.entries[at].value),
+        match search(&self.blocks, path) {
+            Ok((block, at)) => Some(&self.blocks[block][at].value),
             Err(_) => None,
         }
     }
@@ -92,7 +101,7 @@ impl<V> PathMap<V> {
     pub fn contains(&self, path: &[u8]) -> bool
         ensures { result ≡ finite.contains_key self.now (components path.now) }
     {
-        search(&self.entries, path).is_ok()
+        self.get(path).is_some()
     }
 }
 
@@ -109,15 +118,19 @@ impl<V: Drop> PathMap<V> {
         ensures replaced { finite.contains_key self.old (components path.now) ≡ true → IsOk result }
         ensures refused { IsOkUnless result UtilError.Memory }
     {
-        let at = match search(&self.entries, path) {
-            Ok(at) => {
-                self.entries[at].value = value;
+        let gap = match search(&self.blocks, path) {
+            Ok((block, at)) => {
+                self.blocks[block][at].value = value;
                 return Ok(());
             }
-            Err(at) => at,
+            Err(gap) => gap,
+        };
+        let Some(count) = self.count.checked_add(1) else {
+            return Err(UtilError::Memory);
         };
         let path = path.to_vec(self.alloc)?;
-        self.entries.insert(at, Entry { path, value })?;
+        insert_at(self.alloc, &mut self.blocks, gap, Entry { path, value })?;
+        self.count = count;
         Ok(())
     }
 
@@ -126,21 +139,13 @@ impl<V: Drop> PathMap<V> {
         ensures value { result ≡ finite.get self.old (components path.now) }
         ensures rest { self.new ≡ finite.remove self.old (components path.now) }
     {
-        match search(&self.entries, path) {
-            Ok(at) => {
-                let Entry { value, .. } = self.entries.remove(at);
+        match search(&self.blocks, path) {
+            Ok((block, at)) => {
+                let Entry { value, .. } = remove_at(&mut self.blocks, block, at);
+                self.count -= 1;
                 Some(value)
             }
             Err(_) => None,
         }
     }
-}
-
-// Where a path's entry stands among entries in order, or where it would go.
-fn search<V>(entries: &[Entry<V>], path: &[u8]) -> Result<usize, usize>
-    requires { IsInOrder entries.now }
-    ensures place { IfOk result (IsPlaceOf (components path.now) entries.now) }
-    ensures gap { IfErr result (IsGapFor (components path.now) entries.now) }
-{
-    entries.binary_search_by(|entry| compare_paths(&entry.path, path))
 }

@@ -100,9 +100,8 @@ fn list_of(alloc: Global, digests: &PathMap<String>) -> Result<Vec<(Vec<u8>, Str
         ≡ map written (finite.entries (map_values string_bytes digests.now))) }
     ensures refused { IsOkUnless result KeyError.Memory }
 {
-    let entries = digests.entries();
     let mut files = Vec::new(alloc);
-    for entry in entries {
+    for entry in digests.entries() {
         let Ok(path) = normalize_path(alloc, &entry.path) else {
             return Err(KeyError::Memory);
         };

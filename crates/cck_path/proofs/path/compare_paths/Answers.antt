@@ -1,31 +1,17 @@
-use Rattle.std.proofs.Common.{◌≡◌, ◌∙◌, ap, refl}
-use Rattle.std.proofs.lemmas.Iterator.Consumers.{YieldsList-from_first}
-use Rattle.std.proofs.lemmas.Iterator.Search.{cmp_from_yields_List}
-use Rattle.cck_path.specs.Path.{component_cmp, components}
-use Rattle.cck_path.specs.Components.{component_of, components_left}
-use Rattle.cck_path.proofs.OrderLemmas.{same_order}
+use Rattle.std.proofs.Common.{◌+◌, ◌∙◌, ap, drop, arith}
+use Rattle.std.proofs.lemmas.List.{length-take-le, take_rest}
+use Rattle.cck_path.specs.Path.{path_cmp, inner_components}
+use Rattle.cck_path.specs.Components.{components_left}
+use Rattle.cck_path.proofs.CommonPrefixLemmas.{order_after}
 use Rattle.cck_path.proofs.path.compare_paths.Goals as goal
 
-pub returns : goal.returns
-returns c =
-    cmp_from_yields_List (λ x y. y ≡ x) c.new-2.result component_cmp c.cmp.result c.cmp.ensures.ran
-    (YieldsList-from_first component_of components_left (components c.args.a.now) c.new.ensures)
-    (λ it e. YieldsList-from_first component_of components_left (components c.args.b.now) (ap components_left e ∙ c.new-2.ensures))
-    (same_order _ (record {
-      root_root = refl;
-      root_current = refl;
-      root_parent = refl;
-      root_name = λ b. refl;
-      current_root = refl;
-      current_current = refl;
-      current_parent = refl;
-      current_name = λ b. refl;
-      parent_root = refl;
-      parent_current = refl;
-      parent_parent = refl;
-      parent_name = λ b. refl;
-      name_root = λ a. refl;
-      name_current = λ a. refl;
-      name_parent = λ a. refl;
-      name_name = λ a b. refl;
-    }))
+pub returns-in-Some : goal.returns-in-Some
+returns-in-Some c =
+    let a = c.args.a.now in
+    let b = c.args.b.now in
+    let n = c.in-Some.slash in
+    let k = c.common_prefix_len-same.result in
+    c.compare_components.ensures
+    ∙ ap (λ p. path_cmp p (components_left c.after-in-Some.result)) (c.after.ensures ∙ ap inner_components (take_rest a (n + 1)))
+    ∙ ap (λ p. path_cmp (inner_components (drop (n + 1) a)) p) (c.after-in-Some.ensures ∙ ap inner_components (take_rest b (n + 1)))
+    ∙ order_after a b n k c.common_prefix_len-same.ensures.count (omega (arith, c.in-Some.ensures.0.high, length-take-le k a c.common_prefix_len-same.ensures.in_first)) c.in-Some.ensures.1

@@ -1,6 +1,8 @@
+use Rattle.std.proofs.Common.{length}
+use Rattle.cck_path_map.specs.Entries.{entries_left}
 use Rattle.cck_walk.proofs.RecordLemmas.{AreListed}
 use Rattle.cck_walk.proofs.records.list_of.Given as goal
 
 -- the first entries were listed
 abbrev pub invariant-loop-entry : goal.invariant-loop-entry
-invariant-loop-entry l = AreListed l.entries l.entry-index l.files.items
+invariant-loop-entry l = AreListed (entries_left l.initial.entry-iterator) (length l.yielded) l.files.items

@@ -3,7 +3,7 @@ use Rattle.std.proofs.lemmas.Fn.{always_returns_same}
 use Rattle.cck_path.specs.Path.{components, path_cmp}
 use Rattle.cck_path_map.specs.PathMap.{path_of}
 use Rattle.cck_path_map.proofs.PlaceLemmas.{searched}
-use Rattle.cck_path_map.proofs.path_map.search.Goals as goal
+use Rattle.cck_path_map.proofs.blocks.search_block.Goals as goal
 
 pub returns-clause-place : goal.returns-clause-place
 returns-clause-place g c =

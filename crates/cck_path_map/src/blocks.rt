@@ -1,0 +1,140 @@
+//! Entries in the order of their paths, in blocks.
+//!
+//! A new entry and a removal move the entries of one block alone.
+ghost use Rattle.std.specs.Prelude.{◌≡◌, ◌+◌, ◌<◌, IfErr, IfOk, IsOkUnless, OnErr, OnOk, length, slice_index_or, Ok};
+ghost use Rattle.std.specs.List as list;
+ghost use Rattle.cck_path.specs.Path.{components};
+ghost use Rattle.cck_path_map.specs.PathMap.{IsGapFor, IsInOrder, IsPlaceOf};
+ghost use Rattle.cck_path_map.specs.Blocks.{AreOrderedBlocks, IsBlockFor, IsMissing, IsPositionFor, IsWithin, NoneEmpty, entries_of, first_of, place_of, start_of};
+
+use crate::path_map::Entry;
+use cck_digest::UtilError;
+use cck_path::compare_paths;
+use std::alloc::Global;
+
+// A block with more entries than this is split into two.
+const BLOCK_LIMIT: usize = 128;
+
+// The block and the place in it where a path's entry stands, or else where it would go. There is no
+// such place where there is no block.
+pub(crate) fn search<V>(
+    blocks: &[Vec<Entry<V>>],
+    path: &[u8],
+) -> Result<(usize, usize), Option<(usize, usize)>>
+    requires { AreOrderedBlocks blocks.now }
+    ensures found { IfOk result (λ position.
+        IsPositionFor (components path.now) blocks.now position.0 (Ok position.1)) }
+    ensures missing { IfErr result (IsMissing (components path.now) blocks.now) }
+{
+    if blocks.is_empty() {
+        return Err(None);
+    }
+    let block = block_for(blocks, path);
+    match search_block(&blocks[block], path) {
+        Ok(at) => Ok((block, at)),
+        Err(at) => Err(Some((block, at))),
+    }
+}
+
+// The block in which a path's entry stands or would go.
+fn block_for<V>(blocks: &[Vec<Entry<V>>], path: &[u8]) -> usize
+    requires ordered { AreOrderedBlocks blocks.now }
+    requires some { 0 < length blocks.now }
+    ensures { IsBlockFor (components path.now) blocks.now result }
+{
+    match blocks.binary_search_by(|block| compare_paths(first_path(block), path)) {
+        Ok(at) => at,
+        Err(at) => at.saturating_sub(1),
+    }
+}
+
+// The path of the first entry, or the empty one.
+fn first_path<V>(entries: &[Entry<V>]) -> &[u8]
+    ensures { components result.now ≡ first_of entries.now }
+{
+    match entries {
+        [first, ..] => &first.path,
+        [] => &[],
+    }
+}
+
+// Where a path's entry stands among entries in order, or where it would go.
+fn search_block<V>(entries: &[Entry<V>], path: &[u8]) -> Result<usize, usize>
+    requires { IsInOrder entries.now }
+    ensures place { IfOk result (IsPlaceOf (components path.now) entries.now) }
+    ensures gap { IfErr result (IsGapFor (components path.now) entries.now) }
+{
+    entries.binary_search_by(|entry| compare_paths(&entry.path, path))
+}
+
+// Puts a new entry where its path would go. Where it is refused, all stays.
+pub(crate) fn insert_at<V: Drop>(
+    alloc: Global,
+    blocks: &mut Vec<Vec<Entry<V>>>,
+    gap: Option<(usize, usize)>,
+    entry: Entry<V>,
+) -> Result<(), UtilError>
+    requires ordered { AreOrderedBlocks blocks.old.items }
+    requires missing { IsMissing (components entry.path.items) blocks.old.items gap }
+    ensures inserted { OnOk result (entries_of blocks.new.items
+        ≡ list.insert (entries_of blocks.old.items) (place_of blocks.old.items gap) entry) }
+    ensures none_empty { NoneEmpty blocks.new.items }
+    ensures kept { OnErr result
+        (entries_of blocks.new.items ≡ entries_of blocks.old.items) }
+    ensures refused { IsOkUnless result UtilError.Memory }
+{
+    match gap {
+        Some((block, at)) => {
+            blocks[block].insert(at, entry)?;
+            if blocks[block].len() > BLOCK_LIMIT {
+                split(alloc, blocks, block);
+            }
+        }
+        None => {
+            let mut first = Vec::new(alloc);
+            first.push(entry)?;
+            blocks.push(first)?;
+        }
+    }
+    Ok(())
+}
+
+// Makes two blocks of one. Without memory it does nothing.
+fn split<V: Drop>(alloc: Global, blocks: &mut Vec<Vec<Entry<V>>>, block: usize)
+    requires many { IsWithin blocks.old.items block 1 }
+    requires none_empty { NoneEmpty blocks.old.items }
+    ensures same { entries_of blocks.new.items ≡ entries_of blocks.old.items }
+    ensures none_empty { NoneEmpty blocks.new.items }
+{
+    let middle = blocks[block].len() / 2;
+    let Ok(()) = blocks.insert(block + 1, Vec::new(alloc)) else {
+        return;
+    };
+    match blocks[block].split_off(middle) {
+        Ok(rest) => blocks[block + 1] = rest,
+        Err(_) => {
+            blocks.remove(block + 1);
+        }
+    }
+}
+
+// Takes the entry at a place of a block out.
+pub(crate) fn remove_at<V: Drop>(
+    blocks: &mut Vec<Vec<Entry<V>>>,
+    block: usize,
+    at: usize,
+) -> Entry<V>
+    requires within { IsWithin blocks.old.items block at }
+    requires none_empty { NoneEmpty blocks.old.items }
+    ensures entry { result
+        ≡ slice_index_or (entries_of blocks.old.items) (start_of blocks.old.items block + at) result }
+    ensures rest { entries_of blocks.new.items
+        ≡ list.remove (entries_of blocks.old.items) (start_of blocks.old.items block + at) }
+    ensures none_empty { NoneEmpty blocks.new.items }
+{
+    let entry = blocks[block].remove(at);
+    if blocks[block].is_empty() {
+        blocks.remove(block);
+    }
+    entry
+}
