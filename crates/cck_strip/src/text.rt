@@ -3,7 +3,7 @@ ghost use Rattle.std.specs.Prelude.{◌≡◌, ◌≤◌, ◌<◌, ◌∷◌, []
 ghost use Rattle.std.specs.Cow.{cow_slice_items, IsOwnedSlice};
 ghost use Rattle.cck_strip.specs.Beginnings.{AllBegin, FirstsMarked};
 ghost use Rattle.cck_strip.specs.Cuts.{Remains};
-ghost use Rattle.cck_strip.specs.Text.{is_boundary, is_separator, stripped_text, text_site};
+ghost use Rattle.cck_strip.specs.Text.{is_boundary, is_separator, longest_prefix, stripped_text, text_site};
 ghost use Rattle.cck_strip.specs.Trie.{IsTrie};
 
 use crate::beginnings::{common_beginning, first_bytes};
@@ -36,6 +36,17 @@ fn is_boundary(text: &[u8], at: usize) -> bool
     at == 0 || is_separator(text[at - 1])
 }
 
+// The length of this base directory if the text begins with it, else 0.
+fn length_at_start(text: &[u8], basedir: &[u8]) -> usize
+    ensures { result ≡ longest_prefix (basedir.now ∷ []) text.now }
+{
+    if text.starts_with(basedir) {
+        basedir.len()
+    } else {
+        0
+    }
+}
+
 // A text, and the base directories that are sought in it.
 #[derive(Drop)]
 struct TextBasedirs<'a> {
@@ -51,11 +62,14 @@ impl<'a> TextBasedirs<'a> {
         requires { at ≤ length self.now.text.now }
         ensures { result ≡ text_site (map (λ b. b.items) self.now.basedirs.now) self.now.text.now at }
     {
-        if is_boundary(self.text, at) {
-            self.trie.longest_at(self.text, at)
-        } else {
-            0
+        if !is_boundary(self.text, at) {
+            return 0;
         }
+        // One base directory is compared faster than found in a trie.
+        if self.basedirs.len() == 1 {
+            return length_at_start(&self.text[at..], &self.basedirs[0]);
+        }
+        self.trie.longest_at(self.text, at)
     }
 }
 
