@@ -1,7 +1,8 @@
 #!/bin/sh
 # Times strip_basedirs over 64 MB of system headers as gcc -E leaves them, beside one copy of the text
-# and one search of it, and prints a table: of base directories some stand at about every 160th or
-# every 700th byte of the text, and some nowhere. Beside it texts of `/` alone with a base directory
+# and one search of it, and prints a table. One of the base directories stands at every 750th
+# (sparse) or every 157th byte of the text (dense), or none does (absent). They share a beginning of
+# some bytes, or only their first byte (others). Beside it texts of `/` alone with a base directory
 # of 32768 times `/`, and strip_basedirs_from_arg on 100 arguments with 1000 base directories. Where
 # valgrind is there, the instructions of each on 4 MB of the text are counted in runs of their own.
 #
@@ -41,14 +42,14 @@ if command -v valgrind > /dev/null; then
     done
 fi
 
-echo 'base directories  milliseconds  / copy  / search  instructions a byte   (best of 11)'
+echo 'base directories    milliseconds  / copy  / search  instructions a byte   (best of 11)'
 awk '
     FNR == NR { if ($1 == "nothing") none = $4; else counts[$1] = ($4 - none) / $2; next }
     { time[$1] = $2; size[$1] = $3; rest[$1] = $4; names[++count] = $1 }
     END {
         for (i = 2; i <= count; i++) {
             name = names[i]
-            printf "%-16s  %12.3f  %6.3f  %8.3f  %19s   (%d bytes, of which %d remain)\n",
+            printf "%-18s  %12.3f  %6.3f  %8.3f  %19s   (%d bytes, of which %d remain)\n",
                 name, time[name] / 1e6, time[name] / time["copy"], time[name] / time["search"],
                 name in counts ? sprintf("%.2f", counts[name]) : "-", size[name], rest[name]
         }
