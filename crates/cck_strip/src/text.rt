@@ -53,7 +53,7 @@ struct TextBasedirs<'a> {
     text: &'a [u8],
     basedirs: &'a [Vec<u8>],
     trie: &'a BasedirTrie,
-    ghost is_trie: { ∥ IsTrie trie.now.nodes.items (map (λ b. b.items) basedirs.now) ∥₁ },
+    ghost is_trie: { ∥ IsTrie trie.now (map (λ b. b.items) basedirs.now) ∥₁ },
 }
 
 impl<'a> TextBasedirs<'a> {

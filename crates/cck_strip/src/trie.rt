@@ -7,6 +7,7 @@ ghost use Rattle.cck_strip.specs.declared.node.Node.{Node};
 use crate::node::{Node, NodeId};
 use cck_digest::UtilError;
 use std::alloc::Global;
+use std::marker::Model;
 
 // The node for this byte among the node `from` and those beside it. It is added where there is none.
 //
@@ -103,8 +104,19 @@ fn insert(nodes: &mut Vec<Node>, word: &[u8]) -> Result<(), UtilError>
 /// are one word of the trie, and empty ones none.
 #[derive(Drop)]
 pub struct BasedirTrie {
-    pub nodes: Vec<Node>,
-    ghost forward: { IsForward nodes.items },
+    nodes: Vec<Node>,
+}
+
+impl Model for BasedirTrie {
+    ghost use Rattle.std.specs.Prelude.{List};
+    ghost use Rattle.cck_strip.specs.declared.node.Node.{Node};
+    ghost use Rattle.cck_strip.specs.Trie.{IsForward};
+
+    ghost Value = { List Node };
+
+    ghost view = { λ a. a.nodes.items };
+
+    ghost invariant = { λ a. IsForward a.nodes.items };
 }
 
 impl BasedirTrie {
@@ -112,7 +124,7 @@ impl BasedirTrie {
     ///
     /// It is refused only for lack of memory, as [`UtilError::Memory`].
     pub fn new(alloc: Global, basedirs: &[Vec<u8>]) -> Result<BasedirTrie, UtilError>
-        ensures trie { IfOk result (λ trie. IsTrie trie.nodes.items (map (λ b. b.items) basedirs.now)) }
+        ensures trie { IfOk result (λ trie. IsTrie trie (map (λ b. b.items) basedirs.now)) }
         ensures refused { IsOkUnless result UtilError.Memory }
     {
         let mut nodes = Vec::new(alloc);
@@ -135,7 +147,7 @@ impl BasedirTrie {
     /// if there is none, as at its end and behind it. What stands before the place doesn't matter. It
     /// takes no memory.
     pub fn longest_at(&self, text: &[u8], at: usize) -> usize
-        ensures { (words : List (List ℕ)) → IsTrie self.now.nodes.items words → result ≡ longest_prefix words (drop at text.now) }
+        ensures { (words : List (List ℕ)) → IsTrie self.now words → result ≡ longest_prefix words (drop at text.now) }
     {
         if at > text.len() {
             return 0;
@@ -143,10 +155,14 @@ impl BasedirTrie {
         let rest = &text[at..];
         let mut longest = 0;
         let mut depth = 0;
-        let mut current = NodeId(0);
+        let mut next = Some(NodeId(0));
         while depth < rest.len() {
+            let current = match next {
+                Some(id) => id,
+                None => return longest,
+            };
             let node = self.nodes[current.0];
-            let next = if node.byte == rest[depth] {
+            next = if node.byte == rest[depth] {
                 depth += 1;
                 if node.ends {
                     longest = depth;
@@ -155,10 +171,6 @@ impl BasedirTrie {
             } else {
                 node.beside
             };
-            match next {
-                Some(id) => current = id,
-                None => return longest,
-            }
         }
         longest
     }
