@@ -1,13 +1,31 @@
 //! Base directories in a trie, a byte in each node.
 ghost use Rattle.std.specs.Prelude.{◌≡◌, ◌++◌, ◌∷◌, [], ◌≤◌, ◌<◌, ℕ, List, Some, OnOk, IfOk, IsOkUnless, map, drop, length};
 ghost use Rattle.cck_strip.specs.Text.{longest_prefix};
-ghost use Rattle.cck_strip.specs.Trie.{At, Found, Grows, IsForward, IsTrie};
+ghost use Rattle.cck_strip.specs.Trie.{At, Found, Grows, IsForward, IsTrie, leaf_of};
 ghost use Rattle.cck_strip.specs.declared.node.Node.{Node};
 
 use crate::node::{Node, NodeId};
 use cck_digest::UtilError;
 use std::alloc::Global;
 use std::marker::Model;
+
+// Adds a node for this byte, which ends nothing and has no node behind or beside it.
+//
+// It is refused only for lack of memory, as [`UtilError::Memory`].
+fn push_leaf(nodes: &mut Vec<Node>, byte: u8) -> Result<NodeId, UtilError>
+    ensures pushed { OnOk result (nodes.new.items ≡ nodes.old.items ++ leaf_of byte ∷ []) }
+    ensures last { IfOk result (λ id. id.0 ≡ length nodes.old.items) }
+    ensures refused { IsOkUnless result UtilError.Memory }
+{
+    let id = NodeId(nodes.len());
+    nodes.push(Node {
+        byte,
+        ends: false,
+        below: None,
+        beside: None,
+    })?;
+    Ok(id)
+}
 
 // The node for this byte among the node `from` and those beside it. It is added where there is none.
 //
@@ -30,13 +48,7 @@ fn node_beside(nodes: &mut Vec<Node>, from: NodeId, byte: u8) -> Result<NodeId, 
         match node.beside {
             Some(id) => at = id,
             None => {
-                let id = NodeId(nodes.len());
-                nodes.push(Node {
-                    byte,
-                    ends: false,
-                    below: None,
-                    beside: None,
-                })?;
+                let id = push_leaf(nodes, byte)?;
                 nodes[at.0] = Node {
                     beside: Some(id),
                     ..node
@@ -63,13 +75,7 @@ fn node_below(nodes: &mut Vec<Node>, at: NodeId, byte: u8) -> Result<NodeId, Uti
     if let Some(id) = node.below {
         return Ok(id);
     }
-    let id = NodeId(nodes.len());
-    nodes.push(Node {
-        byte,
-        ends: false,
-        below: None,
-        beside: None,
-    })?;
+    let id = push_leaf(nodes, byte)?;
     nodes[at.0] = Node {
         below: Some(id),
         ..node
@@ -129,12 +135,7 @@ impl BasedirTrie {
     {
         let mut nodes = Vec::new(alloc);
         // Nearly every base directory begins with this byte.
-        nodes.push(Node {
-            byte: b'/',
-            ends: false,
-            below: None,
-            beside: None,
-        })?;
+        push_leaf(&mut nodes, b'/')?;
         for basedir in basedirs {
             if !basedir.is_empty() {
                 insert(&mut nodes, basedir)?;
