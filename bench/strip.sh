@@ -1,12 +1,56 @@
 #!/bin/sh
-# Times the stripping of 57 MB of preprocessed text with 0, 1, 10 and 1000 base directories, beside
-# one search of the text. It runs in a copy, so that the program is no part of the gate.
-cd "$(dirname "$0")/.." || exit 1
-copy=$(mktemp -d) || exit 1
-trap 'rm -rf "$copy"' EXIT
-mkdir -p "$copy/crates/bench_strip/src"
-cp -r crates/cck_digest crates/cck_strip "$copy/crates/"
-cp bench/strip/main.rt.in "$copy/crates/bench_strip/src/main.rt"
-grep -E '^cck_(digest|strip):' crates.txt > "$copy/crates.txt"
-echo 'bench_strip: cck_strip memchr anyhow' >> "$copy/crates.txt"
-cd "$copy/crates/bench_strip" && rt run
+# Times strip_basedirs over 64 MB of system headers as gcc -E leaves them, beside one copy of the text
+# and one search of it, and prints a table. One of the base directories stands at every 750th
+# (sparse) or every 157th byte of the text (dense), or none does (absent). They share a beginning of
+# some bytes, or only their first byte (others). Beside it texts of `/` alone with a base directory
+# of 32768 times `/`, and strip_basedirs_from_arg on 100 arguments with 1000 base directories. Where
+# valgrind is there, the instructions of each on 4 MB of the text are counted in runs of their own.
+#
+#     bench/strip.sh [FOLDER]
+#
+# All is made in FOLDER, by default a new one below /tmp: the texts, a copy of the crates and the
+# program. Compare times within one run.
+set -e
+here=$(cd "$(dirname "$0")" && pwd)
+top=$(cd "$here/.." && pwd)
+folder=${1:-$(mktemp -d)}
+. "$here/headers.sh"
+
+rm -rf "$folder/work"
+mkdir -p "$folder/work/crates/strip_bench/src"
+cp -r "$top/crates/cck_digest" "$top/crates/cck_strip" "$folder/work/crates/"
+cp "$here/strip/main.rt.in" "$folder/work/crates/strip_bench/src/main.rt"
+cp "$top/HANDLES" "$folder/work/"
+{
+    grep -E '^cck_(digest|strip):' "$top/crates.txt"
+    echo 'strip_bench: cck_strip memchr anyhow'
+} > "$folder/work/crates.txt"
+if ! (cd "$folder/work/crates/strip_bench" && rt run < /dev/null > "$folder/build.log" 2>&1); then
+    tail -20 "$folder/build.log" >&2
+    exit 1
+fi
+program="$folder/work/crates/strip_bench/out/strip_bench"
+
+"$program" < "$folder/headers.i" > "$folder/times"
+: > "$folder/counts"
+if command -v valgrind > /dev/null; then
+    head -c 4194304 "$folder/headers.i" > "$folder/part.i"
+    for name in $(cut -d ' ' -f 1 "$folder/times"); do
+        made=$(valgrind --tool=callgrind --callgrind-out-file=/dev/null \
+            "$program" "$name" < "$folder/part.i" 2> "$folder/said")
+        echo "$made $(sed -n 's/.*Collected : //p' "$folder/said")" >> "$folder/counts"
+    done
+fi
+
+echo 'base directories    milliseconds  / copy  / search  instructions a byte   (best of 11)'
+awk '
+    FNR == NR { if ($1 == "nothing") none = $4; else counts[$1] = ($4 - none) / $2; next }
+    { time[$1] = $2; size[$1] = $3; rest[$1] = $4; names[++count] = $1 }
+    END {
+        for (i = 2; i <= count; i++) {
+            name = names[i]
+            printf "%-18s  %12.3f  %6.3f  %8.3f  %19s   (%d bytes, of which %d remain)\n",
+                name, time[name] / 1e6, time[name] / time["copy"], time[name] / time["search"],
+                name in counts ? sprintf("%.2f", counts[name]) : "-", size[name], rest[name]
+        }
+    }' "$folder/counts" "$folder/times"

@@ -1,18 +1,11 @@
 -- What all words of a list begin with.
 use Rattle.std.proofs.Common.{Bor, ◌≡◌, inl, inr, ℕ, ◌<◌, ◌≤◌, List, [], ◌∷◌, ◌++◌, Option, None, Some, length, get_or, take, length-take, sym, ap, subst, ◌∙◌, arith}
-use Rattle.std.specs.Prelude.{Contains, MatchOption}
+use Rattle.std.specs.Prelude.{MatchOption}
 use Rattle.std.proofs.lemmas.List.{get_or-take}
 use Rattle.std.proofs.lemmas.List.Elements.{Contains-push_cases}
 use Rattle.memchr.specs.Find.{OccursAt}
+use Rattle.cck_strip.specs.Beginnings.{AllBegin, AllEmpty}
 use Rattle.cck_strip.proofs.SoughtLemmas.{no_word}
-
--- all these words are empty
-abbrev pub AllEmpty : List (List ℕ) → Type 0
-AllEmpty words = (word : List ℕ) → Contains words word → 0 < length word → ⊥
-
--- all these words begin with these bytes, but for empty ones
-abbrev pub AllBegin : List (List ℕ) → List ℕ → Type 0
-AllBegin words bytes = (word : List ℕ) → Contains words word → 0 < length word → OccursAt word bytes 0
 
 pub AllEmpty-start : AllEmpty []
 AllEmpty-start word c some = no_word word c
@@ -65,15 +58,6 @@ Common words common = MatchOption common (AllEmpty words) (λ bytes. AllBegin wo
 pub Common-pass : (words : List (List ℕ)) (word : List ℕ) (common : Option (Bor (List ℕ))) → Common words common → length word ≡ 0 → Common (words ++ word ∷ []) common
 Common-pass words word None h empty = AllEmpty-pass words word h empty
 Common-pass words word (Some bytes) h empty = AllBegin-pass words word bytes.now h empty
-
--- where a word stands, what it begins with does
-pub OccursAt-beginning : (text word bytes : List ℕ) (k : ℕ) → OccursAt text word k → OccursAt word bytes 0 → OccursAt text bytes k
-OccursAt-beginning text word bytes k o begin =
-    let fits = o.fits in
-    let begin_fits = begin.fits in record {
-      fits = omega arith;
-      reads = λ j lt. o.reads j (omega arith) ∙ (ap (λ i. get_or word i 0) (omega arith) ∙ begin.reads j lt);
-    }
 
 -- what is known of an option that is a value, or none
 pub when_some : {X : Type 0} (o : Option X) (x : X) (N : Type 0) (S : X → Type 0) → o ≡ Some x → MatchOption o N S → S x

@@ -1,11 +1,11 @@
 pub mod BestLemmas
+pub mod ByteLemmas
 pub mod ChainLemmas
 pub mod CommonLemmas
 pub mod CutLemmas
 pub mod Examples
 pub mod InsertLemmas
 pub mod LinkLemmas
-pub mod PlaceLemmas
 pub mod PositionLemmas
 pub mod ScanLemmas
 pub mod SoughtLemmas

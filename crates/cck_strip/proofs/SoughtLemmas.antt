@@ -1,80 +1,20 @@
--- A search of a text for the boundaries at which base directories may stand.
+-- A search of a text for the places at which base directories may stand.
 use Rattle.std.proofs.Common.{◌≡◌, inl, inr, ℕ, ◌+◌, ◌-◌, ◌<◌, ◌≤◌, List, [], ◌∷◌, ◌++◌, Bool, true, false, Option, None, Some, cond, nat_eq, length, get_or, drop, max, filter, length-append, length-drop, refl, sym, ap, subst, ◌∙◌, arith, set}
-use Rattle.std.specs.Prelude.{All, Contains}
+use Rattle.std.specs.Prelude.{Contains}
 use Rattle.std.specs.List.{starts_with}
-use Rattle.std.specs.List.Sorted.{IsNonDecreasing}
 use Rattle.std.proofs.Math.Seq.{take-append_seam}
-use Rattle.std.proofs.lemmas.Bool.{cases_eq, cases_lt}
+use Rattle.std.proofs.lemmas.Bool.{cases_eq}
 use Rattle.std.proofs.lemmas.Bool.Decides.{Decides-eqb}
 use Rattle.std.proofs.lemmas.List.{get_or-drop, get_or-set_same, get_or-set_other}
-use Rattle.std.proofs.lemmas.List.Elements.{All-contains, All-push, All-nil, Contains-append_left, Contains-append_right, Contains-get_or, Contains-push, Contains-push_cases}
-use Rattle.std.proofs.lemmas.List.Sorted.{IsNonDecreasingBy-push}
+use Rattle.std.proofs.lemmas.List.Elements.{Contains-append_right, Contains-push_cases}
 use Rattle.std.proofs.lemmas.Slice.Eq.{starts_is}
 use Rattle.memchr.specs.Find.{FindsNeedle, OccursAt}
 use Rattle.memchr.proofs.lemmas.MatchLemmas.{OccursAt-from_part}
 use Rattle.cck_strip.specs.Basedirs.{longest}
+use Rattle.cck_strip.specs.Beginnings.{AllBegin, AllEmpty, FirstsMarked}
+use Rattle.cck_strip.specs.Cuts.{IsNextPlace}
+use Rattle.cck_strip.specs.SiteLemmas.{text_site-within}
 use Rattle.cck_strip.specs.Text.{is_boundary, longest_prefix, text_site}
-
--- what is known once the places below `from` are searched: `now` are the places gathered so far
-pub record Sought (Test : ℕ → Type 0) (text now : List ℕ) (from : ℕ) : Type 0 where
-  pub from_in : from ≤ length text
-  pub found : (k : ℕ) → k < from → is_boundary text k ≡ true → Test k → Contains now k
-  pub in_order : IsNonDecreasing now
-  pub below : All (λ k. k < from) now
-
-pub Sought-start : (Test : ℕ → Type 0) (text now : List ℕ) → now ≡ [] → Sought Test text now 0
-Sought-start Test text now e = rw e (record {
-  from_in = omega arith;
-  found = λ k h bound t. absurd (omega arith);
-  in_order = λ i j d h k. absurd (omega arith);
-  below = All-nil (λ k. k < 0);
-})
-
-pub raise : (a b : ℕ) (now : List ℕ) → a ≤ b → All (λ k. k < a) now → All (λ k. k < b) now
-raise a b now h all = λ i lt. let k = all i lt in omega arith
-
--- such places are none of the next ones
-pub Sought-skip : (Test : ℕ → Type 0) (text now : List ℕ) (from later : ℕ) → Sought Test text now from → from ≤ later → later ≤ length text
-    → ((k : ℕ) → from ≤ k → k < later → Test k → ⊥) → Sought Test text now later
-Sought-skip Test text now from later s h in_text none = record {
-  from_in = in_text;
-  found = λ k lt bound t. elim (cases_lt k from) [
-    | inl early ↦ s.found k early bound t
-    | inr late ↦ absurd (none k late lt t)
-  ];
-  in_order = s.in_order;
-  below = raise from later now h (s.below);
-}
-
--- the next place is taken, or is no boundary with such a byte
-pub Sought-place : (Test : ℕ → Type 0) (text now later : List ℕ) (from : ℕ) (b : Bool) → Sought Test text now from → from < length text
-    → (is_boundary text from ≡ true → Test from → b ≡ true) → later ≡ cond b (now ++ from ∷ []) now → Sought Test text later (from + 1)
-Sought-place Test text now later from b s h taken e = rw e (go b taken)
-  where
-    go : (b : Bool) → (is_boundary text from ≡ true → Test from → b ≡ true) → Sought Test text (cond b (now ++ from ∷ []) now) (from + 1)
-    go true taken = record {
-      from_in = omega arith;
-      found = λ k lt bound t. elim (cases_lt k from) [
-        | inl early ↦ Contains-append_left now (from ∷ []) k (s.found k early bound t)
-        | inr late ↦ let same : from ≡ k = omega arith in subst (λ j. Contains (now ++ from ∷ []) j) same (Contains-push now from)
-      ];
-      in_order = IsNonDecreasingBy-push (λ x. x) now from (s.in_order) (λ d some. let k = All-contains (λ k. k < from) now _ (s.below) (Contains-get_or now (length now - 1) d (omega arith)) in omega arith);
-      below = All-push (λ k. k < from + 1) now from (raise from (from + 1) now (omega arith) (s.below)) (omega arith);
-    }
-    go false taken = record {
-      from_in = omega arith;
-      found = λ k lt bound t. elim (cases_lt k from) [
-        | inl early ↦ s.found k early bound t
-        | inr late ↦
-            let same : k ≡ from = omega arith in
-            absurd (differ (taken (subst (λ j. is_boundary text j ≡ true) same bound) (subst Test same t)))
-      ];
-      in_order = s.in_order;
-      below = raise from (from + 1) now (omega arith) (s.below);
-    }
-      where
-        differ : false ≡ true → ⊥
-        differ e = cc
 
 -- where a word stands, a search of the rest of the text finds it
 occurs_in_rest : (text word : List ℕ) (from k : ℕ) → from ≤ k → OccursAt text word k → OccursAt (drop from text) word (k - from)
@@ -87,30 +27,6 @@ occurs_in_rest text word from k h o =
 -- a search for an equal word, with an equal answer
 pub FindsNeedle-same : (hay own needle word : List ℕ) (r now : Option ℕ) → hay ≡ own → needle ≡ word → r ≡ now → FindsNeedle hay needle 0 r → FindsNeedle own word 0 now
 FindsNeedle-same hay own needle word r now h n e f = rw (← h, ← n, ← e) f
-
--- the next occurrence
-pub Sought-next : (text word now later : List ℕ) (from d : ℕ) (b : Bool) → Sought (OccursAt text word) text now from → 0 < length word
-    → FindsNeedle (drop from text) word 0 (Some d) → is_boundary text (from + d) ≡ b → later ≡ cond b (now ++ (from + d) ∷ []) now
-    → Sought (OccursAt text word) text later (from + d + 1)
-Sought-next text word now later from d b s some (first, at) bound e =
-    let fits = at.fits in
-    let from_in = s.from_in in
-    let below : from + d < length text = omega (arith, length-drop from text) in
-    Sought-place (OccursAt text word) text now later (from + d) b
-    (Sought-skip (OccursAt text word) text now from (from + d) s (omega arith) (omega arith)
-    (λ k low high o. first.before (k - from) (omega arith) (omega arith) (occurs_in_rest text word from k low o)))
-    below (λ is_bound t. sym bound ∙ is_bound) e
-
--- there is no further occurrence
-pub Sought-none : (text word now : List ℕ) (from : ℕ) → Sought (OccursAt text word) text now from → 0 < length word
-    → FindsNeedle (drop from text) word 0 None → (k : ℕ) → is_boundary text k ≡ true → OccursAt text word k → Contains now k
-Sought-none text word now from s some none k bound o = elim (cases_lt k from) [
-  | inl early ↦ s.found k early bound o
-  | inr late ↦
-      let rest = occurs_in_rest text word from k late o in
-      let fits = rest.fits in
-      absurd (none (k - from) (omega arith) (omega arith) rest)
-]
 
 pub no_word : (word : List ℕ) → Contains [] word → ⊥
 no_word word (k, lt, e) = omega arith
@@ -188,10 +104,6 @@ site-off words text k h = go (is_boundary text k) h
     go true d = cc
     go false d = refl
 
--- the first byte of each of these words is marked, but for empty ones
-abbrev pub FirstsMarked : List (List ℕ) → List Bool → Type 0
-FirstsMarked words marks = (word : List ℕ) → Contains words word → 0 < length word → get_or marks (get_or word 0 0) false ≡ true
-
 pub FirstsMarked-start : (marks : List Bool) → FirstsMarked [] marks
 FirstsMarked-start marks word c some = absurd (no_word word c)
 
@@ -213,16 +125,70 @@ FirstsMarked-pass words word marks h empty w c some = elim (Contains-push_cases 
   | inr e ↦ let same = ap length e in absurd (omega arith)
 ]
 
--- the first byte of one of these words stands at this place
-abbrev pub HasFirst : List (List ℕ) → List ℕ → ℕ → Type 0
-HasFirst words text k = (word : List ℕ) × Contains words word × (0 < length word) × (get_or text k 0 ≡ get_or word 0 0)
-
-pub HasFirst-marked : (words : List (List ℕ)) (text : List ℕ) (marks : List Bool) (k : ℕ) → FirstsMarked words marks → HasFirst words text k
-    → get_or marks (get_or text k 0) false ≡ true
-HasFirst-marked words text marks k h (word, c, some, e) = ap (λ b. get_or marks b false) e ∙ h word c some
-
 -- where a word stands, its first byte does
 pub OccursAt-first : (text word : List ℕ) (k : ℕ) → 0 < length word → OccursAt text word k → (k < length text) × (get_or text k 0 ≡ get_or word 0 0)
 OccursAt-first text word k some o =
     let fits = o.fits in
     (omega arith, ap (λ i. get_or text i 0) (omega arith) ∙ o.reads 0 some)
+
+-- where a word stands, what it begins with does
+pub OccursAt-beginning : (text word bytes : List ℕ) (k : ℕ) → OccursAt text word k → OccursAt word bytes 0 → OccursAt text bytes k
+OccursAt-beginning text word bytes k o begin =
+    let fits = o.fits in
+    let begin_fits = begin.fits in record {
+      fits = omega arith;
+      reads = λ j lt. o.reads j (omega arith) ∙ (ap (λ i. get_or word i 0) (omega arith) ∙ begin.reads j lt);
+    }
+
+-- a length that is none is 0
+pub none_is : (n : ℕ) → (0 < n → ⊥) → n ≡ 0
+none_is n h = elim (cases_eq n 0) [ inl zero ↦ zero | inr some ↦ absurd (h (omega arith)) ]
+
+-- where all words are empty there is no site
+pub text_site-empty : (words : List (List ℕ)) (text : List ℕ) → AllEmpty words → (k : ℕ) → text_site words text k ≡ 0
+text_site-empty words text h k = none_is _ (λ p. let b = site-begins words text k p in h (b.word) (b.among) (b.some))
+
+-- behind the end of a text there is no site
+pub text_site-beyond : (words : List (List ℕ)) (text : List ℕ) (k : ℕ) → length text ≤ k → text_site words text k ≡ 0
+text_site-beyond words text k h = none_is _ (λ p. let end = text_site-within words text k p in omega arith)
+
+-- where all words begin with these bytes there is no site but where these bytes stand
+pub text_site-beginning : (words : List (List ℕ)) (text bytes : List ℕ) (k : ℕ) → AllBegin words bytes → (OccursAt text bytes k → ⊥) → text_site words text k ≡ 0
+text_site-beginning words text bytes k h none =
+    none_is _ (λ p. let b = site-begins words text k p in none (OccursAt-beginning text (b.word) bytes k (b.here) (h (b.word) (b.among) (b.some))))
+
+-- a search found these bytes
+pub IsNextPlace-found : (words : List (List ℕ)) (text bytes : List ℕ) (from d : ℕ) → AllBegin words bytes → 0 < length bytes
+    → FindsNeedle (drop from text) bytes 0 (Some d) → IsNextPlace (text_site words text) (length text) from (from + d)
+IsNextPlace-found words text bytes from d h some (first, at) =
+    let fits = at.fits in record {
+      from_on = omega arith;
+      within = omega (arith, length-drop from text);
+      none_before = λ k low high.
+          text_site-beginning words text bytes k h (λ o. first.before (k - from) (omega arith) (omega arith) (occurs_in_rest text bytes from k low o));
+    }
+
+-- a search found none
+pub text_site-sought : (words : List (List ℕ)) (text bytes : List ℕ) (from : ℕ) → AllBegin words bytes
+    → FindsNeedle (drop from text) bytes 0 None → (k : ℕ) → from ≤ k → text_site words text k ≡ 0
+text_site-sought words text bytes from h none k low =
+    text_site-beginning words text bytes k h (λ o.
+    let rest = occurs_in_rest text bytes from k low o in
+    let fits = rest.fits in
+    none (k - from) (omega arith) (omega arith) rest)
+
+-- at a boundary alone there is a site
+pub text_site-inside : (words : List (List ℕ)) (text : List ℕ) (k : ℕ) → is_boundary text k ≡ false → text_site words text k ≡ 0
+text_site-inside words text k h = sym (site-off words text k h)
+
+-- and only at a byte that is marked
+pub text_site-unmarked : (words : List (List ℕ)) (text : List ℕ) (marks : List Bool) (k : ℕ) → FirstsMarked words marks
+    → get_or marks (get_or text k 0) false ≡ false → text_site words text k ≡ 0
+text_site-unmarked words text marks k h e =
+    none_is _ (λ p.
+    let b = site-begins words text k p in
+    let first = OccursAt-first text (b.word) k (b.some) (b.here) in
+    differ (sym e ∙ (ap (λ byte. get_or marks byte false) (first.1) ∙ h (b.word) (b.among) (b.some))))
+  where
+    differ : false ≡ true → ⊥
+    differ e = cc

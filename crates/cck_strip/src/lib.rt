@@ -23,6 +23,7 @@
 #![tactic(auto)]
 
 mod argument;
+mod beginnings;
 mod cuts;
 mod hashing;
 pub mod laws;

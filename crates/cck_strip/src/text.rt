@@ -1,15 +1,16 @@
 //! Base directories in preprocessed text.
-ghost use Rattle.std.specs.Prelude.{◌≡◌, ◌≤◌, ◌<◌, ℕ, List, true, IfOk, IsOkUnless, MatchOption, map, length, slice_index, All, Contains};
-ghost use Rattle.std.specs.List.Sorted.{IsNonDecreasing};
+ghost use Rattle.std.specs.Prelude.{◌≡◌, ◌≤◌, ◌<◌, ◌∷◌, [], IfOk, IsOkUnless, map, length};
 ghost use Rattle.std.specs.Cow.{cow_slice_items, IsOwnedSlice};
-ghost use Rattle.memchr.specs.Find.{OccursAt};
+ghost use Rattle.cck_strip.specs.Beginnings.{AllBegin, FirstsMarked};
 ghost use Rattle.cck_strip.specs.Cuts.{Remains};
-ghost use Rattle.cck_strip.specs.Text.{is_boundary, is_separator, stripped_text, text_site};
+ghost use Rattle.cck_strip.specs.Text.{is_boundary, is_separator, longest_prefix, stripped_text, text_site};
 ghost use Rattle.cck_strip.specs.Trie.{IsTrie};
 
+use crate::beginnings::{common_beginning, first_bytes};
 use crate::cuts::{Sites, cut_out};
 use crate::trie::BasedirTrie;
 use cck_digest::UtilError;
+use memchr::memchr_iter;
 use memchr::memmem::Finder;
 use std::alloc::Global;
 use std::borrow::CowSlice;
@@ -35,139 +36,135 @@ fn is_boundary(text: &[u8], at: usize) -> bool
     at == 0 || is_separator(text[at - 1])
 }
 
-// The boundaries of the text at which this word stands, in ascending order.
-//
-// It is refused only for lack of memory, as [`UtilError::Memory`].
-fn places_of_word(alloc: Global, text: &[u8], word: &[u8]) -> Result<Vec<usize>, UtilError>
-    requires some { 0 < length word.now }
-    ensures complete { IfOk result (λ places. (k : ℕ) → is_boundary text.now k ≡ true → OccursAt text.now word.now k → Contains places.items k) }
-    ensures in_order { IfOk result (λ places. IsNonDecreasing places.items) }
-    ensures within { IfOk result (λ places. All (λ k. k < length text.now) places.items) }
-    ensures refused { IsOkUnless result UtilError.Memory }
+// The length of this base directory if the text begins with it, else 0.
+fn length_at_start(text: &[u8], basedir: &[u8]) -> usize
+    ensures { result ≡ longest_prefix (basedir.now ∷ []) text.now }
 {
-    let finder = Finder::new(word);
-    let mut places = Vec::new(alloc);
-    let mut from = 0;
-    // Two of its occurrences may overlap.
-    while let Some(distance) = finder.find(&text[from..]) {
-        let at = from + distance;
-        if is_boundary(text, at) {
-            places.push(at)?;
-        }
-        from = at + 1;
+    if text.starts_with(basedir) {
+        basedir.len()
+    } else {
+        0
     }
-    Ok(places)
 }
 
-// The byte with which this word begins: a place in a table of all bytes.
-fn first_byte(word: &[u8]) -> u8
-    requires some { 0 < length word.now }
-    ensures value { result ≡ slice_index word.now 0 }
-    ensures within { result < 256 }
-{
-    word[0]
-}
-
-// The boundaries of the text at which the first byte of one of these base directories stands, in
-// ascending order.
-//
-// It is refused only for lack of memory, as [`UtilError::Memory`].
-fn places_of_first_bytes(
-    alloc: Global,
-    text: &[u8],
-    basedirs: &[Vec<u8>],
-) -> Result<Vec<usize>, UtilError>
-    ensures complete { IfOk result (λ places. (k : ℕ) → k < length text.now → is_boundary text.now k ≡ true
-        → (word : List ℕ) → Contains (map (λ b. b.items) basedirs.now) word → 0 < length word
-        → slice_index text.now k ≡ slice_index word 0 → Contains places.items k) }
-    ensures in_order { IfOk result (λ places. IsNonDecreasing places.items) }
-    ensures within { IfOk result (λ places. All (λ k. k < length text.now) places.items) }
-    ensures refused { IsOkUnless result UtilError.Memory }
-{
-    let mut is_first = [false; 256];
-    for basedir in basedirs {
-        if !basedir.is_empty() {
-            is_first[first_byte(basedir) as usize] = true;
-        }
-    }
-    let mut places = Vec::new(alloc);
-    for at in 0..text.len() {
-        if is_first[text[at] as usize] && is_boundary(text, at) {
-            places.push(at)?;
-        }
-    }
-    Ok(places)
-}
-
-// How many bytes these begin with alike.
-fn shared_len(bytes: &[u8], others: &[u8]) -> usize
-    ensures within { result ≤ length bytes.now }
-    ensures within_others { result ≤ length others.now }
-    ensures shared { (k : ℕ) → k < result → slice_index bytes.now k ≡ slice_index others.now k }
-{
-    let mut shared = 0;
-    while shared < bytes.len() && shared < others.len() && bytes[shared] == others[shared] {
-        shared += 1;
-    }
-    shared
-}
-
-// What all these base directories begin with, but for empty ones: as many bytes as they share, at
-// most 32. `None` if all are empty.
-fn common_beginning<'a>(basedirs: &'a [Vec<u8>]) -> Option<&'a [u8]>
-    ensures { MatchOption result ((word : List ℕ) → Contains (map (λ b. b.items) basedirs.now) word → 0 < length word → ⊥)
-        (λ common. (word : List ℕ) → Contains (map (λ b. b.items) basedirs.now) word → 0 < length word
-        → OccursAt word common.now 0) }
-{
-    let mut common = None;
-    for basedir in basedirs {
-        if !basedir.is_empty() {
-            common = match common {
-                // A search confirms so many bytes by one comparison, however often they stand in a text.
-                None => Some(&basedir[..basedir.len().min(32)]),
-                Some(bytes) => Some(&bytes[..shared_len(bytes, basedir)]),
-            };
-        }
-    }
-    common
-}
-
-// The sites of a text: base directories at its start or behind a separator.
+// A text, and the base directories that are sought in it.
 #[derive(Drop)]
-struct TextSites<'a> {
+struct TextBasedirs<'a> {
     text: &'a [u8],
     basedirs: &'a [Vec<u8>],
     trie: &'a BasedirTrie,
-    ghost is_trie: { ∥ IsTrie trie.now.nodes.items (map (λ b. b.items) basedirs.now) ∥₁ },
+    ghost is_trie: { ∥ IsTrie trie.now (map (λ b. b.items) basedirs.now) ∥₁ },
 }
 
-impl<'a> Sites for TextSites<'a> {
-    ghost text = { λ s. s.text.now };
+impl<'a> TextBasedirs<'a> {
+    // The length of the site at this place, and 0 where there is none.
+    fn length_at(&self, at: usize) -> usize
+        requires { at ≤ length self.now.text.now }
+        ensures { result ≡ text_site (map (λ b. b.items) self.now.basedirs.now) self.now.text.now at }
+    {
+        if !is_boundary(self.text, at) {
+            return 0;
+        }
+        // One base directory is compared faster than found in a trie.
+        if self.basedirs.len() == 1 {
+            return length_at_start(&self.text[at..], &self.basedirs[0]);
+        }
+        self.trie.longest_at(self.text, at)
+    }
+}
 
-    ghost site = { λ s k. text_site (map (λ b. b.items) s.basedirs.now) s.text.now k };
+// The sites of a text, sought by a word with which all base directories begin.
+#[derive(Drop)]
+struct WordSites<'a> {
+    sought: TextBasedirs<'a>,
+    finder: Finder<'a>,
+    ghost some: { 0 < length finder },
+    ghost begins: { AllBegin (map (λ b. b.items) sought.basedirs.now) finder },
+}
+
+impl<'a> Sites for WordSites<'a> {
+    ghost text = { λ s. s.sought.text.now };
+
+    ghost site = { λ s k. text_site (map (λ b. b.items) s.sought.basedirs.now) s.sought.text.now k };
 
     fn length_at(&self, at: usize) -> usize {
-        if is_boundary(self.text, at) {
-            self.trie.longest_at(self.text, at)
-        } else {
-            0
-        }
+        self.sought.length_at(at)
     }
 
-    fn places(&self, alloc: Global) -> Result<Vec<usize>, UtilError> {
-        let word = match common_beginning(self.basedirs) {
-            Some(word) => word,
-            None => return Ok(Vec::new(alloc)),
-        };
-        if word.is_empty() {
-            return places_of_first_bytes(alloc, self.text, self.basedirs);
-        }
-        places_of_word(alloc, self.text, word)
+    fn next_place(&self, from: usize) -> Option<usize> {
+        let distance = self.finder.find(&self.sought.text[from..])?;
+        Some(from + distance)
     }
 
     ghost use Rattle.cck_strip.specs.SiteLemmas.{text_site-within};
 
-    ghost within = { λ s k h. text_site-within (map (λ b. b.items) s.basedirs.now) s.text.now k h };
+    ghost within = { λ s k h. text_site-within (map (λ b. b.items) s.sought.basedirs.now) s.sought.text.now k h };
+}
+
+// The sites of a text, sought by a byte with which all base directories begin.
+#[derive(Drop)]
+struct ByteSites<'a> {
+    sought: TextBasedirs<'a>,
+    byte: u8,
+    ghost begins: { AllBegin (map (λ b. b.items) sought.basedirs.now) (byte ∷ []) },
+}
+
+impl<'a> Sites for ByteSites<'a> {
+    ghost text = { λ s. s.sought.text.now };
+
+    ghost site = { λ s k. text_site (map (λ b. b.items) s.sought.basedirs.now) s.sought.text.now k };
+
+    fn length_at(&self, at: usize) -> usize {
+        self.sought.length_at(at)
+    }
+
+    fn next_place(&self, from: usize) -> Option<usize> {
+        let text = self.sought.text;
+        let mut distances = memchr_iter(self.byte, &text[from..]);
+        // Such a byte stands often where nothing may begin.
+        while let Some(distance) = distances.next() {
+            if is_boundary(text, from + distance) {
+                return Some(from + distance);
+            }
+        }
+        None
+    }
+
+    ghost use Rattle.cck_strip.specs.SiteLemmas.{text_site-within};
+
+    ghost within = { λ s k h. text_site-within (map (λ b. b.items) s.sought.basedirs.now) s.sought.text.now k h };
+}
+
+// The sites of a text, sought by the first bytes of base directories.
+#[derive(Drop)]
+struct FirstByteSites<'a> {
+    sought: TextBasedirs<'a>,
+    is_first: [bool; 256],
+    ghost marked: { FirstsMarked (map (λ b. b.items) sought.basedirs.now) is_first },
+}
+
+impl<'a> Sites for FirstByteSites<'a> {
+    ghost text = { λ s. s.sought.text.now };
+
+    ghost site = { λ s k. text_site (map (λ b. b.items) s.sought.basedirs.now) s.sought.text.now k };
+
+    fn length_at(&self, at: usize) -> usize {
+        self.sought.length_at(at)
+    }
+
+    fn next_place(&self, from: usize) -> Option<usize> {
+        let text = self.sought.text;
+        for at in from..text.len() {
+            if self.is_first[text[at] as usize] && is_boundary(text, at) {
+                return Some(at);
+            }
+        }
+        None
+    }
+
+    ghost use Rattle.cck_strip.specs.SiteLemmas.{text_site-within};
+
+    ghost within = { λ s k h. text_site-within (map (λ b. b.items) s.sought.basedirs.now) s.sought.text.now k h };
 }
 
 /// The text without the base directories that stand at its start or directly behind a space, a
@@ -190,11 +187,24 @@ pub fn strip_basedirs<'a>(
         text.now (cow_slice_items kept) (IsOwnedSlice kept)) }
     ensures refused { IsOkUnless result UtilError.Memory }
 {
+    let word = match common_beginning(basedirs) {
+        Some(word) => word,
+        None => return Ok(CowSlice::Borrowed(text)),
+    };
     let trie = BasedirTrie::new(alloc, basedirs)?;
-    let sites = TextSites {
+    let sought = TextBasedirs {
         text,
         basedirs,
         trie: &trie,
     };
-    cut_out(alloc, text, &sites)
+    if word.is_empty() {
+        let is_first = first_bytes(basedirs);
+        return cut_out(alloc, text, &FirstByteSites { sought, is_first });
+    }
+    if word.len() == 1 {
+        let byte = word[0];
+        return cut_out(alloc, text, &ByteSites { sought, byte });
+    }
+    let finder = Finder::new(word);
+    cut_out(alloc, text, &WordSites { sought, finder })
 }

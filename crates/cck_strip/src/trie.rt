@@ -1,12 +1,31 @@
 //! Base directories in a trie, a byte in each node.
 ghost use Rattle.std.specs.Prelude.{◌≡◌, ◌++◌, ◌∷◌, [], ◌≤◌, ◌<◌, ℕ, List, Some, OnOk, IfOk, IsOkUnless, map, drop, length};
 ghost use Rattle.cck_strip.specs.Text.{longest_prefix};
-ghost use Rattle.cck_strip.specs.Trie.{At, Found, Grows, IsForward, IsTrie};
+ghost use Rattle.cck_strip.specs.Trie.{At, Found, Grows, IsForward, IsTrie, leaf_of};
 ghost use Rattle.cck_strip.specs.declared.node.Node.{Node};
 
 use crate::node::{Node, NodeId};
 use cck_digest::UtilError;
 use std::alloc::Global;
+use std::marker::Model;
+
+// Adds a node for this byte, which ends nothing and has no node behind or beside it.
+//
+// It is refused only for lack of memory, as [`UtilError::Memory`].
+fn push_leaf(nodes: &mut Vec<Node>, byte: u8) -> Result<NodeId, UtilError>
+    ensures pushed { OnOk result (nodes.new.items ≡ nodes.old.items ++ leaf_of byte ∷ []) }
+    ensures last { IfOk result (λ id. id.0 ≡ length nodes.old.items) }
+    ensures refused { IsOkUnless result UtilError.Memory }
+{
+    let id = NodeId(nodes.len());
+    nodes.push(Node {
+        byte,
+        ends: false,
+        below: None,
+        beside: None,
+    })?;
+    Ok(id)
+}
 
 // The node for this byte among the node `from` and those beside it. It is added where there is none.
 //
@@ -29,13 +48,7 @@ fn node_beside(nodes: &mut Vec<Node>, from: NodeId, byte: u8) -> Result<NodeId, 
         match node.beside {
             Some(id) => at = id,
             None => {
-                let id = NodeId(nodes.len());
-                nodes.push(Node {
-                    byte,
-                    ends: false,
-                    below: None,
-                    beside: None,
-                })?;
+                let id = push_leaf(nodes, byte)?;
                 nodes[at.0] = Node {
                     beside: Some(id),
                     ..node
@@ -62,13 +75,7 @@ fn node_below(nodes: &mut Vec<Node>, at: NodeId, byte: u8) -> Result<NodeId, Uti
     if let Some(id) = node.below {
         return Ok(id);
     }
-    let id = NodeId(nodes.len());
-    nodes.push(Node {
-        byte,
-        ends: false,
-        below: None,
-        beside: None,
-    })?;
+    let id = push_leaf(nodes, byte)?;
     nodes[at.0] = Node {
         below: Some(id),
         ..node
@@ -103,8 +110,19 @@ fn insert(nodes: &mut Vec<Node>, word: &[u8]) -> Result<(), UtilError>
 /// are one word of the trie, and empty ones none.
 #[derive(Drop)]
 pub struct BasedirTrie {
-    pub nodes: Vec<Node>,
-    ghost forward: { IsForward nodes.items },
+    nodes: Vec<Node>,
+}
+
+impl Model for BasedirTrie {
+    ghost use Rattle.std.specs.Prelude.{List};
+    ghost use Rattle.cck_strip.specs.declared.node.Node.{Node};
+    ghost use Rattle.cck_strip.specs.Trie.{IsForward};
+
+    ghost Value = { List Node };
+
+    ghost view = { λ a. a.nodes.items };
+
+    ghost invariant = { λ a. IsForward a.nodes.items };
 }
 
 impl BasedirTrie {
@@ -112,17 +130,12 @@ impl BasedirTrie {
     ///
     /// It is refused only for lack of memory, as [`UtilError::Memory`].
     pub fn new(alloc: Global, basedirs: &[Vec<u8>]) -> Result<BasedirTrie, UtilError>
-        ensures trie { IfOk result (λ trie. IsTrie trie.nodes.items (map (λ b. b.items) basedirs.now)) }
+        ensures trie { IfOk result (λ trie. IsTrie trie (map (λ b. b.items) basedirs.now)) }
         ensures refused { IsOkUnless result UtilError.Memory }
     {
         let mut nodes = Vec::new(alloc);
         // Nearly every base directory begins with this byte.
-        nodes.push(Node {
-            byte: b'/',
-            ends: false,
-            below: None,
-            beside: None,
-        })?;
+        push_leaf(&mut nodes, b'/')?;
         for basedir in basedirs {
             if !basedir.is_empty() {
                 insert(&mut nodes, basedir)?;
@@ -135,7 +148,7 @@ impl BasedirTrie {
     /// if there is none, as at its end and behind it. What stands before the place doesn't matter. It
     /// takes no memory.
     pub fn longest_at(&self, text: &[u8], at: usize) -> usize
-        ensures { (words : List (List ℕ)) → IsTrie self.now.nodes.items words → result ≡ longest_prefix words (drop at text.now) }
+        ensures { (words : List (List ℕ)) → IsTrie self.now words → result ≡ longest_prefix words (drop at text.now) }
     {
         if at > text.len() {
             return 0;
@@ -143,10 +156,14 @@ impl BasedirTrie {
         let rest = &text[at..];
         let mut longest = 0;
         let mut depth = 0;
-        let mut current = NodeId(0);
+        let mut next = Some(NodeId(0));
         while depth < rest.len() {
+            let current = match next {
+                Some(id) => id,
+                None => return longest,
+            };
             let node = self.nodes[current.0];
-            let next = if node.byte == rest[depth] {
+            next = if node.byte == rest[depth] {
                 depth += 1;
                 if node.ends {
                     longest = depth;
@@ -155,10 +172,6 @@ impl BasedirTrie {
             } else {
                 node.beside
             };
-            match next {
-                Some(id) => current = id,
-                None => return longest,
-            }
         }
         longest
     }

@@ -1,5 +1,5 @@
 use Rattle.std.proofs.Common.{◌≡◌, ◌≤◌, ◌<◌, ◌-◌, ℕ, length, get_or}
-use Rattle.cck_strip.proofs.text.shared_len.Given as goal
+use Rattle.cck_strip.proofs.beginnings.shared_len.Given as goal
 
 abbrev pub invariant-loop-shared : goal.invariant-loop-shared
 invariant-loop-shared l = record {

@@ -2,8 +2,8 @@ use Rattle.std.proofs.Common.{◌≡◌, ◌∙◌, ◌∷◌, [], ◌++◌, ◌
 use Rattle.std.proofs.lemmas.Grind.{common_steps}
 use Rattle.std.proofs.lemmas.List.{map_more, take_all}
 use Rattle.cck_strip.proofs.CommonLemmas.{AllBegin-first, AllBegin-more, AllEmpty-start, Common, Common-pass, when_none, when_some}
-use Rattle.cck_strip.proofs.text.common_beginning.Goals as goal
-use Rattle.cck_strip.proofs.text.common_beginning.Goals.{then-not-is_empty+in-None, then-not-is_empty+in-Some, else-not-is_empty}
+use Rattle.cck_strip.proofs.beginnings.common_beginning.Goals as goal
+use Rattle.cck_strip.proofs.beginnings.common_beginning.Goals.{then-not-is_empty+in-None, then-not-is_empty+in-Some, else-not-is_empty}
 
 pub loop-basedir-init : goal.loop-basedir-init
 loop-basedir-init c = AllEmpty-start
