@@ -1,5 +1,6 @@
 pub mod Decided
 pub mod Digests
 pub mod Line
+pub mod Seen
 pub mod Standing
 pub mod Walk

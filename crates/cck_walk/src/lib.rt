@@ -39,6 +39,7 @@ pub mod laws;
 mod line;
 mod name;
 mod records;
+mod seen;
 mod walk;
 
 pub use cck_key_error::KeyError;

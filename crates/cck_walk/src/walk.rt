@@ -6,6 +6,7 @@ ghost use Rattle.cck_walk.specs.Walk.{IsWalk};
 
 use crate::Records;
 use crate::name::take_name;
+use crate::seen::SeenNames;
 use cck_digest::HashState;
 use cck_files::Files;
 use cck_key_error::KeyError;
@@ -63,10 +64,12 @@ pub fn process_preprocessed_file<H: HashState, F: Files>(
         text.now result }
 {
     let mut records = Records::new(alloc);
+    let mut seen = SeenNames::new();
     for mark in Markers::new(text) {
         match mark {
             Mark::Refusal => return Ok(Walk::Refused),
             Mark::Malformed => return Err(KeyError::Marker),
+            Mark::Name { name, is_system } if seen.contains(name, is_system) => {}
             Mark::Name { name, is_system } => match take_name::<H, F>(
                 alloc,
                 files,
@@ -80,7 +83,7 @@ pub fn process_preprocessed_file<H: HashState, F: Files>(
                 zone,
                 vars,
             ) {
-                Ok(true) => {}
+                Ok(true) => seen.insert(name, is_system),
                 Ok(false) => return Ok(Walk::Refused),
                 Err(error) => return Err(error),
             },

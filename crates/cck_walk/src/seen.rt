@@ -1,0 +1,63 @@
+//! Names that a walk took before.
+ghost use Rattle.std.specs.Prelude.{◌≡◌, ◌⊎◌, ◌<◌, ℕ, List, Bool, Contains, Some, true};
+ghost use Rattle.cck_walk.specs.Seen.{names_in};
+
+// How many names are remembered at most.
+const SLOTS: usize = 1024;
+
+// How many of a name's last bytes tell its slot.
+const TOLD_BY: usize = 8;
+
+/// A name, and whether a system header has it.
+#[derive(Clone, Copy)]
+pub(crate) struct SeenName<'t> {
+    name: &'t [u8],
+    is_system: bool,
+}
+
+/// Names that a walk took and that need not be looked at again. Each is remembered until another
+/// one takes its slot. It takes no memory.
+#[derive(Drop)]
+pub(crate) struct SeenNames<'t> {
+    slots: [Option<SeenName<'t>>; SLOTS],
+}
+
+impl<'t> SeenNames<'t> {
+    /// No names.
+    pub(crate) fn new() -> SeenNames<'t>
+        ensures { (name : List ℕ) (is_system : Bool) → Contains (names_in result) (Some (name, is_system)) → ⊥ }
+    {
+        SeenNames {
+            slots: [None; SLOTS],
+        }
+    }
+
+    /// Whether this name is remembered. It may be answered that it isn't.
+    pub(crate) fn contains(&self, name: &[u8], is_system: bool) -> bool
+        ensures { result ≡ true → Contains (names_in self.now) (Some (name.now, is_system)) }
+    {
+        match self.slots[slot_of(name)] {
+            Some(seen) => seen.is_system == is_system && seen.name == name,
+            None => false,
+        }
+    }
+
+    /// Remembers this name.
+    pub(crate) fn insert(&mut self, name: &'t [u8], is_system: bool)
+        ensures { (other : List ℕ) (its_system : Bool) → Contains (names_in self.new) (Some (other, its_system))
+            → Contains (names_in self.old) (Some (other, its_system)) ⊎ ((other ≡ name.now) × (its_system ≡ is_system)) }
+    {
+        self.slots[slot_of(name)] = Some(SeenName { name, is_system });
+    }
+}
+
+// The slot of a name, by its length and its last bytes: names of one folder begin alike.
+fn slot_of(name: &[u8]) -> usize
+    ensures { result < SLOTS }
+{
+    let mut slot = name.len();
+    for byte in &name[name.len().saturating_sub(TOLD_BY)..] {
+        slot = slot.wrapping_mul(31).wrapping_add(*byte as usize);
+    }
+    slot % SLOTS
+}
