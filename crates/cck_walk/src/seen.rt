@@ -3,7 +3,10 @@ ghost use Rattle.std.specs.Prelude.{◌≡◌, ◌⊎◌, ◌<◌, ℕ, List, Bo
 ghost use Rattle.cck_walk.specs.Seen.{names_in};
 
 // How many names are remembered at most.
-const SLOTS: usize = 1024;
+const SLOTS: usize = 4096;
+
+// The prime by which FNV-1 multiplies.
+const FNV_PRIME: usize = 0x0100_0193;
 
 // How many of a name's last bytes tell its slot.
 const TOLD_BY: usize = 8;
@@ -36,7 +39,7 @@ impl<'t> SeenNames<'t> {
     pub(crate) fn contains(&self, name: &[u8], is_system: bool) -> bool
         ensures { result ≡ true → Contains (names_in self.now) (Some (name.now, is_system)) }
     {
-        match self.slots[slot_of(name)] {
+        match self.slots[slot_of(name, is_system)] {
             Some(seen) => seen.is_system == is_system && seen.name == name,
             None => false,
         }
@@ -47,17 +50,21 @@ impl<'t> SeenNames<'t> {
         ensures { (other : List ℕ) (its_system : Bool) → Contains (names_in self.new) (Some (other, its_system))
             → Contains (names_in self.old) (Some (other, its_system)) ⊎ ((other ≡ name.now) × (its_system ≡ is_system)) }
     {
-        self.slots[slot_of(name)] = Some(SeenName { name, is_system });
+        self.slots[slot_of(name, is_system)] = Some(SeenName { name, is_system });
     }
 }
 
-// The slot of a name, by its length and its last bytes: names of one folder begin alike.
-fn slot_of(name: &[u8]) -> usize
+// The slot of a name: the hash function FNV-1 over its last bytes, since names of one folder begin
+// alike, from its length and its flag on.
+fn slot_of(name: &[u8], is_system: bool) -> usize
     ensures { result < SLOTS }
 {
-    let mut slot = name.len();
-    for byte in &name[name.len().saturating_sub(TOLD_BY)..] {
-        slot = slot.wrapping_mul(31).wrapping_add(*byte as usize);
+    let mut hash = name.len().wrapping_mul(2);
+    if is_system {
+        hash = hash.wrapping_add(1);
     }
-    slot % SLOTS
+    for byte in &name[name.len().saturating_sub(TOLD_BY)..] {
+        hash = hash.wrapping_mul(FNV_PRIME) ^ (*byte as usize);
+    }
+    hash % SLOTS
 }
