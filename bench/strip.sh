@@ -1,8 +1,8 @@
 #!/bin/sh
 # Times strip_basedirs over 64 MB of system headers as gcc -E leaves them, beside one copy of the text
-# and one search of it, and prints a table. One of the base directories stands at every 750th
-# (sparse) or every 157th byte of the text (dense), or none does (absent). They share a beginning of
-# some bytes, or only their first byte (others). Beside it texts of `/` alone with a base directory
+# and one search of it, and prints a table. One of the base directories stands once in 748 (sparse)
+# or 157 bytes of the text (dense), or none does (absent). They share a beginning of some bytes, or
+# only their first byte (others). Beside it texts of `/` alone with a base directory
 # of 32768 times `/`, and strip_basedirs_from_arg on 100 arguments with 1000 base directories. Where
 # valgrind is there, the instructions of each on 4 MB of the text are counted in runs of their own.
 #

@@ -1,6 +1,6 @@
 -- A walk over the places of a byte, with which all base directories begin.
 use Rattle.std.proofs.Common.{◌≡◌, inl, inr, ℕ, zero, suc, ◌+◌, ◌-◌, ◌<◌, ◌≤◌, List, [], ◌∷◌, Bool, true, false, cond, length, get_or, drop, length-drop, refl, sym, ap, ◌∙◌, arith}
-use Rattle.std.proofs.lemmas.Bool.{cases_lt}
+use Rattle.std.proofs.lemmas.Bool.{cases_lt, false≢true}
 use Rattle.std.proofs.lemmas.Bool.Decides.{nat_tests}
 use Rattle.std.proofs.lemmas.List.{get_or-drop}
 use Rattle.memchr.specs.Find.{OccursAt, Passes, is_byte, places_from}
@@ -42,13 +42,10 @@ places_from-first test hay i (suc n) d others e = go (test (get_or hay i 0)) ref
           high = omega arith;
           before = λ k from lt passes. elim (cases_lt i k) [
             | inl behind ↦ f.before k (omega arith) lt passes
-            | inr at ↦ let same : k ≡ i = omega arith in differ (sym p ∙ (ap (λ j. test (get_or hay j 0)) (sym same) ∙ passes))
+            | inr at ↦ let same : k ≡ i = omega arith in false≢true (sym p ∙ (ap (λ j. test (get_or hay j 0)) (sym same) ∙ passes))
           ];
           rest = f.rest ∙ ap (places_from test hay (d + 1)) (omega arith);
         }
-      where
-        differ : false ≡ true → ⊥
-        differ e = cc
 
 places_from-none : (test : ℕ → Bool) (hay : List ℕ) (i n : ℕ) → places_from test hay i n ≡ [] → (k : ℕ) → i ≤ k → k < i + n → Passes test hay k → ⊥
 unfolding places_from
@@ -63,11 +60,8 @@ places_from-none test hay i (suc n) e k low high passes = go (test (get_or hay i
     go true p e h = cc
     go false p e h = elim (cases_lt i k) [
       | inl behind ↦ h e k (omega arith) (omega arith) passes
-      | inr at ↦ let same : k ≡ i = omega arith in differ (sym p ∙ (ap (λ j. test (get_or hay j 0)) (sym same) ∙ passes))
+      | inr at ↦ let same : k ≡ i = omega arith in false≢true (sym p ∙ (ap (λ j. test (get_or hay j 0)) (sym same) ∙ passes))
     ]
-      where
-        differ : false ≡ true → ⊥
-        differ e = cc
 
 -- what is left of the places of a byte behind `from`: there is no site at those that are gone
 pub record Left (words : List (List ℕ)) (byte : ℕ) (text distances : List ℕ) (from : ℕ) : Type 0 where

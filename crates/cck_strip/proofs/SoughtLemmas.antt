@@ -3,7 +3,7 @@ use Rattle.std.proofs.Common.{◌≡◌, inl, inr, ℕ, ◌+◌, ◌-◌, ◌<�
 use Rattle.std.specs.Prelude.{Contains}
 use Rattle.std.specs.List.{starts_with}
 use Rattle.std.proofs.Math.Seq.{take-append_seam}
-use Rattle.std.proofs.lemmas.Bool.{cases_eq}
+use Rattle.std.proofs.lemmas.Bool.{cases_eq, false≢true}
 use Rattle.std.proofs.lemmas.Bool.Decides.{Decides-eqb}
 use Rattle.std.proofs.lemmas.List.{get_or-drop, get_or-set_same, get_or-set_other}
 use Rattle.std.proofs.lemmas.List.Elements.{Contains-append_right, Contains-push_cases}
@@ -188,7 +188,4 @@ text_site-unmarked words text marks k h e =
     none_is _ (λ p.
     let b = site-begins words text k p in
     let first = OccursAt-first text (b.word) k (b.some) (b.here) in
-    differ (sym e ∙ (ap (λ byte. get_or marks byte false) (first.1) ∙ h (b.word) (b.among) (b.some))))
-  where
-    differ : false ≡ true → ⊥
-    differ e = cc
+    false≢true (sym e ∙ (ap (λ byte. get_or marks byte false) (first.1) ∙ h (b.word) (b.among) (b.some))))

@@ -7,7 +7,7 @@ ghost use Rattle.cck_strip.specs.Text.{is_boundary, is_separator, longest_prefix
 ghost use Rattle.cck_strip.specs.Trie.{IsTrie};
 
 use crate::beginnings::{common_beginning, first_bytes};
-use crate::cuts::{Sites, cut_out};
+use crate::cuts::{Search, Sites, cut_out};
 use crate::trie::BasedirTrie;
 use cck_digest::UtilError;
 use memchr::memchr_iter;
@@ -47,21 +47,21 @@ fn length_at_start(text: &[u8], basedir: &[u8]) -> usize
     }
 }
 
-// A text, and the base directories that are sought in it.
+// The sites of a text: base directories at its start or behind a separator.
 #[derive(Drop)]
-struct TextBasedirs<'a> {
+struct TextSites<'a> {
     text: &'a [u8],
     basedirs: &'a [Vec<u8>],
     trie: &'a BasedirTrie,
     ghost is_trie: { ∥ IsTrie trie.now (map (λ b. b.items) basedirs.now) ∥₁ },
 }
 
-impl<'a> TextBasedirs<'a> {
-    // The length of the site at this place, and 0 where there is none.
-    fn length_at(&self, at: usize) -> usize
-        requires { at ≤ length self.now.text.now }
-        ensures { result ≡ text_site (map (λ b. b.items) self.now.basedirs.now) self.now.text.now at }
-    {
+impl<'a> Sites for TextSites<'a> {
+    ghost text = { λ s. s.text.now };
+
+    ghost site = { λ s k. text_site (map (λ b. b.items) s.basedirs.now) s.text.now k };
+
+    fn length_at(&self, at: usize) -> usize {
         if !is_boundary(self.text, at) {
             return 0;
         }
@@ -71,89 +71,59 @@ impl<'a> TextBasedirs<'a> {
         }
         self.trie.longest_at(self.text, at)
     }
-}
-
-// The sites of a text, sought by a word with which all base directories begin.
-#[derive(Drop)]
-struct WordSites<'a> {
-    sought: TextBasedirs<'a>,
-    finder: Finder<'a>,
-    ghost some: { 0 < length finder },
-    ghost begins: { AllBegin (map (λ b. b.items) sought.basedirs.now) finder },
-}
-
-impl<'a> Sites for WordSites<'a> {
-    ghost text = { λ s. s.sought.text.now };
-
-    ghost site = { λ s k. text_site (map (λ b. b.items) s.sought.basedirs.now) s.sought.text.now k };
-
-    fn length_at(&self, at: usize) -> usize {
-        self.sought.length_at(at)
-    }
-
-    fn next_place(&self, from: usize) -> Option<usize> {
-        let distance = self.finder.find(&self.sought.text[from..])?;
-        Some(from + distance)
-    }
 
     ghost use Rattle.cck_strip.specs.SiteLemmas.{text_site-within};
 
-    ghost within = { λ s k h. text_site-within (map (λ b. b.items) s.sought.basedirs.now) s.sought.text.now k h };
+    ghost within = { λ s k h. text_site-within (map (λ b. b.items) s.basedirs.now) s.text.now k h };
 }
 
-// The sites of a text, sought by a byte with which all base directories begin.
+// The search of a text for a word with which all base directories begin.
 #[derive(Drop)]
-struct ByteSites<'a> {
-    sought: TextBasedirs<'a>,
-    byte: u8,
-    ghost begins: { AllBegin (map (λ b. b.items) sought.basedirs.now) (byte ∷ []) },
+struct WordSearch<'a> {
+    finder: Finder<'a>,
 }
 
-impl<'a> Sites for ByteSites<'a> {
-    ghost text = { λ s. s.sought.text.now };
+impl<'a, 'b> Search<TextSites<'b>> for WordSearch<'a> {
+    ghost finds = { λ s t. (0 < length s.finder) × AllBegin (map (λ b. b.items) t.basedirs.now) s.finder };
 
-    ghost site = { λ s k. text_site (map (λ b. b.items) s.sought.basedirs.now) s.sought.text.now k };
-
-    fn length_at(&self, at: usize) -> usize {
-        self.sought.length_at(at)
+    fn next_place(&self, sites: &TextSites<'b>, from: usize) -> Option<usize> {
+        let distance = self.finder.find(&sites.text[from..])?;
+        Some(from + distance)
     }
+}
 
-    fn next_place(&self, from: usize) -> Option<usize> {
-        let text = self.sought.text;
-        let mut distances = memchr_iter(self.byte, &text[from..]);
+// The search of a text for a byte with which all base directories begin.
+#[derive(Drop)]
+struct ByteSearch {
+    byte: u8,
+}
+
+impl<'b> Search<TextSites<'b>> for ByteSearch {
+    ghost finds = { λ s t. AllBegin (map (λ b. b.items) t.basedirs.now) (s.byte ∷ []) };
+
+    fn next_place(&self, sites: &TextSites<'b>, from: usize) -> Option<usize> {
+        let mut distances = memchr_iter(self.byte, &sites.text[from..]);
         // Such a byte stands often where nothing may begin.
         while let Some(distance) = distances.next() {
-            if is_boundary(text, from + distance) {
+            if is_boundary(sites.text, from + distance) {
                 return Some(from + distance);
             }
         }
         None
     }
-
-    ghost use Rattle.cck_strip.specs.SiteLemmas.{text_site-within};
-
-    ghost within = { λ s k h. text_site-within (map (λ b. b.items) s.sought.basedirs.now) s.sought.text.now k h };
 }
 
-// The sites of a text, sought by the first bytes of base directories.
+// The search of a text for the first bytes of base directories.
 #[derive(Drop)]
-struct FirstByteSites<'a> {
-    sought: TextBasedirs<'a>,
+struct FirstByteSearch {
     is_first: [bool; 256],
-    ghost marked: { FirstsMarked (map (λ b. b.items) sought.basedirs.now) is_first },
 }
 
-impl<'a> Sites for FirstByteSites<'a> {
-    ghost text = { λ s. s.sought.text.now };
+impl<'b> Search<TextSites<'b>> for FirstByteSearch {
+    ghost finds = { λ s t. FirstsMarked (map (λ b. b.items) t.basedirs.now) s.is_first };
 
-    ghost site = { λ s k. text_site (map (λ b. b.items) s.sought.basedirs.now) s.sought.text.now k };
-
-    fn length_at(&self, at: usize) -> usize {
-        self.sought.length_at(at)
-    }
-
-    fn next_place(&self, from: usize) -> Option<usize> {
-        let text = self.sought.text;
+    fn next_place(&self, sites: &TextSites<'b>, from: usize) -> Option<usize> {
+        let text = sites.text;
         for at in from..text.len() {
             if self.is_first[text[at] as usize] && is_boundary(text, at) {
                 return Some(at);
@@ -161,10 +131,6 @@ impl<'a> Sites for FirstByteSites<'a> {
         }
         None
     }
-
-    ghost use Rattle.cck_strip.specs.SiteLemmas.{text_site-within};
-
-    ghost within = { λ s k h. text_site-within (map (λ b. b.items) s.sought.basedirs.now) s.sought.text.now k h };
 }
 
 /// The text without the base directories that stand at its start or directly behind a space, a
@@ -192,19 +158,19 @@ pub fn strip_basedirs<'a>(
         None => return Ok(CowSlice::Borrowed(text)),
     };
     let trie = BasedirTrie::new(alloc, basedirs)?;
-    let sought = TextBasedirs {
+    let sites = TextSites {
         text,
         basedirs,
         trie: &trie,
     };
     if word.is_empty() {
         let is_first = first_bytes(basedirs);
-        return cut_out(alloc, text, &FirstByteSites { sought, is_first });
+        return cut_out(alloc, text, &sites, &FirstByteSearch { is_first });
     }
     if word.len() == 1 {
         let byte = word[0];
-        return cut_out(alloc, text, &ByteSites { sought, byte });
+        return cut_out(alloc, text, &sites, &ByteSearch { byte });
     }
     let finder = Finder::new(word);
-    cut_out(alloc, text, &WordSites { sought, finder })
+    cut_out(alloc, text, &sites, &WordSearch { finder })
 }

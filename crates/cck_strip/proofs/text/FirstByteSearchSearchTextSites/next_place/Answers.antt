@@ -1,8 +1,8 @@
 use Rattle.std.proofs.Common.{inl, inr, sym, ◌∙◌, arith}
 use Rattle.std.proofs.lemmas.Bool.{cases_lt}
 use Rattle.cck_strip.proofs.SoughtLemmas.{text_site-beyond, text_site-inside, text_site-unmarked}
-use Rattle.cck_strip.proofs.text.FirstByteSitesSites.next_place.Goals as goal
-use Rattle.cck_strip.proofs.text.FirstByteSitesSites.next_place.Goals.{else-self-text-via-then-self-text+else-is_boundary, else-self-text-via-else-self-text}
+use Rattle.cck_strip.proofs.text.FirstByteSearchSearchTextSites.next_place.Goals as goal
+use Rattle.cck_strip.proofs.text.FirstByteSearchSearchTextSites.next_place.Goals.{else-self-text-via-then-self-text+else-is_boundary, else-self-text-via-else-self-text}
 use borrow.Author.Count.{below_more}
 
 pub loop-at-preserved : goal.loop-at-preserved
@@ -11,7 +11,7 @@ loop-at-preserved c =
       | else-self-text-via-then-self-text+else-is_boundary w ↦
           text_site-inside _ _ _ (sym w.is_boundary.ensures ∙ w.if-is_boundary.false)
       | else-self-text-via-else-self-text w ↦
-          text_site-unmarked _ _ _ _ c.args.self.now.marked w.if-self-text.false
+          text_site-unmarked _ _ _ _ c.requires.finds w.if-self-text.false
     ])
 
 pub returns : goal.returns

@@ -2,7 +2,7 @@ use Rattle.std.proofs.Common.{◌≡◌, ◌==◌, inl, inr, ℕ, List, [], ◌�
 use Rattle.std.proofs.lemmas.Grind.{common_steps}
 use Rattle.std.proofs.lemmas.Bool.{cases_lt}
 use Rattle.cck_strip.proofs.PositionLemmas.{argument_site-beyond, argument_site-elsewhere, argument_site-none}
-use Rattle.cck_strip.proofs.argument.ArgumentSitesSites.next_place.Goals as goal
+use Rattle.cck_strip.proofs.argument.PositionSearchSearchArgumentSites.next_place.Goals as goal
 use borrow.Author.Count.{below_more}
 
 none : (basedirs : List (Vec ℕ Global)) → (length basedirs == 0) ≡ true → map (λ b. b.items) basedirs ≡ []
