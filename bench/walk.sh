@@ -12,8 +12,8 @@ set -e
 here=$(cd "$(dirname "$0")" && pwd)
 top=$(cd "$here/.." && pwd)
 folder=${1:-$(mktemp -d)}
-crates='cck_digest cck_path cck_path_map cck_files cck_file_digest cck_time cck_include cck_markers
-    cck_walk'
+crates='cck_digest cck_path cck_path_map cck_files cck_file_digest cck_time cck_key_error cck_include
+    cck_markers cck_walk'
 . "$here/headers.sh"
 . "$here/dense.sh"
 
