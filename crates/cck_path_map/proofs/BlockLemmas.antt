@@ -239,27 +239,33 @@ module _ {V : Type 0} where
       ∙ ap (path_cmp (path_of (get_or (entries_of bs) (start_of bs i) e))) (first_at bs j d e ordered.none_empty h)
       ∙ rises (entries_of bs) ordered.in_order (start_of bs i) (start_of bs j) e (omega arith) (omega arith)
 
-  -- where a search among the first paths ends
-  pub block_found : (bs : List (Vec (Entry V) Global)) → AreOrderedBlocks bs → 0 < length bs → (p : Path) (r : Result ℕ ℕ) → IsSearchInRange r (length bs)
-      → IsBinarySearchResult (λ b. path_cmp (first_of b.items) p) bs r → IfOk r (IsBlockFor p bs) × IfErr r (λ i. (k : ℕ) → k ≡ i - 1 → IsBlockFor p bs k)
-  block_found bs ordered some p (Ok i) range equal = (
+  not_higher_before : (b : Vec (Entry V) Global) (bs : List (Vec (Entry V) Global)) (p : Path) (d : Vec (Entry V) Global) (i : ℕ) → 0 < i → ((k : ℕ) → k < i → path_cmp (first_of (get_or bs k d).items) p ≡ Less)
+      → is_gt (path_cmp (first_of (get_or (b ∷ bs) i d).items) p) ≡ false
+  not_higher_before b bs p d zero some low = absurd (omega arith)
+  not_higher_before b bs p d (suc k) some low = ap is_gt (low k (omega arith))
+
+  -- where a search among the first paths of the later blocks ends
+  pub block_found : (b : Vec (Entry V) Global) (bs : List (Vec (Entry V) Global)) → AreOrderedBlocks (b ∷ bs) → (p : Path) (r : Result ℕ ℕ) → IsSearchInRange r (length bs)
+      → IsBinarySearchResult (λ x. path_cmp (first_of x.items) p) bs r → IfOk r (λ i. IsBlockFor p (b ∷ bs) (suc i)) × IfErr r (IsBlockFor p (b ∷ bs))
+  block_found b bs ordered p (Ok i) range equal = (
     record {
-      in_range = range;
+      in_range = omega arith;
       not_higher = λ d h. ap is_gt (equal d);
-      next_higher = λ d h. higher p (first_of (get_or bs (i + 1) d).items)
-          (ap (λ q. path_cmp q (first_of (get_or bs (i + 1) d).items)) (sym (path_cmp-IsAntisymmetric _ _ (equal d)))
-          ∙ firsts_rise bs ordered i (i + 1) d (omega arith) h);
+      next_higher = λ d h. higher p (first_of (get_or (b ∷ bs) (suc i + 1) d).items)
+          (ap (λ q. path_cmp q (first_of (get_or (b ∷ bs) (suc i + 1) d).items)) (sym (path_cmp-IsAntisymmetric _ _ (equal d)))
+          ∙ firsts_rise (b ∷ bs) ordered (suc i) (suc i + 1) d (omega arith) h);
     },
     tt,
   )
-  block_found bs ordered some p (Err i) range found =
-      let halves = found (searchable_from_sorted path_cmp_total (λ b. first_of b.items) bs p
-      (λ k d low high. ap is_lt (higher (first_of (get_or bs k d).items) (first_of (get_or bs (k + 1) d).items) (firsts_rise bs ordered k (k + 1) d (omega arith) high)))) in (
+  block_found b bs ordered p (Err i) range found =
+      let later : AreOrderedBlocks bs = record { in_order = back_in_order b.items (entries_of bs) ordered.in_order; none_empty = ordered.none_empty.1 } in
+      let halves = found (searchable_from_sorted path_cmp_total (λ x. first_of x.items) bs p
+      (λ k d low high. ap is_lt (higher (first_of (get_or bs k d).items) (first_of (get_or bs (k + 1) d).items) (firsts_rise bs later k (k + 1) d (omega arith) high)))) in (
         tt,
-        λ k is. record {
+        record {
           in_range = omega arith;
-          not_higher = λ d h. ap is_gt (halves.0 k d (omega arith) (omega arith));
-          next_higher = λ d h. halves.1 (k + 1) d (omega arith) h;
+          not_higher = λ d h. not_higher_before b bs p d i h (λ k low. halves.0 k d (omega arith) low);
+          next_higher = λ d h. let next : i + 1 ≡ suc i = omega arith in rw next (halves.1 i d (omega arith) (omega arith));
         },
       )
 

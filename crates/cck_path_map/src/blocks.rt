@@ -36,15 +36,19 @@ pub(crate) fn search<V>(
     }
 }
 
-// The block in which a path's entry stands or would go.
+// The block in which a path's entry stands or would go: the last one that begins with no higher
+// path, or the first one.
 fn block_for<V>(blocks: &[Vec<Entry<V>>], path: &[u8]) -> usize
     requires ordered { AreOrderedBlocks blocks.now }
     requires some { 0 < length blocks.now }
     ensures { IsBlockFor (components path.now) blocks.now result }
 {
-    match blocks.binary_search_by(|block| compare_paths(first_path(block), path)) {
-        Ok(at) => at,
-        Err(at) => at.saturating_sub(1),
+    let Some((_, later)) = blocks.split_first() else {
+        return 0;
+    };
+    match later.binary_search_by(|block| compare_paths(first_path(block), path)) {
+        Ok(at) => at + 1,
+        Err(at) => at,
     }
 }
 

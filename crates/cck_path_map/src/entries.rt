@@ -6,7 +6,7 @@ ghost use Rattle.cck_path_map.specs.Entries.{entries_left, now_of};
 
 use crate::path_map::Entry;
 
-/// The entries of a [`PathMap`] that are still to come, in the order of their paths.
+/// The entries of a [`PathMap`](crate::PathMap) that are still to come, in the order of their paths.
 #[derive(Debug, Drop)]
 pub struct Entries<'a, V> {
     pub(crate) block: &'a [Entry<V>],

@@ -2,8 +2,8 @@
 //!
 //! [`PathMap`] gives values to paths, and takes two paths for one where their components are the
 //! same: `/a/x` and `//a/./x/` have one value, `x` and `./x` two. Its entries, each an [`Entry`],
-//! stand in the order of the paths, in blocks of at most some hundred: a look-up is a binary search
-//! for the block and one in it, and takes no memory.
+//! stand in the order of the paths, in blocks: a look-up is a binary search for the block and one in
+//! it, and takes no memory.
 //!
 //! A map is seen as the finite map from lists of components to values that it is.
 //!

@@ -24,8 +24,9 @@ pub struct Entry<V> {
 
 /// A map from paths to values, where paths are told apart by their components alone.
 ///
-/// With n paths a look-up compares about log n of them. A new path and a removal also move the
-/// entries of one block, some hundred, and now and then the list of blocks.
+/// With n paths a look-up compares about log n of them. A new path and a removal also move entries
+/// of one block, which has at most 128 unless there was no memory to split it, and now and then the
+/// list of blocks.
 #[derive(Debug, Drop)]
 pub struct PathMap<V> {
     alloc: Global,
@@ -76,8 +77,8 @@ impl<V> PathMap<V> {
         self.len() == 0
     }
 
-    /// The paths and their values, in the order of the paths, which is
-    /// [`compare_paths`]'s. It takes no memory.
+    /// The paths and their values, in the order of the paths, which is that of
+    /// [`compare_paths`](cck_path::compare_paths). It takes no memory.
     pub fn entries(&self) -> Entries<'_, V>
         ensures { map pair_of (entries_left result) ≡ finite.entries self.now }
     {

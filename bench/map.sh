@@ -1,0 +1,44 @@
+#!/bin/sh
+# Times inserting 10000, 40000 and 100000 different paths into a PathMap, in rising, falling and
+# random order, and compare_paths at paths of 4 KB that differ nowhere, in the last byte or in the
+# second, beside a test whether their bytes are the same, and prints two tables.
+#
+#     bench/map.sh [FOLDER]
+#
+# All is made in FOLDER, by default a new one below /tmp: a copy of the crates and the program.
+# Compare times within one run.
+set -e
+here=$(cd "$(dirname "$0")" && pwd)
+top=$(cd "$here/.." && pwd)
+folder=${1:-$(mktemp -d)}
+crates='cck_digest cck_path cck_path_map'
+
+rm -rf "$folder/work"
+mkdir -p "$folder/work/crates/map_bench/src"
+for crate in $crates; do
+    cp -r "$top/crates/$crate" "$folder/work/crates/"
+    grep "^$crate:" "$top/crates.txt" >> "$folder/work/crates.txt"
+done
+echo 'map_bench: cck_digest cck_path cck_path_map anyhow' >> "$folder/work/crates.txt"
+cp "$here/map/main.rt.in" "$folder/work/crates/map_bench/src/main.rt"
+cp "$top/HANDLES" "$folder/work/"
+if ! (cd "$folder/work/crates/map_bench" && rt run < /dev/null > "$folder/build.log" 2>&1); then
+    tail -20 "$folder/build.log" >&2
+    exit 1
+fi
+
+echo 'paths   order    nanoseconds an insert  ratio   (best of 5)'
+"$folder/work/crates/map_bench/out/map_bench" |
+    awk '
+        $1 == "insert" && NF == 4 {
+            each = $4 / $3
+            if (!unit) unit = each
+            printf "%-7d %-7s %22.0f  %5.2f\n", $3, $2, each, each / unit
+            next
+        }
+        $1 == "compare" && NF == 4 {
+            if (!compared++) print "\ndiffers  nanoseconds  bytes  ratio   (a comparison, best of 1001 rounds of 64)"
+            printf "%-8s %11.0f  %5.0f  %5.2f\n", $2, $3 / 64, $4 / 64, $3 / $4
+            next
+        }
+        { print; exit 1 }'
