@@ -3,7 +3,7 @@ ghost use Rattle.std.specs.Prelude.{◌≡◌, ◌⊎◌, ◌<◌, ℕ, List, Bo
 ghost use Rattle.cck_walk.specs.Seen.{names_in};
 
 // How many names are remembered at most.
-const SLOTS: usize = 4096;
+const SLOTS: usize = 2048;
 
 // The prime by which FNV-1 multiplies.
 const FNV_PRIME: usize = 0x0100_0193;
