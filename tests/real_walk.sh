@@ -13,7 +13,7 @@ done >"$room/main.c"
 (cd "$room" && gcc -E main.c -o main.i)
 
 mkdir -p "$room/work/crates/walk_test/src"
-for crate in cck_digest cck_path cck_path_map cck_files cck_file_digest cck_time cck_include \
+for crate in cck_digest cck_path cck_path_map cck_files cck_file_digest cck_time cck_key_error cck_include \
     cck_markers cck_walk; do
     cp -r "$top/crates/$crate" "$room/work/crates/"
     grep "^$crate:" "$top/crates.txt" >>"$room/work/crates.txt"
