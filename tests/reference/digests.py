@@ -17,6 +17,21 @@ def delimiter(name):
     return b"\0SCCACHE\0" + name + b"\0"
 
 
+def length_bytes(count):
+    """`length_bytes`: a length or a count as 8 bytes, the lowest first."""
+    return count.to_bytes(8, "little")
+
+
 def length_prefixed(data):
-    """`length_prefixed`: the length as 8 bytes, the lowest first, and the bytes."""
-    return len(data).to_bytes(8, "little") + data
+    """`frame`, and `length_prefixed`: the length, and the bytes."""
+    return length_bytes(len(data)) + data
+
+
+def counted(item, items):
+    """`counted`: the count of the items, and what `item` gives for each."""
+    return length_bytes(len(items)) + b"".join(map(item, items))
+
+
+def framed_option(data):
+    """`framed_option`: a byte 0 for nothing, else a byte 1 and the frame."""
+    return b"\0" if data is None else b"\1" + length_prefixed(data)

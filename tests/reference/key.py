@@ -1,11 +1,11 @@
 """The key of an object."""
 import dataclasses
 
-from .digests import digest_text, length_prefixed
+from .digests import counted, digest_text, framed_option, length_prefixed
 from .errors import Refused
-from .strip import arguments_bytes, stripped_text
+from .strip import stripped_arguments, stripped_text
 
-CACHE_VERSION = b"13"
+CACHE_VERSION = b"14"
 
 # `language_name` and `is_preprocessed_first`: the variant, its name, and whether the preprocessor
 # goes over it first.
@@ -87,19 +87,25 @@ def assembler_bytes(digest):
     return b"" if digest is None else digest
 
 
+def variable_frames(variable):
+    """`variable_frames`: a frame of the name and one of the value."""
+    name, value = variable
+    return length_prefixed(name) + length_prefixed(value)
+
+
 def key_material(params):
     """`material` of `key_parts`: the bytes whose digest text is the key of an object."""
     return b"".join(
         [
-            params.compiler_digest,
+            length_prefixed(CACHE_VERSION),
+            length_prefixed(params.compiler_digest),
             flag_byte(params.plusplus),
-            CACHE_VERSION,
-            params.language,
-            arguments_bytes(params.arguments, params.basedirs),
-            b"".join(params.extra_hashes),
-            assembler_bytes(params.assembler_digest),
-            variables_bytes(variables_named(OBJECT_VARIABLES, params.variables)),
-            stripped_text(params.text, params.basedirs),
+            length_prefixed(params.language),
+            counted(length_prefixed, stripped_arguments(params.arguments, params.basedirs)),
+            counted(length_prefixed, params.extra_hashes),
+            framed_option(params.assembler_digest),
+            counted(variable_frames, variables_named(OBJECT_VARIABLES, params.variables)),
+            length_prefixed(stripped_text(params.text, params.basedirs)),
         ]
     )
 

@@ -117,6 +117,11 @@ def stripped_argument(argument, basedirs):
     return without_sites(argument, lambda at: argument_site(argument, at, basedirs))
 
 
+def stripped_arguments(arguments, basedirs):
+    """`stripped_argument` of each argument in turn."""
+    return [stripped_argument(argument, basedirs) for argument in arguments]
+
+
 def arguments_bytes(arguments, basedirs):
     """`argument_bytes` of each argument in turn: the argument without its base directories, and ff."""
-    return b"".join(stripped_argument(argument, basedirs) + b"\xff" for argument in arguments)
+    return b"".join(argument + b"\xff" for argument in stripped_arguments(arguments, basedirs))

@@ -17,6 +17,7 @@ use Rattle.std.proofs.lemmas.Str.Ascii.{IsAscii-from_all}
 use Rattle.std.proofs.lemmas.Option.{same_Some, none-some}
 use Rattle.cck_compiler.specs.Arguments.{archs, is_multiarch}
 use Rattle.cck_digest.specs.Digest.{digest_text, hex_text}
+use Rattle.cck_digest.specs.Frames.{length_bytes}
 use Rattle.cck_entry.specs.Entry.{Entry, EntryText, added}
 use Rattle.cck_entry.specs.Find.{found_in}
 use Rattle.cck_entry.specs.Results.{Fits, FitsMoment, FitsResult, KeyResult}
@@ -308,12 +309,12 @@ fits_include = record {
   changed = fits_second;
 }
 
-answer_size : length (material (key_parts (params witness_world witness_call.request [] printed_text))) ≡ 64
-unfolding params stripped text_site longest_prefix
+answer_size : length (material (key_parts (params witness_world witness_call.request [] printed_text))) ≡ 121
+unfolding params stripped text_site longest_prefix material length_bytes
 answer_size = refl
 
 answer_text : is_utf8 witness_answer ≡ true
-answer_text = ap (λ n. is_utf8 (hex_text (sized n))) answer_size ∙ ascii_text (hex_text (sized 64)) refl
+answer_text = ap (λ n. is_utf8 (hex_text (sized n))) answer_size ∙ ascii_text (hex_text (sized 121)) refl
 
 fits_result : FitsResult only_result
 fits_result = record {

@@ -31,7 +31,7 @@
 //! let mut writer: Vec<u8> = Vec::new(alloc);
 //! let status = engine::<Sha256State, _, _>(alloc, &words, &mut reader, &mut writer);
 //! // `Status::Done`, whose code is 0, and `writer` holds the line
-//! // miss 8294407aab0a108766c6d8467c030ed6b677b7c12d72642da72ca1a1d5537baa
+//! // miss d82c8e525b752081f93fd794bb5cd5dea4dec2aaff2de2b033ca0990706decf2
 //! ```
 #![tactic(auto)]
 

@@ -1,5 +1,6 @@
 pub mod EqualityLemmas
 pub mod FinderLemmas
+pub mod FrameLemmas
 pub mod HasLemmas
 pub mod FindLemmas
 pub mod HexLemmas

@@ -1,9 +1,6 @@
 -- When a text, with whatever follows it, tells what it was written for.
-use Rattle.std.proofs.Common.{◌≡◌, ℕ, suc, ◌<◌, ◌^◌, List, [], ◌∷◌, ◌++◌, length, map, refl, sym, ap, ◌∙◌, arith, append_assoc, All}
-use Rattle.std.proofs.lemmas.Nat.{from_le_bytes-to_le_bytes_8}
-use Rattle.std.specs.Int.{to_le_bytes, from_le_bytes, w64}
+use Rattle.std.proofs.Common.{◌≡◌, ℕ, List, [], ◌∷◌, ◌++◌, length, map, refl, sym, ◌∙◌, arith, append_assoc}
 use Rattle.std.specs.List.{flat_map}
-use Rattle.cck_digest.specs.Digest.{length_prefixed}
 
 -- equal texts with what follows are of equal values, and equal texts follow
 abbrev pub ReadsBack : {X : Type 0} → (X → List ℕ) → X → X → Type 0
@@ -21,31 +18,16 @@ bytes_read_back (a ∷ x) (b ∷ y) s t h e =
     let first = rest.0 in
     (cc, rest.1)
 
--- a number of 8 bytes
-pub number_reads_back : (m n : ℕ) (s t : List ℕ) → m < 2 ^ 64 → n < 2 ^ 64 → to_le_bytes w64 m ++ s ≡ to_le_bytes w64 n ++ t → (m ≡ n) × (s ≡ t)
-number_reads_back m n s t h k e =
-    let both = bytes_read_back (to_le_bytes w64 m) (to_le_bytes w64 n) s t refl e in
-    (sym (from_le_bytes-to_le_bytes_8 m h) ∙ (ap (from_le_bytes w64) both.0 ∙ from_le_bytes-to_le_bytes_8 n k), both.1)
-
--- bytes behind their length
-pub length_prefixed_reads_back : (x y : List ℕ) → length x < 2 ^ 64 → length y < 2 ^ 64 → ReadsBack length_prefixed x y
-length_prefixed_reads_back x y h k s t e =
-    let split : to_le_bytes w64 (length x) ++ (x ++ s) ≡ to_le_bytes w64 (length y) ++ (y ++ t) =
-    sym (append_assoc (to_le_bytes w64 (length x)) x s) ∙ (e ∙ append_assoc (to_le_bytes w64 (length y)) y t) in
-    let lengths = number_reads_back (length x) (length y) (x ++ s) (y ++ t) h k split in
-    bytes_read_back x y s t lengths.0 lengths.1
-
--- two lists of one count, each of whose items reads back
-pub items_read_back : {X : Type 0} (item : X → List ℕ) (P : X → Type 0) → ((x y : X) → P x → P y → ReadsBack item x y)
-    → (xs ys : List X) → All P xs → All P ys → length xs ≡ length ys → ReadsBack (flat_map item) xs ys
-items_read_back item P one [] [] h k c s t e = (refl, e)
-items_read_back item P one [] (y ∷ ys) h k c s t e = absurd (omega arith)
-items_read_back item P one (x ∷ xs) [] h k c s t e = absurd (omega arith)
-items_read_back item P one (x ∷ xs) (y ∷ ys) h k c s t e =
+-- two lists of one count, whose items read back
+pub items_read_back : {X : Type 0} (item : X → List ℕ) → ((x y : X) → ReadsBack item x y) → (xs ys : List X) → length xs ≡ length ys → ReadsBack (flat_map item) xs ys
+items_read_back item one [] [] c s t e = (refl, e)
+items_read_back item one [] (y ∷ ys) c s t e = absurd (omega arith)
+items_read_back item one (x ∷ xs) [] c s t e = absurd (omega arith)
+items_read_back item one (x ∷ xs) (y ∷ ys) c s t e =
     let split : item x ++ (flat_map item xs ++ s) ≡ item y ++ (flat_map item ys ++ t) =
     sym (append_assoc (item x) (flat_map item xs) s) ∙ (e ∙ append_assoc (item y) (flat_map item ys) t) in
-    let first = one x y (h 0 x (omega arith)) (k 0 y (omega arith)) (flat_map item xs ++ s) (flat_map item ys ++ t) split in
-    let rest = items_read_back item P one xs ys (λ i d lt. h (suc i) d (omega arith)) (λ i d lt. k (suc i) d (omega arith)) (omega arith) s t first.1 in
+    let first = one x y (flat_map item xs ++ s) (flat_map item ys ++ t) split in
+    let rest = items_read_back item one xs ys (omega arith) s t first.1 in
     let head = first.0 in let tail = rest.0 in
     (cc, rest.1)
 

@@ -1,5 +1,6 @@
 pub mod Digest
 pub mod Error
 pub mod Finder
+pub mod Frames
 pub mod Stream
 pub mod TimeMacros

@@ -1,6 +1,7 @@
 //! Digests, and the text that stands for one.
 ghost use Rattle.std.specs.Prelude.{◌≡◌, ◌<◌, ℕ, List, [], ◌++◌, length, IfOk, IsOkUnless, string_bytes};
-ghost use Rattle.cck_digest.specs.Digest.{delimiter_bytes, digest_text, hex_digit, hex_text, length_prefixed};
+ghost use Rattle.cck_digest.specs.Digest.{delimiter_bytes, digest_text, hex_digit, hex_text};
+ghost use Rattle.cck_digest.specs.Frames.{frame, length_bytes};
 
 use crate::{HashState, UtilError};
 use std::alloc::Global;
@@ -58,15 +59,24 @@ impl<H: HashState> Digest<H> {
     }
 }
 
-/// Feeds the length of these bytes, as 8 bytes with the lowest first, and then the bytes. It takes
-/// no memory.
+/// Feeds a length or a count as 8 bytes, with the lowest first. It takes no memory.
+///
+/// In the place of upstream's `HashToDigest`, whose lengths are as wide as the machine's words.
+pub fn hash_length<H: HashState>(digest: &mut Digest<H>, length: usize)
+    ensures { (fed : List ℕ) → H.holds digest.old fed → H.holds digest.new (fed ++ length_bytes length) }
+{
+    let length = length as u64;
+    digest.update(&length.to_le_bytes());
+}
+
+/// Feeds a frame: the length of these bytes as [`hash_length`] does, and then the bytes. It takes no
+/// memory.
 ///
 /// In the place of upstream's `HashToDigest`, whose lengths are as wide as the machine's words.
 pub fn hash_len_prefixed<H: HashState>(digest: &mut Digest<H>, bytes: &[u8])
-    ensures { (fed : List ℕ) → H.holds digest.old fed → H.holds digest.new (fed ++ length_prefixed bytes.now) }
+    ensures { (fed : List ℕ) → H.holds digest.old fed → H.holds digest.new (fed ++ frame bytes.now) }
 {
-    let length = bytes.len() as u64;
-    digest.update(&length.to_le_bytes());
+    hash_length(digest, bytes.len());
     digest.update(bytes);
 }
 

@@ -5,8 +5,8 @@
 //! which bytes it feeds, so that a layer above can say what its whole material is.
 //!
 //! - [`HashState`] is the hash function, handed in by the caller; [`Sha256State`] is the program's.
-//! - [`Digest`] is fed piece by piece and ends in a text; [`hash_len_prefixed`] and [`hex`] go with
-//!   it.
+//! - [`Digest`] is fed piece by piece and ends in a text; [`hash_length`], [`hash_len_prefixed`] and
+//!   [`hex`] go with it.
 //! - [`read_to_end`] reads a reader to its end, [`HASH_BUFFER_SIZE`] bytes at a time at most, and
 //!   hands each piece to a [`Sink`]; [`read_all`] gives all that it reads.
 //! - [`Digest::reader_sync`] and its kin digest what a reader gives.
@@ -31,7 +31,7 @@ pub mod laws;
 mod reader;
 mod stream;
 
-pub use digest::{Digest, hash_len_prefixed, hex};
+pub use digest::{Digest, hash_len_prefixed, hash_length, hex};
 pub use error::{FileError, UtilError};
 pub use finder::TimeMacroFinder;
 pub use hash::{HashState, Sha256State};

@@ -55,7 +55,7 @@ fn a_key_of_copied_parts(rt: HostRuntime) -> Result<(), UtilError> {
     let other = params.clone()?.with_plusplus(true);
     assert_eq!(rt;
         params.compute::<Sha256State>(alloc)?.as_str(),
-        "91b9a91cd88e3ab823de7b286a3506b5c6e6311b760752ce90b0ea613eafb820"
+        "7f1642befe722a87278d9c81462d8987a551c5630fc910b7e123750fa7bdf7df"
     );
     assert_eq!(rt;
         other.compute::<Sha256State>(alloc)?.as_str(),

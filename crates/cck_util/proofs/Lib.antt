@@ -1,3 +1,3 @@
 pub mod FindLemmas
-pub mod ShapeLemmas
+pub mod MaterialLemmas
 pub mod WrapperLemmas

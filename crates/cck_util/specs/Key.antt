@@ -1,12 +1,12 @@
 -- the key of an object
 use Rattle.std.specs.Prelude.{ℕ, List, [], ◌∷◌, ◌++◌, Bool, true, false, Option, Some, None, codes, map}
-use Rattle.std.specs.List.{flat_map}
 use Rattle.cck_digest.specs.Digest.{digest_text}
+use Rattle.cck_digest.specs.Frames.{frame, counted, framed_option}
 use Rattle.cck_path.specs.Variables.{Variable}
-use Rattle.cck_strip.specs.Argument.{argument_bytes, stripped_argument}
+use Rattle.cck_strip.specs.Argument.{stripped_argument}
 use Rattle.cck_strip.specs.Text.{stripped_text}
 use Rattle.cck_util.specs.Language.{language_name}
-use Rattle.cck_util.specs.Variables.{object_variables, variable_bytes}
+use Rattle.cck_util.specs.Variables.{object_variables, variable_frames}
 use Rattle.cck_util.specs.declared.language.Language.{Language}
 
 -- what a caller hands in for a key
@@ -71,14 +71,14 @@ assembler_bytes None = []
 assembler_bytes (Some digest) = digest
 
 -- the key material: all that is hashed for a key, in order
-abbrev pub material : KeyParts → List ℕ
+unfoldable pub material : KeyParts → List ℕ
 material p =
-    p.compiler_digest ++ flag_byte p.plusplus ∷ [] ++ codes "13" ++ language_name p.language
-    ++ flat_map argument_bytes p.arguments
-    ++ flat_map (λ digest. digest) p.extra_hashes
-    ++ assembler_bytes p.assembler_digest
-    ++ flat_map variable_bytes p.variables
-    ++ p.output
+    frame (codes "14") ++ frame p.compiler_digest ++ flag_byte p.plusplus ∷ [] ++ frame (language_name p.language)
+    ++ counted frame p.arguments
+    ++ counted frame p.extra_hashes
+    ++ framed_option p.assembler_digest
+    ++ counted variable_frames p.variables
+    ++ frame p.output
 
 -- the key, by this hash
 abbrev pub object_key : (List ℕ → List ℕ) → Params → List ℕ

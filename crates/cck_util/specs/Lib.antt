@@ -1,6 +1,6 @@
 pub mod HashKeyParams
 pub mod Key
 pub mod Language
-pub mod Shape
+pub mod Laws
 pub mod Variables
 pub mod Wrapper

@@ -2,7 +2,7 @@
 use Rattle.std.specs.Prelude.{ℕ, List, [], ◌∷◌, ◌++◌, codes, filter}
 use Rattle.std.specs.List.{list_any}
 use Rattle.std.specs.Str.{bytes_eq}
-use Rattle.cck_digest.specs.Digest.{length_prefixed}
+use Rattle.cck_digest.specs.Frames.{frame}
 use Rattle.cck_path.specs.Variables.{Variable}
 
 -- the names of the variables that stand in an object's key
@@ -20,6 +20,10 @@ variables_named names variables = filter (λ v. list_any (bytes_eq (v.0)) names)
 abbrev pub object_variables : List Variable → List Variable
 object_variables variables = variables_named object_variable_names variables
 
--- a variable as it stands in a key: the length-prefixed name, `=` and the length-prefixed value
+-- a variable as frames of its name and of its value
+abbrev pub variable_frames : Variable → List ℕ
+variable_frames variable = frame (variable.0) ++ frame (variable.1)
+
+-- the same with a `=` between them
 abbrev pub variable_bytes : Variable → List ℕ
-variable_bytes variable = (length_prefixed (variable.0) ++ 61 ∷ []) ++ length_prefixed (variable.1)
+variable_bytes variable = (frame (variable.0) ++ 61 ∷ []) ++ frame (variable.1)

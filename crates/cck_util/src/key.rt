@@ -6,9 +6,10 @@ ghost use Rattle.cck_path.specs.Bytes.{lists_of, variables_of};
 ghost use Rattle.cck_util.specs.Key.{assembler_bytes, object_key, plain_params};
 
 use crate::Language;
+use crate::frames::{hash_argument_list, hash_option, hash_text_list};
 use crate::variables::hash_object_variables;
-use cck_digest::{Digest, HashState, UtilError};
-use cck_strip::{hash_arguments, strip_basedirs};
+use cck_digest::{Digest, HashState, UtilError, hash_len_prefixed};
+use cck_strip::strip_basedirs;
 use std::alloc::Global;
 use std::marker::Model;
 
@@ -16,7 +17,7 @@ use std::marker::Model;
 /// another material.
 ///
 /// Upstream's `CACHE_VERSION`.
-pub const CACHE_VERSION: &[u8] = b"13";
+pub const CACHE_VERSION: &[u8] = b"14";
 
 /// What the key of an object is made of.
 ///
@@ -119,27 +120,31 @@ impl<'a> HashKeyParams<'a> {
 
     /// The key of these parts: the digest text of the key material.
     ///
-    /// The material is, in this order: the compiler's digest text; the byte 1 for C++ and else 0;
-    /// [`CACHE_VERSION`]; the language's name; each argument without the base directories and a
-    /// byte ff behind it; the digest texts of the further files; that of the assembler; the
-    /// variables that enter the key; and the text without the base directories.
+    /// The material is, in this order: a frame of [`CACHE_VERSION`]; of the compiler's digest text;
+    /// the byte 1 for C++ and else 0; a frame of the language's name; the list of the arguments
+    /// without the base directories; the list of the digest texts of the further files; that of the
+    /// assembler, as an option; the list of the variables that enter the key, each as a frame of its
+    /// name and one of its value; and a frame of the text without the base directories. A frame is 8
+    /// bytes of length, with the lowest first, and the bytes; a list is 8 such bytes of its count and
+    /// what is written of each item, in order; an option is a byte 0, or a byte 1 and a frame.
     ///
     /// It is refused only for lack of memory, as [`UtilError::Memory`].
+    #[tactic(auto, unfolding(crate::specs::Key::material))]
     pub fn compute<H: HashState>(&self, alloc: Global) -> Result<String, UtilError>
         ensures key { IfOk result (λ key. string_bytes key ≡ object_key H.hash self.now) }
         ensures refused { IsOkUnless result UtilError.Memory }
     {
         let output = strip_basedirs(alloc, self.preprocessor_output, self.basedirs)?;
         let mut digest = Digest::<H>::new();
-        digest.update(self.compiler_digest.as_bytes());
+        hash_len_prefixed(&mut digest, CACHE_VERSION);
+        hash_len_prefixed(&mut digest, self.compiler_digest.as_bytes());
         digest.update(&[u8::from(self.plusplus)]);
-        digest.update(CACHE_VERSION);
-        digest.update(self.language.as_str().as_bytes());
-        hash_arguments(alloc, &mut digest, self.arguments, self.basedirs)?;
-        hash_extra_hashes(&mut digest, self.extra_hashes);
-        hash_assembler_digest(&mut digest, self.assembler_digest);
+        hash_len_prefixed(&mut digest, self.language.as_str().as_bytes());
+        hash_argument_list(alloc, &mut digest, self.arguments, self.basedirs)?;
+        hash_text_list(&mut digest, self.extra_hashes);
+        hash_option(&mut digest, self.assembler_digest);
         hash_object_variables(&mut digest, self.env_vars);
-        digest.update(output.as_slice());
+        hash_len_prefixed(&mut digest, output.as_slice());
         digest.finish(alloc)
     }
 }

@@ -1,7 +1,7 @@
 //! Laws about the definitions: what they say beyond what they compute. Each is the contract of a
 //! function that does nothing.
 ghost use Rattle.std.specs.Prelude.{◌≡◌, ◌↔◌, IsTrue, codes, count_by};
-ghost use Rattle.cck_util.specs.Shape.{EqualWithoutBasedirs, OneShapeOneMaterial};
+ghost use Rattle.cck_util.specs.Laws.{EqualWithoutBasedirs, MaterialTellsParts};
 
 use crate::{CACHE_VERSION, Language, UnknownLanguage};
 pub use cck_digest::laws::{has_is_tested, hex_tells_bytes, text_has_64_characters};
@@ -13,13 +13,12 @@ pub use cck_strip::laws::{
     arguments_have_cuts, cuts_are_unique, cuts_exist, stripped_by_any_cuts, texts_have_cuts,
 };
 
-/// Within one shape, equal key material is of equal parts, and the other way round.
+/// Equal key material is of equal parts, and the other way round.
 ///
-/// The shape is what the material itself doesn't tell: one language, digests of equal lengths, and
-/// equal counts of arguments, extra hashes and variables. The extra hashes and the digest of the
-/// assembler stand side by side, so no law without such a premise holds.
-pub fn one_shape_one_material()
-    ensures { OneShapeOneMaterial }
+/// Each length and each count stands before what it is of, so no two lists of parts share a
+/// material.
+pub fn material_tells_parts()
+    ensures { MaterialTellsParts }
 {}
 
 /// Arguments and texts that are equal once the base directories are cut out give equal keys, all
@@ -43,5 +42,5 @@ pub fn each_language_once()
 
 /// [`CACHE_VERSION`] is the version that the key material names.
 pub fn version_in_the_material()
-    ensures { CACHE_VERSION.now ≡ codes "13" }
+    ensures { CACHE_VERSION.now ≡ codes "14" }
 {}

@@ -12,8 +12,9 @@
 //!
 //! - [`Language`] is the language of an input, and has the name that stands in the key; a text that
 //!   is none's is an [`UnknownLanguage`]. [`CACHE_VERSION`] stands in the key too.
-//! - [`hash_extra_hashes`], [`hash_assembler_digest`] and [`hash_variables_named`] feed single
-//!   parts to a digest.
+//! - [`hash_text_list`], [`hash_option`] and [`hash_variable_list`] feed single parts to a digest, so
+//!   that the bytes tell where each ends; [`hash_extra_hashes`], [`hash_assembler_digest`] and
+//!   [`hash_variables_named`] feed them as the preprocessor key has them.
 //! - [`resolve_compiler_avoiding_wrapper`] finds the compiler behind a wrapper such as `ccache`.
 //! - [`laws`] has what the definitions say beyond what they compute.
 //!
@@ -23,6 +24,7 @@
 //! or returns has its name here.
 #![tactic(auto)]
 
+mod frames;
 mod key;
 mod language;
 pub mod laws;
@@ -31,7 +33,7 @@ mod wrapper;
 
 pub use cck_digest::{
     Digest, FileError, HASH_BUFFER_SIZE, HashState, Sha256State, Sink, TimeMacroFinder, UtilError,
-    WatchedDigest, hash_len_prefixed, hex, read_all, read_to_end,
+    WatchedDigest, hash_len_prefixed, hash_length, hex, read_all, read_to_end,
 };
 pub use cck_file_digest::{
     DigestFiles, feed_file, feed_file_of_size, hash_all, read_contents, read_contents_of_size,
@@ -46,7 +48,8 @@ pub use cck_path::{
 pub use cck_strip::{
     BasedirTrie, hash_arguments, pathname_positions, strip_basedirs, strip_basedirs_from_arg,
 };
+pub use frames::{hash_option, hash_text_list};
 pub use key::{CACHE_VERSION, HashKeyParams, hash_assembler_digest, hash_extra_hashes};
 pub use language::{Language, UnknownLanguage};
-pub use variables::hash_variables_named;
+pub use variables::{hash_variable_list, hash_variables_named};
 pub use wrapper::resolve_compiler_avoiding_wrapper;

@@ -1,11 +1,12 @@
 //! The variables of the environment that change what a compiler writes.
-ghost use Rattle.std.specs.Prelude.{◌≡◌, ℕ, List, ◌++◌, map};
+ghost use Rattle.std.specs.Prelude.{◌≡◌, ℕ, List, ◌++◌, length, map};
 ghost use Rattle.std.specs.List.{flat_map, list_any};
 ghost use Rattle.std.specs.Str.{bytes_eq};
+ghost use Rattle.cck_digest.specs.Frames.{counted};
 ghost use Rattle.cck_path.specs.Bytes.{variables_of};
-ghost use Rattle.cck_util.specs.Variables.{object_variables, variable_bytes, variables_named};
+ghost use Rattle.cck_util.specs.Variables.{object_variables, variable_bytes, variable_frames, variables_named};
 
-use cck_digest::{Digest, HashState, hash_len_prefixed};
+use cck_digest::{Digest, HashState, hash_len_prefixed, hash_length};
 
 // The names of the variables that stand in an object's key.
 const OBJECT_VARIABLES: [&[u8]; 7] = [
@@ -28,6 +29,40 @@ fn is_one_of(name: &[u8], names: &[&[u8]]) -> bool
         }
     }
     false
+}
+
+// How many of the variables have one of these names.
+fn count_named(variables: &[(Vec<u8>, Vec<u8>)], names: &[&[u8]]) -> usize
+    ensures { result ≡ length (variables_named (map (λ n. n.now) names.now) (variables_of variables.now)) }
+{
+    let mut count = 0;
+    for (name, _) in variables {
+        if is_one_of(name, names) {
+            count += 1;
+        }
+    }
+    count
+}
+
+/// Feeds the count of the variables that have one of these names, and of each, in their order, a
+/// frame of its name and one of its value. A name that comes twice is fed twice. It takes no
+/// memory.
+pub fn hash_variable_list<H: HashState>(
+    digest: &mut Digest<H>,
+    variables: &[(Vec<u8>, Vec<u8>)],
+    names: &[&[u8]],
+)
+    ensures { (fed : List ℕ) → H.holds digest.old fed →
+        H.holds digest.new (fed ++ counted variable_frames
+        (variables_named (map (λ n. n.now) names.now) (variables_of variables.now))) }
+{
+    hash_length(digest, count_named(variables, names));
+    for variable in variables {
+        if is_one_of(&variable.0, names) {
+            hash_len_prefixed(digest, &variable.0);
+            hash_len_prefixed(digest, &variable.1);
+        }
+    }
 }
 
 /// Feeds the variables that have one of these names, in their order: the length-prefixed name, `=`
@@ -56,8 +91,8 @@ pub(crate) fn hash_object_variables<H: HashState>(
     variables: &[(Vec<u8>, Vec<u8>)],
 )
     ensures { (fed : List ℕ) → H.holds digest.old fed →
-        H.holds digest.new (fed ++ flat_map variable_bytes
+        H.holds digest.new (fed ++ counted variable_frames
         (object_variables (variables_of variables.now))) }
 {
-    hash_variables_named(digest, variables, &OBJECT_VARIABLES);
+    hash_variable_list(digest, variables, &OBJECT_VARIABLES);
 }

@@ -2,7 +2,8 @@
 use cck_cases::{CaseError, Given, Value};
 use cck_util::{
     Digest, HASH_BUFFER_SIZE, HashState, Sha256State, hash_arguments, hash_assembler_digest,
-    hash_extra_hashes, hash_len_prefixed, hash_variables_named, hex,
+    hash_extra_hashes, hash_len_prefixed, hash_length, hash_option, hash_text_list,
+    hash_variable_list, hash_variables_named, hex,
 };
 use std::alloc::Global;
 
@@ -14,21 +15,29 @@ pub(crate) enum DigestCall {
     Digest,
     Pieces,
     Delimiter,
+    Length,
     LengthPrefixed,
+    TextList,
+    Option,
+    VariableList,
     Arguments,
     ExtraHashes,
     Assembler,
     Variables,
 }
 
-pub(crate) const CALLS: [(&str, DigestCall); 11] = [
+pub(crate) const CALLS: [(&str, DigestCall); 15] = [
     ("hex_digits", DigestCall::Hex),
     ("hash_buffer_size", DigestCall::BufferSize),
     ("state", DigestCall::State),
     ("digest", DigestCall::Digest),
     ("digest_of_pieces", DigestCall::Pieces),
     ("delimiter", DigestCall::Delimiter),
+    ("hash_length", DigestCall::Length),
     ("hash_len_prefixed", DigestCall::LengthPrefixed),
+    ("hash_text_list", DigestCall::TextList),
+    ("hash_option", DigestCall::Option),
+    ("hash_variable_list", DigestCall::VariableList),
     ("hash_arguments", DigestCall::Arguments),
     ("hash_extra_hashes", DigestCall::ExtraHashes),
     ("hash_assembler_digest", DigestCall::Assembler),
@@ -52,7 +61,11 @@ pub(crate) fn call<'a>(
         DigestCall::Digest => digest.update(bytes),
         DigestCall::Pieces => update_each(&mut digest, pieces),
         DigestCall::Delimiter => digest.delimiter(bytes),
+        DigestCall::Length => hash_length(&mut digest, bytes.len()),
         DigestCall::LengthPrefixed => hash_len_prefixed(&mut digest, bytes),
+        DigestCall::TextList => hash_text_list(&mut digest, &given.extra_hashes),
+        DigestCall::Option => hash_option(&mut digest, given.assembler()),
+        DigestCall::VariableList => feed_variable_list(given, &mut digest)?,
         DigestCall::Arguments => feed_arguments(given, &mut digest)?,
         DigestCall::ExtraHashes => hash_extra_hashes(&mut digest, &given.extra_hashes),
         DigestCall::Assembler => hash_assembler_digest(&mut digest, given.assembler()),
@@ -82,10 +95,21 @@ fn feed_arguments(given: &Given, digest: &mut Digest<Sha256State>) -> Result<(),
 
 // The variables whose names are the arguments.
 fn feed_variables(given: &Given, digest: &mut Digest<Sha256State>) -> Result<(), CaseError> {
+    hash_variables_named(digest, &given.variables, &names_of(given)?);
+    Ok(())
+}
+
+// The same as a list.
+fn feed_variable_list(given: &Given, digest: &mut Digest<Sha256State>) -> Result<(), CaseError> {
+    hash_variable_list(digest, &given.variables, &names_of(given)?);
+    Ok(())
+}
+
+// The arguments as names.
+fn names_of(given: &Given) -> Result<Vec<&[u8]>, CaseError> {
     let mut names: Vec<&[u8]> = Vec::new(given.alloc);
     for name in &given.arguments {
         names.push(name)?;
     }
-    hash_variables_named(digest, &given.variables, &names);
-    Ok(())
+    Ok(names)
 }

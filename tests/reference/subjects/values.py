@@ -95,6 +95,17 @@ def fed_variables(subject, data):
     return key.variables_bytes(key.variables_named(given.arguments, given.variables))
 
 
+def fed_text_list(subject, data):
+    """A list of frames of the extra hashes."""
+    return digests.counted(digests.length_prefixed, subject.given.extra_hashes)
+
+
+def fed_variable_list(subject, data):
+    """The same as a list of frames of their names and values."""
+    given = subject.given
+    return digests.counted(key.variable_frames, key.variables_named(given.arguments, given.variables))
+
+
 def call_taken(subject, rest, made):
     """`taken_by_read_to_end TEXT`: what a sink has after the read, which may have failed."""
     return subject.given.base + b"".join(subject.streams.read(made.text(rest))[0])
@@ -142,7 +153,11 @@ DIGEST_CALLS = {
     "digest": fed(lambda subject, data: data),
     "digest_of_pieces": fed(lambda subject, data: b"".join(subject.pieces)),
     "delimiter": fed(lambda subject, data: digests.delimiter(data)),
+    "hash_length": fed(lambda subject, data: digests.length_bytes(len(data))),
     "hash_len_prefixed": fed(lambda subject, data: digests.length_prefixed(data)),
+    "hash_text_list": fed(fed_text_list),
+    "hash_option": fed(lambda subject, data: digests.framed_option(subject.given.assembler)),
+    "hash_variable_list": fed(fed_variable_list),
     "hash_arguments": fed(fed_arguments),
     "hash_extra_hashes": fed(lambda subject, data: b"".join(subject.given.extra_hashes)),
     "hash_assembler_digest": fed(lambda subject, data: key.assembler_bytes(subject.given.assembler)),

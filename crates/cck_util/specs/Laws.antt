@@ -1,0 +1,17 @@
+-- what key material and keys tell
+use Rattle.std.specs.Prelude.{◌≡◌, ◌↔◌, ℕ, List, map}
+use Rattle.cck_strip.specs.Argument.{stripped_argument}
+use Rattle.cck_strip.specs.Text.{stripped_text}
+use Rattle.cck_util.specs.Key.{KeyParts, Params, material, object_key}
+
+-- equal material is of equal parts, and the other way round
+abbrev pub MaterialTellsParts : Type 0
+MaterialTellsParts = (p q : KeyParts) → material p ≡ material q ↔ (p ≡ q)
+
+-- Arguments and texts that are equal without their base directories give equal keys, all else being equal.
+abbrev pub EqualWithoutBasedirs : Type 0
+EqualWithoutBasedirs =
+    (hash : List ℕ → List ℕ) (p : Params) (basedirs arguments : List (List ℕ)) (output : List ℕ)
+    → map (stripped_argument basedirs) arguments ≡ map (stripped_argument p.basedirs) p.arguments
+    → stripped_text basedirs output ≡ stripped_text p.basedirs p.preprocessor_output
+    → object_key hash (record p { basedirs = basedirs; arguments = arguments; preprocessor_output = output }) ≡ object_key hash p

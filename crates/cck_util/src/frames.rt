@@ -1,0 +1,55 @@
+//! Lists and options as key material that tells where each of its parts ends.
+ghost use Rattle.std.specs.Prelude.{◌≡◌, ℕ, List, ◌++◌, OnOk, IsOkUnless, map, string_bytes};
+ghost use Rattle.std.specs.Option.{option_map};
+ghost use Rattle.cck_digest.specs.Frames.{counted, frame, framed_option};
+ghost use Rattle.cck_path.specs.Bytes.{lists_of};
+ghost use Rattle.cck_strip.specs.Argument.{stripped_argument};
+
+use cck_digest::{Digest, HashState, UtilError, hash_len_prefixed, hash_length};
+use cck_strip::strip_basedirs_from_arg;
+use std::alloc::Global;
+
+/// Feeds the count of these texts, and a frame of each, in order. It takes no memory.
+pub fn hash_text_list<H: HashState>(digest: &mut Digest<H>, texts: &[String])
+    ensures { (fed : List ℕ) → H.holds digest.old fed →
+        H.holds digest.new (fed ++ counted frame (map string_bytes texts.now)) }
+{
+    hash_length(digest, texts.len());
+    for text in texts {
+        hash_len_prefixed(digest, text.as_bytes());
+    }
+}
+
+/// Feeds a byte 0 where there is no text, and else a byte 1 and a frame of it. It takes no memory.
+pub fn hash_option<H: HashState>(digest: &mut Digest<H>, text: Option<&str>)
+    ensures { (fed : List ℕ) → H.holds digest.old fed →
+        H.holds digest.new (fed ++ framed_option (option_map (λ t. t.now) text.entry)) }
+{
+    match text {
+        None => digest.update(&[0]),
+        Some(text) => {
+            digest.update(&[1]);
+            hash_len_prefixed(digest, text.as_bytes());
+        }
+    }
+}
+
+// Feeds the count of the arguments, and a frame of each without its base directories, in order. It
+// is refused only for lack of memory.
+pub(crate) fn hash_argument_list<H: HashState>(
+    alloc: Global,
+    digest: &mut Digest<H>,
+    arguments: &[Vec<u8>],
+    basedirs: &[Vec<u8>],
+) -> Result<(), UtilError>
+    ensures fed { OnOk result ((fed : List ℕ) → H.holds digest.old fed → H.holds digest.new
+        (fed ++ counted frame (map (stripped_argument (lists_of basedirs.now)) (lists_of arguments.now)))) }
+    ensures refused { IsOkUnless result UtilError.Memory }
+{
+    hash_length(digest, arguments.len());
+    for argument in arguments {
+        let stripped = strip_basedirs_from_arg(alloc, argument, basedirs)?;
+        hash_len_prefixed(digest, stripped.as_slice());
+    }
+    Ok(())
+}
