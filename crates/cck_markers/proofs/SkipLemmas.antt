@@ -1,13 +1,14 @@
 -- bytes that are plain because words stand nowhere among them
-use Rattle.std.proofs.Common.{◌≡◌, ◌≢◌, ℕ, zero, suc, ◌+◌, ◌-◌, ◌<◌, ◌≤◌, Bool, true, false, ◌==◌, ◌&&◌, nat_eq, nat_lt, List, [], ◌∷◌, ◌++◌, length, drop, take, get_or, refl, sym, ap, ap₂, add-one, ◌∙◌, arith, length-append}
+use Rattle.std.proofs.Common.{◌≡◌, ◌≢◌, ℕ, zero, suc, ◌+◌, ◌-◌, ◌<◌, ◌≤◌, Bool, true, false, ◌==◌, ◌&&◌, nat_eq, nat_lt, List, [], ◌∷◌, ◌++◌, length, drop, take, get_or, refl, sym, ap, ap₂, inl, inr, add-one, ◌∙◌, arith, length-append}
 use Rattle.std.specs.Prelude.{codes, if◌then◌else◌}
 use Rattle.std.specs.List.{starts_with}
-use Rattle.std.proofs.lemmas.Bool.{eqb-true, ltb-true, false_from_ne_true}
-use Rattle.std.proofs.lemmas.List.{drop_more, length-drop, get_or-drop, get_or_append_left}
+use Rattle.std.proofs.lemmas.Bool.{cases_lt, eqb-true, false≢true, ltb-true, false_from_ne_true}
+use Rattle.std.proofs.lemmas.List.{drop-drop, drop_more, length-drop, get_or-drop, get_or_append_left}
 use Rattle.memchr.specs.Find.{Nowhere, OccursAt}
 use Rattle.cck_markers.specs.Marks.{Mark, Short, Marker, Hidden, Inclusion, Plain, Marks, what, is_marker, is_hidden, is_inclusion, at_end, unnamed, named, malformed, hidden, hidden_to_end, refused, plain}
 use Rattle.cck_markers.specs.Markers.{Unread, Gives}
-use Rattle.cck_markers.specs.Searches.{AreKnown, ArePlain, IsSearchFor, starts_line_at}
+use Rattle.cck_markers.specs.Searches.{AreKnown, ArePlain, EndsBeforeMarker, IsMarkerSearch, IsSearchFor, starts_line_at}
+use Rattle.cck_markers.specs.declared.search.MarkerSearch.{MarkerSearch}
 use Rattle.cck_markers.specs.declared.search.Searches.{Searches}
 use Rattle.cck_markers.specs.declared.search.WordSearch.{WordSearch}
 use Rattle.cck_markers.proofs.Cuts.{slice_from}
@@ -31,6 +32,15 @@ occurs text word rest place some is =
     record {
       fits = omega (arith, some, ap length is, length-drop place text, length-append word rest);
       reads = λ j l. sym (get_or-drop place text j 0) ∙ ap (λ (t : List ℕ). get_or t j 0) is ∙ get_or_append_left word rest 0 j l;
+    }
+
+-- a word with which a text begins stands at its first place
+pub occurs_first : (text word : List ℕ) → starts_with nat_eq text word ≡ true → OccursAt text word (length text - length text)
+occurs_first text word begins =
+    let is = behind_word text word begins in
+    record {
+      fits = omega (arith, ap length is, length-append word (drop (length word) text));
+      reads = λ j l. ap (λ (k : ℕ). get_or text k 0) (omega arith) ∙ ap (λ (t : List ℕ). get_or t j 0) is ∙ get_or_append_left word (drop (length word) text) 0 j l;
     }
 
 -- behind a line's end it is one with that
@@ -60,7 +70,7 @@ unfolding is_hidden
 hidden_starts text h = (_, behind_word text (codes "__________") h)
 
 module _ (text : List ℕ) (marker hidden inclusion : ℕ)
-    (no_marker : Nowhere (OccursAt text (10 ∷ 35 ∷ [])) 0 marker)
+    (no_marker : Nowhere (EndsBeforeMarker text) 0 marker)
     (no_hidden : Nowhere (OccursAt text (10 ∷ codes "__________")) 0 hidden)
     (no_inclusion : Nowhere (OccursAt text (codes ".incbin")) 0 inclusion) where
   -- no marker and no hidden line starts at a place that the searches passed
@@ -68,9 +78,7 @@ module _ (text : List ℕ) (marker hidden inclusion : ℕ)
       → (is_marker (drop place text) ≡ false) × (is_hidden (drop place text) ≡ false)
   no_line zero within before_marker before_hidden starts = cc
   no_line (suc place) within before_marker before_hidden starts = (
-    false_from_ne_true _ (λ e.
-        let hash = marker_starts (drop (suc place) text) e in
-        no_marker place (omega arith) (omega arith) (occurs_behind text (35 ∷ []) hash.0 place (omega arith) starts hash.1)),
+    false_from_ne_true _ (λ e. no_marker place (omega arith) (omega arith) (eqb-true (get_or text place 0) 10 starts, rw (add-one place) e)),
     false_from_ne_true _ (λ e.
         let word = hidden_starts (drop (suc place) text) e in
         no_hidden place (omega arith) (omega arith) (occurs_behind text (codes "__________") word.0 place (omega arith) starts word.1)),
@@ -86,6 +94,48 @@ module _ (text : List ℕ) (marker hidden inclusion : ℕ)
       let word = inclusion_starts (drop place text) e in
       no_inclusion place (omega arith) (omega arith) (occurs text (codes ".incbin") word.0 place (omega arith) word.1)))
 
+-- a line's end before a marker, in what is left behind some bytes and in all of a text
+pub ends_later : (text : List ℕ) (size place : ℕ) → EndsBeforeMarker (drop size text) place → EndsBeforeMarker text (size + place)
+ends_later text size place ends = (
+  sym (get_or-drop size text place 0) ∙ ends.0,
+  ap is_marker (ap (λ (k : ℕ). drop k text) (omega arith) ∙ sym (drop-drop (place + 1) size text)) ∙ ends.1,
+)
+
+-- behind a line's end with no marker behind it the search for the next one goes on
+pub no_end_before : (text : List ℕ) (from left : ℕ) → from ≤ length text → left ≤ length (drop from text)
+    → Nowhere (OccursAt (drop from text) (10 ∷ 35 ∷ [])) 0 (length (drop from text) - left) → Nowhere (EndsBeforeMarker text) 0 from
+    → Nowhere (EndsBeforeMarker text) 0 (length text - left)
+no_end_before text from left within some nowhere before place low high ends =
+    elim (cases_lt place from) [
+      | inl below ↦ before place low below ends
+      | inr above ↦ (
+          let hash = marker_starts (drop (place + 1) text) ends.1 in
+          let inside : place < length text = omega (arith, high) in
+          let whole : drop place text ≡ 10 ∷ (35 ∷ hash.0) = drop_more text place 0 inside ∙ ap₂ (λ byte behind. byte ∷ behind) ends.0 hash.1 in
+          nowhere (place - from) (omega arith) (omega (arith, high, above, length-drop from text))
+          (occurs (drop from text) (10 ∷ 35 ∷ []) hash.0 (place - from) (omega arith) (drop-drop (place - from) from text ∙ ap (λ (k : ℕ). drop k text) (omega (arith, above)) ∙ whole))
+          )
+    ]
+
+pub passed_end : (text : List ℕ) (from left : ℕ) → from ≤ length text → left ≤ length (drop from text) → 0 < left
+    → Nowhere (OccursAt (drop from text) (10 ∷ 35 ∷ [])) 0 (length (drop from text) - left) → OccursAt (drop from text) (10 ∷ 35 ∷ []) (length (drop from text) - left)
+    → Nowhere (EndsBeforeMarker text) 0 from → is_marker (drop (length text - left + 1) text) ≡ false
+    → Nowhere (EndsBeforeMarker text) 0 (length text - left + 2)
+passed_end text from left within some more nowhere stands before unmarked place low high ends =
+    elim (cases_lt place (length text - left)) [
+      | inl below ↦ no_end_before text from left within some nowhere before place low below ends
+      | inr above ↦ (elim (cases_lt place (length text - left + 1)) [
+        | inl at ↦ (
+            let same : place ≡ length text - left = omega (arith, above, at) in
+            let marked = rw same at ends.1 in
+            absurd (false≢true (sym unmarked ∙ marked)))
+        | inr behind ↦ (
+            let same : place ≡ from + (length (drop from text) - left + 1) = omega (arith, above, behind, high, length-drop from text, some, within) in
+            let byte : get_or text place 0 ≡ 35 = ap (λ (k : ℕ). get_or text k 0) same ∙ sym (get_or-drop from text (length (drop from text) - left + 1) 0) ∙ stands.reads 1 (omega arith) in
+            let apart = sym ends.0 ∙ byte in cc)
+      ])
+    ]
+
 -- what a word's search knows stays true of what is left
 pub known_behind : (text word : List ℕ) (size left : ℕ) → Nowhere (OccursAt text word) 0 (length text - left) → size ≤ length text → Nowhere (OccursAt (drop size text) word) 0 (length (drop size text) - left)
 known_behind text word size left known within = λ place low high at.
@@ -94,13 +144,20 @@ known_behind text word size left known within = λ place low high at.
       reads = λ j l. ap (λ (k : ℕ). get_or text k 0) (omega arith) ∙ sym (get_or-drop size text (place + j) 0) ∙ at.reads j l;
     })
 
+marker_behind : (search : MarkerSearch) (text : List ℕ) (size : ℕ) → IsMarkerSearch search text → size ≤ length text → IsMarkerSearch search (drop size text)
+marker_behind search text size known within =
+    record {
+      word_is = known.word_is;
+      known = λ place low high ends. known.known (size + place) (omega arith) (omega (arith, high, length-drop size text)) (ends_later text size place ends);
+    }
+
 search_behind : (word : List ℕ) (search : WordSearch) (text : List ℕ) (size : ℕ) → IsSearchFor word search text → size ≤ length text → IsSearchFor word search (drop size text)
 search_behind word search text size known within = record { word_is = known.word_is; known = known_behind text word size search.left known.known within }
 
 pub known_after : (searches : Searches) (text : List ℕ) (size : ℕ) → AreKnown searches text → size ≤ length text → AreKnown searches (drop size text)
 known_after searches text size known within =
     record {
-      marker = search_behind _ searches.marker text size known.marker within;
+      marker = marker_behind searches.marker text size known.marker within;
       hidden = search_behind _ searches.hidden text size known.hidden within;
       inclusion = search_behind _ searches.inclusion text size known.inclusion within;
     }

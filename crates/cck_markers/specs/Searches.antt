@@ -1,7 +1,8 @@
 -- what the searches for words know of what is left of a text
-use Rattle.std.specs.Prelude.{◌≡◌, ℕ, ◌-◌, ◌<◌, zero, suc, Bool, false, ◌==◌, List, ◌∷◌, [], length, drop, get_or, codes}
+use Rattle.std.specs.Prelude.{◌≡◌, ℕ, ◌+◌, ◌-◌, ◌<◌, zero, suc, Bool, true, false, ◌==◌, List, ◌∷◌, [], length, drop, get_or, codes}
 use Rattle.memchr.specs.Find.{Nowhere, OccursAt}
-use Rattle.cck_markers.specs.Marks.{Plain, what}
+use Rattle.cck_markers.specs.Marks.{Plain, is_marker, what}
+use Rattle.cck_markers.specs.declared.search.MarkerSearch.{MarkerSearch}
 use Rattle.cck_markers.specs.declared.search.Searches.{Searches}
 use Rattle.cck_markers.specs.declared.search.WordSearch.{WordSearch}
 
@@ -14,9 +15,18 @@ pub record IsSearchFor (word : List ℕ) (search : WordSearch) (text : List ℕ)
   pub word_is : search.finder ≡ word
   pub known : IsKnown search.left word text
 
--- a line's end and `#`, a line's end and ten underscores, and `.incbin`
+-- a line's end stands here, and a marker behind it
+abbrev pub EndsBeforeMarker : List ℕ → ℕ → Type 0
+EndsBeforeMarker text place = (get_or text place 0 ≡ 10) × (is_marker (drop (place + 1) text) ≡ true)
+
+-- a search is for a line's end and `#`, and no line's end has a marker behind it before the place that it keeps
+pub record IsMarkerSearch (search : MarkerSearch) (text : List ℕ) : Type 0 where
+  pub word_is : search.finder ≡ 10 ∷ 35 ∷ []
+  pub known : Nowhere (EndsBeforeMarker text) 0 (length text - search.left)
+
+-- a line's end before a marker, a line's end and ten underscores, and `.incbin`
 pub record AreKnown (searches : Searches) (text : List ℕ) : Type 0 where
-  pub marker : IsSearchFor (10 ∷ 35 ∷ []) searches.marker text
+  pub marker : IsMarkerSearch searches.marker text
   pub hidden : IsSearchFor (10 ∷ codes "__________") searches.hidden text
   pub inclusion : IsSearchFor (codes ".incbin") searches.inclusion text
 

@@ -33,7 +33,7 @@ pub(crate) struct Item<'a> {
 // Whether a line that starts here is a marker. The first byte is compared by itself, here and below,
 // since it decides most lines.
 #[tactic(auto, unfolding(crate::specs::Marks::is_marker))]
-fn is_marker(text: &[u8]) -> bool
+pub(crate) fn is_marker(text: &[u8]) -> bool
     requires { 0 < length text.now }
     ensures { result ≡ is_marker text.now }
 {

@@ -1,13 +1,14 @@
 //! How far nothing but plain bytes stands, by searches for words.
-ghost use Rattle.std.specs.Prelude.{◌≡◌, ◌≤◌, ◌<◌, ◌-◌, ◌^◌, ℕ, List, [], length};
+ghost use Rattle.std.specs.Prelude.{◌≡◌, ◌≤◌, ◌<◌, ◌-◌, ◌^◌, ◌∷◌, ℕ, List, [], length};
 ghost use Rattle.memchr.specs.Find.{Nowhere, OccursAt};
 ghost use Rattle.cck_markers.specs.Markers.{Gives};
-ghost use Rattle.cck_markers.specs.Searches.{AreKnown, ArePlain, IsKnown, IsSearchFor};
+ghost use Rattle.cck_markers.specs.Searches.{AreKnown, ArePlain, EndsBeforeMarker, IsKnown};
+ghost use Rattle.cck_markers.specs.Searches.{IsMarkerSearch, IsSearchFor};
 
-use crate::item::{LEAST_LEFT, may_be_marked};
+use crate::item::{LEAST_LEFT, is_marker, may_be_marked};
 use memchr::memmem::Finder;
 
-// A line's end and what each marker begins with.
+// A line's end and the first byte of each marker.
 const MARKER: &[u8] = b"\n#";
 
 // A line's end and what a line begins with that is skipped.
@@ -55,6 +56,7 @@ impl WordSearch {
 fn bytes_left(finder: &Finder<'_>, rest: &[u8]) -> usize
     ensures within { result ≤ length rest.now }
     ensures nowhere { IsKnown result finder.now rest.now }
+    ensures stands { 0 < result → OccursAt rest.now finder.now (length rest.now - result) }
 {
     // A word at the start, as in a text of short lines, is found without a search.
     if rest.starts_with(finder.needle()) {
@@ -66,10 +68,66 @@ fn bytes_left(finder: &Finder<'_>, rest: &[u8]) -> usize
     }
 }
 
+// A search for a line's end with a marker behind it. It keeps what a `WordSearch` keeps.
+#[derive(Debug, Drop)]
+struct MarkerSearch {
+    finder: Finder<'static>,
+    left: usize,
+}
+
+impl MarkerSearch {
+    // A search that was not made yet.
+    fn new() -> MarkerSearch
+        ensures { result ≡ record { finder = 10 ∷ 35 ∷ []; left = 2 ^ 64 - 1 } }
+    {
+        MarkerSearch {
+            finder: Finder::new(MARKER),
+            left: usize::MAX,
+        }
+    }
+
+    // The first place of such a line's end in what is left of a text, or the end.
+    fn first_place(&mut self, rest: &[u8]) -> usize
+        requires known { IsMarkerSearch self.old rest.now }
+        ensures known { IsMarkerSearch self.new rest.now }
+        ensures within { result ≤ length rest.now }
+        ensures nowhere { Nowhere (EndsBeforeMarker rest.now) 0 result }
+    {
+        if self.left <= rest.len() {
+            return rest.len() - self.left;
+        }
+        let found = marker_left(&self.finder, rest);
+        self.left = found;
+        rest.len() - found
+    }
+}
+
+// How many bytes are left where a line's end with a marker behind it stands first, or 0. A line that
+// begins with `#` and is no marker costs a few comparisons, as in a text of such lines.
+fn marker_left(finder: &Finder<'_>, text: &[u8]) -> usize
+    requires { finder.now ≡ 10 ∷ 35 ∷ [] }
+    ensures within { result ≤ length text.now }
+    ensures nowhere { Nowhere (EndsBeforeMarker text.now) 0 (length text.now - result) }
+{
+    let mut from = 0;
+    while from < text.len() {
+        let left = bytes_left(finder, &text[from..]);
+        if left == 0 {
+            return 0;
+        }
+        let place = text.len() - left;
+        if is_marker(&text[place + 1..]) {
+            return left;
+        }
+        from = place + 2;
+    }
+    0
+}
+
 /// The searches for all that isn't a plain byte.
 #[derive(Debug, Drop)]
 pub(crate) struct Searches {
-    marker: WordSearch,
+    marker: MarkerSearch,
     hidden: WordSearch,
     inclusion: WordSearch,
 }
@@ -80,7 +138,7 @@ impl Searches {
         ensures { (text : List ℕ) → length text < 2 ^ 64 → AreKnown result text }
     {
         Searches {
-            marker: WordSearch::new(MARKER),
+            marker: MarkerSearch::new(),
             hidden: WordSearch::new(HIDDEN),
             inclusion: WordSearch::new(INCLUSION),
         }
