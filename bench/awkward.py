@@ -175,20 +175,40 @@ def scripts_table(what, words, path):
         row(name, size, measured, cost(words, path)[0])
 
 
+def empty_includes(count):
+    """The text of an entry with a result of so many includes, which take as few bytes as can be."""
+    return b"\1" + (1).to_bytes(8, "little") + bytes(8) + count.to_bytes(8, "little") + bytes(26 * count)
+
+
+def empty_results(count):
+    """The text of an entry with so many results without includes, of keys of eight bytes."""
+    results = (length_prefixed(b"%08d" % number) + bytes(8) for number in range(count))
+    return b"\1" + count.to_bytes(8, "little") + b"".join(results)
+
+
+def one_include(size):
+    """The text of an entry with one include of so long a path that the text has so many bytes."""
+    return entry(1, 1, size - len(entry(1, 1, 1)) + 1)
+
+
 def entries_table(what, words, path):
-    """The cost of entries, each read by both readers, written and looked up so many times."""
+    """The cost of entries, each read by both readers, written and looked up, some often over."""
     head(what)
     shapes = [(1, n) for n in (2500, 5000, 10000)] + [(n, 99) for n in (25, 50, 101)]
-    for results, includes in shapes:
-        text = entry(results, includes, 40)
-        harmless = entry(1, 1, len(text) - len(entry(1, 1, 0)))
+    cases = [(f"{n} results of {m} includes, {COPIES} times", entry(n, m, 40), COPIES) for n, m in shapes]
+    for count in COUNTS + [10 * COUNTS[-1]]:
+        cases += [
+            (f"{count} includes of 26 bytes", empty_includes(count), 1),
+            (f"{count} results of 24 bytes", empty_results(count), 1),
+        ]
+    for name, text, copies in cases:
         costs = []
-        for data in (harmless, text):
+        for data in (one_include(len(text)), text):
             with open(path, "wb") as file:
-                for _ in range(COPIES):
+                for _ in range(copies):
                     file.write(len(data).to_bytes(4, "little") + data)
             costs.append((*cost(words, path)[:2], b""))
-        row(f"{results} results of {includes} includes", os.path.getsize(path), costs[1], costs[0][0])
+        row(name, os.path.getsize(path), costs[1], costs[0][0])
 
 
 def marks_table(what, program, path):
@@ -217,7 +237,7 @@ def main(program, markers, entries, folder):
     texts_table("`cck key abcd c` on the text:", [program, "key", "abcd", "c"], path, raw_text)
     texts_table("`cck run` on a script whose input is the text:", [program, "run"], path, text_script)
     scripts_table("`cck run` on other scripts:", [program, "run"], path)
-    entries_table(f"Entries, {COPIES} times over:", [entries], path)
+    entries_table("The readers of entries:", [entries], path)
     marks_table("The marks of the text:", markers, path)
 
 
