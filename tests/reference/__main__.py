@@ -7,8 +7,9 @@ USAGE = """usage: python3 -m reference COMMAND, in the folder tests
   run                          prints what `cck run` prints for the script on standard input
   check [FILE..]               compares each expected result of the vector files with its own
   write [FILE..]               puts its own results in place of those that differ
-  compare [--scripts N] [--keys N] [--seed S] PROGRAM
-                               compares what PROGRAM prints with its own, on random scripts and keys
+  compare [--scripts N] [--damaged N] [--keys N] [--seed S] [--from K] PROGRAM
+                               compares what PROGRAM prints with its own, on random scripts, damaged
+                               scripts and keys of the numbers from K on
   mutate [--count N] [--seed S] [--jobs J] [MODULE..]
                                changes the reference in one place at a time, and prints the changes
                                after which `check` still passes

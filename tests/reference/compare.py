@@ -1,4 +1,4 @@
-"""The command `compare`: a program and the reference on random scripts and keys."""
+"""The command `compare`: a program and the reference on random and damaged scripts and on keys."""
 import argparse
 import collections
 import random
@@ -6,7 +6,7 @@ import subprocess
 import sys
 
 from .cases import escape
-from .scripts import ScriptMaker, key_words
+from .scripts import ScriptMaker, damaged_script, key_words
 from .streams import answer_any_words
 
 SECONDS = 60
@@ -77,23 +77,35 @@ def count_answers(counts, printed):
         counts[name.decode("ascii", "replace")] += 1
 
 
-def compare_scripts(program, count, seed):
-    """Compares `count` scripts; returns how many differ, and what was answered how often."""
+def compare_scripts(program, scripts):
+    """Compares scripts, given by their names; returns how many differ, and what was answered how often."""
     different, counts = 0, collections.Counter()
-    for number in range(count):
-        script = ScriptMaker(random.Random(f"{seed} {number}")).script()
-        count_answers(counts, expected_of([b"run"], script)[0])
-        if differs(program, [b"run"], script):
+    for name, script in scripts:
+        expected = expected_of([b"run"], script)
+        count_answers(counts, expected[0])
+        if answers_of(program, [b"run"], script) != expected:
             different += 1
-            sys.stdout.write(f"script {number}:\n")
+            sys.stdout.write(f"{name}:\n")
             report(program, [b"run"], smallest_script(program, script))
     return different, counts
 
 
-def compare_keys(program, count, seed):
-    """Compares `count` calls for a key; returns how many differ."""
+def random_scripts(numbers, seed):
+    """Random scripts of these numbers, with their names."""
+    for number in numbers:
+        yield f"script {number}", ScriptMaker(random.Random(f"{seed} {number}")).script()
+
+
+def damaged_scripts(numbers, seed):
+    """Damaged scripts of these numbers, with their names."""
+    for number in numbers:
+        yield f"damaged script {number}", damaged_script(random.Random(f"{seed} damaged {number}"))
+
+
+def compare_keys(program, numbers, seed):
+    """Compares calls for a key; returns how many differ."""
     different = 0
-    for number in range(count):
+    for number in numbers:
         words, text = key_words(random.Random(f"{seed} key {number}"))
         if differs(program, words, text):
             different += 1
@@ -101,18 +113,34 @@ def compare_keys(program, count, seed):
     return different
 
 
+def print_counts(kind, numbers, different, counts):
+    """Prints how many were compared, how many differ, and what was answered how often."""
+    sys.stdout.write(f"{len(numbers)} {kind}, {different} differences\n")
+    if counts:
+        answers = ", ".join(f"{counts[name]} {name}" for name in sorted(counts))
+        sys.stdout.write(f"  answers: {answers}\n")
+
+
 def compare(words):
-    """`compare [--scripts N] [--keys N] [--seed S] PROGRAM`."""
+    """`compare [--scripts N] [--damaged N] [--keys N] [--seed S] [--from K] PROGRAM`."""
     parser = argparse.ArgumentParser(prog="compare")
     parser.add_argument("--scripts", type=int, default=2000)
+    parser.add_argument("--damaged", type=int, default=2000)
     parser.add_argument("--keys", type=int, default=300)
     parser.add_argument("--seed", type=int, default=1)
+    parser.add_argument("--from", type=int, default=0, dest="first")
     parser.add_argument("program")
     chosen = parser.parse_args(words)
-    scripts, counts = compare_scripts(chosen.program, chosen.scripts, chosen.seed)
-    keys = compare_keys(chosen.program, chosen.keys, chosen.seed)
-    answers = ", ".join(f"{counts[name]} {name}" for name in sorted(counts))
-    sys.stdout.write(f"answers: {answers}\n")
-    sys.stdout.write(f"{chosen.scripts} scripts, {scripts} differences\n")
-    sys.stdout.write(f"{chosen.keys} keys, {keys} differences\n")
-    return 1 if scripts + keys else 0
+    all_different = 0
+    for kind, count, make in [
+        ("scripts", chosen.scripts, random_scripts),
+        ("damaged scripts", chosen.damaged, damaged_scripts),
+    ]:
+        numbers = range(chosen.first, chosen.first + count)
+        different, counts = compare_scripts(chosen.program, make(numbers, chosen.seed))
+        print_counts(kind, numbers, different, counts)
+        all_different += different
+    numbers = range(chosen.first, chosen.first + chosen.keys)
+    different = compare_keys(chosen.program, numbers, chosen.seed)
+    print_counts("keys", numbers, different, {})
+    return 1 if all_different + different else 0

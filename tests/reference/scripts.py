@@ -1,4 +1,4 @@
-"""Random scripts of `cck run` and random calls of `cck key`, from a seed.
+"""Random and damaged scripts of `cck run` and random calls of `cck key`, from a seed.
 
 A script has few paths and few contents, so that the same things come again in other orders.
 """
@@ -283,6 +283,88 @@ class ScriptMaker:
         before, behind = script[:at], script[at + 1 :]
         byte = bytes([self.one(b" \n\\-0#x\xff")])
         return self.one([before + byte + script[at:], before + behind, before + byte + behind])
+
+
+class Damages:
+    """Changes scripts, given by their lines, in places that a source of random numbers chooses."""
+
+    def __init__(self, random):
+        self.random = random
+
+    def place(self, parts):
+        """A place in a list or in bytes that has at least one part."""
+        return self.random.randrange(len(parts))
+
+    def flipped(self, lines):
+        """A bit of a byte other, which may be a line's end."""
+        script = bytearray(b"\n".join(lines))
+        if script:
+            script[self.place(script)] ^= 1 << self.random.randrange(8)
+        return bytes(script).split(b"\n")
+
+    def put(self, lines):
+        """A byte more, or another byte, of those that mean something in a script."""
+        script = b"\n".join(lines)
+        at = self.random.randrange(len(script) + 1)
+        byte = self.random.choice([b" ", b"\n", b"\\", b"\\x", b"-", b"0", b"9", b"#", b'"', b"/", b"\xff", b"\x00"])
+        return (script[:at] + byte + script[at + self.random.randrange(2) :]).split(b"\n")
+
+    def cut(self, lines):
+        """A line without its end, its beginning or a middle."""
+        at = self.place(lines)
+        begin, end = sorted(self.random.randrange(len(lines[at]) + 1) for _ in range(2))
+        line = lines[at]
+        pieces = [line[:begin], line[begin:], line[:begin] + line[end:]]
+        return lines[:at] + [self.random.choice(pieces)] + lines[at + 1 :]
+
+    def left_out(self, lines):
+        """A line less."""
+        at = self.place(lines)
+        return lines[:at] + lines[at + 1 :] or [b""]
+
+    def joined(self, lines):
+        """Two lines as one, at times with a blank or an escaped line's end between them."""
+        at = self.place(lines)
+        between = self.random.choice([b"", b" ", b"\\n", b"\r"])
+        return lines[:at] + [between.join(lines[at : at + 2])] + lines[at + 2 :]
+
+    def doubled(self, lines):
+        """A line once more, behind itself or elsewhere, or a part of a line twice."""
+        at, to = self.place(lines), self.place(lines)
+        if self.random.random() < 0.7:
+            return lines[:to] + [lines[at]] + lines[to:]
+        begin, end = sorted(self.random.randrange(len(lines[at]) + 1) for _ in range(2))
+        return lines[:at] + [lines[at][:end] + lines[at][begin:]] + lines[at + 1 :]
+
+    def swapped(self, lines):
+        """Two lines in each other's place."""
+        lines, at, to = list(lines), self.place(lines), self.place(lines)
+        lines[at], lines[to] = lines[to], lines[at]
+        return lines
+
+    def other_word(self, lines):
+        """A word in place of another one, of the same script or a number at a boundary."""
+        at = self.place(lines)
+        words = lines[at].split(b" ")
+        edge = self.random.choice([2**8, 2**16, 2**31, 2**32, 2**63, 2**64]) + self.random.randrange(-2, 2)
+        number = b"%d" % self.random.choice([edge, -edge])
+        other = self.random.choice(lines).split(b" ")
+        words[self.place(words)] = self.random.choice([number, other[self.place(other)]])
+        return lines[:at] + [b" ".join(words)] + lines[at + 1 :]
+
+    def any(self, lines):
+        """One damage of any kind."""
+        kinds = [self.flipped, self.put, self.cut, self.left_out, self.joined, self.doubled]
+        return self.random.choice(kinds + [self.swapped, self.other_word])(lines)
+
+
+def damaged_script(random):
+    """A script without a wrong line, behind one to four damages."""
+    maker, damages = ScriptMaker(random), Damages(random)
+    lines = maker.lines() + [b""]
+    for _ in range(random.choice([1, 1, 1, 2, 3, 4])):
+        lines = damages.any(lines)
+    return b"\n".join(lines)
 
 
 def key_words(random):
