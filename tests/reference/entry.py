@@ -7,8 +7,9 @@ import dataclasses
 from .digests import length_prefixed
 from .errors import Refused
 from .files import FILE, call_files
+from .paths import components
 from .preprocessor_key import ENTRY_FORMAT
-from .recorded import recorded_digest
+from .recorded import digest_with_metadata
 from .texts import is_utf8
 from .times import NANOS, nanoseconds_of, seconds_of
 
@@ -189,27 +190,51 @@ def times_accept(include, metadata, config):
     return config.file_stat_matches and times_agree(include, metadata, config)
 
 
-def is_digest(files, include, setting):
-    """`is_digest`: the file's recorded digest exists and is the one that is held."""
-    return recorded_digest(files, include.path, setting) == include.digest
+class Known:
+    """`KnownDigests`: what one look-up found, so that no file is asked or read twice. Faults aren't kept."""
+
+    def __init__(self):
+        self.metadata = {}
+        self.digests = {}
+
+    def metadata_at(self, files, path):
+        """The metadata of what is at a path."""
+        place = components(path)
+        if place not in self.metadata:
+            self.metadata[place] = files.metadata(path)
+        return self.metadata[place]
+
+    def digest_at(self, files, path, setting):
+        """The recorded digest of the file at a path whose metadata are known, or None."""
+        place = components(path)
+        if place not in self.digests:
+            metadata = self.metadata[place]
+            self.digests[place] = digest_with_metadata(files, path, metadata, setting)
+        return self.digests[place]
 
 
-def matches(files, include, setting):
+def matches(files, include, setting, known):
     """`matches`: what is at the path is the file that was included. What can't be read isn't."""
     try:
-        metadata = files.metadata(include.path)
+        metadata = known.metadata_at(files, include.path)
         if metadata.kind != FILE or metadata.length != include.size:
             return False
         if times_accept(include, metadata, setting.config):
             return True
-        return is_digest(files, include, setting)
+        return known.digest_at(files, include.path, setting) == include.digest
     except Refused:
         return False
 
 
+def all_match(files, includes, setting, known):
+    """`includes_match`: whether all includes match."""
+    return all(matches(files, include, setting, known) for include in includes)
+
+
 def find(entry, files, setting):
     """`found_in`: the greatest key whose includes all match, or None."""
+    known = Known()
     for key in sorted(entry, reverse=True):
-        if all(matches(files, include, setting) for include in entry[key]):
+        if all_match(files, entry[key], setting, known):
             return key
     return None

@@ -114,8 +114,16 @@ def recorded(contents, modified, setting):
 def recorded_digest(files, path, setting):
     """`recorded` of the regular file at a path; the error `Io` where it can't be read."""
     try:
-        modified = call_files(files.metadata, path).modified
+        metadata = call_files(files.metadata, path)
+    except Refused as error:
+        raise Refused("Io", error) from None
+    return digest_with_metadata(files, path, metadata, setting)
+
+
+def digest_with_metadata(files, path, metadata, setting):
+    """The same, where the metadata of what is at the path are known."""
+    try:
         contents = read_pieces(files, path)
     except Refused as error:
         raise Refused("Io", error) from None
-    return recorded(contents, modified, setting)
+    return recorded(contents, metadata.modified, setting)

@@ -20,8 +20,8 @@
 //!
 //! What these calls take and return is passed on too: hash functions and errors of `cck_digest`,
 //! files of `cck_files`, their metadata and moments of `cck_path`, [`Language`] of `cck_util`, and
-//! [`KnownDigests`] of `cck_include`, which [`includes_match`] and [`include_matches`] keep digests
-//! in, the latter of an [`IncludeRef`]. Zones are those of `jiff`.
+//! [`KnownDigests`] of `cck_include`, which [`includes_match`] and [`include_matches`] keep metadata
+//! and digests in, the latter of an [`IncludeRef`]. Zones are those of `jiff`.
 //!
 //! An entry is written in one way only. Numbers have their lowest byte first:
 //!

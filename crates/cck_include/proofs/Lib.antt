@@ -1,5 +1,6 @@
 pub mod EqualityLemmas
 pub mod GatherLemmas
+pub mod KnownLemmas
 pub mod LawLemmas
 pub mod MatchLemmas
 pub mod RecordedLemmas

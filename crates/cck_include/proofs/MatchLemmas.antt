@@ -1,28 +1,20 @@
 -- When an included file is what it was.
-use Rattle.std.proofs.Common.{◌≡◌, ◌≢◌, ℕ, suc, ◌+◌, ◌<◌, arith, get_or, drop, drop-cons, ◌∷◌, ◌⊎◌, inl, inr, Bool, true, false, cond, ◌&&◌, ◌||◌, nat_eq, List, Option, Some, None, Result, Ok, Err, IfOk, IsOkAnd, IsSome, length, refl, sym, ap, subst, ◌∙◌}
+use Rattle.std.proofs.Common.{◌≡◌, ◌≢◌, ℕ, suc, ◌+◌, ◌<◌, arith, get_or, drop, drop-cons, ◌∷◌, ◌⊎◌, inl, inr, Bool, true, false, ◌&&◌, ◌||◌, nat_eq, List, Option, Result, Ok, Err, IfOk, IsOkAnd, length, refl, sym, ap, ◌∙◌}
 use Rattle.std.specs.Prelude.{String}
-use Rattle.std.specs.Cmp.{tied_itself}
-use Rattle.std.specs.Ordering.{is_eq}
-use Rattle.std.specs.declared.cmp.Ordering.{Ordering}
-use Rattle.std.specs.declared.cmp.Ordering.TheVariants.{Less, Equal, Greater}
-use Rattle.std.specs.FinMap as finite
 use Rattle.std.specs.List.{list_all}
 use Rattle.std.specs.Option.{option_map}
 use Rattle.std.specs.String.{string_bytes}
 use Rattle.std.specs.declared.alloc.Global.{Global}
 use Rattle.std.proofs.lemmas.Bool.Decides.{Decides-eqb}
 use Rattle.cck_digest.specs.declared.error.FileError.{FileError}
-use Rattle.cck_digest.specs.declared.error.FileError.TheVariants.{NotFound, OtherKind, Fault, Memory}
+use Rattle.cck_digest.specs.declared.error.FileError.TheVariants.{OtherKind}
 use Rattle.cck_files.proofs.FileLemmas.{file_of_kind, no_file_of_kind, no_file_without_metadata}
-use Rattle.cck_files.specs.Calls.{IsRefusal}
 use Rattle.cck_files.specs.FileMap.{FileMap, FileNode, file_at, metadata_at}
-use Rattle.cck_path.specs.Path.{Path, components, path_cmp, path_cmp_total, path_cmp-IsAntisymmetric}
+use Rattle.cck_path.specs.Path.{Path, components}
 use Rattle.cck_path.specs.declared.metadata.FileKind.TheVariants.{File}
 use Rattle.cck_path.specs.declared.metadata.Metadata.{Metadata}
 use Rattle.cck_include.specs.Include.{Include, include_in, includes_in}
 use Rattle.cck_include.specs.declared.include.IncludeEntry.{IncludeEntry}
-use Rattle.cck_include.specs.Known.{AreKnown, known_at}
-use Rattle.cck_include.specs.declared.known.KnownDigests.{KnownDigests}
 use Rattle.cck_include.specs.Matching.{MayMiss, digest_found, file_matches, is_digest, matches, times_accept, times_agree}
 use Rattle.cck_include.specs.Recorded.{recorded}
 use Rattle.cck_include.specs.Setting.{Setting}
@@ -54,11 +46,13 @@ without_file : (s : Setting) (files : FileMap) (i : Include) (e : FileError) →
 unfolding matches
 without_file s files i e is = ap (file_matches s i) is
 
-pub unreadable : (s : Setting) (files : FileMap) (i : Include) (P : Type 0) (e : FileError) → IsRefusal (metadata_at files (components i.path)) P e → (matches s files i ≡ false) ⊎ P
-unreadable s files i P NotFound r = inl (without_file s files i NotFound (no_file_without_metadata files (components i.path) NotFound r))
-unreadable s files i P OtherKind r = inl (without_file s files i OtherKind (no_file_without_metadata files (components i.path) OtherKind r))
-unreadable s files i P Fault r = inr r
-unreadable s files i P Memory r = absurd r
+-- or a fault came where it couldn't be asked for its metadata;
+pub unreadable : (s : Setting) (files : FileMap) (i : Include) (P : Type 0) → IfOk (metadata_at files (components i.path)) (λ _. P) → (matches s files i ≡ false) ⊎ P
+unreadable s files i P h = go (metadata_at files (components i.path)) refl h
+  where
+    go : (r : Result Metadata FileError) → metadata_at files (components i.path) ≡ r → IfOk r (λ _. P) → (matches s files i ≡ false) ⊎ P
+    go (Ok m) is h = inr h
+    go (Err e) is h = inl (without_file s files i e (no_file_without_metadata files (components i.path) e is))
 
 -- nor what is of another kind,
 pub other_kind : (s : Setting) (files : FileMap) (i : Include) (m : Metadata) → metadata_at files (components i.path) ≡ Ok m → (m.kind ≡ File → ⊥) → matches s files i ≡ false
@@ -97,43 +91,6 @@ by_digest s files i m is kind size accept =
     ∙ sym (ap (file_matches s i) found
     ∙ (ap (λ t. t && (times_accept s.config i n || is_digest (recorded s n) i.digest)) ((Decides-eqb (length n.contents) i.size).1 (len ∙ size))
     ∙ ap (λ t. t || is_digest (recorded s n) i.digest) times))
-
--- what is known of a path after one more digest
-known_at-more : (old new : KnownDigests) (p : Path) (d : Option (String Global)) (q : Path) → new.digests ≡ finite.insert old.digests p d
-    → known_at new q ≡ option_map (option_map string_bytes) (cond (is_eq (path_cmp q p)) (Some d) (finite.get old.digests q))
-known_at-more old new p d q set = ap (λ m. option_map (option_map string_bytes) (finite.get m q)) set ∙ ap (option_map (option_map string_bytes)) (finite.get-insert path_cmp_total old.digests p d q)
-
--- one more digest is known
-pub known_more : (s : Setting) (files : FileMap) (old new : KnownDigests) (p : Path) (d : Option (String Global)) → new.digests ≡ finite.insert old.digests p d
-    → IsOkAnd (file_at files p) (λ n. option_map string_bytes d ≡ recorded s n) → AreKnown s files old → AreKnown s files new
-known_more s files old new p d set one all q digest e = go (path_cmp q p) refl (sym (known_at-more old new p d q set) ∙ e)
-  where
-    go : (o : Ordering) → path_cmp q p ≡ o → option_map (option_map string_bytes) (cond (is_eq o) (Some d) (finite.get old.digests q)) ≡ Some digest → IsOkAnd (file_at files q) (λ n. digest ≡ recorded s n)
-    go Less is f = all q digest f
-    go Greater is f = all q digest f
-    go Equal is f =
-        let same : q ≡ p = path_cmp-IsAntisymmetric q p is in
-        let own : option_map string_bytes d ≡ digest = cc in
-        subst (λ x. IsOkAnd (file_at files q) (λ n. x ≡ recorded s n)) own
-        (subst (λ x. IsOkAnd (file_at files x) (λ n. option_map string_bytes d ≡ recorded s n)) (sym same) one)
-
-some_is_not_none : (digest : Option (List ℕ)) → ◌≡◌ {A = Option (Option (List ℕ))} None (Some digest) → ⊥
-some_is_not_none digest e = cc
-
--- what is known, is known of a file too
-pub known_of_file : (found : Result FileNode FileError) (X : Type 0) → X → IfOk found (λ _. X)
-known_of_file (Ok n) X x = x
-known_of_file (Err e) X x = tt
-
--- it is known of its path
-pub known_there : (old new : KnownDigests) (p : Path) (d : Option (String Global)) → new.digests ≡ finite.insert old.digests p d → IsSome (known_at new p)
-known_there old new p d set =
-    subst IsSome (sym (known_at-more old new p d p set ∙ ap (λ o. option_map (option_map string_bytes) (cond (is_eq o) (Some d) (finite.get old.digests p))) (tied_itself path_cmp_total p))) refl
-
--- at first none is
-pub none_known : (s : Setting) (files : FileMap) (known : KnownDigests) → known.digests ≡ finite.empty → AreKnown s files known
-none_known s files known none p digest e =
-    absurd (some_is_not_none digest (sym (ap (λ m. option_map (option_map string_bytes) (finite.get m p)) none ∙ ap (option_map (option_map string_bytes)) (finite.get-empty path_cmp p)) ∙ e))
 
 -- the include at this place is the first of those that are left
 pub rest_here : (xs : List IncludeEntry) (i : ℕ) (x : IncludeEntry) → i < length xs → x ≡ get_or xs i x → includes_in (drop i xs) ≡ include_in x ∷ includes_in (drop (i + 1) xs)

@@ -7,6 +7,8 @@ use Rattle.std.specs.declared.alloc.Global.{Global}
 use Rattle.cck_digest.specs.Digest.{digest_text}
 use Rattle.cck_digest.specs.declared.error.FileError.{FileError}
 use Rattle.cck_digest.specs.declared.error.FileError.TheVariants.{NotFound, OtherKind, Fault, Memory}
+use Rattle.cck_digest.specs.declared.error.UtilError.TheVariants as util
+use Rattle.cck_files.proofs.CallsLemmas.{refusal_by}
 use Rattle.cck_files.proofs.FileLemmas.{file_with_contents, metadata_of_file, no_file_without_contents, no_file_without_metadata}
 use Rattle.cck_files.specs.Calls.{IsRefusal, IsRefusalOrMemory}
 use Rattle.cck_files.specs.FileMap.{FileMap, FileNode, contents_at, file_at, metadata_at}
@@ -44,6 +46,27 @@ without_contents files p P Q NotFound f r = no_file_without_contents files p Not
 without_contents files p P Q OtherKind f r = no_file_without_contents files p OtherKind r
 without_contents files p P Q Fault f r = f r
 without_contents files p P Q Memory f r = tt
+
+-- a fault of a part is one of the whole
+refused_by : {X : Type 0} (found : Result X FileError) (P Q : Type 0) (e : Error) → (P → Q) → IsIoRefusal found P e → IsIoRefusal found Q e
+refused_by found P Q error.Memory f h = tt
+refused_by found P Q (error.Io (util.File e)) f h = refusal_by found P Q e f h
+refused_by found P Q (error.Io util.Memory) f h = h
+refused_by found P Q (error.Io util.Read) f h = h
+refused_by found P Q (error.Io util.TooDeep) f h = h
+refused_by found P Q (error.Io util.TooLong) f h = h
+refused_by found P Q (error.Io util.Write) f h = h
+refused_by found P Q (error.Io util.IncompleteEscape) f h = h
+refused_by found P Q (error.Io util.InvalidEscape) f h = h
+refused_by found P Q (error.Io util.IncompleteHex) f h = h
+refused_by found P Q (error.Io util.InvalidHex) f h = h
+refused_by found P Q error.Deserialization f h = h
+refused_by found P Q (error.UnknownFormat byte) f h = h
+
+pub answered_by : {X Y : Type 0} (r : Result X Error) (Answer : X → Type 0) (found : Result Y FileError) (P Q : Type 0) → (P → Q)
+    → MatchResult r Answer (IsIoRefusal found P) → MatchResult r Answer (IsIoRefusal found Q)
+answered_by (Ok x) Answer found P Q f h = h
+answered_by (Err e) Answer found P Q f h = refused_by found P Q e f h
 
 -- a file that was read
 with_contents : (files : FileMap) (p : Path) (r : Result (List ℕ) FileError) (P : List ℕ → Type 0) → contents_at files p ≡ r → IsOkAnd r P

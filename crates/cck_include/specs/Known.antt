@@ -1,20 +1,33 @@
--- recorded digests that were found before
-use Rattle.std.specs.Prelude.{◌≡◌, ℕ, List, Option, Some, IsOkAnd}
-use Rattle.std.specs.FinMap.{get}
+-- what a look-up found of files
+use Rattle.std.specs.Prelude.{◌≡◌, ℕ, ◌<◌, List, length, All, Some, Ok, IfSome, IsOkAnd, slice_index_or}
+use Rattle.std.specs.FinMap.{FinMap, get}
 use Rattle.std.specs.Option.{option_map}
 use Rattle.std.specs.String.{string_bytes}
-use Rattle.cck_files.specs.FileMap.{FileMap, file_at}
-use Rattle.cck_path.specs.Path.{Path}
+use Rattle.cck_files.specs.FileMap.{FileMap, file_at, metadata_at}
+use Rattle.cck_path.specs.Path.{Path, components, path_cmp}
 use Rattle.cck_include.specs.Recorded.{recorded}
 use Rattle.cck_include.specs.Setting.{Setting}
 use Rattle.cck_include.specs.declared.known.KnownDigests.{KnownDigests}
+use Rattle.cck_include.specs.declared.known.KnownFile.{KnownFile}
 
--- what is known of a path, if anything: the recorded digest of the file there, or that it has none
-abbrev pub known_at : KnownDigests → Path → Option (Option (List ℕ))
-known_at known p = option_map (option_map string_bytes) (get known.digests p)
+-- where the file is
+abbrev pub path_of : KnownFile → Path
+path_of k = components k.path.items
 
--- each is the recorded digest of the file at its path
+-- these are its metadata, and what is known of its recorded digest is so: it is this one, or there is none
+pub record IsRight (s : Setting) (files : FileMap) (k : KnownFile) : Type 0 where
+  pub metadata : metadata_at files (path_of k) ≡ Ok k.metadata
+  pub digest : IfSome k.digest (λ d. IsOkAnd (file_at files (path_of k)) (λ n. option_map string_bytes d ≡ recorded s n))
+
+-- the file at place i is there, and at this path
+pub record IsPlaceOf (p : Path) (ks : List KnownFile) (i : ℕ) : Type 0 where
+  pub in_range : i < length ks
+  pub has_path : (d : KnownFile) → path_of (slice_index_or ks i d) ≡ p
+
+-- the place of each file is found by its path
+abbrev pub AreFound : List KnownFile → FinMap path_cmp ℕ → Type 0
+AreFound ks places = (p : Path) (i : ℕ) → IsPlaceOf p ks i → get places p ≡ Some i
+
+-- all that is known is right, and found by its path
 abbrev pub AreKnown : Setting → FileMap → KnownDigests → Type 0
-AreKnown s files known =
-    (p : Path) (digest : Option (List ℕ)) → known_at known p ≡ Some digest
-    → IsOkAnd (file_at files p) (λ n. digest ≡ recorded s n)
+AreKnown s files known = All (IsRight s files) known.files.items × AreFound known.files.items known.places

@@ -1,27 +1,133 @@
-//! Recorded digests that were found before.
-ghost use Rattle.cck_files.specs.FileMap.{FileMap};
-ghost use Rattle.cck_include.specs.Known.{AreKnown};
+//! What a look-up found of files.
+ghost use Rattle.std.specs.Prelude.{◌≡◌, ℕ, IfOk, IfSome, IsSome, MatchBool, MatchOption, Ok};
+ghost use Rattle.cck_files.specs.Calls.{Keeps, Rose};
+ghost use Rattle.cck_files.specs.FileMap.{FileMap, metadata_at};
+ghost use Rattle.cck_path.specs.Path.{components};
+ghost use Rattle.cck_include.specs.Known.{AreFound, AreKnown, IsPlaceOf};
 ghost use Rattle.cck_include.specs.Setting.{Setting};
 
+use cck_files::Files;
+use cck_path::{Metadata, same_path};
 use cck_path_map::PathMap;
-use std::alloc::Global;
+use std::alloc::{AllocError, Global};
 
-/// The recorded digests that one look-up found, by path, so that no file is read twice.
+/// What one look-up found of files, by path: their metadata and recorded digests, so that no file is
+/// asked or read twice.
 ///
-/// They are known of the files, the moment, the zone, the variables and the options of the calls
-/// that found them. For others a new value is needed.
+/// It is known of the files, the moment, the zone, the variables and the options of the calls that
+/// found it. For others a new value is needed.
 #[derive(Debug, Drop)]
 pub struct KnownDigests {
-    pub(crate) digests: PathMap<Option<String>>,
+    // In the order in which they were found.
+    pub(crate) files: Vec<KnownFile>,
+    // Where the file of a path stands among them.
+    places: PathMap<usize>,
+    // The place that is looked at first.
+    next: usize,
+}
+
+/// What was found at a path.
+#[derive(Debug, Drop)]
+pub(crate) struct KnownFile {
+    pub(crate) path: Vec<u8>,
+    pub(crate) metadata: Metadata,
+    // The recorded digest, or that there is none, once it was asked for.
+    pub(crate) digest: Option<Option<String>>,
 }
 
 impl KnownDigests {
-    /// No digests: whatever the files and all else are, none is wrong. It takes no memory.
+    /// Nothing is known: whatever the files and all else are, none of it is wrong. It takes no
+    /// memory.
     pub fn new(alloc: Global) -> KnownDigests
         ensures { (s : Setting) (files : FileMap) → AreKnown s files result }
     {
         KnownDigests {
-            digests: PathMap::new(alloc),
+            files: Vec::new(alloc),
+            places: PathMap::new(alloc),
+            next: 0,
         }
     }
+
+    // The place of the file at a path, if it is known. Lists of includes have mostly the same files
+    // in the same order, so the file behind the last one is looked at before a search.
+    fn place_of(&self, path: &[u8]) -> Option<usize>
+        ensures place { IfSome result (IsPlaceOf (components path.now) self.now.files.items) }
+        ensures all { AreFound self.now.files.items self.now.places
+            → (i : ℕ) → IsPlaceOf (components path.now) self.now.files.items i → IsSome result }
+    {
+        if is_at(&self.files, self.next, path) {
+            return Some(self.next);
+        }
+        let Some(place) = self.places.get(path) else {
+            return None;
+        };
+        if is_at(&self.files, *place, path) {
+            Some(*place)
+        } else {
+            None
+        }
+    }
+
+    // Keeps what was found at a path at which no file is known, and answers its place.
+    fn add(&mut self, alloc: Global, path: &[u8], metadata: Metadata) -> Result<usize, AllocError>
+        ensures known { (s : Setting) (files : FileMap) → metadata_at files (components path.now) ≡ Ok metadata
+            → ((i : ℕ) → IsPlaceOf (components path.now) self.old.files.items i → ⊥)
+            → AreKnown s files self.old → AreKnown s files self.new }
+        ensures place { IfOk result (IsPlaceOf (components path.now) self.new.files.items) }
+    {
+        let place = self.files.len();
+        match self.places.insert(path, place) {
+            Ok(()) => {}
+            Err(_) => return Err(AllocError),
+        }
+        self.files.push(KnownFile {
+            path: path.to_vec(alloc)?,
+            metadata,
+            digest: None,
+        })?;
+        if self.next == place {
+            self.next = self.files.len();
+        }
+        Ok(place)
+    }
+}
+
+// Whether the file at a place is there, and is the one at a path.
+fn is_at(files: &[KnownFile], place: usize, path: &[u8]) -> bool
+    ensures { MatchBool result (IsPlaceOf (components path.now) files.now place)
+        (IsPlaceOf (components path.now) files.now place → ⊥) }
+{
+    match files.get(place) {
+        Some(file) => same_path(&file.path, path),
+        None => false,
+    }
+}
+
+/// The place of what stands at a path, among what is known, if something stands there. What is known
+/// isn't asked again, and what was found becomes known. With a fault there may be none.
+pub(crate) fn place_for<F: Files>(
+    alloc: Global,
+    files: &mut F,
+    known: &mut KnownDigests,
+    path: &[u8],
+) -> Result<Option<usize>, AllocError>
+    ensures keeps { Keeps F.file_map F.faults F.is_quiet files.old files.new }
+    ensures known { (s : Setting) → AreKnown s (F.file_map files.old) known.old
+        → AreKnown s (F.file_map files.old) known.new }
+    ensures unasked { AreFound known.old.files.items known.old.places
+        → (i : ℕ) → IsPlaceOf (components path.now) known.old.files.items i → files.new ≡ files.old }
+    ensures place { IfOk result (λ place. MatchOption place
+        (IfOk (metadata_at (F.file_map files.old) (components path.now)) (λ _. Rose (F.faults files.old) (F.faults files.new)))
+        (IsPlaceOf (components path.now) known.new.files.items)) }
+{
+    if let Some(place) = known.place_of(path) {
+        known.next = place + 1;
+        return Ok(Some(place));
+    }
+    let metadata = match files.metadata(path) {
+        Ok(metadata) => metadata,
+        Err(_) => return Ok(None),
+    };
+    let place = known.add(alloc, path, metadata)?;
+    Ok(Some(place))
 }

@@ -4,14 +4,15 @@ ghost use Rattle.std.specs.List.{list_all};
 ghost use Rattle.std.specs.Option.{option_map};
 ghost use Rattle.cck_files.specs.Calls.{Keeps, Rose};
 ghost use Rattle.cck_files.specs.FileMap.{file_at};
-ghost use Rattle.cck_path.specs.Path.{components};
 ghost use Rattle.jiff.specs.Words.{plain_zone};
 ghost use Rattle.cck_include.specs.Include.{include_lent, includes_in};
-ghost use Rattle.cck_include.specs.Known.{AreKnown, known_at};
+ghost use Rattle.cck_include.specs.Known.{AreKnown, IsRight, path_of};
 ghost use Rattle.cck_include.specs.Matching.{MayMiss, digest_found, is_digest, is_moment, matches, times_agree};
 ghost use Rattle.cck_include.specs.Setting.{setting_in};
 
-use crate::{IncludeEntry, IncludeRef, KnownDigests, recorded_digest};
+use crate::known::{KnownFile, place_for};
+use crate::recorded::digest_with_metadata;
+use crate::{IncludeEntry, IncludeRef, KnownDigests};
 use cck_digest::HashState;
 use cck_files::Files;
 use cck_path::{FileKind, Metadata, Timestamp};
@@ -77,13 +78,12 @@ fn is_digest(digest: &Option<String>, expected: &str) -> bool
     }
 }
 
-// Whether the file at a path has this recorded digest. With a fault it may be answered that it
-// hasn't. What is known of the path is not asked again, and what was found becomes known.
+// Whether a file that is known has this recorded digest. With a fault it may be answered that it
+// hasn't. A digest that is known isn't made again, and one that was made becomes known.
 fn is_recorded<H: HashState, F: Files>(
     alloc: Global,
     files: &mut F,
-    known: &mut KnownDigests,
-    path: &[u8],
+    file: &mut KnownFile,
     expected: &str,
     moment: Timestamp,
     zone: &TimeZone<'_>,
@@ -92,30 +92,39 @@ fn is_recorded<H: HashState, F: Files>(
 ) -> Result<bool, Error>
     ensures keeps { Keeps F.file_map F.faults F.is_quiet files.old files.new }
     ensures known { let s = setting_in H.hash config moment (plain_zone zone.now) vars.now in
-        AreKnown s (F.file_map files.old) known.old → AreKnown s (F.file_map files.old) known.new }
-    ensures remembered { OnOk result
-        (IfOk (file_at (F.file_map files.old) (components path.now)) (λ _. IsSome (known_at known.new (components path.now)))
+        IsRight s (F.file_map files.old) file.old → IsRight s (F.file_map files.old) file.new }
+    ensures path { file.new.path ≡ file.old.path }
+    ensures remembered { let s = setting_in H.hash config moment (plain_zone zone.now) vars.now in
+        OnOk result (IsRight s (F.file_map files.old) file.old
+        → IfOk (file_at (F.file_map files.old) (path_of file.old)) (λ _. IsSome file.new.digest)
         ⊎ Rose (F.faults files.old) (F.faults files.new)) }
-    ensures unasked { IsSome (known_at known.old (components path.now)) → files.new ≡ files.old }
+    ensures unasked { IsSome file.old.digest → files.new ≡ files.old }
     ensures answer { let s = setting_in H.hash config moment (plain_zone zone.now) vars.now in
-        AreKnown s (F.file_map files.old) known.old
+        IsRight s (F.file_map files.old) file.old
         → IfOk result (λ answer. MayMiss (Rose (F.faults files.old) (F.faults files.new)) answer
-        (digest_found s expected.now (file_at (F.file_map files.old) (components path.now)))) }
+        (digest_found s expected.now (file_at (F.file_map files.old) (path_of file.old)))) }
     ensures refused { IsOkUnless result Error.Memory }
 {
-    if let Some(digest) = known.digests.get(path) {
+    if let Some(digest) = &file.digest {
         return Ok(is_digest(digest, expected));
     }
-    let digest = match recorded_digest::<H, F>(alloc, files, path, moment, zone, vars, config) {
+    let digest = match digest_with_metadata::<H, F>(
+        alloc,
+        files,
+        &file.path,
+        file.metadata,
+        moment,
+        zone,
+        vars,
+        config,
+    ) {
         Ok(digest) => digest,
         Err(Error::Memory) => return Err(Error::Memory),
         Err(_) => return Ok(false),
     };
     let answer = is_digest(&digest, expected);
-    match known.digests.insert(path, digest) {
-        Ok(()) => Ok(answer),
-        Err(_) => Err(Error::Memory),
-    }
+    file.digest = Some(digest);
+    Ok(answer)
 }
 
 /// Whether this included file still is what it was, as [`includes_match`] has it of several. Where
@@ -141,10 +150,10 @@ pub fn include_matches<H: HashState, F: Files>(
         (matches s (F.file_map files.old) (include_lent include.now))) }
     ensures refused { IsOkUnless result Error.Memory }
 {
-    let metadata = match files.metadata(include.path) {
-        Ok(metadata) => metadata,
-        Err(_) => return Ok(false),
+    let Some(place) = place_for::<F>(alloc, files, known, include.path)? else {
+        return Ok(false);
     };
+    let metadata = known.files[place].metadata;
     if !is_file(&metadata) {
         return Ok(false);
     }
@@ -157,8 +166,7 @@ pub fn include_matches<H: HashState, F: Files>(
     is_recorded::<H, F>(
         alloc,
         files,
-        known,
-        include.path,
+        &mut known.files[place],
         include.digest,
         moment,
         zone,
@@ -173,9 +181,9 @@ pub fn include_matches<H: HashState, F: Files>(
 /// can't be read, for whatever cause, is none. Where a fault came, it may be answered that they are
 /// not.
 ///
-/// `known` keeps the recorded digests that were found, so that no file is read twice. The answer is
-/// right if what was known before is: if nothing was, or calls with the same files, moment, zone,
-/// variables and options found it.
+/// `known` keeps the metadata and the recorded digests that were found, so that no file is asked or
+/// read twice. The answer is right if what was known before is: if nothing was, or calls with the
+/// same files, moment, zone, variables and options found it.
 ///
 /// It is refused only as [`Error::Memory`].
 pub fn includes_match<H: HashState, F: Files>(

@@ -1,9 +1,9 @@
 //! The recorded digest of a file.
-ghost use Rattle.std.specs.Prelude.{◌≡◌, ◌||◌, IfOk, IsOkAnd, IsOkUnless, MatchResult, map, string_bytes};
+ghost use Rattle.std.specs.Prelude.{◌≡◌, ◌||◌, IfOk, IsOkAnd, IsOkUnless, MatchResult, Ok, map, string_bytes};
 ghost use Rattle.std.specs.Option.{option_map};
 ghost use Rattle.cck_digest.specs.Digest.{digest_text};
 ghost use Rattle.cck_files.specs.Calls.{AreCalls, IsRefusalOrMemory, Keeps, Rose};
-ghost use Rattle.cck_files.specs.FileMap.{contents_at, file_at};
+ghost use Rattle.cck_files.specs.FileMap.{contents_at, file_at, metadata_at};
 ghost use Rattle.cck_path.specs.Bytes.{variables_of};
 ghost use Rattle.cck_path.specs.Path.{components};
 ghost use Rattle.cck_time.specs.TimePart.{time_part};
@@ -17,7 +17,7 @@ use crate::refusal::io_error;
 use cck_digest::{Digest, FileError, HashState, WatchedDigest};
 use cck_file_digest::feed_file_of_size;
 use cck_files::Files;
-use cck_path::Timestamp;
+use cck_path::{Metadata, Timestamp};
 use cck_time::{Error, PreprocessorCacheModeConfig, local_time_part};
 use jiff::tz::TimeZone;
 use std::alloc::Global;
@@ -163,6 +163,28 @@ pub fn recorded_digest<H: HashState, F: Files>(
         Ok(metadata) => metadata,
         Err(error) => return Err(io_error(error)),
     };
+    digest_with_metadata::<H, F>(alloc, files, path, metadata, moment, zone, vars, config)
+}
+
+/// The recorded digest of the file at a path that has these metadata, as [`recorded_digest`] has it.
+pub(crate) fn digest_with_metadata<H: HashState, F: Files>(
+    alloc: Global,
+    files: &mut F,
+    path: &[u8],
+    metadata: Metadata,
+    moment: Timestamp,
+    zone: &TimeZone<'_>,
+    vars: &[(Vec<u8>, Vec<u8>)],
+    config: PreprocessorCacheModeConfig,
+) -> Result<Option<String>, Error>
+    ensures keeps { Keeps F.file_map F.faults F.is_quiet files.old files.new }
+    ensures calls { AreCalls F.is_call (λ p. p ≡ components path.now) files.old files.new }
+    ensures answer { let found = file_at (F.file_map files.old) (components path.now) in
+        metadata_at (F.file_map files.old) (components path.now) ≡ Ok metadata
+        → MatchResult result (λ digest. IsOkAnd found (λ file. option_map string_bytes digest
+        ≡ recorded (setting_in H.hash config moment (plain_zone zone.now) vars.now) file))
+        (IsIoRefusal found (Rose (F.faults files.old) (F.faults files.new))) }
+{
     if config.ignore_time_macros {
         return match contents_text::<H, F>(alloc, files, path, metadata.len) {
             Ok(text) => Ok(Some(text)),

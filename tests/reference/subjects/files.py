@@ -14,12 +14,13 @@ from ..cases import (
 )
 from ..digests import digest_text
 from ..entry import (
+    Known,
     add_result,
+    all_match,
     entry_bytes,
     find,
     gathered,
     include_count,
-    matches,
     read_entry,
 )
 from ..error_texts import text_of_entry_error
@@ -470,7 +471,7 @@ def call_includes_match(subject, rest, made):
     if includes is None:
         raise WrongLine
     setting = setting_of(subject)
-    return flag(all(matches(subject.world.files, include, setting) for include in includes))
+    return flag(all_match(subject.world.files, includes, setting, Known()))
 
 
 def call_look_up(subject, rest, made):

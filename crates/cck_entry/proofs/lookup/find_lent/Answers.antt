@@ -1,16 +1,42 @@
-use Rattle.std.proofs.Common.{[], ◌∷◌, ◌++◌, true, false, ap, subst, ◌∙◌, append_assoc}
-use Rattle.std.specs.List.{list_all}
+use Rattle.std.proofs.Common.{rules, ◌≡◌, List, map, inl, sym, [], ◌∷◌, ◌++◌, true, false, ap, subst, ◌∙◌, append_assoc}
+use Rattle.std.proofs.lemmas.List.{append-nil}
+use Rattle.std.specs.List.{AllByRecursion, list_all}
 use Rattle.std.specs.Iterator.Adapters.{rev_source}
 use Rattle.std.specs.Slice.Iter.{iter_rest}
-use Rattle.cck_files.proofs.CallsLemmas.{keeps_all}
+use Rattle.cck_files.proofs.CallsLemmas.{keeps_all, keeps_itself}
 use Rattle.cck_files.specs.Calls.{Rose}
 use Rattle.cck_include.specs.Known.{AreKnown}
 use Rattle.cck_include.specs.Matching.{MayMiss, matches}
 use Rattle.cck_include.specs.Setting.{setting_in}
 use Rattle.jiff.specs.Words.{plain_zone}
-use Rattle.cck_entry.specs.Lent.{includes_begun, result_lent}
+use Rattle.cck_entry.specs.Lent.{IsWhole, includes_begun, result_lent}
+use Rattle.cck_entry.specs.Find.{found_in}
+use Rattle.cck_entry.specs.declared.lent.ResultRef.{ResultRef}
 use Rattle.cck_entry.proofs.LookupLemmas.{hits, misses}
 use Rattle.cck_entry.proofs.lookup.find_lent.Goals as goal
+
+pub loop-lent-init : goal.loop-lent-init
+loop-lent-init g c =
+    let F = g.F.Files in
+    let s = setting_in g.H.HashState.hash c.args.config c.args.moment (plain_zone c.args.zone.now) c.args.vars.now in
+    let left = iter_rest (rev_source c.into_iter-lent-iterator.result) in
+    let all : left ≡ c.args.results.now = search rules in
+    record {
+      keeps = keeps_itself c.args.files.now;
+      known = c.new-known.ensures s (F.file_map c.args.files.now);
+      seen = ([], sym (append-nil left ∙ all));
+      so_far = inl (ap (λ l. found_in (matches s (F.file_map c.args.files.now)) (map result_lent l)) all);
+    }
+
+-- each result of a list is whole
+whole_of : (left rest : List ResultRef) (lent : ResultRef) → AllByRecursion IsWhole ((left ++ lent ∷ []) ++ rest) → IsWhole lent
+whole_of [] rest lent h = h.0
+whole_of (x ∷ left) rest lent h = whole_of left rest lent h.1
+
+pub lent_matches-requires : goal.lent_matches-requires
+lent_matches-requires g c =
+    whole_of (iter_rest (rev_source c.next.new.self)) c.loop-lent.invariant.seen.0 c.in-Some.lent.now
+    (subst (AllByRecursion IsWhole) (c.loop-lent.invariant.seen.1 ∙ ap (λ l. l ++ c.loop-lent.invariant.seen.0) c.in-Some.ensures.steps) c.requires)
 
 pub loop-lent-preserved : goal.loop-lent-preserved
 loop-lent-preserved g c =

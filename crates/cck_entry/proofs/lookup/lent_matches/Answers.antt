@@ -23,6 +23,13 @@ returns-in_err-matches-clause-known g c = λ right.
     let before : AreKnown s (F.file_map c.loop.files) c.loop.known = rw c.loop.invariant.keeps.same_map (c.loop.invariant.known right) in
     subst (λ m. AreKnown s m c.include_matches.new.known) c.loop.invariant.keeps.same_map (c.include_matches.ensures.known before)
 
+pub returns-then-not-matches-clause-known : goal.returns-then-not-matches-clause-known
+returns-then-not-matches-clause-known g c = λ right.
+    let F = g.F.Files in
+    let s = setting_in g.H.HashState.hash c.args.config c.args.moment (plain_zone c.args.zone.now) c.args.vars.now in
+    let before : AreKnown s (F.file_map c.loop.files) c.loop.known = rw c.loop.invariant.keeps.same_map (c.loop.invariant.known right) in
+    subst (λ m. AreKnown s m c.include_matches.new.known) c.loop.invariant.keeps.same_map (c.include_matches.ensures.known before)
+
 pub returns-then-not-matches-clause-answer : goal.returns-then-not-matches-clause-answer
 returns-then-not-matches-clause-answer g c = λ right.
     let F = g.F.Files in

@@ -1,12 +1,13 @@
-use Rattle.std.proofs.Common.{IsSome, inl, refl, sym, ap, subst, ◌∙◌}
+use Rattle.std.proofs.Common.{IfSome, IsOkAnd, subst, ◌≡◌, ◌∙◌}
 use Rattle.std.specs.Option.{option_map}
 use Rattle.std.specs.String.{string_bytes}
 use Rattle.cck_files.specs.Calls.{Rose}
 use Rattle.cck_files.specs.FileMap.{file_at}
-use Rattle.cck_include.proofs.MatchLemmas.{by_known, exact, known_more, known_of_file, known_there}
+use Rattle.cck_include.proofs.MatchLemmas.{by_known, exact}
+use Rattle.cck_include.specs.Known.{path_of}
 use Rattle.cck_include.specs.Matching.{digest_found}
+use Rattle.cck_include.specs.Recorded.{recorded}
 use Rattle.cck_include.specs.Setting.{setting_in}
-use Rattle.cck_path.specs.Path.{components}
 use Rattle.jiff.specs.Words.{plain_zone}
 use Rattle.cck_include.proofs.matching.is_recorded.Goals as goal
 
@@ -15,20 +16,8 @@ returns-in-Some-clause-answer g c = λ right.
     let F = g.F.Files in
     let s = setting_in g.H.HashState.hash c.args.config c.args.moment (plain_zone c.args.zone.now) c.args.vars.now in
     let old = F.file_map c.args.files.now in
-    let p = components c.args.path.now in
+    let p = path_of c.args.file.now in
+    let told : IsOkAnd (file_at old p) (λ n. option_map string_bytes c.in-Some.digest ≡ recorded s n) =
+    subst (λ o. IfSome o (λ d. IsOkAnd (file_at old p) (λ n. option_map string_bytes d ≡ recorded s n))) c.in-Some.is right.digest in
     exact c.is_digest.result (digest_found s c.args.expected.now (file_at old p)) (Rose (F.faults c.args.files.now) (F.faults c.args.files.now))
-    (c.is_digest.ensures ∙ by_known s old p c.in-Some.digest.now c.args.expected.now (right p _ (ap (option_map (option_map string_bytes)) (sym c.in-Some.ensures))))
-
-pub returns-in-Ok-insert-clause-known : goal.returns-in-Ok-insert-clause-known
-returns-in-Ok-insert-clause-known g c =
-    let F = g.F.Files in
-    let s = setting_in g.H.HashState.hash c.args.config c.args.moment (plain_zone c.args.zone.now) c.args.vars.now in
-    known_more s (F.file_map c.args.files.now) c.args.known.now _ (components c.args.path.now) c.in-Ok.digest c.in-Ok-insert.ensures.set c.in-Ok.ensures.answer
-
-pub returns-in-Some-clause-remembered : goal.returns-in-Some-clause-remembered
-returns-in-Some-clause-remembered g c =
-    inl (known_of_file _ _ (subst IsSome (ap (option_map (option_map string_bytes)) c.in-Some.ensures) refl))
-
-pub returns-in-Ok-insert-clause-remembered : goal.returns-in-Ok-insert-clause-remembered
-returns-in-Ok-insert-clause-remembered g c =
-    inl (known_of_file _ _ (known_there c.args.known.now _ (components c.args.path.now) c.in-Ok.digest c.in-Ok-insert.ensures.set))
+    (c.is_digest.ensures ∙ by_known s old p c.in-Some.digest c.args.expected.now told)
