@@ -105,7 +105,7 @@ fn put(alloc: Global, files: &mut MapFiles, path: &[u8], text: &[u8]) -> Result<
 }
 
 // `c_cache_keys`: from a compiler of the test's own, over a command line, to a key. That is the digest
-// text of `DIGEST 00 13 cPreprocessed -arch ff arm64 ff -arch ff i386 ff int x;`, where DIGEST is the
+// text of the frames of `14` and of DIGEST, 00, those of the other parts, where DIGEST is the
 // digest text of `cc`.
 #[test]
 fn a_key(rt: HostRuntime) -> Result<(), Fail> {
@@ -137,7 +137,7 @@ fn a_key(rt: HostRuntime) -> Result<(), Fail> {
     )?;
     assert_eq!(rt;
         found.key.as_str(),
-        "63811a66c8b4010a6466f4d5d5dadd6559936121776b93e1009bd883d52ecdb5"
+        "67f2857c56f95d3d4b45c7efd4768e7b7ecb1905e402d6fddce44a2ed659fbf7"
     );
     Ok(())
 }

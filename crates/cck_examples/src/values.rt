@@ -59,7 +59,7 @@ fn a_key_of_copied_parts(rt: HostRuntime) -> Result<(), UtilError> {
     );
     assert_eq!(rt;
         other.compute::<Sha256State>(alloc)?.as_str(),
-        "62a180849d592a71eae467cc276b6001ea69e5acd430b63e6a4cabcb0f57ee2c"
+        "ca963aeb6cf02553dcd22cd10b178166fe032e91cdf5489fd17700054b6c31ee"
     );
     Ok(())
 }
