@@ -22,16 +22,16 @@ def length_bytes(count):
     return count.to_bytes(8, "little")
 
 
-def length_prefixed(data):
-    """`frame`, and `length_prefixed`: the length, and the bytes."""
+def frame(data):
+    """`frame`, and `length_prefixed` of an entry: the length, and the bytes."""
     return length_bytes(len(data)) + data
 
 
-def counted(item, items):
-    """`counted`: the count of the items, and what `item` gives for each."""
+def framed_list(item, items):
+    """`framed_list`: the count of the items, and what `item` gives for each."""
     return length_bytes(len(items)) + b"".join(map(item, items))
 
 
 def framed_option(data):
     """`framed_option`: a byte 0 for nothing, else a byte 1 and the frame."""
-    return b"\0" if data is None else b"\1" + length_prefixed(data)
+    return b"\0" if data is None else b"\1" + frame(data)

@@ -4,7 +4,7 @@ An entry is a dict from keys to lists of `Include`. Keys and digests are UTF-8, 
 """
 import dataclasses
 
-from .digests import length_prefixed
+from .digests import frame
 from .errors import Refused
 from .files import FILE, call_files
 from .paths import components
@@ -42,8 +42,8 @@ def time_bytes(time):
 def include_bytes(include):
     """`include_bytes`: the bytes of one include."""
     return (
-        length_prefixed(include.path)
-        + length_prefixed(include.digest)
+        frame(include.path)
+        + frame(include.digest)
         + include.size.to_bytes(8, "little")
         + time_bytes(include.modified)
         + time_bytes(include.changed)
@@ -53,7 +53,7 @@ def include_bytes(include):
 def result_bytes(key, includes):
     """`result_bytes`: the bytes of one result."""
     count = len(includes).to_bytes(8, "little")
-    return length_prefixed(key) + count + b"".join(map(include_bytes, includes))
+    return frame(key) + count + b"".join(map(include_bytes, includes))
 
 
 def entry_bytes(entry):
@@ -191,7 +191,7 @@ def times_accept(include, metadata, config):
 
 
 class Known:
-    """`KnownDigests`: what one look-up found, so that no file is asked or read twice. Faults aren't kept."""
+    """`KnownFiles`: what one look-up found, so that no file is asked or read twice. Faults aren't kept."""
 
     def __init__(self):
         self.metadata = {}

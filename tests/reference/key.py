@@ -1,7 +1,7 @@
 """The key of an object."""
 import dataclasses
 
-from .digests import counted, digest_text, framed_option, length_prefixed
+from .digests import digest_text, frame, framed_list, framed_option
 from .errors import Refused
 from .strip import stripped_arguments, stripped_text
 
@@ -74,7 +74,7 @@ def variables_named(names, variables):
 
 def variables_bytes(variables):
     """`variable_bytes` of each variable: the length-prefixed name, `=`, the length-prefixed value."""
-    return b"".join(length_prefixed(name) + b"=" + length_prefixed(value) for name, value in variables)
+    return b"".join(frame(name) + b"=" + frame(value) for name, value in variables)
 
 
 def flag_byte(flag):
@@ -90,22 +90,22 @@ def assembler_bytes(digest):
 def variable_frames(variable):
     """`variable_frames`: a frame of the name and one of the value."""
     name, value = variable
-    return length_prefixed(name) + length_prefixed(value)
+    return frame(name) + frame(value)
 
 
 def key_material(params):
     """`material` of `key_parts`: the bytes whose digest text is the key of an object."""
     return b"".join(
         [
-            length_prefixed(CACHE_VERSION),
-            length_prefixed(params.compiler_digest),
+            frame(CACHE_VERSION),
+            frame(params.compiler_digest),
             flag_byte(params.plusplus),
-            length_prefixed(params.language),
-            counted(length_prefixed, stripped_arguments(params.arguments, params.basedirs)),
-            counted(length_prefixed, params.extra_hashes),
+            frame(params.language),
+            framed_list(frame, stripped_arguments(params.arguments, params.basedirs)),
+            framed_list(frame, params.extra_hashes),
             framed_option(params.assembler_digest),
-            counted(variable_frames, variables_named(OBJECT_VARIABLES, params.variables)),
-            length_prefixed(stripped_text(params.text, params.basedirs)),
+            framed_list(variable_frames, variables_named(OBJECT_VARIABLES, params.variables)),
+            frame(stripped_text(params.text, params.basedirs)),
         ]
     )
 

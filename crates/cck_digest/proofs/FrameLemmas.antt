@@ -3,7 +3,7 @@ use native.Mathlib.Nat as nat
 use Rattle.std.proofs.Common.{◌≡◌, ℕ, zero, suc, ◌/◌, ◌%◌, ◌<◌, ◌^◌, List, [], ◌∷◌, ◌++◌, Option, Some, None, length, refl, sym, ap, ◌∙◌, arith, append_assoc}
 use Rattle.std.specs.Int.{to_le_bytes, w64}
 use Rattle.std.specs.List.{flat_map}
-use Rattle.cck_digest.specs.Frames.{digits, length_bytes, frame, counted, framed_option}
+use Rattle.cck_digest.specs.Frames.{digits, length_bytes, frame, framed_list, framed_option}
 use Rattle.cck_digest.proofs.ReadsBack.{ReadsBack, bytes_read_back, items_read_back}
 
 length-digits : (k n : ℕ) → length (digits k n) ≡ suc k
@@ -31,8 +31,8 @@ frame_reads_back x y s t e =
     bytes_read_back x y s t lengths.0 lengths.1
 
 -- a list whose items read back
-pub counted_read_back : {A : Type 0} (item : A → List ℕ) → ((x y : A) → ReadsBack item x y) → (xs ys : List A) → ReadsBack (counted item) xs ys
-counted_read_back item one xs ys s t e =
+pub framed_list_reads_back : {A : Type 0} (item : A → List ℕ) → ((x y : A) → ReadsBack item x y) → (xs ys : List A) → ReadsBack (framed_list item) xs ys
+framed_list_reads_back item one xs ys s t e =
     let split = sym (append_assoc (length_bytes (length xs)) (flat_map item xs) s) ∙ (e ∙ append_assoc (length_bytes (length ys)) (flat_map item ys) t) in
     let counts = length_reads_back (length xs) (length ys) (flat_map item xs ++ s) (flat_map item ys ++ t) split in
     items_read_back item one xs ys counts.0 s t counts.1

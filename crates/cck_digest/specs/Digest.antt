@@ -1,7 +1,6 @@
 -- digests, and the text that stands for one
-use Rattle.std.specs.Prelude.{◌≡◌, ℕ, ◌+◌, ◌%◌, ◌/◌, ◌<◌, All, List, [], ◌∷◌, ◌++◌, length, codes, nat_lt, if◌then◌else◌}
+use Rattle.std.specs.Prelude.{◌≡◌, ℕ, ◌+◌, ◌%◌, ◌/◌, ◌<◌, All, List, [], ◌∷◌, ◌++◌, codes, nat_lt, if◌then◌else◌}
 use Rattle.std.specs.List.{flat_map}
-use Rattle.std.specs.Int.{to_le_bytes, w64}
 
 -- the digit of half a byte, in lower case
 abbrev pub hex_digit : ℕ → ℕ
@@ -22,10 +21,6 @@ digest_text hash bytes = hex_text (hash bytes)
 -- a name between the bytes that set it apart
 abbrev pub delimiter_bytes : List ℕ → List ℕ
 delimiter_bytes name = (0 ∷ codes "SCCACHE" ++ 0 ∷ []) ++ name ++ 0 ∷ []
-
--- the length of these bytes, as 8 bytes with the lowest first, and the bytes
-abbrev pub length_prefixed : List ℕ → List ℕ
-length_prefixed bytes = to_le_bytes w64 (length bytes) ++ bytes
 
 -- equal digits are of equal bytes
 abbrev pub HexTellsBytes : Type 0

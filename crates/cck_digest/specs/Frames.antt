@@ -17,8 +17,8 @@ abbrev pub frame : List ℕ → List ℕ
 frame bytes = length_bytes (length bytes) ++ bytes
 
 -- what is written for each of these items, after their count
-abbrev pub counted : {A : Type 0} → (A → List ℕ) → List A → List ℕ
-counted item items = length_bytes (length items) ++ flat_map item items
+abbrev pub framed_list : {A : Type 0} → (A → List ℕ) → List A → List ℕ
+framed_list item items = length_bytes (length items) ++ flat_map item items
 
 -- a byte 0 for nothing, else a byte 1 and the frame
 abbrev pub framed_option : Option (List ℕ) → List ℕ

@@ -71,8 +71,6 @@ pub fn hash_length<H: HashState>(digest: &mut Digest<H>, length: usize)
 
 /// Feeds a frame: the length of these bytes as [`hash_length`] does, and then the bytes. It takes no
 /// memory.
-///
-/// In the place of upstream's `HashToDigest`, whose lengths are as wide as the machine's words.
 pub fn hash_len_prefixed<H: HashState>(digest: &mut Digest<H>, bytes: &[u8])
     ensures { (fed : List ℕ) → H.holds digest.old fed → H.holds digest.new (fed ++ frame bytes.now) }
 {

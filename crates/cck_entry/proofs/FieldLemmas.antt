@@ -11,11 +11,10 @@ use Rattle.std.proofs.lemmas.Nat.{le_bytes_4, le_bytes_8, from_le_bytes-to_le_by
 use Rattle.std.proofs.lemmas.Option.{same_Some}
 use Rattle.cck_path.specs.Timestamp.{Moment}
 use Rattle.cck_include.specs.Include.{Include}
-use Rattle.cck_digest.specs.Digest.{length_prefixed}
 use Rattle.cck_time.proofs.NumberLemmas.{long_bits_small}
 use Rattle.cck_path.proofs.TestLemmas.{then_some, else_some}
 use Rattle.cck_entry.specs.Results.{FitsMoment, Fits}
-use Rattle.cck_entry.specs.Writing.{moment_bytes, time_bytes, include_bytes}
+use Rattle.cck_entry.specs.Writing.{length_prefixed, moment_bytes, time_bytes, include_bytes}
 use Rattle.cck_entry.specs.Reading.{◌>>=◌, number_at, length_prefixed_at, text_at, moment_at, time_at, include_at}
 
 abbrev pub IsBytes : List ℕ → Type 0

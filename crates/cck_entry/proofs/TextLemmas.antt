@@ -8,10 +8,9 @@ use Rattle.std.proofs.lemmas.List.Concat.{flat_map-cons}
 use Rattle.std.proofs.lemmas.Option.{same_Some}
 use Rattle.cck_path.specs.Timestamp.{Moment}
 use Rattle.cck_include.specs.Include.{Include}
-use Rattle.cck_digest.specs.Digest.{length_prefixed}
 use Rattle.cck_path.proofs.TestLemmas.{else_some, then_some}
 use Rattle.cck_entry.specs.Results.{KeyResult, Fits, FitsResult}
-use Rattle.cck_entry.specs.Writing.{time_bytes, include_bytes, result_bytes}
+use Rattle.cck_entry.specs.Writing.{length_prefixed, time_bytes, include_bytes, result_bytes}
 use Rattle.cck_entry.specs.Reading.{◌>>=◌, number_at, text_at, include_at, includes_at, counted_at, result_at, results_from, entry_at, comes_after}
 use Rattle.cck_entry.proofs.FieldLemmas.{IsBytes, bind_some, Takes, Takes-then, wide64, number_takes, number_again, text_takes, text_again, include_takes, include_again}
 

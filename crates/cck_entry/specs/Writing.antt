@@ -2,10 +2,13 @@
 use Rattle.std.specs.Prelude.{ℕ, List, [], ◌∷◌, ◌++◌, length, Option, Some, None}
 use Rattle.std.specs.Int.{w32, w64, cast_unsigned, to_le_bytes}
 use Rattle.std.specs.List.{flat_map}
-use Rattle.cck_digest.specs.Digest.{length_prefixed}
 use Rattle.cck_path.specs.Timestamp.{Moment}
 use Rattle.cck_entry.specs.Results.{KeyResult}
 use Rattle.cck_include.specs.Include.{Include}
+
+-- the length of these bytes in 8 bytes, and the bytes
+abbrev pub length_prefixed : List ℕ → List ℕ
+length_prefixed bytes = to_le_bytes w64 (length bytes) ++ bytes
 
 -- seconds in 8 bytes, and nanoseconds in 4
 abbrev pub moment_bytes : Moment → List ℕ

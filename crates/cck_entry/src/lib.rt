@@ -20,7 +20,7 @@
 //!
 //! What these calls take and return is passed on too: hash functions and errors of `cck_digest`,
 //! files of `cck_files`, their metadata and moments of `cck_path`, [`Language`] of `cck_util`, and
-//! [`KnownDigests`] of `cck_include`, which [`includes_match`] and [`include_matches`] keep metadata
+//! [`KnownFiles`] of `cck_include`, which [`includes_match`] and [`include_matches`] keep metadata
 //! and digests in, the latter of an [`IncludeRef`]. Zones are those of `jiff`.
 //!
 //! An entry is written in one way only. Numbers have their lowest byte first:
@@ -61,8 +61,7 @@ mod writing;
 pub use cck_digest::{FileError, HashState, Sha256State, UtilError};
 pub use cck_files::{Files, MapFiles, Node};
 pub use cck_include::{
-    IncludeEntry, IncludeRef, KnownDigests, gather, include_matches, includes_match,
-    recorded_digest,
+    IncludeEntry, IncludeRef, KnownFiles, gather, include_matches, includes_match, recorded_digest,
 };
 pub use cck_path::{FileKind, Metadata, Timestamp};
 pub use cck_preprocessor_key::{FORMAT_VERSION, preprocessor_cache_entry_hash_key};

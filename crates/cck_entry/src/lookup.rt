@@ -18,7 +18,7 @@ use crate::results::Results;
 use crate::{EntryView, PreprocessorCacheEntry};
 use cck_digest::HashState;
 use cck_files::Files;
-use cck_include::{KnownDigests, include_matches, includes_match};
+use cck_include::{KnownFiles, include_matches, includes_match};
 use cck_path::Timestamp;
 use cck_time::{Error, PreprocessorCacheModeConfig};
 use jiff::tz::TimeZone;
@@ -99,7 +99,7 @@ fn find_result<'a, H: HashState, F: Files>(
         (map result_in results.now.entries) (Rose (F.faults files.old) (F.faults files.new)) (option_map (λ k. k.now) key)) }
     ensures refused { IsOkUnless result Error.Memory }
 {
-    let mut known = KnownDigests::new(alloc);
+    let mut known = KnownFiles::new(alloc);
     for (key, includes) in results.iter().rev() {
         let matches = includes_match::<H, F>(
             alloc, files, &mut known, includes, moment, zone, vars, config,
@@ -128,7 +128,7 @@ fn find_lent<'a, H: HashState, F: Files>(
         (map result_lent results.now) (Rose (F.faults files.old) (F.faults files.new)) (option_map (λ k. k.now) key)) }
     ensures refused { IsOkUnless result Error.Memory }
 {
-    let mut known = KnownDigests::new(alloc);
+    let mut known = KnownFiles::new(alloc);
     for lent in results.iter().rev() {
         let stands = lent_matches::<H, F>(
             alloc, files, &mut known, lent, moment, zone, vars, config,
@@ -144,7 +144,7 @@ fn find_lent<'a, H: HashState, F: Files>(
 fn lent_matches<H: HashState, F: Files>(
     alloc: Global,
     files: &mut F,
-    known: &mut KnownDigests,
+    known: &mut KnownFiles,
     lent: &ResultRef<'_>,
     moment: Timestamp,
     zone: &TimeZone<'_>,

@@ -5,11 +5,10 @@ ghost use Rattle.std.specs.Int.{cast_unsigned, to_le_bytes, w32, w64};
 ghost use Rattle.std.specs.Io.KnownBytes.{Appends};
 ghost use Rattle.std.specs.List.{AllByRecursion, flat_map};
 ghost use Rattle.std.specs.String.{string_bytes, string_cmp};
-ghost use Rattle.cck_digest.specs.Digest.{length_prefixed};
 ghost use Rattle.cck_digest.specs.declared.error.UtilError.TheVariants as util;
 ghost use Rattle.cck_include.specs.Include.{include_in, includes_in};
 ghost use Rattle.cck_entry.specs.Results.{Fits, FitsMoment, FitsResult, result_in};
-ghost use Rattle.cck_entry.specs.Writing.{entry_bytes, include_bytes, moment_bytes, result_bytes, time_bytes};
+ghost use Rattle.cck_entry.specs.Writing.{entry_bytes, include_bytes, length_prefixed, moment_bytes, result_bytes, time_bytes};
 
 use crate::results::Results;
 use cck_digest::UtilError;
@@ -39,7 +38,7 @@ fn write_u64<W: Write>(writer: &mut W, n: u64) -> Result<(), Error>
     write_bytes(writer, &n.to_le_bytes())
 }
 
-/// Writes bytes behind their length.
+/// Writes bytes after their length.
 #[tactic(auto, using(crate::proofs::AppendLemmas::appends_then))]
 fn write_with_length<W: Write>(writer: &mut W, bytes: &[u8]) -> Result<(), Error>
     ensures text { OnOk result

@@ -104,9 +104,8 @@ fn put(alloc: Global, files: &mut MapFiles, path: &[u8], text: &[u8]) -> Result<
     Ok(())
 }
 
-// `c_cache_keys`: from a compiler of the test's own, over a command line, to a key. That is the digest
-// text of the frames of `14` and of DIGEST, 00, those of the other parts, where DIGEST is the
-// digest text of `cc`.
+// `c_cache_keys`: from a compiler of the test's own, over a command line, to a key. Its
+// material begins with the frame of `14`, and that of the digest text of `cc`.
 #[test]
 fn a_key(rt: HostRuntime) -> Result<(), Fail> {
     let alloc = rt.alloc();

@@ -1,7 +1,7 @@
 //! Time parts, recorded digests, preprocessor keys and entries.
 use crate::files::{CountedFiles, files_of};
 use cck_entry::{
-    EntryView, Error, FileKind, IncludeEntry, KnownDigests, Language, MapFiles, Node,
+    EntryView, Error, FileKind, IncludeEntry, KnownFiles, Language, MapFiles, Node,
     PreprocessorCacheEntry, PreprocessorCacheModeConfig, Sha256State, Timestamp, gather,
     includes_match, local_time_part, preprocessor_cache_entry_hash_key, recorded_digest,
 };
@@ -43,7 +43,7 @@ fn still_match(
     files: &mut MapFiles,
     includes: &[IncludeEntry],
 ) -> Result<bool, Error> {
-    let mut known = KnownDigests::new(alloc);
+    let mut known = KnownFiles::new(alloc);
     includes_match::<Sha256State, MapFiles>(
         alloc,
         files,

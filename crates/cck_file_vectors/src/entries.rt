@@ -2,7 +2,7 @@
 use crate::cases::Cases;
 use crate::shown::{write_counts, write_entry, write_includes};
 use cck_cases::{CaseError, FailingWriter, Line, Value, number, words_of};
-use cck_entry::{EntryView, Error, KnownDigests, PreprocessorCacheEntry, gather, includes_match};
+use cck_entry::{EntryView, Error, KnownFiles, PreprocessorCacheEntry, gather, includes_match};
 use cck_util::{Digest, MapFiles, Sha256State, UtilError};
 use std::alloc::Global;
 
@@ -185,7 +185,7 @@ fn gathered<'a>(cases: &'a mut Cases) -> Result<Value<'a>, CaseError> {
 
 // Whether the files of the result of this key still are what they were.
 fn matches<'a>(cases: &'a mut Cases, key: &str) -> Result<Value<'a>, CaseError> {
-    let mut known = KnownDigests::new(cases.alloc);
+    let mut known = KnownFiles::new(cases.alloc);
     let includes = cases.entry.results().get(key).ok_or(CaseError::Line)?;
     Ok(Value::Flag(includes_match::<Sha256State, MapFiles>(
         cases.alloc,

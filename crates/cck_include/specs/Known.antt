@@ -7,7 +7,7 @@ use Rattle.cck_files.specs.FileMap.{FileMap, file_at, metadata_at}
 use Rattle.cck_path.specs.Path.{Path, components, path_cmp}
 use Rattle.cck_include.specs.Recorded.{recorded}
 use Rattle.cck_include.specs.Setting.{Setting}
-use Rattle.cck_include.specs.declared.known.KnownDigests.{KnownDigests}
+use Rattle.cck_include.specs.declared.known.KnownFiles.{KnownFiles}
 use Rattle.cck_include.specs.declared.known.KnownFile.{KnownFile}
 
 -- where the file is
@@ -29,5 +29,5 @@ abbrev pub AreFound : List KnownFile → FinMap path_cmp ℕ → Type 0
 AreFound ks places = (p : Path) (i : ℕ) → IsPlaceOf p ks i → get places p ≡ Some i
 
 -- all that is known is right, and found by its path
-abbrev pub AreKnown : Setting → FileMap → KnownDigests → Type 0
+abbrev pub AreKnown : Setting → FileMap → KnownFiles → Type 0
 AreKnown s files known = All (IsRight s files) known.files.items × AreFound known.files.items known.places

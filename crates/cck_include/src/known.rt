@@ -17,7 +17,7 @@ use std::alloc::{AllocError, Global};
 /// It is known of the files, the moment, the zone, the variables and the options of the calls that
 /// found it. For others a new value is needed.
 #[derive(Debug, Drop)]
-pub struct KnownDigests {
+pub struct KnownFiles {
     // In the order in which they were found.
     pub(crate) files: Vec<KnownFile>,
     // Where the file of a path stands among them.
@@ -35,13 +35,13 @@ pub(crate) struct KnownFile {
     pub(crate) digest: Option<Option<String>>,
 }
 
-impl KnownDigests {
+impl KnownFiles {
     /// Nothing is known: whatever the files and all else are, none of it is wrong. It takes no
     /// memory.
-    pub fn new(alloc: Global) -> KnownDigests
+    pub fn new(alloc: Global) -> KnownFiles
         ensures { (s : Setting) (files : FileMap) → AreKnown s files result }
     {
-        KnownDigests {
+        KnownFiles {
             files: Vec::new(alloc),
             places: PathMap::new(alloc),
             next: 0,
@@ -49,7 +49,7 @@ impl KnownDigests {
     }
 
     // The place of the file at a path, if it is known. Lists of includes have mostly the same files
-    // in the same order, so the file behind the last one is looked at before a search.
+    // in the same order, so the file after the last one is looked at before a search.
     fn place_of(&self, path: &[u8]) -> Option<usize>
         ensures place { IfSome result (IsPlaceOf (components path.now) self.now.files.items) }
         ensures all { AreFound self.now.files.items self.now.places
@@ -108,7 +108,7 @@ fn is_at(files: &[KnownFile], place: usize, path: &[u8]) -> bool
 pub(crate) fn place_for<F: Files>(
     alloc: Global,
     files: &mut F,
-    known: &mut KnownDigests,
+    known: &mut KnownFiles,
     path: &[u8],
 ) -> Result<Option<usize>, AllocError>
     ensures keeps { Keeps F.file_map F.faults F.is_quiet files.old files.new }

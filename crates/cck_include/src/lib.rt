@@ -12,13 +12,13 @@
 //! - [`includes_match`] says whether such files still are what they were. A file of another size is
 //!   not; where the options let its times decide, it need not be read. [`include_matches`] says it
 //!   of one file, an [`IncludeRef`], whose path and digest may stand in other bytes.
-//!   [`KnownDigests`] keeps what one look-up finds, so that it reads no file twice.
+//!   [`KnownFiles`] keeps what one look-up finds, so that it reads no file twice.
 //! - [`laws`] has what equal recorded digests tell.
 //!
 //! ```rust
 //! // `digest` is the recorded digest of `/w/h.h` at `moment`.
 //! let includes = gather(alloc, &mut files, moment, &[(digest, path)])?;
-//! let mut known = KnownDigests::new(alloc);
+//! let mut known = KnownFiles::new(alloc);
 //! includes_match::<Sha256State, MapFiles>(
 //!     alloc, &mut files, &mut known, &includes, later, &zone, &[], config,
 //! )?; // `true`, until another text stands at `/w/h.h`, or one of its macros of time shows another
@@ -35,6 +35,6 @@ mod refusal;
 
 pub use gathering::gather;
 pub use include::{IncludeEntry, IncludeRef};
-pub use known::KnownDigests;
+pub use known::KnownFiles;
 pub use matching::{include_matches, includes_match};
 pub use recorded::recorded_digest;

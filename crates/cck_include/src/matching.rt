@@ -12,7 +12,7 @@ ghost use Rattle.cck_include.specs.Setting.{setting_in};
 
 use crate::known::{KnownFile, place_for};
 use crate::recorded::digest_with_metadata;
-use crate::{IncludeEntry, IncludeRef, KnownDigests};
+use crate::{IncludeEntry, IncludeRef, KnownFiles};
 use cck_digest::HashState;
 use cck_files::Files;
 use cck_path::{FileKind, Metadata, Timestamp};
@@ -134,7 +134,7 @@ fn is_recorded<H: HashState, F: Files>(
 pub fn include_matches<H: HashState, F: Files>(
     alloc: Global,
     files: &mut F,
-    known: &mut KnownDigests,
+    known: &mut KnownFiles,
     include: &IncludeRef<'_>,
     moment: Timestamp,
     zone: &TimeZone<'_>,
@@ -189,7 +189,7 @@ pub fn include_matches<H: HashState, F: Files>(
 pub fn includes_match<H: HashState, F: Files>(
     alloc: Global,
     files: &mut F,
-    known: &mut KnownDigests,
+    known: &mut KnownFiles,
     includes: &[IncludeEntry],
     moment: Timestamp,
     zone: &TimeZone<'_>,

@@ -1,8 +1,8 @@
 -- Equal material is of equal parts.
 use Rattle.std.proofs.Common.{◌≡◌, ◌↔◌, ℕ, List, [], ◌∷◌, ◌++◌, Bool, true, false, Option, Some, codes, find, refl, sym, ap, ◌∙◌, arith, append_assoc, append-nil}
 use Rattle.std.specs.Str.{bytes_eq}
-use Rattle.cck_digest.specs.Frames.{frame, counted, framed_option}
-use Rattle.cck_digest.proofs.FrameLemmas.{frame_reads_back, counted_read_back, option_reads_back}
+use Rattle.cck_digest.specs.Frames.{frame, framed_list, framed_option}
+use Rattle.cck_digest.proofs.FrameLemmas.{frame_reads_back, framed_list_reads_back, option_reads_back}
 use Rattle.cck_digest.proofs.ReadsBack.{ReadsBack}
 use Rattle.cck_path.specs.Variables.{Variable}
 use Rattle.cck_util.specs.Key.{KeyParts, flag_byte, material}
@@ -58,12 +58,12 @@ variable_reads_back v w s t e =
 
 -- the material, each part before all that follows it
 material-nested : (p : KeyParts) → material p ≡ frame (codes "14") ++ (frame p.compiler_digest ++ ((flag_byte p.plusplus ∷ []) ++ (frame (language_name p.language)
-    ++ (counted frame p.arguments ++ (counted frame p.extra_hashes ++ (framed_option p.assembler_digest
-    ++ (counted variable_frames p.variables ++ frame p.output)))))))
+    ++ (framed_list frame p.arguments ++ (framed_list frame p.extra_hashes ++ (framed_option p.assembler_digest
+    ++ (framed_list variable_frames p.variables ++ frame p.output)))))))
 unfolding material
 material-nested p =
-    parted (frame (codes "14")) (frame p.compiler_digest) (flag_byte p.plusplus ∷ []) (frame (language_name p.language)) (counted frame p.arguments)
-    (counted frame p.extra_hashes) (framed_option p.assembler_digest) (counted variable_frames p.variables) (frame p.output)
+    parted (frame (codes "14")) (frame p.compiler_digest) (flag_byte p.plusplus ∷ []) (frame (language_name p.language)) (framed_list frame p.arguments)
+    (framed_list frame p.extra_hashes) (framed_option p.assembler_digest) (framed_list variable_frames p.variables) (frame p.output)
   where
     parted : (a b c d e f g h i : List ℕ) → a ++ b ++ c ++ d ++ e ++ f ++ g ++ h ++ i ≡ a ++ (b ++ (c ++ (d ++ (e ++ (f ++ (g ++ (h ++ i)))))))
     parted a b c d e f g h i = simp append_assoc
@@ -74,10 +74,10 @@ parts_from_material p q e =
     let (compiler_digest, after_compiler) = frame_reads_back p.compiler_digest q.compiler_digest _ _ after_version in
     let (plusplus, after_flag) = flag_reads_back p.plusplus q.plusplus _ _ after_compiler in
     let (names, after_language) = frame_reads_back (language_name p.language) (language_name q.language) _ _ after_flag in
-    let (arguments, after_arguments) = counted_read_back frame frame_reads_back p.arguments q.arguments _ _ after_language in
-    let (extra_hashes, after_hashes) = counted_read_back frame frame_reads_back p.extra_hashes q.extra_hashes _ _ after_arguments in
+    let (arguments, after_arguments) = framed_list_reads_back frame frame_reads_back p.arguments q.arguments _ _ after_language in
+    let (extra_hashes, after_hashes) = framed_list_reads_back frame frame_reads_back p.extra_hashes q.extra_hashes _ _ after_arguments in
     let (assembler_digest, after_assembler) = option_reads_back p.assembler_digest q.assembler_digest _ _ after_hashes in
-    let (variables, after_variables) = counted_read_back variable_frames variable_reads_back p.variables q.variables _ _ after_assembler in
+    let (variables, after_variables) = framed_list_reads_back variable_frames variable_reads_back p.variables q.variables _ _ after_assembler in
     let (output, _) = frame_reads_back p.output q.output [] [] (append-nil (frame p.output) ∙ (after_variables ∙ sym (append-nil (frame q.output)))) in
     let language = language_from_name p.language q.language names in
     λ i. record {

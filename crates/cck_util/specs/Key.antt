@@ -1,7 +1,7 @@
 -- the key of an object
 use Rattle.std.specs.Prelude.{ℕ, List, [], ◌∷◌, ◌++◌, Bool, true, false, Option, Some, None, codes, map}
 use Rattle.cck_digest.specs.Digest.{digest_text}
-use Rattle.cck_digest.specs.Frames.{frame, counted, framed_option}
+use Rattle.cck_digest.specs.Frames.{frame, framed_list, framed_option}
 use Rattle.cck_path.specs.Variables.{Variable}
 use Rattle.cck_strip.specs.Argument.{stripped_argument}
 use Rattle.cck_strip.specs.Text.{stripped_text}
@@ -74,10 +74,10 @@ assembler_bytes (Some digest) = digest
 unfoldable pub material : KeyParts → List ℕ
 material p =
     frame (codes "14") ++ frame p.compiler_digest ++ flag_byte p.plusplus ∷ [] ++ frame (language_name p.language)
-    ++ counted frame p.arguments
-    ++ counted frame p.extra_hashes
+    ++ framed_list frame p.arguments
+    ++ framed_list frame p.extra_hashes
     ++ framed_option p.assembler_digest
-    ++ counted variable_frames p.variables
+    ++ framed_list variable_frames p.variables
     ++ frame p.output
 
 -- the key, by this hash

@@ -1,7 +1,7 @@
 //! Lists and options as key material that tells where each of its parts ends.
 ghost use Rattle.std.specs.Prelude.{◌≡◌, ℕ, List, ◌++◌, OnOk, IsOkUnless, map, string_bytes};
 ghost use Rattle.std.specs.Option.{option_map};
-ghost use Rattle.cck_digest.specs.Frames.{counted, frame, framed_option};
+ghost use Rattle.cck_digest.specs.Frames.{framed_list, frame, framed_option};
 ghost use Rattle.cck_path.specs.Bytes.{lists_of};
 ghost use Rattle.cck_strip.specs.Argument.{stripped_argument};
 
@@ -12,7 +12,7 @@ use std::alloc::Global;
 /// Feeds the count of these texts, and a frame of each, in order. It takes no memory.
 pub fn hash_text_list<H: HashState>(digest: &mut Digest<H>, texts: &[String])
     ensures { (fed : List ℕ) → H.holds digest.old fed →
-        H.holds digest.new (fed ++ counted frame (map string_bytes texts.now)) }
+        H.holds digest.new (fed ++ framed_list frame (map string_bytes texts.now)) }
 {
     hash_length(digest, texts.len());
     for text in texts {
@@ -43,7 +43,7 @@ pub(crate) fn hash_argument_list<H: HashState>(
     basedirs: &[Vec<u8>],
 ) -> Result<(), UtilError>
     ensures fed { OnOk result ((fed : List ℕ) → H.holds digest.old fed → H.holds digest.new
-        (fed ++ counted frame (map (stripped_argument (lists_of basedirs.now)) (lists_of arguments.now)))) }
+        (fed ++ framed_list frame (map (stripped_argument (lists_of basedirs.now)) (lists_of arguments.now)))) }
     ensures refused { IsOkUnless result UtilError.Memory }
 {
     hash_length(digest, arguments.len());

@@ -2,7 +2,7 @@
 ghost use Rattle.std.specs.Prelude.{◌≡◌, ℕ, List, ◌++◌, length, map};
 ghost use Rattle.std.specs.List.{flat_map, list_any};
 ghost use Rattle.std.specs.Str.{bytes_eq};
-ghost use Rattle.cck_digest.specs.Frames.{counted};
+ghost use Rattle.cck_digest.specs.Frames.{framed_list};
 ghost use Rattle.cck_path.specs.Bytes.{variables_of};
 ghost use Rattle.cck_util.specs.Variables.{object_variables, variable_bytes, variable_frames, variables_named};
 
@@ -53,7 +53,7 @@ pub fn hash_variable_list<H: HashState>(
     names: &[&[u8]],
 )
     ensures { (fed : List ℕ) → H.holds digest.old fed →
-        H.holds digest.new (fed ++ counted variable_frames
+        H.holds digest.new (fed ++ framed_list variable_frames
         (variables_named (map (λ n. n.now) names.now) (variables_of variables.now))) }
 {
     hash_length(digest, count_named(variables, names));
@@ -91,7 +91,7 @@ pub(crate) fn hash_object_variables<H: HashState>(
     variables: &[(Vec<u8>, Vec<u8>)],
 )
     ensures { (fed : List ℕ) → H.holds digest.old fed →
-        H.holds digest.new (fed ++ counted variable_frames
+        H.holds digest.new (fed ++ framed_list variable_frames
         (object_variables (variables_of variables.now))) }
 {
     hash_variable_list(digest, variables, &OBJECT_VARIABLES);

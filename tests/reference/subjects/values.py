@@ -97,13 +97,13 @@ def fed_variables(subject, data):
 
 def fed_text_list(subject, data):
     """A list of frames of the extra hashes."""
-    return digests.counted(digests.length_prefixed, subject.given.extra_hashes)
+    return digests.framed_list(digests.frame, subject.given.extra_hashes)
 
 
 def fed_variable_list(subject, data):
     """The same as a list of frames of their names and values."""
     given = subject.given
-    return digests.counted(key.variable_frames, key.variables_named(given.arguments, given.variables))
+    return digests.framed_list(key.variable_frames, key.variables_named(given.arguments, given.variables))
 
 
 def call_taken(subject, rest, made):
@@ -154,7 +154,7 @@ DIGEST_CALLS = {
     "digest_of_pieces": fed(lambda subject, data: b"".join(subject.pieces)),
     "delimiter": fed(lambda subject, data: digests.delimiter(data)),
     "hash_length": fed(lambda subject, data: digests.length_bytes(len(data))),
-    "hash_len_prefixed": fed(lambda subject, data: digests.length_prefixed(data)),
+    "hash_len_prefixed": fed(lambda subject, data: digests.frame(data)),
     "hash_text_list": fed(fed_text_list),
     "hash_option": fed(lambda subject, data: digests.framed_option(subject.given.assembler)),
     "hash_variable_list": fed(fed_variable_list),

@@ -1,7 +1,7 @@
 use Rattle.std.proofs.Common.{◌∙◌}
 use Rattle.cck_include.proofs.KnownLemmas.{at_found, none_found}
 use Rattle.cck_path.specs.Path.{components}
-use Rattle.cck_include.proofs.known.KnownDigests.place_of.Goals as goal
+use Rattle.cck_include.proofs.known.KnownFiles.place_of.Goals as goal
 
 pub returns-in_default-clause-all : goal.returns-in_default-clause-all
 returns-in_default-clause-all c = λ found i at. none_found i (c.in_default.ensures ∙ found (components c.args.path.now) i at)

@@ -2,7 +2,7 @@ use Rattle.std.proofs.Common.{rules, ◌≡◌, length, refl, sym, ap, subst}
 use Rattle.cck_include.proofs.KnownLemmas.{kept_found, known_more}
 use Rattle.cck_include.specs.Known.{AreFound}
 use Rattle.cck_path.specs.Path.{components}
-use Rattle.cck_include.proofs.known.KnownDigests.add.Goals as goal
+use Rattle.cck_include.proofs.known.KnownFiles.add.Goals as goal
 
 pub returns-in-Err-clause-known : goal.returns-in-Err-clause-known
 returns-in-Err-clause-known c = λ s files there none right. (right.0, subst (AreFound c.args.self.now.files.items) (sym c.in-Err.ensures.kept) right.1)
