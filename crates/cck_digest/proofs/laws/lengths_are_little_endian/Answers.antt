@@ -2,4 +2,4 @@ use Rattle.cck_digest.proofs.FrameLemmas.{length_bytes_are_bytes}
 use Rattle.cck_digest.proofs.laws.lengths_are_little_endian.Goals as goal
 
 pub returns : goal.returns
-returns g c = length_bytes_are_bytes
+returns g = length_bytes_are_bytes

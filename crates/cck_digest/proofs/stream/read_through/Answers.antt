@@ -1,5 +1,5 @@
 use Rattle.std.proofs.Common.{◌<◌, arith, length}
-use Rattle.cck_digest.proofs.StreamLemmas.{HasTaken-end, HasTaken-kept, HasTaken-nothing, HasTaken-push, after_refusal, begun_so_far, begun_with_piece, read_is_piece}
+use Rattle.cck_digest.proofs.StreamLemmas.{HasTaken-end, HasTaken-nothing, HasTaken-push, after_refusal, begun_with_piece, read_is_piece}
 use Rattle.cck_digest.proofs.stream.read_through.Goals as goal
 
 pub loop-init : goal.loop-init
