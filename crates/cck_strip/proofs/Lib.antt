@@ -7,6 +7,7 @@ pub mod Examples
 pub mod InsertLemmas
 pub mod LinkLemmas
 pub mod PositionLemmas
+pub mod RunLemmas
 pub mod ScanLemmas
 pub mod SoughtLemmas
 pub mod TrieLemmas

@@ -1,7 +1,8 @@
 //! Base directories in a trie, a byte in each node.
-ghost use Rattle.std.specs.Prelude.{◌≡◌, ◌++◌, ◌∷◌, [], ◌≤◌, ◌<◌, ℕ, List, Some, OnOk, IfOk, IsOkUnless, map, drop, length};
+ghost use Rattle.std.specs.Prelude.{◌≡◌, ◌++◌, ◌∷◌, [], ◌≤◌, ◌<◌, ◌↔◌, ℕ, List, Some, OnOk, IfOk, IsOkUnless, IsTrue, map, drop, length};
+ghost use Rattle.std.proofs.Common.{get_or};
 ghost use Rattle.cck_strip.specs.Text.{longest_prefix};
-ghost use Rattle.cck_strip.specs.Trie.{At, Found, Grows, IsForward, IsTrie, leaf_of};
+ghost use Rattle.cck_strip.specs.Trie.{At, Found, Grows, IsForward, IsRun, IsStraight, IsTrie, leaf_of};
 ghost use Rattle.cck_strip.specs.declared.node.Node.{Node};
 
 use crate::node::{Node, NodeId};
@@ -103,26 +104,79 @@ fn insert(nodes: &mut Vec<Node>, word: &[u8]) -> Result<(), UtilError>
     Ok(())
 }
 
+// Whether this node ends nothing, has no node beside it, and has the node of this name below it.
+fn is_straight(node: &Node, next: usize) -> bool
+    ensures { IsTrue result ↔ IsStraight node.now next }
+{
+    if node.ends || node.beside.is_some() {
+        return false;
+    }
+    match node.below {
+        Some(id) => id.0 == next,
+        None => false,
+    }
+}
+
+// For each node how many nodes from it on are straight, each with the next one of the vector below it.
+//
+// It is refused only for lack of memory, as [`UtilError::Memory`].
+fn run_lengths(alloc: Global, nodes: &[Node]) -> Result<Vec<usize>, UtilError>
+    ensures size { IfOk result (λ runs. length runs.items ≡ length nodes.now) }
+    ensures each { IfOk result (λ runs. (i : ℕ) → i < length nodes.now → IsRun (get_or runs.items i 0) nodes.now i) }
+    ensures refused { IsOkUnless result UtilError.Memory }
+{
+    let mut runs = vec![in alloc; 0; nodes.len()]?;
+    let mut run = 0;
+    let mut at = nodes.len();
+    while at > 0 {
+        at -= 1;
+        run = if is_straight(&nodes[at], at + 1) {
+            run + 1
+        } else {
+            0
+        };
+        runs[at] = run;
+    }
+    Ok(runs)
+}
+
+// The bytes of the nodes.
+//
+// It is refused only for lack of memory, as [`UtilError::Memory`].
+fn node_bytes(alloc: Global, nodes: &[Node]) -> Result<Vec<u8>, UtilError>
+    ensures value { IfOk result (λ bytes. bytes.items ≡ map (λ node. node.byte) nodes.now) }
+    ensures refused { IsOkUnless result UtilError.Memory }
+{
+    let mut bytes = Vec::new(alloc);
+    for node in nodes {
+        bytes.push(node.byte)?;
+    }
+    Ok(bytes)
+}
+
 /// Base directories in a trie: a search at a place of a text goes on only as far as one of them may
 /// stand there, however many there are.
 ///
 /// The nodes stand in one vector and name each other by their places in it. Equal base directories
-/// are one word of the trie, and empty ones none.
+/// are one word of the trie, and empty ones none. Where only one way leads on, the bytes of all nodes
+/// on it are compared at once.
 #[derive(Drop)]
 pub struct BasedirTrie {
     nodes: Vec<Node>,
+    bytes: Vec<u8>,
+    runs: Vec<usize>,
 }
 
 impl Model for BasedirTrie {
     ghost use Rattle.std.specs.Prelude.{List};
     ghost use Rattle.cck_strip.specs.declared.node.Node.{Node};
-    ghost use Rattle.cck_strip.specs.Trie.{IsForward};
+    ghost use Rattle.cck_strip.specs.Trie.{HasRuns, IsForward};
 
     ghost Value = { List Node };
 
     ghost view = { λ a. a.nodes.items };
 
-    ghost invariant = { λ a. IsForward a.nodes.items };
+    ghost invariant = { λ a. IsForward a.nodes.items × HasRuns a.nodes.items a.bytes.items a.runs.items };
 }
 
 impl BasedirTrie {
@@ -141,7 +195,9 @@ impl BasedirTrie {
                 insert(&mut nodes, basedir)?;
             }
         }
-        Ok(BasedirTrie { nodes })
+        let bytes = node_bytes(alloc, &nodes)?;
+        let runs = run_lengths(alloc, &nodes)?;
+        Ok(BasedirTrie { nodes, bytes, runs })
     }
 
     /// The length in bytes of the longest base directory that stands at this place of the text, and 0
@@ -163,7 +219,15 @@ impl BasedirTrie {
                 None => return longest,
             };
             let node = self.nodes[current.0];
-            next = if node.byte == rest[depth] {
+            let run = self.runs[current.0];
+            next = if run > 0 {
+                let bytes = &self.bytes[current.0..current.0 + run];
+                if !rest[depth..].starts_with(bytes) {
+                    return longest;
+                }
+                depth += run;
+                Some(NodeId(current.0 + run))
+            } else if node.byte == rest[depth] {
                 depth += 1;
                 if node.ends {
                     longest = depth;
