@@ -26,7 +26,7 @@ returns-in-Variable-clause-after c =
     (set_ok c.set_variable.result _ _ c.args.self.now _ refl c.set_variable.ensures.set)))
 
 pub returns-in-Clear-clause-after : goal.returns-in-Clear-clause-after
-returns-in-Clear-clause-after c = rw c.in-Clear.is (λ lines are. after_clear lines c.args.self.now _ are refl c.clear.ensures.items c.clear-in-Clear.ensures.empty)
+returns-in-Clear-clause-after c = rw c.in-Clear.is (λ lines are. after_clear lines c.args.self.now _ are refl c.clear.ensures.items c.new-in-Clear.ensures.empty)
 
 pub returns-in_default : goal.returns-in_default
 returns-in_default c = record {
