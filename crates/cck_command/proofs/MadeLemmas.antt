@@ -15,7 +15,7 @@ use Rattle.cck_script.specs.Calls.{call_said, asked_behind, asked_calls}
 use Rattle.cck_script.specs.Calls as script
 use Rattle.cck_script.specs.Lines.{Line}
 use Rattle.cck_script.specs.Script.{basedirs_of, zone_of}
-use Rattle.cck_script.specs.Surroundings.{AreAfter}
+use Rattle.cck_script.specs.Surroundings.{AreAfter, AreNamesOf}
 use Rattle.cck_script.specs.declared.surroundings.Surroundings.{Surroundings}
 use Rattle.cck_time.specs.Config.{activated}
 use Rattle.cck_time.specs.declared.config.PreprocessorCacheModeConfig.{PreprocessorCacheModeConfig}
@@ -95,9 +95,9 @@ pub compiler_in : (hash : Bytes → Bytes) (zone known : ℤ) (c : CCompiler Min
 compiler_in hash zone known c e of = subst (λ z. IsRunCompiler hash z c) e of
 
 -- a call leaves the files and the variables what they are
-pub after_call : (c : CCompiler MiniCompiler) (asked : script.AskedCall) (old new : Call MiniCompiler FileState) → IsReady c asked old → IsCallAfter old new
-    → AreAfter asked.earlier (record { files = new.files; variables = new.vars })
-after_call c asked old new ready after =
+pub after_call : (c : CCompiler MiniCompiler) (asked : script.AskedCall) (old new : Call MiniCompiler FileState) (s : Surroundings) → IsReady c asked old
+    → AreNamesOf old.vars.items s.names.keys → IsCallAfter old new → AreAfter asked.earlier (record s { files = new.files; variables = new.vars })
+after_call c asked old new s ready named after =
     let none = calm c asked old new ready after in
     let before : fault_count old.files ≡ 0 = none.0 in
     let room : fault_count old.files + 1 < 2 ^ 64 = rw before (omega arith) in
@@ -108,6 +108,7 @@ after_call c asked old new ready after =
       no_faults = omega (arith, faults);
       unarmed = (after.keeps.stays_quiet (ready.unarmed, room)).0;
       variables_are = rw vars ready.env_vars;
+      names_are = rw vars named;
     }
 
 -- ---- calls one after another

@@ -7,7 +7,7 @@ ghost use Rattle.jiff.specs.Types.{Offset as PlainOffset};
 ghost use Rattle.cck_script.specs.Calls.{call_behind, call_said};
 ghost use Rattle.cck_script.specs.Lines.{Line};
 ghost use Rattle.cck_script.specs.Seen.{line_of, lines_of};
-ghost use Rattle.cck_script.specs.Surroundings.{AreAfter};
+ghost use Rattle.cck_script.specs.Surroundings.{AreAfter, AreNamesOf};
 ghost use Rattle.cck_time.specs.Config.{activated};
 ghost use Rattle.c_cache_keys.specs.World.{world_of};
 ghost use Rattle.cck_command.specs.MiniCompiler.{mini_compiler};
@@ -24,6 +24,7 @@ use cck_script::{
 };
 use cck_time::PreprocessorCacheModeConfig;
 use cck_util::HashState;
+use indexmap::IndexSet;
 use jiff::tz::{Offset, TimeZone};
 use std::alloc::Global;
 
@@ -110,8 +111,9 @@ fn make_call<H: HashState>(
         → AreMade H.hash zone (world_of H.hash mini_compiler (plain_zone setting.now.zone) activated (lists_of setting.now.basedirs.items))
         (call_behind earlier asked.now ∷ []) store.old store.new printed.old.items printed.new.items) }
 {
+    let (ready, names) = ready_call(alloc, &setting.compiler, surroundings, asked)?;
     let mut calls = Vec::new(alloc);
-    calls.push(ready_call(alloc, &setting.compiler, surroundings, asked)?)?;
+    calls.push(ready)?;
     let config = PreprocessorCacheModeConfig::activated();
     let answers = run_calls::<H, MiniCompiler, MapFiles, MapStore>(
         alloc,
@@ -130,22 +132,27 @@ fn make_call<H: HashState>(
     Ok(Surroundings {
         files,
         variables: vars,
+        names,
     })
 }
 
-// The call that a script asks for, over these files and variables, ready to be made.
+// The call that a script asks for, over these files and variables, ready to be made, and the names
+// of the variables.
 fn ready_call(
     alloc: Global,
     compiler: &CCompiler<MiniCompiler>,
     surroundings: Surroundings,
     asked: &ScriptCall<'_>,
-) -> Result<Call<MiniCompiler, MapFiles>, Failed>
-    ensures { IfOk result (λ made. (earlier : List Line) → AreAfter earlier surroundings
-        → IsReady compiler.now (call_behind earlier asked.now) made) }
+) -> Result<(Call<MiniCompiler, MapFiles>, IndexSet<Vec<u8>>), Failed>
+    ensures call { IfOk result (λ ready. (earlier : List Line) → AreAfter earlier surroundings
+        → IsReady compiler.now (call_behind earlier asked.now) ready.0) }
+    ensures names { IfOk result (λ ready. (earlier : List Line) → AreAfter earlier surroundings
+        → AreNamesOf ready.0.vars.items ready.1.keys) }
 {
     let Surroundings {
         mut files,
         variables,
+        names,
     } = surroundings;
     let parsed = compiler.parse_arguments(
         alloc,
@@ -158,14 +165,15 @@ fn ready_call(
     let CompilerArguments::Ok(hasher) = parsed else {
         return Err(Failed);
     };
-    Ok(Call {
+    let ready = Call {
         hasher,
         files,
         cwd: WORKING_DIRECTORY.to_vec(alloc)?,
         vars: variables,
         moment: asked.moment,
         control: control_of(asked.is_recache),
-    })
+    };
+    Ok((ready, names))
 }
 
 // The zone of an offset of so many seconds.

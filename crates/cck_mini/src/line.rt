@@ -3,6 +3,8 @@ ghost use Rattle.std.specs.Prelude.{◌≡◌, ◌<◌, ◌∷◌, length, posit
 ghost use Rattle.std.specs.Option.{option_map};
 ghost use Rattle.cck_mini.specs.Printed.{include_name, is_empty_or_ends_in_lf, is_lf, is_quote, lines_in};
 
+use memchr::memchr;
+
 /// A line without its LF, the LF if there is one, and the text behind it.
 #[derive(Clone, Copy)]
 pub(crate) struct Line<'a> {
@@ -39,7 +41,7 @@ pub(crate) fn cut_line(text: &[u8]) -> Line<'_>
 fn find_lf(text: &[u8]) -> Option<usize>
     ensures { result ≡ position is_lf text.now }
 {
-    text.iter().position(|byte| *byte == b'\n')
+    memchr(b'\n', text)
 }
 
 /// The name in a line that includes a file: `#include "NAME"` and nothing else, where the name
@@ -64,7 +66,7 @@ pub(crate) fn include_name(line: &[u8]) -> Option<&[u8]>
 fn find_quote(text: &[u8]) -> Option<usize>
     ensures { result ≡ position is_quote text.now }
 {
-    text.iter().position(|byte| *byte == b'"')
+    memchr(b'"', text)
 }
 
 /// Whether a text is empty or ends in LF.

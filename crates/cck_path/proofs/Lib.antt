@@ -1,3 +1,4 @@
+pub mod ByteLemmas
 pub mod CaseLemmas
 pub mod CommonPrefixLemmas
 pub mod ComponentLemmas

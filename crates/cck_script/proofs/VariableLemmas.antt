@@ -1,35 +1,119 @@
 -- Variables, as one more is set.
-use Rattle.std.proofs.Common.{◌||◌, subst, is_some, ◌≡◌, ℕ, ◌<◌, ◌+◌, List, [], ◌∷◌, ◌++◌, refl, ap, sym, ◌∙◌, drop, get_or, length, map, set, take, Bool, true, false, Option, Some, None, cond, take-append-drop}
-use Rattle.std.proofs.lemmas.List.{append-nil, drop-set, take-set}
+use Rattle.std.proofs.Common.{◌||◌, not, subst, is_some, ◌≡◌, ℕ, zero, suc, ◌<◌, ◌≤◌, ◌+◌, List, [], ◌∷◌, ◌++◌, refl, ap, sym, ◌∙◌, get_or, length, map, set, Bool, true, false, Option, Some, None, cond, arith}
+use Rattle.std.proofs.lemmas.List.{append-nil, length-map, map-append}
+use Rattle.std.proofs.lemmas.List.Sums.{passes_at_first}
 use Rattle.std.specs.Global.{Vec}
-use Rattle.std.specs.List.{list_any}
+use Rattle.std.specs.List.{list_any, position_or_len}
+use Rattle.indexmap.specs.IndexSet.{insert_key}
 use Rattle.std.specs.Option.{unwrap_or}
 use Rattle.std.specs.Str.{bytes_eq}
-use Rattle.std.proofs.lemmas.List.Folds.{list_any-append}
+use Rattle.std.proofs.lemmas.List.Folds.{list_any-append, list_any_at}
 use Rattle.std.proofs.lemmas.Slice.Eq.{bytes_eq-Decides}
 use Rattle.std.proofs.Math.Bool.{or_comm, or-false}
 use Rattle.std.proofs.lemmas.Bool.{or_parts}
-use Rattle.cck_path.specs.Bytes.{Bytes, variables_of}
+use Rattle.cck_path.specs.Bytes.{Bytes, lists_of, variables_of}
 use Rattle.cck_path.specs.Variables.{Variable}
 use Rattle.cck_path.proofs.TestLemmas.{bytes_eq-sym}
-use Rattle.cck_script.specs.Surroundings.{IsPlaceOf, if_same, is_clear, set_by, names, new_name, sets, since_clear, value_of, variable_said, variables, with_variable}
+use Rattle.cck_script.specs.Surroundings.{AreNamesOf, if_same, is_clear, set_by, names, new_name, sets, since_clear, value_of, variable_said, variables, with_variable}
 use Rattle.cck_script.specs.Lines.{Line}
 use Rattle.cck_script.specs.Lines as line
 
--- what is done to the variables that are left, behind those so far
-abbrev pub IsSetBehind : Bytes → List (Vec ℕ × Vec ℕ) → ℕ → Type 0
-IsSetBehind name vs at = (value : Bytes) → with_variable name value (variables_of vs) ≡ variables_of (take at vs) ++ with_variable name value (variables_of (drop at vs))
+-- ---- the place of a name among the variables
 
--- a list with one item replaced
-pub set_split : {X : Type 0} (xs : List X) (i : ℕ) (y : X) → i < length xs → set xs i y ≡ take i xs ++ y ∷ drop (i + 1) xs
-set_split xs i y lt = sym (take-append-drop i (set xs i y)) ∙ ap (λ t. t ++ drop i (set xs i y)) (take-set xs i y) ∙ ap (λ d. take i xs ++ d) (drop-set xs i y lt)
+-- the names of variables
+abbrev names_in : List (Vec ℕ × Vec ℕ) → List Bytes
+names_in vs = map (λ v. v.0.items) vs
 
--- the variable at its place is set
-pub set_here : (vs : List (Vec ℕ × Vec ℕ)) (at : ℕ) (d : Vec ℕ × Vec ℕ) (name value : Bytes) (new : Vec ℕ) → IsPlaceOf name vs at → d ≡ get_or vs at d → new.items ≡ value
-    → variables_of (set vs at (d.0, new)) ≡ with_variable name value (variables_of vs)
-set_here vs at d name value new place is e =
-    ap variables_of (set_split vs at (d.0, new) place.0 ∙ ap (λ (v : Vec ℕ × Vec ℕ). take at vs ++ (v.0, new) ∷ drop (at + 1) vs) is)
-    ∙ sym (place.1 new d) ∙ ap (λ v. with_variable name v (variables_of vs)) e
+-- texts with the same bytes
+abbrev same_text : Vec ℕ → Vec ℕ → Bool
+same_text a b = bytes_eq a.items b.items
+
+-- the place of a name among variables, or their number where it is new
+abbrev place_in : Bytes → List (Vec ℕ × Vec ℕ) → ℕ
+place_in name vs = position_or_len (bytes_eq name) (names_in vs)
+
+any_text : (name : Vec ℕ) (names : List (Vec ℕ)) → list_any (same_text name) names ≡ list_any (bytes_eq name.items) (lists_of names)
+any_text name [] = refl
+any_text name (n ∷ ns) = ap (λ b. same_text name n || b) (any_text name ns)
+
+place_text : (name : Vec ℕ) (names : List (Vec ℕ)) → position_or_len (same_text name) names ≡ position_or_len (bytes_eq name.items) (lists_of names)
+place_text name [] = refl
+place_text name (n ∷ ns) = ap (λ p. cond (not (same_text name n)) (1 + p) 0) (place_text name ns)
+
+module _ (name : Bytes) (new : Vec ℕ) (d : Vec ℕ × Vec ℕ) where
+  set_step : (v : Vec ℕ × Vec ℕ) (vs : List (Vec ℕ × Vec ℕ)) (b : Bool) → bytes_eq v.0.items name ≡ b → (p : ℕ) → p ≡ cond (not b) (1 + place_in name vs) 0 → p < length (v ∷ vs)
+      → ((q : ℕ) → q ≡ place_in name vs → q < length vs → variables_of (set vs q ((get_or vs q d).0, new)) ≡ with_variable name new.items (variables_of vs))
+      → variables_of (set (v ∷ vs) p ((get_or (v ∷ vs) p d).0, new)) ≡ cond b ((v.0.items, new.items) ∷ variables_of vs) ((v.0.items, v.1.items) ∷ with_variable name new.items (variables_of vs))
+  set_step v vs true e zero is lt next = refl
+  set_step v vs true e (suc q) is lt next = absurd (omega arith)
+  set_step v vs false e zero is lt next = absurd (omega arith)
+  set_step v vs false e (suc q) is lt next = ap (λ l. (v.0.items, v.1.items) ∷ l) (next q (omega arith) (omega arith))
+
+  -- the variable at the place of a known name is set
+  set_at_place : (vs : List (Vec ℕ × Vec ℕ)) (p : ℕ) → p ≡ place_in name vs → p < length vs
+      → variables_of (set vs p ((get_or vs p d).0, new)) ≡ with_variable name new.items (variables_of vs)
+  set_at_place [] p is lt = absurd (omega arith)
+  set_at_place (v ∷ vs) p is lt =
+      set_step v vs (bytes_eq v.0.items name) refl p (is ∙ ap (λ b. cond (not b) (1 + place_in name vs) 0) (bytes_eq-sym name v.0.items)) lt (set_at_place vs)
+
+  -- and the names stay
+  names_kept : (vs : List (Vec ℕ × Vec ℕ)) (p : ℕ) → names_in (set vs p ((get_or vs p d).0, new)) ≡ names_in vs
+  names_kept [] p = refl
+  names_kept (v ∷ vs) zero = refl
+  names_kept (v ∷ vs) (suc p) = ap (λ l. v.0.items ∷ l) (names_kept vs p)
+
+-- what holds where a name is new
+abbrev IsNew : Bytes → List (Vec ℕ × Vec ℕ) → Type 0
+IsNew name vs = ((value : Bytes) → with_variable name value (variables_of vs) ≡ variables_of vs ++ (name, value) ∷ []) × (list_any (bytes_eq name) (names_in vs) ≡ false)
+
+new_step : (name : Bytes) (v : Vec ℕ × Vec ℕ) (vs : List (Vec ℕ × Vec ℕ)) (b : Bool) → bytes_eq name v.0.items ≡ b → suc (length vs) ≤ cond (not b) (1 + place_in name vs) 0 → (length vs ≤ place_in name vs → IsNew name vs)
+    → IsNew name (v ∷ vs)
+new_step name v vs true e le next = absurd (omega arith)
+new_step name v vs false e le next =
+    let rest = next (omega arith) in (
+      (λ value. ap (λ b. cond b ((v.0.items, value) ∷ variables_of vs) ((v.0.items, v.1.items) ∷ with_variable name value (variables_of vs))) (bytes_eq-sym v.0.items name ∙ e)
+          ∙ ap (λ l. (v.0.items, v.1.items) ∷ l) (rest.0 value)),
+      ap (λ b. b || list_any (bytes_eq name) (names_in vs)) e ∙ rest.1,
+    )
+
+-- a name without a place is new
+is_new : (name : Bytes) (vs : List (Vec ℕ × Vec ℕ)) → length vs ≤ place_in name vs → IsNew name vs
+is_new name [] le = (λ value. refl, refl)
+is_new name (v ∷ vs) le = new_step name v vs (bytes_eq name v.0.items) refl le (is_new name vs)
+
+is_known : (name : Bytes) (vs : List (Vec ℕ × Vec ℕ)) → place_in name vs < length vs → list_any (bytes_eq name) (names_in vs) ≡ true
+is_known name vs lt =
+    let within : place_in name vs < length (names_in vs) = omega (arith, length-map vs (λ (v : Vec ℕ × Vec ℕ). v.0.items), lt) in
+    list_any_at (bytes_eq name) (names_in vs) (place_in name vs) [] within (passes_at_first (bytes_eq name) (names_in vs) [] within)
+
+-- a variable of this name has this value in new, and the keys are the names of new
+abbrev IsSetTo : Bytes → Bytes → List (Vec ℕ × Vec ℕ) → List (Vec ℕ × Vec ℕ) → List (Vec ℕ) → Type 0
+IsSetTo name value vs new keys = (variables_of new ≡ with_variable name value (variables_of vs)) × AreNamesOf new keys
+
+module _ (vs : List (Vec ℕ × Vec ℕ)) (names keys : List (Vec ℕ)) (name : Vec ℕ) (named value : Bytes) (p : ℕ) (e : name.items ≡ named)
+    (inserted : keys ≡ insert_key same_text names name) (place : p ≡ position_or_len (same_text name) names) (are : AreNamesOf vs names) where
+  at_place : p ≡ place_in name.items vs
+  at_place = place ∙ place_text name names ∙ ap (position_or_len (bytes_eq name.items)) are
+
+  keys_are : (b : Bool) → list_any (bytes_eq name.items) (names_in vs) ≡ b → lists_of keys ≡ lists_of (cond b names (names ++ name ∷ []))
+  keys_are b is = ap lists_of inserted ∙ ap (λ c. lists_of (cond c names (names ++ name ∷ []))) (any_text name names ∙ ap (list_any (bytes_eq name.items)) are ∙ is)
+
+  -- the variable of a known name has the new value, in its place
+  pub set_known : (d : Vec ℕ × Vec ℕ) (new : Vec ℕ) → p < length vs → d ≡ get_or vs p d → new.items ≡ value → IsSetTo named value vs (set vs p (d.0, new)) keys
+  set_known d new lt is same = (
+    ap (λ (v : Vec ℕ × Vec ℕ). variables_of (set vs p (v.0, new))) is ∙ set_at_place name.items new d vs p at_place lt ∙ (λ i. with_variable (e i) (same i) (variables_of vs)),
+    keys_are true (is_known name.items vs (omega (arith, at_place, lt))) ∙ are ∙ sym (ap (λ (v : Vec ℕ × Vec ℕ). names_in (set vs p (v.0, new))) is ∙ names_kept name.items new d vs p),
+  )
+
+  -- the variable of a new name comes last
+  pub set_new : (after : List (Vec ℕ × Vec ℕ)) (copy new : Vec ℕ) → length vs ≤ p → after ≡ vs ++ (copy, new) ∷ [] → copy.items ≡ named → new.items ≡ value → IsSetTo named value vs after keys
+  set_new after copy new le is copied same =
+      let none = is_new name.items vs (omega (arith, at_place, le)) in (
+        ap variables_of is ∙ map-append (λ (v : Vec ℕ × Vec ℕ). (v.0.items, v.1.items)) vs ((copy, new) ∷ [])
+        ∙ (λ i. variables_of vs ++ ((copied ∙ sym e) i, same i) ∷ []) ∙ sym (none.0 value) ∙ ap (λ n. with_variable n value (variables_of vs)) e,
+        keys_are false none.1 ∙ map-append (λ (v : Vec ℕ). v.items) names (name ∷ []) ∙ (λ i. are i ++ (e ∙ sym copied) i ∷ [])
+        ∙ sym (ap names_in is ∙ map-append (λ (v : Vec ℕ × Vec ℕ). v.0.items) vs ((copy, new) ∷ [])),
+      )
 
 -- ---- the variables after some lines, as one more is set
 

@@ -1,5 +1,5 @@
 -- what stands and holds after the first lines of a script: files and variables
-use Rattle.std.specs.Prelude.{◌≡◌, ℕ, ◌+◌, ◌<◌, pos, List, [], ◌∷◌, ◌++◌, map, codes, is_some, drop, length, slice_index_or, take, Bool, true, false, if◌then◌else◌, Option, Some, None}
+use Rattle.std.specs.Prelude.{◌≡◌, ℕ, pos, List, [], ◌∷◌, ◌++◌, map, codes, is_some, Bool, true, false, if◌then◌else◌, Option, Some, None}
 use Rattle.std.specs.FinMap as finite
 use Rattle.std.specs.Global.{Vec}
 use Rattle.std.specs.List.{list_any}
@@ -7,7 +7,7 @@ use Rattle.std.specs.Option.{option_map}
 use Rattle.std.specs.Ordering.{eq_by_cmp}
 use Rattle.std.specs.Str.{bytes_eq}
 use Rattle.cck_files.specs.FileMap.{FileMap, FileNode}
-use Rattle.cck_path.specs.Bytes.{Bytes, variables_of}
+use Rattle.cck_path.specs.Bytes.{Bytes, lists_of, variables_of}
 use Rattle.cck_path.specs.Path.{Path, components, normal, path_cmp}
 use Rattle.cck_path.specs.Timestamp.{Moment}
 use Rattle.cck_path.specs.Variables.{Variable as NamedValue}
@@ -109,23 +109,19 @@ variables lines = set_by (since_clear lines)
 
 -- ---- what the program has of them
 
--- the files and variables are those after these lines, and no call on the files is armed to fail
+-- these are the names of the variables, in order
+abbrev pub AreNamesOf : List (Vec ℕ × Vec ℕ) → List (Vec ℕ) → Type 0
+AreNamesOf vs names = lists_of names ≡ map (λ v. v.0.items) vs
+
+-- the files and variables are those after these lines, the names are those of the variables, and no call on the files is armed to fail
 pub record AreAfter (lines : List Line) (after : Surroundings) : Type 0 where
   pub files : AreFiles lines after.files.files
   pub no_faults : after.files.faults ≡ 0
   pub unarmed : after.files.armed ≡ 0
   pub variables_are : variables_of after.variables.items ≡ variables lines
+  pub names_are : AreNamesOf after.variables.items after.names.keys
 
 -- variables with one that is set: in the place of the first of its name, and else behind them
 abbrev pub with_variable : Bytes → Bytes → List NamedValue → List NamedValue
 with_variable name value [] = (name, value) ∷ []
 with_variable name value (v ∷ vs) = if bytes_eq v.0 name then (v.0, value) ∷ vs else v ∷ with_variable name value vs
-
--- no variable has the name: one that is set comes last
-abbrev pub IsNew : Bytes → List (Vec ℕ × Vec ℕ) → Type 0
-IsNew name vs = (value : Bytes) → with_variable name value (variables_of vs) ≡ variables_of vs ++ (name, value) ∷ []
-
--- the first variable of the name stands at this place
-abbrev pub IsPlaceOf : Bytes → List (Vec ℕ × Vec ℕ) → ℕ → Type 0
-IsPlaceOf name vs at =
-    (at < length vs) × ((new : Vec ℕ) (d : Vec ℕ × Vec ℕ) → with_variable name new.items (variables_of vs) ≡ variables_of (take at vs ++ ((slice_index_or vs at d).0, new) ∷ drop (at + 1) vs))

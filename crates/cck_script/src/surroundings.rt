@@ -1,9 +1,9 @@
 //! What stands and holds where a call is made: files and variables.
-ghost use Rattle.std.specs.Prelude.{◌≡◌, ◌∷◌, [], List, IfOk, IsOkUnless, MatchOption, OnOk};
+ghost use Rattle.std.specs.Prelude.{◌≡◌, ◌∷◌, [], List, IfOk, IsOkUnless, OnOk};
 ghost use Rattle.cck_files.specs.FileState.{with_place};
 ghost use Rattle.cck_path.specs.Bytes.{variables_of};
 ghost use Rattle.cck_path.specs.Path.{components, normal};
-ghost use Rattle.cck_script.specs.Surroundings.{AreAfter, AreFiles, IsNew, IsPlaceOf, file_node, with_variable};
+ghost use Rattle.cck_script.specs.Surroundings.{AreAfter, AreFiles, AreNamesOf, file_node, with_variable};
 ghost use Rattle.cck_script.specs.Lines.{Line};
 ghost use Rattle.cck_script.specs.Seen.{line_of};
 
@@ -11,6 +11,7 @@ use crate::command::Command;
 use cck_digest::UtilError;
 use cck_files::{MapFiles, Node};
 use cck_path::{FileKind, Timestamp};
+use indexmap::IndexSet;
 use std::alloc::Global;
 
 /// The path of the compiler's executable, which stands there before any line.
@@ -55,6 +56,8 @@ pub struct Surroundings {
     pub files: MapFiles,
     /// The variables.
     pub variables: Vec<(Vec<u8>, Vec<u8>)>,
+    /// Their names, in the same order: a look-up gives the place of a name in the list.
+    pub names: IndexSet<Vec<u8>>,
 }
 
 impl Surroundings {
@@ -68,6 +71,7 @@ impl Surroundings {
         Ok(Surroundings {
             files: first_files(alloc)?,
             variables: Vec::new(alloc),
+            names: IndexSet::new(alloc),
         })
     }
 
@@ -102,10 +106,12 @@ impl Surroundings {
                 Ok(())
             }
             Command::Variable { name, value } => {
-                set_variable(alloc, &mut self.variables, name, value)
+                set_variable(alloc, &mut self.variables, &mut self.names, name, value)
             }
             Command::Clear => {
                 self.variables.clear();
+                // A set that is emptied goes over all places of its table, and each time anew.
+                self.names = IndexSet::new(alloc);
                 Ok(())
             }
             _ => Ok(()),
@@ -146,29 +152,22 @@ fn put_file(
 fn set_variable(
     alloc: Global,
     variables: &mut Vec<(Vec<u8>, Vec<u8>)>,
+    names: &mut IndexSet<Vec<u8>>,
     name: &[u8],
     value: &[u8],
 ) -> Result<(), UtilError>
-    ensures set { OnOk result (variables_of variables.new.items
-        ≡ with_variable name.now value.now (variables_of variables.old.items)) }
+    ensures set { OnOk result (AreNamesOf variables.old.items names.old.keys
+        → (variables_of variables.new.items
+        ≡ with_variable name.now value.now (variables_of variables.old.items))
+        × AreNamesOf variables.new.items names.new.keys) }
     ensures refused { IsOkUnless result UtilError.Memory }
 {
     let value = value.to_vec(alloc)?;
-    match place_of(variables, name) {
-        Some(at) => variables[at].1 = value,
-        None => variables.push((name.to_vec(alloc)?, value))?,
+    let (at, _) = names.insert_full(name.to_vec(alloc)?)?;
+    if at < variables.len() {
+        variables[at].1 = value;
+    } else {
+        variables.push((name.to_vec(alloc)?, value))?;
     }
     Ok(())
-}
-
-// The place of the first variable of a name, if there is one.
-fn place_of(variables: &[(Vec<u8>, Vec<u8>)], name: &[u8]) -> Option<usize>
-    ensures { MatchOption result (IsNew name.now variables.now) (IsPlaceOf name.now variables.now) }
-{
-    for (at, (known, _)) in variables.iter().enumerate() {
-        if known.as_slice() == name {
-            return Some(at);
-        }
-    }
-    None
 }

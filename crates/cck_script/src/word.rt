@@ -7,6 +7,7 @@ ghost use Rattle.cck_script.specs.Words.{cut, last_text, next_word, text_of, wor
 
 use cck_digest::UtilError;
 use cck_path::ascii_unescape_default;
+use memchr::memchr;
 use std::alloc::{AllocError, Global};
 
 /// A word, and what is left of its line where a space stands behind it.
@@ -48,7 +49,7 @@ pub(crate) fn cut(separator: u8, text: &[u8]) -> Part<'_>
 fn find(separator: u8, text: &[u8]) -> Option<usize>
     ensures { result ≡ position (λ b. b == separator) text.now }
 {
-    text.iter().position(|byte| *byte == separator)
+    memchr(separator, text)
 }
 
 // What an escaped text stands for, if it stands for one.

@@ -8,17 +8,17 @@ pub returns-in-File-clause-after : goal.returns-in-File-clause-after
 returns-in-File-clause-after c =
     rw c.in-File.is (put_ok c.put_file.result _ c.args.self.now _ c.deref.result.now _
     (λ i. Some (sym c.deref.ensures.value i, Some (file_node (sym c.deref-in-File.ensures.value i) c.in-File.modified c.in-File.changed)))
-    refl refl c.put_file.ensures.set refl)
+    refl refl c.put_file.ensures.set refl refl)
 
 pub returns-in-Folder-clause-after : goal.returns-in-Folder-clause-after
 returns-in-Folder-clause-after c =
     rw c.in-Folder.is (put_ok c.put.result _ c.args.self.now _ c.deref-in-Folder.result.now _
     (λ i. Some (sym c.deref-in-Folder.ensures.value i, Some (record { kind = kind.Folder; contents = sym c.new.ensures.items i; modified = None; changed = None })))
-    refl refl c.put.ensures.set refl)
+    refl refl c.put.ensures.set refl refl)
 
 pub returns-in-Gone-clause-after : goal.returns-in-Gone-clause-after
 returns-in-Gone-clause-after c = rw c.in-Gone.is (λ lines are. after_gone lines _ c.args.self.now _ c.deref-in-Gone.result.now
-    (λ i. Some (sym c.deref-in-Gone.ensures.value i, None)) refl refl are c.remove.ensures refl)
+    (λ i. Some (sym c.deref-in-Gone.ensures.value i, None)) refl refl are c.remove.ensures refl refl)
 
 pub returns-in-Variable-clause-after : goal.returns-in-Variable-clause-after
 returns-in-Variable-clause-after c =
@@ -26,7 +26,7 @@ returns-in-Variable-clause-after c =
     (set_ok c.set_variable.result _ _ c.args.self.now _ refl c.set_variable.ensures.set)))
 
 pub returns-in-Clear-clause-after : goal.returns-in-Clear-clause-after
-returns-in-Clear-clause-after c = rw c.in-Clear.is (λ lines are. after_clear lines c.args.self.now _ are refl c.clear.ensures.items)
+returns-in-Clear-clause-after c = rw c.in-Clear.is (λ lines are. after_clear lines c.args.self.now _ are refl c.clear.ensures.items c.new-in-Clear.ensures.empty)
 
 pub returns-in_default : goal.returns-in_default
 returns-in_default c = record {
