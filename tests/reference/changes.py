@@ -4,7 +4,7 @@ import dataclasses
 import pathlib
 
 MODULES = [
-    "digests", "strip", "paths", "texts", "times", "zones", "files", "key", "recorded",
+    "digests", "strip", "paths", "texts", "times", "zones", "armed", "files", "key", "recorded",
     "preprocessor_key", "entry", "markers", "walk", "wrapper", "arguments", "store", "calls", "mini",
     "script", "program", "errors",
 ]  # fmt: skip

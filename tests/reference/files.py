@@ -1,10 +1,12 @@
 """Files: a map from paths to what is there, the calls on it, and the digests of what is there.
 
 Paths are equal by components. Links are followed in the map: a linked path has what its target had.
-A call can be armed, so that it is a fault.
+Calls can be armed, so that they are faults.
 """
+import copy
 import dataclasses
 
+from .armed import ArmedCalls
 from .digests import delimiter, digest_text
 from .errors import Refused, other_kind
 from .paths import components, is_name, join_path, normalize_path
@@ -38,11 +40,11 @@ class Metadata:
 
 
 class MapFiles:
-    """`FileState`: a `FileMap`, and how many calls there are up to the one that is a fault."""
+    """`FileState`: a `FileMap`, and which calls are faults."""
 
     def __init__(self):
         self.places = {}
-        self.calls_to_fault = None
+        self.armed = ArmedCalls()
 
     def put(self, path, node):
         """`with_place`: the node is at the path, whose canonical path is its normalised path."""
@@ -61,25 +63,22 @@ class MapFiles:
 
     def fail_at(self, n):
         """The nth of the following calls is a fault, counted from 1, and that one alone; 0 disarms."""
-        self.calls_to_fault = n
+        self.armed.one = n
+
+    def fail_after(self, n):
+        """The nth of the following calls and all after it are faults, counted from 1; 0 disarms."""
+        self.armed.onward = n
 
     def copy(self):
-        """The same map, count of faults and armed call."""
+        """The same map, and the same calls armed and counted."""
         other = MapFiles()
         other.places = dict(self.places)
-        other.calls_to_fault = self.calls_to_fault
+        other.armed = copy.copy(self.armed)
         return other
 
-    def call(self):
-        """`IsAfterCall`: counts one call, and whether it is the armed one."""
-        if self.calls_to_fault is None:
-            return False
-        self.calls_to_fault -= 1
-        return self.calls_to_fault == 0
-
     def call_or_fault(self):
-        """Counts one call; an error where it is the armed one."""
-        if self.call():
+        """`IsAfterCall`: counts one call; an error where it is armed."""
+        if self.armed.begin():
             raise Refused("Fault")
 
     def place_at(self, path):
@@ -115,7 +114,7 @@ class MapFiles:
 
     def exists(self, path):
         """`stands_at`, as one call on files: whether something is there; false at a fault."""
-        return not self.call() and components(path) in self.places
+        return not self.armed.begin() and components(path) in self.places
 
     def canonical(self, path):
         """`canonical_at`, as one call on files: the canonical path of what is there."""

@@ -61,9 +61,11 @@ def known_language(rest):
 
 class World:
     """`file PATH MODIFIED CHANGED TEXT`, `dir PATH`, `other PATH`, `link PATH TARGET`, `gone PATH`,
-    `fail_at N`, `moment NANOSECONDS`, `zone SECONDS` and `option NAME on` or `off`."""
+    `fail_at N`, `fail_after N`, `moment NANOSECONDS`, `zone SECONDS` and `option NAME on` or `off`."""
 
-    WORDS = ("file", "dir", "other", "link", "gone", "fail_at", "moment", "zone", "option")
+    WORDS = (
+        "file", "dir", "other", "link", "gone", "fail_at", "fail_after", "moment", "zone", "option",
+    )  # fmt: skip
 
     def __init__(self):
         self.begin()
@@ -112,6 +114,10 @@ class World:
     def fail_at(self, rest):
         """The nth following call on files is a fault."""
         self.files.fail_at(number_of(rest))
+
+    def fail_after(self, rest):
+        """The nth following call on files and all after it are faults."""
+        self.files.fail_after(number_of(rest))
 
     def moment(self, rest):
         """The time of the call."""

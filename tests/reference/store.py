@@ -1,4 +1,5 @@
 """The store in memory."""
+from .armed import ArmedCalls
 from .errors import Refused
 
 
@@ -9,7 +10,7 @@ class MapStore:
         self.pairs = {}
         self.setbacks = 0
         self.forgetting = 0
-        self.failing = 0
+        self.armed = ArmedCalls()
 
     def held(self, key):
         """The bytes that are held under a key, or None."""
@@ -21,7 +22,11 @@ class MapStore:
 
     def fail_at(self, n):
         """The nth of the following calls fails, and hands out and puts nothing; 0 disarms."""
-        self.failing = n
+        self.armed.one = n
+
+    def fail_after(self, n):
+        """The nth of the following calls and all after it fail; 0 disarms."""
+        self.armed.onward = n
 
     def set_back(self):
         """`more`: one setback more."""
@@ -30,9 +35,8 @@ class MapStore:
     def call(self):
         """Counts one call, and does what is armed for it: to forget comes before to fail."""
         forgets = self.forgetting == 1
-        fails = self.failing == 1
+        fails = self.armed.begin()
         self.forgetting = max(self.forgetting - 1, 0)
-        self.failing = max(self.failing - 1, 0)
         if forgets:
             self.pairs = {}
             self.set_back()

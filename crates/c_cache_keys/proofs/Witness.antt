@@ -1,5 +1,5 @@
 -- The calls of the witness: what is hashed for them, their keys, what is recorded of them, and their steps.
-use Rattle.std.proofs.Common.{◌≡◌, ◌⊎◌, inl, inr, ◌<◌, ◌^◌, lit<, nat_lt, pos, w64, Bool, true, false, cond, List, [], ◌∷◌, length, refl, sym, ap, ap₂, ◌∙◌, ◌&&◌, subst, arith, option_map, Some, None, Ok, codes}
+use Rattle.std.proofs.Common.{◌≡◌, ◌⊎◌, inl, inr, ℕ, ◌<◌, ◌^◌, lit<, nat_lt, pos, w64, Bool, true, false, cond, List, [], ◌∷◌, length, refl, sym, ap, ap₂, ◌∙◌, ◌&&◌, subst, arith, option_map, Some, None, Ok, codes}
 use Rattle.std.specs.Prelude.{All, Contains}
 use Rattle.std.specs.FinMap.{empty, entries, get, get-from_sorted}
 use Rattle.std.specs.FinMap.Entries.{find}
@@ -22,6 +22,7 @@ use Rattle.cck_entry.specs.Entry.{Entry, EntryText, added}
 use Rattle.cck_entry.specs.Find.{found_in}
 use Rattle.cck_entry.specs.Results.{Fits, FitsMoment, FitsResult, KeyResult}
 use Rattle.cck_entry.specs.Writing.{entry_bytes}
+use Rattle.cck_files.specs.ArmedCalls.{new_armed}
 use Rattle.cck_files.specs.FileMap.{FileNode, file_at, file_in, folder_at, folder_in, metadata_of}
 use Rattle.cck_include.specs.Gathered.{Digested, all_of, gathered, include_of}
 use Rattle.cck_include.specs.Include.{Include}
@@ -33,7 +34,7 @@ use Rattle.cck_path.specs.Path.{Path, components, path_cmp}
 use Rattle.cck_path.specs.Text.{join_path, path_text}
 use Rattle.cck_path.specs.TextOrder.{text_cmp}
 use Rattle.cck_preprocessor_key.specs.PreprocessorKey.{preprocessor_material}
-use Rattle.cck_store.specs.MapStore.{State, map_store}
+use Rattle.cck_store.specs.MapStore.{State, map_store, new_state}
 use Rattle.cck_strip.specs.Cuts.{stripped}
 use Rattle.cck_strip.specs.Text.{longest_prefix, text_site}
 use Rattle.cck_util.specs.Key.{key_parts, material, object_key}
@@ -46,7 +47,7 @@ use Rattle.c_cache_keys.specs.Keys.{extra_texts, input_file, input_recorded, is_
 use Rattle.c_cache_keys.specs.Premises.{IsHashed, NoSharedDigest, OneRequest, Premises, PrintsAgain, of_file, of_folder, of_key, of_time}
 use Rattle.c_cache_keys.specs.Step.{AreOwnIncludes, Hit, Miss, Opened, OwnPair, Step, asked, gives, matching}
 use Rattle.c_cache_keys.specs.Walk.{Accepted, AreRecorded, Errs, IsRecorded, MarksDecide, Walk, input_path}
-use Rattle.c_cache_keys.specs.Witness.{PremisesCanHold, file_of, holds_nothing, included_text, input_text, path_in_w, printed_text, second, sized, witness_call, witness_done, witness_files, witness_hash, witness_nodes, witness_run, witness_world}
+use Rattle.c_cache_keys.specs.Witness.{PremisesCanHold, file_of, included_text, input_text, path_in_w, printed_text, second, sized, witness_call, witness_done, witness_files, witness_hash, witness_nodes, witness_run, witness_world}
 use Rattle.c_cache_keys.specs.World.{HasSize, setting}
 
 abbrev pub input_node : FileNode
@@ -339,8 +340,15 @@ matched = match_by_digest (setting witness_world witness_call) witness_files wit
 
 -- ---- the steps
 
+-- the new store after so many calls, where it holds these pairs
+abbrev after_calls : ℕ → List (Bytes × Bytes) → State
+after_calls calls pairs = record new_state { pairs = pairs; armed = record new_armed { calls = calls } }
+
 abbrev pub holds_entry : State
-holds_entry = record { pairs = (witness_key, witness_bytes) ∷ []; setbacks = 0; forget = 0; fail = 0 }
+holds_entry = after_calls 2 ((witness_key, witness_bytes) ∷ [])
+
+abbrev asked_again : State
+asked_again = after_calls 3 holds_entry.pairs
 
 opened : Opened witness_world witness_call
 opened = record {
@@ -357,26 +365,26 @@ not_erring text is (marks, are, decide) =
     cc
 
 module _ (F : Type 0) where
-  pub first_step : Step witness_world map_store witness_call F holds_nothing (Keyed witness_answer true) holds_entry
+  pub first_step : Step witness_world map_store witness_call F new_state (Keyed witness_answer true) holds_entry
   first_step =
-      asked opened witness_key key_is refl Miss holds_nothing (record { answer = Ok None; got = ((λ e. cc), refl, refl); gives = refl })
+      asked opened witness_key key_is refl Miss (after_calls 1 []) (record { answer = Ok None; got = (refl, refl, refl); gives = refl })
       (gives witness_answer plain_is (λ text asks is errs. absurd (not_erring text is errs)) refl (inl (record {
         k = witness_key;
         bytes = witness_bytes;
         own = own_pair;
         answer = Ok tt;
-        put = ((λ e. cc), refl);
+        put = (refl, refl);
       })))
 
   found_again : Some witness_bytes ≡ find text_cmp witness_key holds_entry.pairs
   found_again = sym (ap (λ o. cond (is_eq o) (Some witness_bytes) None) (tied_itself nat_list_cmp_total witness_key))
 
-  pub second_step : Step witness_world map_store witness_call F holds_entry (Keyed witness_answer false) holds_entry
+  pub second_step : Step witness_world map_store witness_call F holds_entry (Keyed witness_answer false) asked_again
   second_step =
       let all : list_all (matching witness_world witness_call) (witness_include ∷ []) ≡ true = ap (λ b. b && true) matched in
-      asked opened witness_key key_is refl (Hit witness_answer) holds_entry (record {
+      asked opened witness_key key_is refl (Hit witness_answer) asked_again (record {
         answer = Ok (Some witness_bytes);
-        got = ((λ e. cc), found_again, refl);
+        got = (refl, found_again, refl);
         gives = (
           witness_entry,
           entry_text,
@@ -400,7 +408,7 @@ premises_can_hold = record {
   premises = premises;
   no_fault = no_fault;
   key = witness_answer;
-  end = holds_entry;
-  run = (holds_entry, first_step (Fault witness_done), (holds_entry, second_step (Fault witness_done), refl));
+  end = asked_again;
+  run = (holds_entry, first_step (Fault witness_done), (asked_again, second_step (Fault witness_done), refl));
   no_setback = no_fault;
 }

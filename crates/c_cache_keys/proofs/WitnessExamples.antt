@@ -3,7 +3,7 @@ use Rattle.std.proofs.Common.{◌≡◌, false, true, [], ◌∷◌, refl, sym, 
 use Rattle.std.proofs.lemmas.Option.{none-some}
 use Rattle.cck_include.specs.Recorded.{has_timestamp}
 use Rattle.cck_store.specs.MapLemmas.{map_store_laws}
-use Rattle.cck_store.specs.MapStore.{map_store}
+use Rattle.cck_store.specs.MapStore.{map_store, new_state}
 use Rattle.c_cache_keys.proofs.Runs.{stays_sound}
 use Rattle.c_cache_keys.proofs.Witness.{extra_is, first_step, holds_entry, input_node, input_read, key_is, no_fault, plain_stamp, witness_answer, witness_key, witness_size}
 use Rattle.c_cache_keys.specs.Call.{Fault, Keyed}
@@ -11,7 +11,7 @@ use Rattle.c_cache_keys.specs.Hits.{IsAside, SameRecords}
 use Rattle.c_cache_keys.specs.Laws.{CanHit}
 use Rattle.c_cache_keys.specs.Premises.{Agree, SameFiles}
 use Rattle.c_cache_keys.specs.Step.{Sound}
-use Rattle.c_cache_keys.specs.Witness.{holds_nothing, printed_text, witness_call, witness_done, witness_world}
+use Rattle.c_cache_keys.specs.Witness.{printed_text, witness_call, witness_done, witness_world}
 
 -- the second call can hit,
 can_hit : CanHit witness_world witness_done witness_key (Keyed witness_answer false)
@@ -50,5 +50,5 @@ same_files = record {
 -- what the store holds between them is the first one's own pair
 sound : Sound witness_world map_store holds_entry (witness_call ∷ [])
 sound =
-    stays_sound witness_world map_store witness_size map_store_laws [] witness_done holds_nothing holds_entry (Keyed witness_answer true) (λ k bytes held. absurd (none-some _ held))
+    stays_sound witness_world map_store witness_size map_store_laws [] witness_done new_state holds_entry (Keyed witness_answer true) (λ k bytes held. absurd (none-some _ held))
     (first_step (Fault witness_done))

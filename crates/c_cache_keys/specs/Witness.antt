@@ -10,7 +10,7 @@ use Rattle.cck_path.specs.Bytes.{Bytes}
 use Rattle.cck_path.specs.Path.{Name, Path, Root, path_cmp}
 use Rattle.cck_path.specs.Timestamp.{Moment}
 use Rattle.cck_path.specs.declared.metadata.FileKind.TheVariants.{File}
-use Rattle.cck_store.specs.MapStore.{State, map_store}
+use Rattle.cck_store.specs.MapStore.{State, map_store, new_state}
 use Rattle.cck_store.specs.Store.{Setback}
 use Rattle.cck_time.specs.Config.{activated}
 use Rattle.cck_util.specs.declared.language.Language.TheVariants.{C}
@@ -117,18 +117,14 @@ witness_done = record { call = witness_call; faults_before = 0; faults_after = 0
 abbrev pub witness_run : List (Done (Unit {0}))
 witness_run = witness_done ∷ witness_done ∷ []
 
--- a store in memory that holds nothing
-abbrev pub holds_nothing : State
-holds_nothing = record { pairs = []; setbacks = 0; forget = 0; fail = 0 }
-
--- All that the promise takes holds of this run at once, with no fault and no setback: of its two equal calls the first one makes a key,
+-- All that the promise takes holds of this run at once, with no fault and no setback, on a store in memory that is new: of its two equal calls the first one makes a key,
 -- and the second one answers it from the store.
 pub record PremisesCanHold : Type 0 where
   pub size : HasSize witness_hash
-  pub is_empty : IsEmpty witness_world map_store holds_nothing
+  pub is_empty : IsEmpty witness_world map_store new_state
   pub premises : Premises witness_world (calls_of witness_run)
   pub no_fault : Fault witness_done → ⊥
   pub key : Bytes
   pub end : State
-  pub run : Run witness_world map_store holds_nothing witness_run (Keyed key true ∷ Keyed key false ∷ []) end
-  pub no_setback : Setback map_store holds_nothing end → ⊥
+  pub run : Run witness_world map_store new_state witness_run (Keyed key true ∷ Keyed key false ∷ []) end
+  pub no_setback : Setback map_store new_state end → ⊥

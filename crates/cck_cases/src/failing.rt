@@ -1,26 +1,67 @@
-//! A reader and a writer that fail after a given number of calls.
+//! A reader and a writer over memory, of which calls fail.
+use std::alloc::Global;
 use std::io;
 use std::io::{Read, Write};
 
-/// Reads its bytes `step` at a time, and fails once `passing` reads have passed.
+/// Which calls fail: the first `passing` pass, so many after them as `failing` says fail, and all
+/// others pass.
+#[derive(Debug, Clone, Copy)]
+pub struct Failures {
+    /// How many calls pass before the first one that fails.
+    pub passing: u64,
+    /// How many calls fail.
+    pub failing: u64,
+}
+
+impl Failures {
+    /// All calls pass.
+    pub fn none() -> Failures {
+        Failures {
+            passing: 0,
+            failing: 0,
+        }
+    }
+
+    /// So many calls pass, and all later ones fail.
+    pub fn after(passing: u64) -> Failures {
+        Failures {
+            passing,
+            failing: u64::MAX,
+        }
+    }
+
+    // Counts a call, and says whether it fails.
+    fn begin(&mut self) -> bool {
+        if self.passing > 0 {
+            self.passing -= 1;
+            return false;
+        }
+        if self.failing == 0 {
+            return false;
+        }
+        self.failing -= 1;
+        true
+    }
+}
+
+/// Reads its bytes `step` at a time, and fails where it is told to.
 #[derive(Drop)]
-pub struct FailingReader<'a> {
+pub struct FailReader<'a> {
     /// The bytes that are left.
     pub bytes: &'a [u8],
     /// How many bytes one read returns at most.
     pub step: usize,
-    /// How many reads pass before all later ones fail.
-    pub passing: u64,
+    /// Which reads fail.
+    pub reads: Failures,
     /// The kind of the error.
     pub kind: io::ErrorKind,
 }
 
-impl Read for FailingReader<'_> {
+impl Read for FailReader<'_> {
     fn read(&mut self, buffer: &mut [u8]) -> io::Result<usize> {
-        if self.passing == 0 {
+        if self.reads.begin() {
             return Err(io::Error::from(self.kind));
         }
-        self.passing -= 1;
         let count = self.bytes.len().min(buffer.len()).min(self.step);
         let (piece, rest) = self.bytes.split_at(count);
         buffer[..count].copy_from_slice(piece);
@@ -29,31 +70,52 @@ impl Read for FailingReader<'_> {
     }
 }
 
-/// Keeps what is written, and fails once `passing` writes have passed.
+/// Keeps what is written, `step` bytes at a time, and fails where it is told to.
 #[derive(Drop)]
-pub struct FailingWriter {
+pub struct FailWriter {
     /// What was written.
     pub written: Vec<u8>,
-    /// How many writes pass before all later ones fail.
-    pub passing: u64,
+    /// How many bytes one write takes at most.
+    pub step: usize,
+    /// Which writes fail.
+    pub writes: Failures,
+    /// Which flushes fail.
+    pub flushes: Failures,
     /// Whether nothing was written after the last flush.
     pub is_flushed: bool,
 }
 
-impl Write for FailingWriter {
-    fn write(&mut self, bytes: &[u8]) -> io::Result<usize> {
-        if self.passing == 0 {
-            return Err(io::Error::from(io::ErrorKind::WriteZero));
+impl FailWriter {
+    /// Nothing was written. A write takes all that it is given; so many writes pass, and all later
+    /// ones fail.
+    pub fn new(alloc: Global, passing: u64) -> FailWriter {
+        FailWriter {
+            written: Vec::new(alloc),
+            step: usize::MAX,
+            writes: Failures::after(passing),
+            flushes: Failures::none(),
+            is_flushed: false,
         }
-        self.passing -= 1;
-        self.is_flushed = false;
-        match self.written.extend_from_slice(bytes) {
-            Ok(()) => Ok(bytes.len()),
+    }
+}
+
+impl Write for FailWriter {
+    fn write(&mut self, bytes: &[u8]) -> io::Result<usize> {
+        if self.writes.begin() {
+            return Err(io::Error::from(io::ErrorKind::BrokenPipe));
+        }
+        let count = bytes.len().min(self.step);
+        self.is_flushed = self.is_flushed && count == 0;
+        match self.written.extend_from_slice(&bytes[..count]) {
+            Ok(()) => Ok(count),
             Err(_) => Err(io::Error::from(io::ErrorKind::OutOfMemory)),
         }
     }
 
     fn flush(&mut self) -> io::Result<()> {
+        if self.flushes.begin() {
+            return Err(io::Error::from(io::ErrorKind::BrokenPipe));
+        }
         self.is_flushed = true;
         Ok(())
     }

@@ -9,7 +9,7 @@
 //! - [`Given`] has what lines give to calls on bytes, and [`World`] what they give to calls on files.
 //! - [`find`] finds a word in a table. [`number`], [`bytes_of`], [`words_of`] and [`moment_of`] read
 //!   the parts of a line.
-//! - [`FailingReader`] and [`FailingWriter`] fail after a given number of calls.
+//! - [`FailReader`] and [`FailWriter`] fail at the calls that [`Failures`] says.
 //!
 //! Nothing is claimed of these calls beyond their types: they are what tests are made of, and a
 //! fault in them shows as a difference or a wrong count.
@@ -29,7 +29,7 @@ mod value;
 mod world;
 
 pub use case_error::CaseError;
-pub use failing::{FailingReader, FailingWriter};
+pub use failing::{FailReader, FailWriter, Failures};
 pub use given::Given;
 pub use program::run_files;
 pub use subject::{Line, Subject};

@@ -14,18 +14,20 @@ enum Word {
     Link,
     Gone,
     FailAt,
+    FailAfter,
     Moment,
     Zone,
     Option,
 }
 
-const WORDS: [(&str, Word); 9] = [
+const WORDS: [(&str, Word); 10] = [
     ("file", Word::File),
     ("dir", Word::Folder),
     ("other", Word::Other),
     ("link", Word::Link),
     ("gone", Word::Gone),
     ("fail_at", Word::FailAt),
+    ("fail_after", Word::FailAfter),
     ("moment", Word::Moment),
     ("zone", Word::Zone),
     ("option", Word::Option),
@@ -36,9 +38,9 @@ const WORDS: [(&str, Word); 9] = [
 pub struct World {
     /// The allocator of all that is given.
     pub alloc: Global,
-    /// `file PATH MODIFIED CHANGED TEXT`, `dir PATH`, `other PATH`, `link PATH TARGET`, `gone PATH`
-    /// and `fail_at N`: the files, which lie in memory. None at first. Times are nanoseconds since
-    /// 1970, or `-` for none; directories and others have none.
+    /// `file PATH MODIFIED CHANGED TEXT`, `dir PATH`, `other PATH`, `link PATH TARGET`, `gone PATH`,
+    /// `fail_at N` and `fail_after N`: the files, which lie in memory. None at first. Times are
+    /// nanoseconds since 1970, or `-` for none; directories and others have none.
     pub files: MapFiles,
     /// `moment NANOSECONDS`: the time of the call. 100 seconds after the start of 1970 at first.
     pub moment: Timestamp,
@@ -81,6 +83,7 @@ impl World {
             Word::Link => self.link(rest)?,
             Word::Gone => self.files.remove(&bytes_of(self.alloc, rest)?),
             Word::FailAt => self.files.fail_at(number(rest)?),
+            Word::FailAfter => self.files.fail_after(number(rest)?),
             Word::Moment => self.moment = moment_of(rest)?,
             Word::Zone => self.zone = number(rest)?,
             Word::Option => self.set_option(rest)?,

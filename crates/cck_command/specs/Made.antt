@@ -6,6 +6,7 @@ use Rattle.cck_compiler.specs.Seen.{arguments_of}
 use Rattle.cck_compiler.specs.ExtraFiles.{completed}
 use Rattle.cck_path.specs.Bytes.{Bytes, variables_of}
 use Rattle.cck_digest.specs.Digest.{digest_text}
+use Rattle.cck_files.specs.ArmedCalls.{IsUnarmed}
 use Rattle.cck_files.specs.FileState.{FileState}
 use Rattle.cck_script.specs.Calls as script
 use Rattle.cck_script.specs.Surroundings.{AreFiles, executable_path, variables, working_directory}
@@ -37,7 +38,7 @@ pub record IsReady (c : CCompiler MiniCompiler) (asked : script.AskedCall) (made
   pub moment : made.moment ≡ asked.moment
   pub control : made.control ≡ control_of asked.is_recache
   pub no_fault : made.files.faults ≡ 0
-  pub unarmed : made.files.armed ≡ 0
+  pub unarmed : IsUnarmed made.files.armed
 
 -- these calls were made one after another, in a zone of this offset, from one store to the other, and their answers are printed behind what was there
 pub record AreMade (hash : Bytes → Bytes) (zone : ℤ) (w : World ℤ) (asked : List script.AskedCall) (start end : State) (before after : Bytes) : Type 0 where

@@ -5,8 +5,9 @@ use Rattle.std.specs.List.{AllZip, flat_map}
 use Rattle.std.specs.Option.{unwrap_or}
 use Rattle.cck_compiler.specs.Compiler.{Compilation}
 use Rattle.cck_compiler.specs.ExtraFiles.{completed}
+use Rattle.cck_files.specs.ArmedCalls.{new_armed}
 use Rattle.cck_path.specs.Bytes.{Bytes}
-use Rattle.cck_store.specs.MapStore.{State, map_store}
+use Rattle.cck_store.specs.MapStore.{State, map_store, new_state}
 use Rattle.jiff.specs.Words.{fixed_zone}
 use Rattle.jiff.specs.Types.{Offset}
 use Rattle.cck_digest.specs.Digest.{digest_text}
@@ -71,9 +72,9 @@ pub record IsDone (hash : Bytes → Bytes) (zone : ℤ) (asked : script.AskedCal
 abbrev pub run_world : (Bytes → Bytes) → Offset → List Line → World ℤ
 run_world hash zone lines = world_of hash mini_compiler (fixed_zone zone) activated (basedirs_of lines)
 
--- an empty store, armed as these lines say
+-- a new store, armed as these lines say
 abbrev pub armed_by : List Line → State
-armed_by lines = record { pairs = []; setbacks = 0; forget = unwrap_or (forget_of lines) 0; fail = unwrap_or (fail_of lines) 0 }
+armed_by lines = record new_state { forget = unwrap_or (forget_of lines) 0; armed = record new_armed { one = unwrap_or (fail_of lines) 0 } }
 
 -- This is printed for a run over the calls of these lines, and the headline holds of all of them: under the premises each key is its
 -- call's plain key, and under none of them each stored key that matches is answered. That a script meets the premises is not said: the

@@ -1,7 +1,9 @@
 //! The calls of a script, made one after another.
 ghost use Rattle.std.specs.Prelude.{◌≡◌, ◌∷◌, [], List, ℤ, IfOk};
 ghost use Rattle.std.specs.Option.{option_to_list, unwrap_or};
+ghost use Rattle.cck_files.specs.ArmedCalls.{new_armed};
 ghost use Rattle.cck_path.specs.Bytes.{lists_of};
+ghost use Rattle.cck_store.specs.MapStore.{new_state};
 ghost use Rattle.jiff.specs.Words.{fixed_zone, plain_zone};
 ghost use Rattle.jiff.specs.Types.{Offset as PlainOffset};
 ghost use Rattle.cck_script.specs.Calls.{call_behind, call_said};
@@ -189,7 +191,10 @@ fn zone_at(seconds: i32) -> Result<TimeZone<'static>, Failed>
 
 // A store that holds nothing, with these calls armed.
 fn store_of(alloc: Global, forget_at: Option<u64>, fail_at: Option<u64>) -> MapStore
-    ensures { result ≡ record { pairs = []; setbacks = 0; forget = unwrap_or forget_at 0; fail = unwrap_or fail_at 0 } }
+    ensures { result ≡ record new_state {
+      forget = unwrap_or forget_at 0;
+      armed = record new_armed { one = unwrap_or fail_at 0 };
+    } }
 {
     let mut store = MapStore::new(alloc);
     if let Some(n) = forget_at {

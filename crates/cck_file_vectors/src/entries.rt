@@ -1,7 +1,7 @@
 //! Entries, their bytes, what is added to them, and the look-up.
 use crate::cases::Cases;
 use crate::shown::{write_counts, write_entry, write_includes};
-use cck_cases::{CaseError, FailingWriter, Line, Value, number, words_of};
+use cck_cases::{CaseError, FailWriter, Line, Value, number, words_of};
 use cck_entry::{EntryView, Error, KnownFiles, PreprocessorCacheEntry, gather, includes_match};
 use cck_util::{Digest, MapFiles, Sha256State, UtilError};
 use std::alloc::Global;
@@ -130,11 +130,7 @@ fn written_digest<'a>(cases: &'a Cases) -> Result<Value<'a>, CaseError> {
 
 // Writes the entry to a writer that fails after `passing` writes.
 fn write_failing<'a>(cases: &'a Cases) -> Result<Value<'a>, CaseError> {
-    let mut writer = FailingWriter {
-        written: Vec::new(cases.alloc),
-        passing: cases.wanted.passing,
-        is_flushed: false,
-    };
+    let mut writer = FailWriter::new(cases.alloc, cases.wanted.passing);
     cases.entry.serialize_to(&mut writer)?;
     Ok(Value::Word("written"))
 }

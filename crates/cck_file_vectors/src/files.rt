@@ -12,17 +12,19 @@ pub(crate) enum FileCall {
     Children,
     Exists,
     Canonical,
+    Count,
     PutAside,
     Swap,
     PutMade,
 }
 
-pub(crate) const CALLS: [(&str, FileCall); 8] = [
+pub(crate) const CALLS: [(&str, FileCall); 9] = [
     ("metadata", FileCall::Metadata),
     ("read_at", FileCall::Read),
     ("read_dir", FileCall::Children),
     ("exists", FileCall::Exists),
     ("canonical", FileCall::Canonical),
+    ("file_calls", FileCall::Count),
     ("copy_aside", FileCall::PutAside),
     ("swap_aside", FileCall::Swap),
     ("put_made", FileCall::PutMade),
@@ -39,6 +41,7 @@ pub(crate) fn call<'a>(
         FileCall::Children => read_dir(cases, path),
         FileCall::Exists => Ok(Value::Flag(cases.world.files.exists(path))),
         FileCall::Canonical => Ok(Value::Bytes(cases.world.files.canonical(cases.alloc, path)?)),
+        FileCall::Count => Ok(Value::Number(cases.world.files.calls())),
         FileCall::PutAside => put_aside(cases),
         FileCall::Swap => Ok(swap_aside(cases)),
         FileCall::PutMade => put_made(cases, path),

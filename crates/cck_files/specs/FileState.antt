@@ -10,15 +10,16 @@ use Rattle.cck_path.specs.declared.metadata.FileKind.{FileKind}
 use Rattle.cck_path.specs.declared.metadata.FileKind.TheVariants.{File, Folder, Other}
 use Rattle.cck_path_map.specs.PathMap.{coded_component, coded_path_map}
 use Rattle.cck_path_map.specs.Values.{map_values}
+use Rattle.cck_files.specs.ArmedCalls.{Armed, IsUnarmed, after_call, coded_armed, fails, new_armed}
 use Rattle.cck_files.specs.FileMap.{FileMap, FileNode, Nodes}
 use Rattle.cck_files.specs.Node.{node_of}
 use Rattle.cck_files.specs.declared.map_files.places.Place.{Place}
 
--- the map, how often a call met a fault, and which of the following calls is armed to be one
+-- the map, how often a call met a fault, and which of the following calls are armed to be one
 pub record FileState : Type 0 where
   pub files : FileMap
   pub faults : ℕ
-  pub armed : ℕ
+  pub armed : Armed
 
 -- what is counted of the faults: the count has 64 bits, and stays at its greatest value
 abbrev pub fault_count : FileState → ℕ
@@ -26,15 +27,15 @@ fault_count s = min s.faults (2 ^ 64 - 1)
 
 -- no call is armed, and the count could still rise
 abbrev pub IsQuiet : FileState → Type 0
-IsQuiet s = (s.armed ≡ 0) × (fault_count s + 1 < 2 ^ 64)
+IsQuiet s = IsUnarmed s.armed × (fault_count s + 1 < 2 ^ 64)
 
 -- the count after a call: higher by one where the call was armed
 abbrev pub count_after : FileState → ℕ
-count_after s = if s.armed == 1 then min (fault_count s + 1) (2 ^ 64 - 1) else fault_count s
+count_after s = if fails s.armed then min (fault_count s + 1) (2 ^ 64 - 1) else fault_count s
 
--- a call came: the armed one is nearer by it, and the count is that after it
+-- a call came: what is armed and the count are those after it
 pub record IsAfterCall (before after : FileState) : Type 0 where
-  pub armed : after.armed ≡ before.armed - 1
+  pub armed : after.armed ≡ after_call before.armed
   pub count : fault_count after ≡ count_after before
 
 -- the answer is a fault
@@ -65,6 +66,10 @@ linked m p target = record { nodes = set_option m.nodes p (finite.get m.nodes ta
 -- no path has anything
 abbrev pub no_files : FileMap
 no_files = record { nodes = finite.empty; canonicals = finite.empty }
+
+-- no files, no fault so far, and no call armed
+abbrev pub new_state : FileState
+new_state = record { files = no_files; faults = 0; armed = new_armed }
 
 -- the node and the canonical path of a place
 abbrev pub node_at : Place → FileNode
@@ -109,4 +114,4 @@ coded_files = code_by (Nodes × finite.FinMap path_cmp Path) (coded× (coded_pat
     (λ m. (m.nodes, m.canonicals)) (λ p. record { nodes = p.0; canonicals = p.1 }) (λ _. refl)
 
 abbrev pub coded_state : Coded FileState
-coded_state = code_by (FileMap × (ℕ × ℕ)) (coded× coded_files (coded× coded_ℕ coded_ℕ)) (λ s. (s.files, (s.faults, s.armed))) (λ p. record { files = p.0; faults = p.1.0; armed = p.1.1 }) (λ _. refl)
+coded_state = code_by (FileMap × (ℕ × Armed)) (coded× coded_files (coded× coded_ℕ coded_armed)) (λ s. (s.files, (s.faults, s.armed))) (λ p. record { files = p.0; faults = p.1.0; armed = p.1.1 }) (λ _. refl)

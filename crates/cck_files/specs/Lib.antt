@@ -1,3 +1,4 @@
+pub mod ArmedCalls
 pub mod Calls
 pub mod Children
 pub mod FileMap

@@ -6,7 +6,8 @@
 //! a map, and can be stated without a file system.
 //!
 //! [`MapFiles`] has such a map in memory. It is filled by [`MapFiles::put`] and [`MapFiles::link`],
-//! and told by [`MapFiles::fail_at`] which call is to fail.
+//! and told by [`MapFiles::fail_at`] which call is to fail, or by [`MapFiles::fail_after`] from which
+//! one on all are.
 //!
 //! ```rust
 //! let mut files = MapFiles::new(alloc);
@@ -21,12 +22,14 @@
 //! ```
 #![tactic(auto)]
 
+mod armed_calls;
 mod child;
 mod files;
 pub mod laws;
 mod map_files;
 mod node;
 
+pub use armed_calls::ArmedCalls;
 pub use files::Files;
 pub use map_files::MapFiles;
 pub use node::Node;

@@ -1,12 +1,13 @@
 //! Files in memory, which meet a fault where they are told to.
-ghost use Rattle.std.specs.Prelude.{◌≡◌, ◌==◌, Err, IfOk, IsOkUnless, IsSome, MatchOption, None, OnErr, OnOk, Some, true};
+ghost use Rattle.std.specs.Prelude.{◌≡◌, Err, IfOk, IsOkUnless, IsSome, MatchOption, None, OnErr, OnOk, Some, true};
 ghost use Rattle.std.specs.FinMap as finite;
 ghost use Rattle.cck_path.specs.Path.{components, normal};
+ghost use Rattle.cck_files.specs.ArmedCalls.{fails};
 ghost use Rattle.cck_files.specs.Calls.{Keeps, Rose};
-ghost use Rattle.cck_files.specs.FileState.{IsAfterCall, IsQuiet, canonical_of, fault_count, files_of, linked, no_files, node_at, with_place, without_place};
+ghost use Rattle.cck_files.specs.FileState.{IsAfterCall, IsQuiet, canonical_of, fault_count, files_of, linked, new_state, node_at, with_place, without_place};
 ghost use Rattle.cck_files.specs.Node.{node_of};
 
-use crate::Node;
+use crate::{ArmedCalls, Node};
 use cck_digest::UtilError;
 use cck_path::normalize_path;
 use cck_path_map::PathMap;
@@ -26,16 +27,16 @@ use places::Place;
 ///
 /// The calls of [`Files`](crate::Files) give the map's own answers, each by a binary search, save
 /// that of [`read_dir`](crate::Files::read_dir), which looks at every path. One of them may be
-/// armed by [`fail_at`](MapFiles::fail_at): that one is a fault and changes no file. The count of
-/// faults is a `u64`, rises by one at each fault, and stays at `u64::MAX`. A fault comes at the
-/// armed call and at no other. They are quiet where no call is armed and the count is below
-/// `u64::MAX`.
+/// armed by [`fail_at`](MapFiles::fail_at), and all from one of them on by
+/// [`fail_after`](MapFiles::fail_after): these are faults and change no file. The count of faults
+/// is a `u64`, rises by one at each fault, and stays at `u64::MAX`. A fault comes at an armed call
+/// and at no other. They are quiet where no call is armed and the count is below `u64::MAX`.
 #[derive(Debug, Drop)]
 pub struct MapFiles {
     alloc: Global,
     places: PathMap<Place>,
     faults: u64,
-    armed: u64,
+    armed: ArmedCalls,
 }
 
 impl Model for MapFiles {
@@ -51,13 +52,13 @@ impl Model for MapFiles {
 impl MapFiles {
     /// No files, no fault so far, and no call armed. It keeps the allocator, and takes no memory.
     pub fn new(alloc: Global) -> MapFiles
-        ensures { result ≡ record { files = no_files; faults = 0; armed = 0 } }
+        ensures { result ≡ new_state }
     {
         MapFiles {
             alloc,
             places: PathMap::new(alloc),
             faults: 0,
-            armed: 0,
+            armed: ArmedCalls::new(),
         }
     }
 
@@ -115,14 +116,32 @@ impl MapFiles {
     }
 
     /// Makes the nth of the following calls of [`Files`](crate::Files) a fault, counted from 1, and
-    /// that one alone. What was armed before no longer counts, and 0 arms none.
+    /// that one alone, beside what [`fail_after`](MapFiles::fail_after) arms. What it armed before
+    /// no longer counts, and 0 arms none.
     pub fn fail_at(&mut self, n: u64)
-        ensures { self.new ≡ record self.old { armed = n } }
+        ensures { self.new ≡ record self.old { armed = record self.old.armed { one = n } } }
     {
-        self.armed = n;
+        self.armed.fail_at(n);
     }
 
-    /// The same files once more: the same map, the same count of faults, and the same call armed.
+    /// Makes the nth of the following calls of [`Files`](crate::Files) a fault, counted from 1, and
+    /// all after it, beside what [`fail_at`](MapFiles::fail_at) arms. What it armed before no longer
+    /// counts, and 0 arms none.
+    pub fn fail_after(&mut self, n: u64)
+        ensures { self.new ≡ record self.old { armed = record self.old.armed { onward = n } } }
+    {
+        self.armed.fail_after(n);
+    }
+
+    /// How many calls of [`Files`](crate::Files) came so far. At `u64::MAX` it stays.
+    pub fn calls(&self) -> u64
+        ensures { result ≡ self.now.armed.calls }
+    {
+        self.armed.calls()
+    }
+
+    /// The same files once more: the same map, the same counts of faults and of calls, and the same
+    /// calls armed.
     ///
     /// It is refused only for lack of memory, as [`UtilError::Memory`].
     pub fn copy(&self, alloc: Global) -> Result<MapFiles, UtilError>
@@ -151,16 +170,15 @@ impl MapFiles {
         self.places.get(path)
     }
 
-    // Counts a call, and says whether it is the armed one.
-    fn fails(&mut self) -> bool
-        ensures fails { result ≡ (self.old.armed == 1) }
+    // Counts a call, and says whether it is a fault.
+    fn begin(&mut self) -> bool
+        ensures fails { result ≡ fails self.old.armed }
         ensures files { self.new.files ≡ self.old.files }
         ensures after { IsAfterCall self.old self.new }
         ensures keeps { Keeps (λ files. files.files) fault_count IsQuiet self.old self.new }
         ensures rose { result ≡ true → Rose (fault_count self.old) (fault_count self.new) }
     {
-        let fails = self.armed == 1;
-        self.armed = self.armed.saturating_sub(1);
+        let fails = self.armed.begin();
         if fails {
             self.faults = self.faults.saturating_add(1);
         }

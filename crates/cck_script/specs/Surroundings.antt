@@ -6,6 +6,7 @@ use Rattle.std.specs.List.{list_any}
 use Rattle.std.specs.Option.{option_map}
 use Rattle.std.specs.Ordering.{eq_by_cmp}
 use Rattle.std.specs.Str.{bytes_eq}
+use Rattle.cck_files.specs.ArmedCalls.{IsUnarmed}
 use Rattle.cck_files.specs.FileMap.{FileMap, FileNode}
 use Rattle.cck_path.specs.Bytes.{Bytes, lists_of, variables_of}
 use Rattle.cck_path.specs.Path.{Path, components, normal, path_cmp}
@@ -117,7 +118,7 @@ AreNamesOf vs names = lists_of names ≡ map (λ v. v.0.items) vs
 pub record AreAfter (lines : List Line) (after : Surroundings) : Type 0 where
   pub files : AreFiles lines after.files.files
   pub no_faults : after.files.faults ≡ 0
-  pub unarmed : after.files.armed ≡ 0
+  pub unarmed : IsUnarmed after.files.armed
   pub variables_are : variables_of after.variables.items ≡ variables lines
   pub names_are : AreNamesOf after.variables.items after.names.keys
 

@@ -1,5 +1,6 @@
 //! What stands and holds where a call is made: files and variables.
 ghost use Rattle.std.specs.Prelude.{◌≡◌, ◌∷◌, [], List, IfOk, IsOkUnless, OnOk};
+ghost use Rattle.cck_files.specs.ArmedCalls.{IsUnarmed};
 ghost use Rattle.cck_files.specs.FileState.{with_place};
 ghost use Rattle.cck_path.specs.Bytes.{variables_of};
 ghost use Rattle.cck_path.specs.Path.{components, normal};
@@ -29,7 +30,7 @@ const EXECUTABLE_CONTENTS: &[u8] = b"cc";
 /// It is refused only for lack of memory, as [`UtilError::Memory`].
 pub fn first_files(alloc: Global) -> Result<MapFiles, UtilError>
     ensures files { IfOk result (λ files. AreFiles [] files.files) }
-    ensures quiet { IfOk result (λ files. (files.faults ≡ 0) × (files.armed ≡ 0)) }
+    ensures quiet { IfOk result (λ files. (files.faults ≡ 0) × IsUnarmed files.armed) }
     ensures refused { IsOkUnless result UtilError.Memory }
 {
     let mut files = MapFiles::new(alloc);
@@ -110,8 +111,7 @@ impl Surroundings {
             }
             Command::Clear => {
                 self.variables.clear();
-                // A set that is emptied goes over all places of its table, and each time anew.
-                self.names = IndexSet::new(alloc);
+                self.names.clear();
                 Ok(())
             }
             _ => Ok(()),

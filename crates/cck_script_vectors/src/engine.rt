@@ -35,11 +35,11 @@ pub(crate) fn write(
 }
 
 fn write_refusal(alloc: Global, out: &mut Vec<u8>, streams: &Streams) -> Result<(), CaseError> {
-    let mut writer = streams.writer(out)?;
+    let mut writer = streams.writer()?;
     let status = refuse(&mut writer);
-    let is_flushed = writer.is_flushed;
+    out.extend_from_slice(&writer.written)?;
     write_status(alloc, out, status)?;
-    Ok(write_flush(out, is_flushed)?)
+    Ok(write_flush(out, writer.is_flushed)?)
 }
 
 fn write_run(
@@ -50,14 +50,14 @@ fn write_run(
     words: &[String],
 ) -> Result<(), CaseError> {
     let mut reader = streams.reader(text);
-    let mut writer = streams.writer(out)?;
+    let mut writer = streams.writer()?;
     let status = engine::<Sha256State, _, _>(alloc, words, &mut reader, &mut writer);
-    let is_flushed = writer.is_flushed;
+    out.extend_from_slice(&writer.written)?;
     write_status(alloc, out, status)?;
     if !reader.bytes.is_empty() {
         write_unread(alloc, out, reader.bytes.len())?;
     }
-    Ok(write_flush(out, is_flushed)?)
+    Ok(write_flush(out, writer.is_flushed)?)
 }
 
 fn write_flush(out: &mut Vec<u8>, is_flushed: bool) -> Result<(), AllocError> {

@@ -11,6 +11,7 @@ use Rattle.std.specs.String.{string_bytes, string_cmp}
 use Rattle.std.specs.declared.alloc.Global.{Global}
 use Rattle.std.specs.declared.cmp.Ordering.{Ordering}
 use Rattle.std.specs.declared.cmp.Ordering.TheVariants.{Equal, Greater, Less}
+use Rattle.cck_files.specs.ArmedCalls.{Armed}
 use Rattle.cck_path.specs.Bytes.{Bytes}
 use Rattle.cck_path.specs.TextOrder.{text_cmp}
 use Rattle.cck_store.specs.MapStore.{State, pair_of}
@@ -37,10 +38,10 @@ put_in_map [] k v = refl
 put_in_map (e ∷ es) k v = by (string_cmp k (e.0)) k v e es (put text_cmp (string_bytes k) v.items (map pair_of es)) (put_in_map es k v)
 
 -- the same with what was copied
-pub kept_in_map : (es new : List (String Global × Vec ℕ)) (k : String Global) (v : Vec ℕ) (key bytes : Bytes) (setbacks forget fail : ℕ) → new ≡ insert_entry string_cmp es k v
+pub kept_in_map : (es new : List (String Global × Vec ℕ)) (k : String Global) (v : Vec ℕ) (key bytes : Bytes) (setbacks forget : ℕ) (armed : Armed) → new ≡ insert_entry string_cmp es k v
     → string_bytes k ≡ key → v.items ≡ bytes
-    → ◌≡◌ {A = State} (record { pairs = map pair_of new; setbacks = setbacks; forget = forget; fail = fail }) (record { pairs = put text_cmp key bytes (map pair_of es); setbacks = setbacks; forget = forget; fail = fail })
-kept_in_map es new k v key bytes setbacks forget fail is same items =
+    → ◌≡◌ {A = State} (record { pairs = map pair_of new; setbacks = setbacks; forget = forget; armed = armed }) (record { pairs = put text_cmp key bytes (map pair_of es); setbacks = setbacks; forget = forget; armed = armed })
+kept_in_map es new k v key bytes setbacks forget armed is same items =
     let pairs : map pair_of new ≡ put text_cmp key bytes (map pair_of es) =
     ap (map pair_of) is ∙ put_in_map es k v ∙ ap₂ (λ a b. put text_cmp a b (map pair_of es)) same items
-    in λ i. record { pairs = pairs i; setbacks = setbacks; forget = forget; fail = fail }
+    in λ i. record { pairs = pairs i; setbacks = setbacks; forget = forget; armed = armed }

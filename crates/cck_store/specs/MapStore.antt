@@ -1,26 +1,31 @@
 -- a store in memory that forgets and fails where it is told to
-use Rattle.std.specs.Prelude.{◌≡◌, ◌≢◌, ℕ, ◌-◌, ◌==◌, List, [], String, Option, Ok, Err, refl, if◌then◌else◌}
+use Rattle.std.specs.Prelude.{◌≡◌, ℕ, ◌-◌, ◌==◌, List, [], String, Option, Ok, Err, true, false, refl, if◌then◌else◌}
 use Rattle.std.specs.Coded.{Coded, code_by, coded×, coded_list, coded_ℕ}
 use Rattle.std.specs.FinMap.Entries.{find, put}
 use Rattle.std.specs.Global.{Vec}
 use Rattle.std.specs.String.{string_bytes}
 use Rattle.std.specs.declared.alloc.Global.{Global}
+use Rattle.cck_files.specs.ArmedCalls.{Armed, after_call, coded_armed, fails, new_armed}
 use Rattle.cck_path.specs.Bytes.{Bytes}
 use Rattle.cck_path.specs.TextOrder.{text_cmp}
 use Rattle.cck_store.specs.Store.{Handed, Store, Stored, counted, more}
 use Rattle.cck_store.specs.declared.store.StoreError.TheVariants as store
 
--- keys and bytes, ascending by the keys; how many setbacks came; and which of the following calls forgets all that is held, and which
--- one fails, counted from 1, or 0
+-- keys and bytes, ascending by the keys; how many setbacks came; which of the following calls forgets all that is held, counted from 1, or
+-- 0; and which of them fail
 pub record State : Type 0 where
   pub pairs : List (Bytes × Bytes)
   pub setbacks : ℕ
   pub forget : ℕ
-  pub fail : ℕ
+  pub armed : Armed
 
 abbrev pub coded_state : Coded State
-coded_state = code_by (List (Bytes × Bytes) × (ℕ × (ℕ × ℕ))) (coded× (coded_list (coded× (coded_list coded_ℕ) (coded_list coded_ℕ))) (coded× coded_ℕ (coded× coded_ℕ coded_ℕ)))
-    (λ s. (s.pairs, (s.setbacks, (s.forget, s.fail)))) (λ p. record { pairs = p.0; setbacks = p.1.0; forget = p.1.1.0; fail = p.1.1.1 }) (λ _. refl)
+coded_state = code_by (List (Bytes × Bytes) × (ℕ × (ℕ × Armed))) (coded× (coded_list (coded× (coded_list coded_ℕ) (coded_list coded_ℕ))) (coded× coded_ℕ (coded× coded_ℕ coded_armed)))
+    (λ s. (s.pairs, (s.setbacks, (s.forget, s.armed)))) (λ p. record { pairs = p.0; setbacks = p.1.0; forget = p.1.1.0; armed = p.1.1.1 }) (λ _. refl)
+
+-- nothing is held, no setback came, and no call is armed
+abbrev pub new_state : State
+new_state = record { pairs = []; setbacks = 0; forget = 0; armed = new_armed }
 
 abbrev pub pair_of : String Global × Vec ℕ → Bytes × Bytes
 pair_of p = (string_bytes (p.0), p.1.items)
@@ -35,20 +40,20 @@ begun s = record {
   pairs = if s.forget == 1 then [] else s.pairs;
   setbacks = if s.forget == 1 then more s.setbacks else s.setbacks;
   forget = s.forget - 1;
-  fail = s.fail - 1;
+  armed = after_call s.armed;
 }
 
 -- A get fails exactly where it is told to, which is a setback. Else it hands out what the key has, or memory ran out, a setback too.
 abbrev pub IsGot : State → Bytes → Handed → State → Type 0
-IsGot s key (Err store.Fault) t = (s.fail ≡ 1) × (t ≡ set_back (begun s))
-IsGot s key (Err store.Memory) t = (s.fail ≢ 1) × (t ≡ set_back (begun s))
-IsGot s key (Ok found) t = (s.fail ≢ 1) × (found ≡ find text_cmp key (begun s).pairs) × (t ≡ begun s)
+IsGot s key (Err store.Fault) t = (fails s.armed ≡ true) × (t ≡ set_back (begun s))
+IsGot s key (Err store.Memory) t = (fails s.armed ≡ false) × (t ≡ set_back (begun s))
+IsGot s key (Ok found) t = (fails s.armed ≡ false) × (found ≡ find text_cmp key (begun s).pairs) × (t ≡ begun s)
 
 -- the same of a put, after which the key has the bytes
 abbrev pub IsPut : State → Bytes → Bytes → Stored → State → Type 0
-IsPut s key bytes (Err store.Fault) t = (s.fail ≡ 1) × (t ≡ set_back (begun s))
-IsPut s key bytes (Err store.Memory) t = (s.fail ≢ 1) × (t ≡ set_back (begun s))
-IsPut s key bytes (Ok done) t = (s.fail ≢ 1) × (t ≡ record (begun s) { pairs = put text_cmp key bytes (begun s).pairs })
+IsPut s key bytes (Err store.Fault) t = (fails s.armed ≡ true) × (t ≡ set_back (begun s))
+IsPut s key bytes (Err store.Memory) t = (fails s.armed ≡ false) × (t ≡ set_back (begun s))
+IsPut s key bytes (Ok done) t = (fails s.armed ≡ false) × (t ≡ record (begun s) { pairs = put text_cmp key bytes (begun s).pairs })
 
 abbrev pub map_store : Store State
 map_store = record { held = λ s key bytes. find text_cmp key s.pairs ≡ Option.Some bytes; setbacks = λ s. counted s.setbacks; got = IsGot; put = IsPut }

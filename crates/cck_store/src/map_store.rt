@@ -2,11 +2,13 @@
 ghost use Rattle.std.specs.Prelude.{◌≡◌, ◌==◌, [], if◌then◌else◌, OnErr, OnOk};
 ghost use Rattle.std.specs.FinMap.Entries.{find, put};
 ghost use Rattle.std.specs.Option.{option_map};
+ghost use Rattle.cck_files.specs.ArmedCalls.{fails};
 ghost use Rattle.cck_path.specs.TextOrder.{text_cmp};
-ghost use Rattle.cck_store.specs.MapStore.{begun, set_back};
+ghost use Rattle.cck_store.specs.MapStore.{begun, new_state, set_back};
 ghost use Rattle.cck_store.specs.Store.{more};
 
 use crate::store::{PreprocessorStore, StoreError, one_more};
+use cck_files::ArmedCalls;
 use std::alloc::{AllocError, Global};
 use std::collections::BTreeMap;
 use std::marker::Model;
@@ -14,15 +16,15 @@ use std::marker::Model;
 /// A store in memory: it keeps the newest bytes of each key.
 ///
 /// One of its following gets and puts may be armed to forget all that is held when it begins, and
-/// one to fail. Each of these is a setback, and so is a growth of memory that is refused; nothing
-/// else is. The count of setbacks is a `u64` and stays at `u64::MAX`.
+/// one, or all from one on, to fail. Each of these is a setback, and so is a growth of memory that
+/// is refused; nothing else is. The count of setbacks is a `u64` and stays at `u64::MAX`.
 #[derive(Debug, Drop)]
 pub struct MapStore {
     alloc: Global,
     pairs: BTreeMap<String, Vec<u8>>,
     setbacks: u64,
     forget: u64,
-    fail: u64,
+    armed: ArmedCalls,
 }
 
 impl Model for MapStore {
@@ -35,7 +37,7 @@ impl Model for MapStore {
 
     ghost coded = { coded_state };
 
-    ghost view = { λ a. record { pairs = map pair_of a.pairs.entries; setbacks = a.setbacks; forget = a.forget; fail = a.fail } };
+    ghost view = { λ a. record { pairs = map pair_of a.pairs.entries; setbacks = a.setbacks; forget = a.forget; armed = a.armed } };
 
     ghost invariant = { λ a. IsOrdered string_cmp a.pairs };
 }
@@ -44,14 +46,14 @@ impl MapStore {
     /// A store that holds nothing, without a setback so far, and with no call armed. It keeps the
     /// allocator, and takes no memory.
     pub fn new(alloc: Global) -> MapStore
-        ensures { result ≡ record { pairs = []; setbacks = 0; forget = 0; fail = 0 } }
+        ensures { result ≡ new_state }
     {
         MapStore {
             alloc,
             pairs: BTreeMap::new(alloc),
             setbacks: 0,
             forget: 0,
-            fail: 0,
+            armed: ArmedCalls::new(),
         }
     }
 
@@ -74,12 +76,30 @@ impl MapStore {
     }
 
     /// Makes the nth of the following gets and puts, counted from 1, a [`StoreError::Fault`] that
-    /// hands out and puts nothing, and that one alone. What was armed before no longer counts, and
-    /// 0 arms none. A call that is armed to forget as well forgets first.
+    /// hands out and puts nothing, and that one alone, beside what
+    /// [`fail_after`](MapStore::fail_after) arms. What it armed before no longer counts, and 0 arms
+    /// none. A call that is armed to forget as well forgets first.
     pub fn fail_at(&mut self, n: u64)
-        ensures { self.new ≡ record self.old { fail = n } }
+        ensures { self.new ≡ record self.old { armed = record self.old.armed { one = n } } }
     {
-        self.fail = n;
+        self.armed.fail_at(n);
+    }
+
+    /// Makes the nth of the following gets and puts, counted from 1, and all after it a
+    /// [`StoreError::Fault`] that hands out and puts nothing, beside what
+    /// [`fail_at`](MapStore::fail_at) arms. What it armed before no longer counts, and 0 arms none.
+    /// A call that is armed to forget as well forgets first.
+    pub fn fail_after(&mut self, n: u64)
+        ensures { self.new ≡ record self.old { armed = record self.old.armed { onward = n } } }
+    {
+        self.armed.fail_after(n);
+    }
+
+    /// How many gets and puts came so far. At `u64::MAX` it stays.
+    pub fn calls(&self) -> u64
+        ensures { result ≡ self.now.armed.calls }
+    {
+        self.armed.calls()
     }
 
     // Holds a copy of these bytes under a key, in place of what it has.
@@ -119,13 +139,12 @@ impl MapStore {
 
     // Begins a get or a put, and says whether it fails.
     fn begin(&mut self) -> bool
-        ensures fails { result ≡ (self.old.fail == 1) }
-        ensures after { self.new ≡ (if self.old.fail == 1 then set_back (begun self.old) else begun self.old) }
+        ensures fails { result ≡ fails self.old.armed }
+        ensures after { self.new ≡ (if fails self.old.armed then set_back (begun self.old) else begun self.old) }
     {
         self.forget_if_told();
-        let fails = self.fail == 1;
         self.forget = self.forget.saturating_sub(1);
-        self.fail = self.fail.saturating_sub(1);
+        let fails = self.armed.begin();
         if fails {
             self.set_back();
         }

@@ -1,7 +1,7 @@
 //! What readers give, and readers that fail.
 use crate::finder::macros;
 use crate::streams::Streams;
-use cck_cases::{CaseError, FailingReader, Given, Value};
+use cck_cases::{CaseError, FailReader, Given, Value};
 use cck_util::{Digest, Sha256State, UtilError, read_all, read_to_end};
 use std::alloc::Global;
 
@@ -46,14 +46,14 @@ pub(crate) fn call<'a>(
 }
 
 // All that is read, after `base`.
-fn to_end<'a>(given: &Given, reader: &mut FailingReader<'_>) -> Result<Value<'a>, CaseError> {
+fn to_end<'a>(given: &Given, reader: &mut FailReader<'_>) -> Result<Value<'a>, CaseError> {
     let mut text = Vec::from_slice(given.alloc, &given.base)?;
     read_to_end(given.alloc, reader, &mut text)?;
     Ok(Value::Bytes(text))
 }
 
 // What was taken, after `base`, whether or not a read failed.
-fn taken<'a>(given: &Given, reader: &mut FailingReader<'_>) -> Result<Value<'a>, CaseError> {
+fn taken<'a>(given: &Given, reader: &mut FailReader<'_>) -> Result<Value<'a>, CaseError> {
     let mut text = Vec::from_slice(given.alloc, &given.base)?;
     match read_to_end(given.alloc, reader, &mut text) {
         Ok(()) | Err(UtilError::Read) => Ok(Value::Bytes(text)),
@@ -61,13 +61,13 @@ fn taken<'a>(given: &Given, reader: &mut FailingReader<'_>) -> Result<Value<'a>,
     }
 }
 
-fn digest<'a>(alloc: Global, reader: &mut FailingReader<'_>) -> Result<Value<'a>, CaseError> {
+fn digest<'a>(alloc: Global, reader: &mut FailReader<'_>) -> Result<Value<'a>, CaseError> {
     let text = Digest::<Sha256State>::reader_sync(alloc, reader)?;
     Ok(Value::Text(text))
 }
 
 // Each piece that was shown and a `|`, and then the digest text.
-fn with<'a>(alloc: Global, reader: &mut FailingReader<'_>) -> Result<Value<'a>, CaseError> {
+fn with<'a>(alloc: Global, reader: &mut FailReader<'_>) -> Result<Value<'a>, CaseError> {
     let mut shown = Vec::new(alloc);
     let mut is_kept = true;
     let digest = Digest::<Sha256State>::reader_sync_with(alloc, reader, |piece| {
@@ -81,7 +81,7 @@ fn with<'a>(alloc: Global, reader: &mut FailingReader<'_>) -> Result<Value<'a>, 
 }
 
 // How long the pieces are that were shown.
-fn lengths<'a>(alloc: Global, reader: &mut FailingReader<'_>) -> Result<Value<'a>, CaseError> {
+fn lengths<'a>(alloc: Global, reader: &mut FailReader<'_>) -> Result<Value<'a>, CaseError> {
     let mut lengths = Vec::new(alloc);
     let mut is_kept = true;
     Digest::<Sha256State>::reader_sync_with(alloc, reader, |piece| {
@@ -93,7 +93,7 @@ fn lengths<'a>(alloc: Global, reader: &mut FailingReader<'_>) -> Result<Value<'a
     Ok(Value::Numbers(lengths))
 }
 
-fn time_macros<'a>(alloc: Global, reader: &mut FailingReader<'_>) -> Result<Value<'a>, CaseError> {
+fn time_macros<'a>(alloc: Global, reader: &mut FailReader<'_>) -> Result<Value<'a>, CaseError> {
     let (text, finder) = Digest::<Sha256State>::reader_sync_time_macros(alloc, reader)?;
     let found = macros(&finder);
     Ok(Value::Text(format!(in alloc; "{found} {text}")?))

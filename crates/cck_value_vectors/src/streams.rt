@@ -1,5 +1,5 @@
 //! What lines say of a reader and a writer.
-use cck_cases::{CaseError, FailingReader, FailingWriter, number};
+use cck_cases::{CaseError, FailReader, FailWriter, Failures, number};
 use std::alloc::Global;
 use std::io;
 
@@ -51,24 +51,20 @@ impl Streams {
     }
 
     /// A reader of these bytes.
-    pub(crate) fn reader<'a>(&self, bytes: &'a [u8]) -> FailingReader<'a> {
-        FailingReader {
+    pub(crate) fn reader<'a>(&self, bytes: &'a [u8]) -> FailReader<'a> {
+        FailReader {
             bytes,
             step: self.step,
-            passing: self.passing_reads,
+            reads: Failures::after(self.passing_reads),
             kind: self.kind,
         }
     }
 
     /// A writer to which nothing was written, with room for so many bytes: it needs no memory for
     /// these, so that it fails for no want of memory.
-    pub(crate) fn writer(&self, alloc: Global, room: usize) -> Result<FailingWriter, CaseError> {
-        let mut written = Vec::new(alloc);
-        written.reserve(room)?;
-        Ok(FailingWriter {
-            written,
-            passing: self.passing_writes,
-            is_flushed: false,
-        })
+    pub(crate) fn writer(&self, alloc: Global, room: usize) -> Result<FailWriter, CaseError> {
+        let mut writer = FailWriter::new(alloc, self.passing_writes);
+        writer.written.reserve(room)?;
+        Ok(writer)
     }
 }

@@ -13,7 +13,8 @@
 //!   `assembler DIGEST`, `printed TEXT`, and instead of a compilation `not_compilation`,
 //!   `cannot_cache` or `cannot_cache_for DETAIL`;
 //! - of the call `cwd PATH`, `recache` or `any_key`, the words of `Given` and `World`, and of the
-//!   store `new_store`, `empty_store`, `store_fail_at N` and `store_forget_at N`;
+//!   store `new_store`, `empty_store`, `store_fail_at N`, `store_fail_after N` and
+//!   `store_forget_at N`;
 //! - `add_call` adds a call of all this to the list that `run_calls` makes. `counted_path PATH` and
 //!   `count N` say on which path calls are counted, and from where on.
 //!

@@ -11,26 +11,30 @@ pub(crate) enum StoreCall {
     Held,
     Holds,
     Shown,
+    Count,
 }
 
-pub(crate) const CALLS: [(&str, StoreCall); 5] = [
+pub(crate) const CALLS: [(&str, StoreCall); 6] = [
     ("store_put", StoreCall::Put),
     ("store_get", StoreCall::Get),
     ("held", StoreCall::Held),
     ("holds", StoreCall::Holds),
     ("store_shown", StoreCall::Shown),
+    ("store_calls", StoreCall::Count),
 ];
 
 #[derive(Clone, Copy)]
 enum Word {
     FailAt,
+    FailAfter,
     ForgetAt,
     New,
     Empty,
 }
 
-const WORDS: [(&str, Word); 4] = [
+const WORDS: [(&str, Word); 5] = [
     ("store_fail_at", Word::FailAt),
+    ("store_fail_after", Word::FailAfter),
     ("store_forget_at", Word::ForgetAt),
     ("new_store", Word::New),
     ("empty_store", Word::Empty),
@@ -68,6 +72,7 @@ impl Stores {
         };
         match word {
             Word::FailAt => self.map.fail_at(number(rest)?),
+            Word::FailAfter => self.map.fail_after(number(rest)?),
             Word::ForgetAt => self.map.forget_at(number(rest)?),
             Word::New => self.map = MapStore::new(self.alloc),
             Word::Empty => self.is_empty = true,
@@ -91,6 +96,7 @@ impl Stores {
             StoreCall::Holds => Ok(Value::Flag(self.map.held(key).is_some())),
             StoreCall::Shown if self.is_empty => shown_empty(alloc, &self.empty),
             StoreCall::Shown => shown_map(alloc, &self.map),
+            StoreCall::Count => Ok(Value::Number(self.map.calls())),
         }
     }
 }

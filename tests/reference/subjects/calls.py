@@ -532,8 +532,19 @@ def call_store_shown(subject, rest, made):
         f"{debug_text(key.decode())}: {debug_bytes(data)}"
         for key, data in sorted(store.pairs.items())
     )
-    counts = f"setbacks: {store.setbacks}, forget: {store.forgetting}, fail: {store.failing}"
+    counts = f"setbacks: {store.setbacks}, forget: {store.forgetting}, {armed_text(store.armed)}"
     return f"MapStore {{ alloc: Global, pairs: {{{pairs}}}, {counts} }}".encode()
+
+
+def armed_text(armed):
+    """What `Debug` prints of the field of a store that says which of its calls fail."""
+    counts = f"one: {armed.one}, onward: {armed.onward}, calls: {armed.calls}"
+    return f"armed: ArmedCalls {{ {counts} }}"
+
+
+def call_store_calls(subject, rest, made):
+    """`store_calls`: how many gets and puts came on the store in memory."""
+    return number(subject.map_store.armed.calls)
 
 
 # ---- what lines give
@@ -568,6 +579,7 @@ class Subject(BaseSubject):
         "held": call_held,
         "holds": call_holds,
         "store_shown": call_store_shown,
+        "store_calls": call_store_calls,
     }
 
     def __init__(self):
@@ -697,6 +709,8 @@ class Subject(BaseSubject):
         """Takes what a line gives of the store."""
         if word == "store_fail_at":
             self.map_store.fail_at(number_in(rest))
+        elif word == "store_fail_after":
+            self.map_store.fail_after(number_in(rest))
         elif word == "store_forget_at":
             self.map_store.forget_at(number_in(rest))
         elif word == "new_store":

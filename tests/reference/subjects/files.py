@@ -196,6 +196,11 @@ def call_canonical(subject, rest, made):
     return subject.world.files.canonical(made.text(rest))
 
 
+def call_file_calls(subject, rest, made):
+    """`file_calls`: how many calls on the files came."""
+    return number(subject.world.files.armed.calls)
+
+
 def call_copy_aside(subject, rest, made):
     """`copy_aside`: a copy of the files is put aside."""
     subject.aside = subject.world.files.copy()

@@ -1,7 +1,8 @@
 //! The calls of [`Files`] on files in memory.
-ghost use Rattle.std.specs.Prelude.{◌≡◌, ◌==◌, ◌⊎◌, false, if◌then◌else◌, Err, IfOk, IsOk, IsOkAnd, MatchBool, MatchResult, Ok, OnErr, map, true, vec_items};
+ghost use Rattle.std.specs.Prelude.{◌≡◌, ◌⊎◌, false, if◌then◌else◌, Err, IfOk, IsOk, IsOkAnd, MatchBool, MatchResult, Ok, OnErr, map, true, vec_items};
 ghost use Rattle.cck_path.specs.Path.{components};
 ghost use Rattle.cck_path.specs.Text.{path_text};
+ghost use Rattle.cck_files.specs.ArmedCalls.{fails};
 ghost use Rattle.cck_files.specs.Calls.{IsFullRead, IsRead, IsRefusal, IsRefusalOrMemory, Keeps, Rose};
 ghost use Rattle.cck_files.specs.FileMap.{IsListing, canonical_at, contents_at, folder_at, metadata_at, metadata_of, stands_at};
 ghost use Rattle.cck_files.specs.FileState.{IsAfterCall, IsQuiet, fault_count, is_fault};
@@ -32,9 +33,9 @@ impl Files for MapFiles {
             MatchResult result (λ metadata. found ≡ Ok metadata)
             (IsRefusal found (Rose (fault_count self.old) (fault_count self.new))) }
         ensures call { IsAfterCall self.old self.new }
-        ensures fault { is_fault result ≡ (self.old.armed == 1) }
+        ensures fault { is_fault result ≡ fails self.old.armed }
     {
-        if self.fails() {
+        if self.begin() {
             return Err(FileError::Fault);
         }
         let Some(place) = self.place(path) else {
@@ -53,9 +54,9 @@ impl Files for MapFiles {
             (λ contents. IsFullRead contents offset n buffer.old buffer.new)) }
         ensures left { OnErr result (buffer.new ≡ buffer.old) }
         ensures call { IsAfterCall self.old self.new }
-        ensures fault { is_fault result ≡ (self.old.armed == 1) }
+        ensures fault { is_fault result ≡ fails self.old.armed }
     {
-        if self.fails() {
+        if self.begin() {
             return Err(FileError::Fault);
         }
         let Some(place) = self.place(path) else {
@@ -77,9 +78,9 @@ impl Files for MapFiles {
         ensures memory { result ≡ Err FileError.Memory →
             folder_at self.old.files (components path.now) ≡ Ok tt }
         ensures call { IsAfterCall self.old self.new }
-        ensures fault { is_fault result ≡ (self.old.armed == 1) }
+        ensures fault { is_fault result ≡ fails self.old.armed }
     {
-        if self.fails() {
+        if self.begin() {
             return Err(FileError::Fault);
         }
         let Some(place) = self.place(path) else {
@@ -98,10 +99,10 @@ impl Files for MapFiles {
             MatchBool result (stands ≡ true)
             ((stands ≡ false) ⊎ Rose (fault_count self.old) (fault_count self.new)) }
         ensures call { IsAfterCall self.old self.new }
-        ensures fault { result ≡ (if self.old.armed == 1 then false
+        ensures fault { result ≡ (if fails self.old.armed then false
             else stands_at self.old.files (components path.now)) }
     {
-        if self.fails() {
+        if self.begin() {
             return false;
         }
         self.place(path).is_some()
@@ -117,9 +118,9 @@ impl Files for MapFiles {
         ensures memory { result ≡ Err FileError.Memory →
             IsOk (canonical_at self.old.files (components path.now)) }
         ensures call { IsAfterCall self.old self.new }
-        ensures fault { is_fault result ≡ (self.old.armed == 1) }
+        ensures fault { is_fault result ≡ fails self.old.armed }
     {
-        if self.fails() {
+        if self.begin() {
             return Err(FileError::Fault);
         }
         let Some(place) = self.place(path) else {

@@ -15,9 +15,9 @@ returns-clause-answer c =
     let path = components c.args.path.now in
     let node = node_at c.in-Some.place.now in
     elim c.match-place-2.branch [
-      | in-File w ↦ rw (w.result-is, ← c.fails.ensures.files)
+      | in-File w ↦ rw (w.result-is, ← c.begin.ensures.files)
           (ap folder_in c.in-Some.ensures.0 ∙ elim w.in-File.is [ inl file ↦ ap folder_if file | inr other ↦ ap folder_if other ])
-      | in-Folder w ↦ rw (w.result-is, ← c.fails.ensures.files, ← c.self.view_is)
+      | in-Folder w ↦ rw (w.result-is, ← c.begin.ensures.files, ← c.self.view_is)
           (MatchResult-weaker w.child_names.result (MatchResult-from_both w.child_names.result _ _ w.child_names.ensures.names w.child_names.ensures.refused)
           (λ names children. listing c.self.inside.places path node (map vec_items names.items) (subst (λ state. get state.files.nodes path ≡ Some node) (sym c.self.view_is) c.in-Some.ensures.0) w.in-Folder.is children)
           (λ e memory. rw memory tt))

@@ -1,0 +1,34 @@
+-- calls of which some are armed to fail
+use Rattle.std.specs.Prelude.{◌≡◌, ◌==◌, ◌||◌, ℕ, ◌+◌, ◌-◌, ◌^◌, Bool, min, refl, if◌then◌else◌}
+use Rattle.std.specs.Coded.{Coded, code_by, coded×, coded_ℕ}
+
+-- which of the calls that follow is armed alone, and from which of them on all are, each counted from 1, or 0 for none; and how many calls
+-- came
+pub record Armed : Type 0 where
+  pub one : ℕ
+  pub onward : ℕ
+  pub calls : ℕ
+
+-- none is armed, and none came
+abbrev pub new_armed : Armed
+new_armed = record { one = 0; onward = 0; calls = 0 }
+
+-- none of the calls that follow is armed
+abbrev pub IsUnarmed : Armed → Type 0
+IsUnarmed a = (a.one ≡ 0) × (a.onward ≡ 0)
+
+-- the next call fails
+abbrev pub fails : Armed → Bool
+fails a = (a.one == 1) || (a.onward == 1)
+
+-- A call came: an armed one behind it is nearer by one, and where all calls from it on are armed, all of them still are. The count has 64
+-- bits, and stays at its greatest value.
+abbrev pub after_call : Armed → Armed
+after_call a = record {
+  one = a.one - 1;
+  onward = if a.onward == 1 then 1 else a.onward - 1;
+  calls = min (a.calls + 1) (2 ^ 64 - 1);
+}
+
+abbrev pub coded_armed : Coded Armed
+coded_armed = code_by (ℕ × (ℕ × ℕ)) (coded× coded_ℕ (coded× coded_ℕ coded_ℕ)) (λ a. (a.one, (a.onward, a.calls))) (λ p. record { one = p.0; onward = p.1.0; calls = p.1.1 }) (λ _. refl)
