@@ -72,6 +72,6 @@ parts_from_material p q xs ys r s e =
     in
     (parts, extra_hashes, recorded)
 
-pub material_tells_parts : (p q : RequestParts) (xs ys : List (List ℕ)) (r s : List ℕ) → preprocessor_material p xs r ≡ preprocessor_material q ys s ↔ ((p ≡ q) × (xs ≡ ys) × (r ≡ s))
-material_tells_parts p q xs ys r s =
+pub preprocessor_material_tells_parts : (p q : RequestParts) (xs ys : List (List ℕ)) (r s : List ℕ) → preprocessor_material p xs r ≡ preprocessor_material q ys s ↔ ((p ≡ q) × (xs ≡ ys) × (r ≡ s))
+preprocessor_material_tells_parts p q xs ys r s =
     (parts_from_material p q xs ys r s, λ same. (λ i. preprocessor_material (same.0 i) (same.1 i) (same.2 i)))

@@ -5,6 +5,6 @@ ghost use Rattle.cck_preprocessor_key.specs.Laws.{PreprocessorMaterialTellsParts
 /// has it, of equal digest texts of the further files, and of one recorded digest of the input.
 ///
 /// Each length and each count stands before what it is of, so no two requests share a material.
-pub fn material_tells_parts()
+pub fn preprocessor_material_tells_parts()
     ensures { PreprocessorMaterialTellsParts }
 {}
