@@ -1,10 +1,10 @@
 -- A stored key that an earlier call's own pair leads to is the plain key.
-use Rattle.std.proofs.Common.{◌≡◌, inl, inr, true, false, List, refl, sym, ap, ◌∙◌, subst, Some, Ok}
+use Rattle.std.proofs.Common.{◌≡◌, inl, inr, Bool, true, false, List, refl, sym, ap, ◌∙◌, subst, Some, Ok}
 use Rattle.std.specs.Prelude.{Contains}
 use Rattle.std.specs.FinMap.{empty, entries}
 use Rattle.std.specs.List.{list_all}
 use Rattle.std.proofs.lemmas.List.Elements.{Contains-append_left, Contains-append_right}
-use Rattle.std.proofs.lemmas.Option.{same_Some, none-some}
+use Rattle.std.proofs.lemmas.Option.{same_Some}
 use Rattle.cck_entry.proofs.LawLemmas.{one_text_one_entry}
 use Rattle.cck_entry.specs.Entry.{Entry, EntryText, added}
 use Rattle.cck_entry.specs.Results.{KeyResult}
@@ -14,13 +14,13 @@ use Rattle.cck_include.specs.Include.{Include}
 use Rattle.cck_include.specs.Recorded.{has_time, recorded}
 use Rattle.cck_path.specs.Bytes.{Bytes}
 use Rattle.cck_path.specs.Path.{Path, components}
-use Rattle.cck_path.specs.Text.{join_path, path_text}
+use Rattle.cck_path.specs.Text.{path_text}
 use Rattle.c_cache_keys.proofs.Elements.{each_passes, only_one}
 use Rattle.c_cache_keys.proofs.Includes.{components-meant, entries-added, gathered_each, include_here, match_known, same_ok}
-use Rattle.c_cache_keys.proofs.KeySame.{input_known, key_known, material_known, material_same, plain_same, used_prints}
+use Rattle.c_cache_keys.proofs.KeySame.{cwd_told, input_known, key_known, material_same, path_told, plain_same, used_prints}
 use Rattle.c_cache_keys.proofs.RecordedSame.{recorded_same}
 use Rattle.c_cache_keys.specs.Call.{Call}
-use Rattle.c_cache_keys.specs.Keys.{input_recorded, key_material, plain_key, preprocessor_key_of, printed, uses_cache}
+use Rattle.c_cache_keys.specs.Keys.{input_recorded, key_material, plain_key, preprocessor_key_of, printed, request_parts, uses_cache}
 use Rattle.c_cache_keys.specs.Premises.{Agree, IsBefore, IsSameFile, NoTime, Premises, SameFiles, of_file, of_key, of_time}
 use Rattle.c_cache_keys.specs.Step.{AreOwnIncludes, OwnPair, matching}
 use Rattle.c_cache_keys.specs.Walk.{IsNamed, IsRecorded, input_path}
@@ -54,29 +54,37 @@ module _ {V : Type 0} (w : World V) (size : HasSize w.hash) (calls : List (Call 
       (premises.hash c d _ _ in_first in_second (of_file p n file refl) (of_file q o file' refl))
       (λ x y timed timed' is is'. premises.hash c d x y in_first in_second (of_time p n file timed is) (of_time q o file' timed' is'))
 
+  -- calls that ask under one key and have equal parts are of one directory
+  same_cwd : (k : Bytes) → preprocessor_key_of w c ≡ Some k → preprocessor_key_of w d ≡ Some k → request_parts w c.request (input_path c) ≡ request_parts w d.request (input_path d)
+      → c.request.cwd ≡ d.request.cwd
+  same_cwd k is-c is-d parts = by w.config.hash_working_directory refl
+    where
+      by : (b : Bool) → w.config.hash_working_directory ≡ b → c.request.cwd ≡ d.request.cwd
+      by true on = cwd_told w c.request d.request (input_path c) (input_path d) parts on
+      by false off = ap (λ q. q.cwd) (premises.requests off c d k in_first in_second is-c is-d)
+
   -- what one key tells
   key_agrees : (k : Bytes) → preprocessor_key_of w c ≡ Some k → preprocessor_key_of w d ≡ Some k
       → Agree w c d × (uses_cache w c.request ≡ true) × (r : Bytes) × (input_recorded w c ≡ Some r) × (input_recorded w d ≡ Some r)
   key_agrees k is-c is-d =
       let (mc, is-mc, k-mc) = key_known w c k is-c in
       let (md, is-md, k-md) = key_known w d k is-d in
-      go mc md is-mc is-md (premises.hash c d mc md in_first in_second (of_key is-mc) (of_key is-md) (sym k-mc ∙ k-md)) (premises.requests c d k in_first in_second is-c is-d)
+      go mc md is-mc is-md (premises.hash c d mc md in_first in_second (of_key is-mc) (of_key is-md) (sym k-mc ∙ k-md))
     where
-      go : (mc md : Bytes) → key_material w c ≡ Some mc → key_material w d ≡ Some md → mc ≡ md → c.request ≡ d.request
+      go : (mc md : Bytes) → key_material w c ≡ Some mc → key_material w d ≡ Some md → mc ≡ md
           → Agree w c d × (uses_cache w c.request ≡ true) × (r : Bytes) × (input_recorded w c ≡ Some r) × (input_recorded w d ≡ Some r)
-      go mc md is-mc is-md same request =
-          let (extra, r, digest-c, digest-d) = material_same w size c d mc request is-mc (is-md ∙ ap Some (sym same)) in
-          let (used, xs, s, is-xs, is-s, made-of) = material_known w c mc is-mc in
-          (record { request = request; extra = extra; some_extra = λ none. (none-some _ (sym none ∙ is-xs)) }, used, r, digest-c, digest-d)
+      go mc md is-mc is-md same =
+          let (used, parts, extra, some_extra, r, digest-c, digest-d) = material_same w c d mc is-mc (is-md ∙ ap Some (sym same)) in
+          (record { parts = parts; cwd = same_cwd k is-c is-d parts; extra = extra; some_extra = some_extra }, used, r, digest-c, digest-d)
 
   abbrev InputSame : Type 0
   InputSame = (input : FileNode) × (file_at c.files (components (input_path c)) ≡ Ok input) × NoTime w c × ((n : FileNode) → file_at c.files (components (input_path c)) ≡ Ok n → (o : FileNode) × (file_at d.files (components (input_path c)) ≡ Ok o) × IsSameFile w c d n o)
 
-  input_same : (r : Bytes) → c.request ≡ d.request → input_recorded w c ≡ Some r → input_recorded w d ≡ Some r → InputSame
-  input_same r request digest-c digest-d =
+  input_same : (r : Bytes) → Agree w c d → input_recorded w c ≡ Some r → input_recorded w d ≡ Some r → InputSame
+  input_same r agree digest-c digest-d =
       let (n, file-n, rec-n) = input_known w c r digest-c in
       let (o, file-o, rec-o) = input_known w d r digest-d in
-      go n o file-n rec-n (ap (λ q. file_at d.files (components (join_path q.cwd q.arguments.input))) request ∙ file-o) rec-o
+      go n o file-n rec-n (ap (λ path. file_at d.files (components path)) (path_told w c.request d.request (input_path c) (input_path d) agree.parts) ∙ file-o) rec-o
     where
       go : (n o : FileNode) → file_at c.files (components (input_path c)) ≡ Ok n → recorded (setting w c) n ≡ Some r → file_at d.files (components (input_path c)) ≡ Ok o → recorded (setting w d) o ≡ Some r → InputSame
       go n o file-n rec-n file-o rec-o =
@@ -113,7 +121,7 @@ module _ {V : Type 0} (w : World V) (size : HasSize w.hash) (calls : List (Call 
   hit_plain key k bytes own is-k e found list text at all_match =
       let (same_key, same_list) = only_result e key found own.includes list bytes text own.is_text at in
       let (agree, used, r, digest-c, digest-d) = key_agrees k own.is_key is-k in
-      go same_key (ap (list_all (matching w d)) (sym same_list) ∙ all_match) agree used (input_same r agree.request digest-c digest-d)
+      go same_key (ap (list_all (matching w d)) (sym same_list) ∙ all_match) agree used (input_same r agree digest-c digest-d)
     where
       go : found ≡ key → list_all (matching w d) own.includes ≡ true → Agree w c d → uses_cache w c.request ≡ true → InputSame → plain_key w d ≡ Some found
       go same_key all_match agree used input =
@@ -127,4 +135,4 @@ module _ {V : Type 0} (w : World V) (size : HasSize w.hash) (calls : List (Call 
           }
           in
           let prints : printed w d ≡ Some own.keeps.text = premises.compiler c d own.keeps.text before own.keeps.is_text input.2 own.keeps.accepted agree same in
-          sym (plain_same w c d own.keeps.text (used_prints w c.request used) agree.request agree.extra own.keeps.is_text prints) ∙ own.is_plain ∙ ap Some (sym same_key)
+          sym (plain_same w c d own.keeps.text (used_prints w c.request used) agree own.keeps.is_text prints) ∙ own.is_plain ∙ ap Some (sym same_key)

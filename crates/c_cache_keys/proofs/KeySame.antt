@@ -1,26 +1,30 @@
--- What a preprocessor key tells of a call, and what one such key tells of two calls of one request.
-use Rattle.std.proofs.Common.{◌≡◌, true, cond, List, [], ◌∷◌, length, map, refl, sym, ap, ap₂, ◌∙◌, subst, All, Option, Some, None, Result, Ok, Err, arith, zero, suc}
+-- What a preprocessor key tells of a call, and what one such key tells of two calls.
+use Rattle.std.proofs.Common.{◌≡◌, ◌≢◌, Bool, true, false, ◌||◌, cond, List, [], ◌∷◌, ◌++◌, map, filter, refl, sym, ap, ap₂, ◌∙◌, Option, Some, None, Result, Ok, Err}
+use Rattle.std.specs.List.{list_any}
 use Rattle.std.specs.Option.{option_map}
+use Rattle.std.specs.Str.{bytes_eq}
 use Rattle.std.proofs.lemmas.Option.{same_Some, none-some}
-use Rattle.std.proofs.lemmas.Bool.{and_parts}
+use Rattle.std.proofs.lemmas.Bool.{and_parts, false≢true}
 use Rattle.cck_digest.specs.Digest.{digest_text}
 use Rattle.cck_digest.specs.declared.error.FileError.{FileError}
-use Rattle.cck_file_digest.specs.FileDigest.{text_and, text_at, texts}
-use Rattle.cck_file_digest.specs.FolderText.{digest_material}
-use Rattle.cck_files.specs.FileMap.{FileMap, FileNode, file_at}
+use Rattle.cck_files.specs.FileMap.{FileNode, file_at}
 use Rattle.cck_include.specs.Recorded.{recorded}
 use Rattle.cck_path.specs.Bytes.{Bytes}
-use Rattle.cck_path.specs.Path.{Path, components}
-use Rattle.cck_path.specs.Text.{join_path}
-use Rattle.cck_preprocessor_key.proofs.MaterialLemmas.{one_request_one_material}
-use Rattle.cck_preprocessor_key.specs.PreprocessorKey.{preprocessor_material}
-use Rattle.cck_util.specs.Key.{object_key}
+use Rattle.cck_path.specs.Path.{components}
+use Rattle.cck_path.specs.Variables.{Variable}
 use Rattle.cck_path.proofs.TestLemmas.{from_and_then, then_some}
-use Rattle.c_cache_keys.proofs.RecordedSame.{length-digest_text}
+use Rattle.cck_preprocessor_key.proofs.MaterialLemmas.{preprocessor_material_tells_parts}
+use Rattle.cck_preprocessor_key.specs.PreprocessorKey.{RequestParts, preprocessor_material}
+use Rattle.cck_strip.specs.Argument.{stripped_argument}
+use Rattle.cck_strip.specs.Text.{stripped_text}
+use Rattle.cck_util.specs.Key.{KeyParts, material, object_key}
+use Rattle.cck_util.specs.Language.{is_preprocessed_first}
+use Rattle.cck_util.specs.Variables.{include_path_names, object_variable_names, object_variables, request_variables}
 use Rattle.c_cache_keys.specs.Call.{Call, Request}
 use Rattle.c_cache_keys.specs.Keys.{extra_texts, input_file, input_recorded, is_preprocessed, key_material, of_both, params, plain_key, preprocessor_key_of, printed, request_parts, text_of, told, uses_cache}
+use Rattle.c_cache_keys.specs.Premises.{Agree}
 use Rattle.c_cache_keys.specs.Walk.{input_path}
-use Rattle.c_cache_keys.specs.World.{HasSize, World, setting}
+use Rattle.c_cache_keys.specs.World.{World, setting}
 
 mapped_some : {A B : Type 0} (f : A → B) (o : Option A) (b : B) → option_map f o ≡ Some b → (a : A) × (o ≡ Some a) × (b ≡ f a)
 mapped_some f None b e = absurd (none-some _ e)
@@ -34,31 +38,37 @@ told_some : {X : Type 0} (r : Result X FileError) (x : X) → told r ≡ Some x 
 told_some (Ok y) x e = ap (λ v. Ok v) (same_Some y x e)
 told_some (Err v) x e = absurd (none-some _ e)
 
--- ---- digest texts
+of_both_same : {A B C : Type 0} (f g : A → B → C) → ((a : A) (b : B) → f a b ≡ g a b) → (o : Option A) (p : Option B) → of_both f o p ≡ of_both g o p
+of_both_same f g same None p = refl
+of_both_same f g same (Some a) None = refl
+of_both_same f g same (Some a) (Some b) = ap Some (same a b)
 
-text_size : (hash : Bytes → Bytes) → HasSize hash → (files : FileMap) (p : Path) (t : Bytes) → text_at hash files p ≡ Some t → length t ≡ 64
-unfolding text_at
-text_size hash size files p t e =
-    let (m, is, same) = mapped_some (digest_text hash) (digest_material files p) t e in
-    ap length same ∙ length-digest_text hash size m
+-- ---- variables
 
-one_more_text : (o : Option Bytes) (os : Option (List Bytes)) (ts : List Bytes) → text_and o os ≡ Some ts → (t : Bytes) × (others : List Bytes) × (o ≡ Some t) × (os ≡ Some others) × (ts ≡ t ∷ others)
-one_more_text None os ts e = absurd (none-some _ e)
-one_more_text (Some t) os ts e = let (others, is, same) = mapped_some (λ us. t ∷ us) os ts e in (t, others, refl, is, same)
-
--- there are as many as paths, of 64 characters each
-texts_sized : (hash : Bytes → Bytes) → HasSize hash → (files : FileMap) (ps : List Path) (ts : List Bytes) → texts hash files ps ≡ Some ts → (length ts ≡ length ps) × All (λ t. length t ≡ 64) ts
-texts_sized hash size files [] ts e =
-    let none : [] ≡ ts = same_Some [] ts e in
-    (ap length (sym none), subst (All (λ t. length t ≡ 64)) none (λ k d less. absurd (omega (arith, less))))
-texts_sized hash size files (p ∷ ps) ts e =
-    let (t, others, is, rest, same) = one_more_text (text_at hash files p) (texts hash files ps) ts e in
-    let more = texts_sized hash size files ps others rest in
-    (ap length same ∙ ap suc more.0, subst (All (λ t. length t ≡ 64)) (sym same) (one_more_sized t others (text_size hash size files p t is) more.1))
+-- what passes one test and, with it, another
+filter_both : {X : Type 0} (p q : X → Bool) → ((x : X) → p x ≡ true → q x ≡ true) → (xs : List X) → filter p (filter q xs) ≡ filter p xs
+filter_both p q both [] = refl
+filter_both p q both (x ∷ xs) = by (p x) (q x) refl refl (filter_both p q both xs)
   where
-    one_more_sized : (t : Bytes) (others : List Bytes) → length t ≡ 64 → All (λ t. length t ≡ 64) others → All (λ t. length t ≡ 64) (t ∷ others)
-    one_more_sized t others first rest zero d less = first
-    one_more_sized t others first rest (suc k) d less = rest k d (omega (arith, less))
+    by : (a b : Bool) → p x ≡ a → q x ≡ b → filter p (filter q xs) ≡ filter p xs → filter p (filter q (x ∷ xs)) ≡ filter p (x ∷ xs)
+    by true true e f rest = rw (f, e) (ap (λ ys. x ∷ ys) rest)
+    by false true e f rest = rw (f, e) rest
+    by false false e f rest = rw (f, e) rest
+    by true false e f rest = absurd (false≢true (sym f ∙ both x e))
+
+any_in_front : {X : Type 0} (test : X → Bool) (xs ys : List X) → list_any test xs ≡ true → list_any test (xs ++ ys) ≡ true
+any_in_front test [] ys e = absurd (false≢true e)
+any_in_front test (x ∷ xs) ys e = by (test x) refl e (any_in_front test xs ys)
+  where
+    by : (b : Bool) → test x ≡ b → (b || list_any test xs) ≡ true → (list_any test xs ≡ true → list_any test (xs ++ ys) ≡ true) → (test x || list_any test (xs ++ ys)) ≡ true
+    by true at here rest = ap (λ b. b || list_any test (xs ++ ys)) at
+    by false at here rest = ap (λ b. b || list_any test (xs ++ ys)) at ∙ rest here
+
+-- the variables of an object's key stand among those of a request's key
+object_among_request : (variables : List Variable) → object_variables (request_variables variables) ≡ object_variables variables
+object_among_request variables =
+    filter_both (λ v. list_any (bytes_eq (v.0)) object_variable_names) (λ v. list_any (bytes_eq (v.0)) (object_variable_names ++ include_path_names))
+    (λ v. any_in_front (bytes_eq (v.0)) object_variable_names include_path_names) variables
 
 -- ---- calls
 
@@ -88,34 +98,71 @@ module _ {V : Type 0} (w : World V) where
   unfolding uses_cache
   used_prints q e = (and_parts (is_preprocessed q) _ e).0
 
-  texts_of_call : HasSize w.hash → (c : Call V) (xs : List Bytes) → extra_texts w c ≡ Some xs → (length xs ≡ length (map components c.request.arguments.extra_hash_files)) × All (λ t. length t ≡ 64) xs
-  unfolding extra_texts
-  texts_of_call size c xs e = texts_sized w.hash size c.files (map components c.request.arguments.extra_hash_files) xs e
-
-  -- equal material of one request tells the digest texts of the further files, and the recorded digest of the input
-  pub material_same : HasSize w.hash → (c d : Call V) (m : Bytes) → c.request ≡ d.request → key_material w c ≡ Some m → key_material w d ≡ Some m
-      → (extra_texts w c ≡ extra_texts w d) × (r : Bytes) × (input_recorded w c ≡ Some r) × (input_recorded w d ≡ Some r)
-  material_same size c d m same e f =
+  -- equal material is of equal parts, of equal digest texts of the further files, and of one recorded digest of the input
+  pub material_same : (c d : Call V) (m : Bytes) → key_material w c ≡ Some m → key_material w d ≡ Some m
+      → (uses_cache w c.request ≡ true) × (request_parts w c.request (input_path c) ≡ request_parts w d.request (input_path d))
+      × (extra_texts w c ≡ extra_texts w d) × (extra_texts w c ≢ None) × (r : Bytes) × (input_recorded w c ≡ Some r) × (input_recorded w d ≡ Some r)
+  material_same c d m e f =
       let (used, xs, r, is-xs, is-r, is) = material_known c m e in
       let (used', ys, s, is-ys, is-s, is') = material_known d m f in
-      let (count-x, sized-x) = texts_of_call size c xs is-xs in
-      let (count-y, sized-y) = texts_of_call size d ys is-ys in
-      let parts : request_parts w d.request (input_path d) ≡ request_parts w c.request (input_path c) =
-      ap (λ q. request_parts w q (join_path q.cwd q.arguments.input)) (sym same) in
-      let cut = one_request_one_material (request_parts w c.request (input_path c)) xs ys r s
-      (count-x ∙ ap (λ q. length (map components q.arguments.extra_hash_files)) same ∙ sym count-y) sized-x sized-y
-      (sym is ∙ is' ∙ ap (λ p. preprocessor_material p ys s) parts) in
-      (is-xs ∙ ap Some cut.0 ∙ sym is-ys, r, is-r, is-s ∙ ap Some (sym cut.1))
+      let (parts, extra, recorded) =
+      (preprocessor_material_tells_parts (request_parts w c.request (input_path c)) (request_parts w d.request (input_path d)) xs ys r s).0 (sym is ∙ is') in
+      (used, parts, is-xs ∙ ap Some extra ∙ sym is-ys, λ none. (none-some _ (sym none ∙ is-xs)), r, is-r, is-s ∙ ap Some (sym recorded))
+
+  -- equal parts are of one input path,
+  pub path_told : (p q : Request V) (i j : Bytes) → request_parts w p i ≡ request_parts w q j → i ≡ j
+  unfolding request_parts
+  path_told p q i j same = ap (λ parts. parts.input_file) same
+
+  -- and of one working directory, where it enters the key
+  pub cwd_told : (p q : Request V) (i j : Bytes) → request_parts w p i ≡ request_parts w q j → w.config.hash_working_directory ≡ true → p.cwd ≡ q.cwd
+  unfolding request_parts
+  cwd_told p q i j same on =
+      same_Some p.cwd q.cwd
+      (ap (λ b. cond b (Some p.cwd) None) (sym on) ∙ ap (λ parts. parts.directory) same ∙ ap (λ b. cond b (Some q.cwd) None) on)
+
+  needs_told : (p q : Request V) (i j : Bytes) → request_parts w p i ≡ request_parts w q j → is_preprocessed p ≡ is_preprocessed q
+  unfolding request_parts
+  needs_told p q i j same = ap (λ parts. is_preprocessed_first parts.language) same
+
+  -- what of the parts enters the plain key
+  abbrev parts_of_key : List Bytes → Bytes → RequestParts → KeyParts
+  parts_of_key extra_hashes text p = record {
+    compiler_digest = p.compiler_digest;
+    plusplus = p.plusplus;
+    language = p.language;
+    arguments = map (stripped_argument w.basedirs) (p.common_args ++ p.arch_args);
+    extra_hashes = extra_hashes;
+    assembler_digest = p.assembler_digest;
+    variables = object_variables p.variables;
+    output = stripped_text w.basedirs text;
+  }
+
+  key_from_parts : (q : Request V) (input : Bytes) (extra_hashes : List Bytes) (text : Bytes)
+      → object_key w.hash (params w q extra_hashes text) ≡ digest_text w.hash (material (parts_of_key extra_hashes text (request_parts w q input)))
+  unfolding params request_parts
+  key_from_parts q input extra_hashes text =
+      ap (λ variables. digest_text w.hash (material (record (parts_of_key extra_hashes text (request_parts w q input)) { variables = variables })))
+      (sym (object_among_request q.env_vars))
 
   text_printed : (c : Call V) (text : Bytes) → is_preprocessed c.request ≡ true → printed w c ≡ Some text → text_of w c ≡ Some text
   unfolding text_of
   text_printed c text needs is = ap (λ b. cond b (printed w c) (option_map (λ n. n.contents) (input_file w c))) needs ∙ is
 
-  -- calls of one request with equal digests of further files, for which the same is printed, have one plain key
-  pub plain_same : (c d : Call V) (text : Bytes) → is_preprocessed c.request ≡ true → c.request ≡ d.request → extra_texts w c ≡ extra_texts w d
+  same_key : (c d : Call V) (extra_hashes : List Bytes) (text : Bytes) → request_parts w c.request (input_path c) ≡ request_parts w d.request (input_path d)
+      → object_key w.hash (params w c.request extra_hashes text) ≡ object_key w.hash (params w d.request extra_hashes text)
+  same_key c d extra_hashes text same =
+      key_from_parts c.request (input_path c) extra_hashes text
+      ∙ ap (λ p. digest_text w.hash (material (parts_of_key extra_hashes text p))) same
+      ∙ sym (key_from_parts d.request (input_path d) extra_hashes text)
+
+  -- calls that agree, for which the same is printed, have one plain key
+  pub plain_same : (c d : Call V) (text : Bytes) → is_preprocessed c.request ≡ true → Agree w c d
       → printed w c ≡ Some text → printed w d ≡ Some text → plain_key w c ≡ plain_key w d
   unfolding plain_key
-  plain_same c d text needs request extra is is' =
-      let same : text_of w c ≡ text_of w d = text_printed c text needs is ∙ sym (text_printed d text (ap is_preprocessed (sym request) ∙ needs) is') in
-      ap₂ (λ q xs. of_both (λ es t. object_key w.hash (params w q es t)) xs (text_of w c)) request extra
-      ∙ ap (of_both (λ es t. object_key w.hash (params w d.request es t)) (extra_texts w d)) same
+  plain_same c d text needs agree is is' =
+      let here : text_of w c ≡ Some text = text_printed c text needs is in
+      let there : text_of w d ≡ Some text = text_printed d text (sym (needs_told c.request d.request (input_path c) (input_path d) agree.parts) ∙ needs) is' in
+      ap₂ (of_both (λ es t. object_key w.hash (params w c.request es t))) agree.extra (here ∙ sym there)
+      ∙ of_both_same (λ es t. object_key w.hash (params w c.request es t)) (λ es t. object_key w.hash (params w d.request es t))
+      (λ es t. same_key c d es t agree.parts) (extra_texts w d) (text_of w d)

@@ -9,7 +9,7 @@ use Rattle.cck_files.specs.FileMap.{FileNode}
 use Rattle.cck_include.specs.Recorded.{file_time_part, has_date, has_time, has_timestamp, is_timed, recorded, recorded_by}
 use Rattle.cck_path.specs.Bytes.{Bytes}
 use Rattle.cck_path.specs.Timestamp.{nanos_of}
-use Rattle.cck_time.specs.TimePart.{AreOfOneSecond, local_day, time_part}
+use Rattle.cck_time.specs.TimePart.{AreOfOneSecond, local_day, source_date_epoch, time_part}
 use Rattle.cck_time.proofs.PartLemmas.{days_told, seconds_told}
 use Rattle.c_cache_keys.specs.Call.{Call}
 use Rattle.c_cache_keys.specs.Premises.{IsSameFile}
@@ -27,9 +27,10 @@ recorded_some hash false false text part r e = (refl, [], sym (append-nil text �
 recorded_some hash false true text None r e = absurd cc
 recorded_some hash false true text (Some p) r e = (refl, digest_text hash p, cc, λ h. (p, refl, refl))
 
--- the local day of two calls, and the local second at which two files were modified, are the same
+-- the local day and the `SOURCE_DATE_EPOCH` of two calls, and the local second at which two files were modified, are the same
 abbrev SameDay : {V : Type 0} → World V → Call V → Call V → Type 0
-SameDay w c d = local_day w.zone (nanos_of c.moment) ≡ local_day w.zone (nanos_of d.moment)
+SameDay w c d =
+    (local_day w.zone (nanos_of c.moment) ≡ local_day w.zone (nanos_of d.moment)) × (source_date_epoch c.request.env_vars ≡ source_date_epoch d.request.env_vars)
 
 abbrev SameSecond : {V : Type 0} → World V → FileNode → FileNode → Type 0
 SameSecond w n o = AreOfOneSecond w.zone n.modified o.modified
@@ -47,7 +48,7 @@ module _ {V : Type 0} (w : World V) (size : HasSize w.hash) where
       recorded_some w.hash (has_time n.contents) (is_timed n.contents) (digest_text w.hash n.contents) (file_time_part (setting w c) n) r
       (ap (λ b. recorded_by w.hash (not b && has_time n.contents) (not b && is_timed n.contents) (digest_text w.hash n.contents) (file_time_part (setting w c) n)) (sym off) ∙ e)
 
-  -- equal time parts tell the day and the second
+  -- equal time parts tell the day, the variable and the second
   time_told : (date timestamp : Bool) (c d : Call V) (n o : FileNode) (p : Bytes)
       → time_part date timestamp n.modified c.moment w.zone c.request.env_vars ≡ Some p → time_part date timestamp o.modified d.moment w.zone d.request.env_vars ≡ Some p
       → IsTold w c d n o date timestamp
@@ -55,7 +56,7 @@ module _ {V : Type 0} (w : World V) (size : HasSize w.hash) where
     where
       day : (b : Bool) → time_part b timestamp n.modified c.moment w.zone c.request.env_vars ≡ Some p → time_part b timestamp o.modified d.moment w.zone d.request.env_vars ≡ Some p
           → b ≡ true → SameDay w c d
-      day true e f h = (days_told w.zone timestamp n.modified o.modified c.moment d.moment c.request.env_vars d.request.env_vars p e f).0
+      day true e f h = days_told w.zone timestamp n.modified o.modified c.moment d.moment c.request.env_vars d.request.env_vars p e f
       day false e f h = absurd cc
 
       second : (b : Bool) → time_part date b n.modified c.moment w.zone c.request.env_vars ≡ Some p → time_part date b o.modified d.moment w.zone d.request.env_vars ≡ Some p
@@ -87,7 +88,8 @@ module _ {V : Type 0} (w : World V) (size : HasSize w.hash) where
       in (
         record {
           contents = contents;
-          day = λ h. (facts (ap (λ b. b || has_timestamp n.contents) h)).0 h;
+          day = λ h. ((facts (ap (λ b. b || has_timestamp n.contents) h)).0 h).0;
+          epoch = λ h. ((facts (ap (λ b. b || has_timestamp n.contents) h)).0 h).1;
           second = λ h. (facts (or_right (has_date n.contents) (has_timestamp n.contents) h)).1 h;
         },
         clear,

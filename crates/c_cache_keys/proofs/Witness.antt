@@ -9,7 +9,7 @@ use Rattle.std.specs.List.{AllByRecursion, list_all}
 use Rattle.std.specs.Option.{option_and_then}
 use Rattle.std.specs.Ordering.{eq_by_cmp, is_eq}
 use Rattle.std.specs.Str.{bytes_eq, is_utf8}
-use Rattle.std.proofs.lemmas.Bool.{and_parts, ltb-true}
+use Rattle.std.proofs.lemmas.Bool.{and_parts, false≢true, ltb-true}
 use Rattle.std.proofs.lemmas.Int.{fits_signed_from_abs}
 use Rattle.std.proofs.lemmas.List.Elements.{All-nil, All-cons}
 use Rattle.std.proofs.lemmas.Str.{IsUtf8-from_ascii, is_utf8-from_IsUtf8}
@@ -33,7 +33,7 @@ use Rattle.cck_path.specs.Bytes.{Bytes}
 use Rattle.cck_path.specs.Path.{Path, components, path_cmp}
 use Rattle.cck_path.specs.Text.{join_path, path_text}
 use Rattle.cck_path.specs.TextOrder.{text_cmp}
-use Rattle.cck_preprocessor_key.specs.PreprocessorKey.{preprocessor_material}
+use Rattle.cck_preprocessor_key.specs.PreprocessorKey.{compiler_material, preprocessor_material}
 use Rattle.cck_store.specs.MapStore.{State, map_store, new_state}
 use Rattle.cck_strip.specs.Cuts.{stripped}
 use Rattle.cck_strip.specs.Text.{longest_prefix, text_site}
@@ -44,7 +44,7 @@ use Rattle.c_cache_keys.proofs.Includes.{entries-added, include_here, match_by_d
 use Rattle.c_cache_keys.proofs.WalkExamples.{header_accepted, header_alone, header_named, input_meant}
 use Rattle.c_cache_keys.specs.Call.{Call, Fault, Keyed, calls_of}
 use Rattle.c_cache_keys.specs.Keys.{extra_texts, input_file, input_recorded, is_direct, key_material, of_both, params, plain_key, preprocessor_key_of, printed, request_parts, text_of, told, uses_cache}
-use Rattle.c_cache_keys.specs.Premises.{IsHashed, NoSharedDigest, OneRequest, Premises, PrintsAgain, of_file, of_folder, of_key, of_time}
+use Rattle.c_cache_keys.specs.Premises.{IsHashed, NoSharedDigest, Premises, PrintsAgain, of_file, of_folder, of_key, of_time}
 use Rattle.c_cache_keys.specs.Step.{AreOwnIncludes, Hit, Miss, Opened, OwnPair, Step, asked, gives, matching}
 use Rattle.c_cache_keys.specs.Walk.{Accepted, AreRecorded, Errs, IsRecorded, MarksDecide, Walk, input_path}
 use Rattle.c_cache_keys.specs.Witness.{PremisesCanHold, file_of, included_text, input_text, path_in_w, printed_text, second, sized, witness_call, witness_done, witness_files, witness_hash, witness_nodes, witness_run, witness_world}
@@ -153,8 +153,8 @@ plain_is = ap₂ (of_both (λ extra text. object_key witness_hash (params witnes
 
 -- ---- what is hashed
 
-material_size : length witness_material ≡ 75
-unfolding preprocessor_material request_parts join_path is_multiarch archs stripped text_site longest_prefix
+material_size : length witness_material ≡ 170
+unfolding preprocessor_material compiler_material request_parts join_path is_multiarch archs length_bytes
 material_size = refl
 
 -- the string that a digest is of
@@ -207,9 +207,6 @@ no_shared_digest c d x y at-c at-d of-c of-d same =
     sym (told_apart x (subst (λ v. IsHashed witness_world v x) (sym (one_call c at-c)) of-c))
     ∙ ap hashed_of same ∙ told_apart y (subst (λ v. IsHashed witness_world v y) (sym (one_call d at-d)) of-d)
 
-one_request : OneRequest witness_world both_calls
-one_request c d k at-c at-d is-c is-d = ap (λ (v : Call (Unit {0})). v.request) (sym (one_call c at-c) ∙ one_call d at-d)
-
 prints_again : PrintsAgain witness_world both_calls
 unfolding printed
 prints_again c d text before is no_time walk agree same = is
@@ -217,7 +214,7 @@ prints_again c d text before is no_time walk agree same = is
 pub premises : Premises witness_world both_calls
 premises = record {
   hash = no_shared_digest;
-  requests = one_request;
+  requests = λ off. absurd (false≢true (sym off));
   compiler = prints_again;
   options = record { skip_system_headers = refl; ignore_time_macros = refl; file_stat_matches = refl };
 }

@@ -27,7 +27,7 @@ is_aside key e = absurd cc
 
 -- both agree, over the same files
 agree : Agree witness_world witness_call witness_call
-agree = record { request = refl; extra = refl; some_extra = λ none. (none-some _ (sym none ∙ extra_is)) }
+agree = record { parts = refl; cwd = refl; extra = refl; some_extra = λ none. (none-some _ (sym none ∙ extra_is)) }
 
 same_files : SameFiles witness_world witness_call witness_call printed_text
 same_files = record {
@@ -39,6 +39,7 @@ same_files = record {
     record {
       contents = refl;
       day = λ dated. refl;
+      epoch = λ dated. refl;
       second = λ stamped.
           let plain : has_timestamp n.contents ≡ false = plain_stamp p n file in
           let both : true ≡ false = sym stamped ∙ plain in

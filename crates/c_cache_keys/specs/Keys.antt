@@ -11,9 +11,10 @@ use Rattle.cck_include.specs.Recorded.{recorded}
 use Rattle.cck_path.specs.Bytes.{Bytes}
 use Rattle.cck_path.specs.Path.{components}
 use Rattle.cck_path.specs.Variables.{Variable, first_value}
-use Rattle.cck_preprocessor_key.specs.PreprocessorKey.{RequestParts, preprocessor_material}
+use Rattle.cck_preprocessor_key.specs.PreprocessorKey.{RequestParts, hashed_directory, preprocessor_material}
 use Rattle.cck_util.specs.Key.{Params, object_key}
 use Rattle.cck_util.specs.Language.{is_preprocessed_first}
+use Rattle.cck_util.specs.Variables.{request_variables}
 use Rattle.c_cache_keys.specs.Call.{Call, Request}
 use Rattle.c_cache_keys.specs.Walk.{input_path}
 use Rattle.c_cache_keys.specs.World.{World, setting}
@@ -69,11 +70,13 @@ module _ {V : Type 0} (w : World V) where
     plusplus = w.compiler.plusplus q.compiler;
     language = q.arguments.language;
     multiarch = is_multiarch q.arguments;
-    arguments = (q.arguments.preprocessor_args ++ q.arguments.arch_args) ++ q.arguments.common_args;
+    preprocessor_args = q.arguments.preprocessor_args;
+    arch_args = q.arguments.arch_args;
+    common_args = q.arguments.common_args;
     assembler_digest = assembler_digest q;
-    env_vars = q.env_vars;
+    variables = request_variables q.env_vars;
     input_file = input;
-    basedirs = w.basedirs;
+    directory = hashed_directory w.config q.cwd;
   }
 
   -- the material of that key, if there is one: the cache is used, all further files have digests, and the input has a recorded one

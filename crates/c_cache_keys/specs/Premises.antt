@@ -7,9 +7,9 @@ use Rattle.cck_include.specs.Recorded.{file_time_part, has_date, has_time, has_t
 use Rattle.cck_path.specs.Bytes.{Bytes}
 use Rattle.cck_path.specs.Path.{Path, components}
 use Rattle.cck_path.specs.Timestamp.{nanos_of}
-use Rattle.cck_time.specs.TimePart.{AreOfOneSecond, local_day}
+use Rattle.cck_time.specs.TimePart.{AreOfOneSecond, local_day, source_date_epoch}
 use Rattle.c_cache_keys.specs.Call.{Call}
-use Rattle.c_cache_keys.specs.Keys.{extra_texts, key_material, preprocessor_key_of, printed}
+use Rattle.c_cache_keys.specs.Keys.{extra_texts, key_material, preprocessor_key_of, printed, request_parts}
 use Rattle.c_cache_keys.specs.Walk.{Accepted, IsNamed, Walk, input_path}
 use Rattle.c_cache_keys.specs.World.{World, setting}
 
@@ -33,18 +33,20 @@ module _ {V : Type 0} (w : World V) where
   abbrev pub IsBefore : List (Call V) → Call V → Call V → Type 0
   IsBefore calls c d = (xs : List (Call V)) × (ys : List (Call V)) × (calls ≡ xs ++ ys) × Contains xs c × Contains ys d
 
-  -- two calls agree in what a printed text and a key are made of, beside the input and what it includes: all their further files have
-  -- digests, and these are the same
+  -- Two calls agree in what a printed text and a key are made of, beside the input's text and what it includes: in all that a request says
+  -- for the key that a store is asked under, and in the working directory. All their further files have digests, and these are the same.
   pub record Agree (c d : Call V) : Type 0 where
-    pub request : c.request ≡ d.request
+    pub parts : request_parts w c.request (input_path c) ≡ request_parts w d.request (input_path d)
+    pub cwd : c.request.cwd ≡ d.request.cwd
     pub extra : extra_texts w c ≡ extra_texts w d
     pub some_extra : extra_texts w c ≢ None
 
-  -- The file of one call is as that of the other, as far as a text can show: by its contents, by the day of the calls where these hold
-  -- a date, and by the second of its modification where they hold a timestamp.
+  -- The file of one call is as that of the other, as far as a text can show: by its contents, by the day and the `SOURCE_DATE_EPOCH` of the
+  -- calls where these hold a date, and by the second of its modification where they hold a timestamp.
   pub record IsSameFile (c d : Call V) (n o : FileNode) : Type 0 where
     pub contents : n.contents ≡ o.contents
     pub day : has_date n.contents ≡ true → local_day w.zone (nanos_of c.moment) ≡ local_day w.zone (nanos_of d.moment)
+    pub epoch : has_date n.contents ≡ true → source_date_epoch c.request.env_vars ≡ source_date_epoch d.request.env_vars
     pub second : has_timestamp n.contents ≡ true → AreOfOneSecond w.zone n.modified o.modified
 
   -- the input is a regular file, and of it and what the text names each regular file is as it was
@@ -58,7 +60,7 @@ module _ {V : Type 0} (w : World V) where
   abbrev pub NoTime : Call V → Type 0
   NoTime c = (n : FileNode) → file_at c.files (components (input_path c)) ≡ Ok n → has_time n.contents ≡ false
 
-  -- a preprocessor prints the same text once more for a later call, where it is asked for the same over the same files
+  -- a preprocessor prints the same text once more for a later call that agrees with the first one, over the same files
   abbrev pub PrintsAgain : List (Call V) → Type 0
   PrintsAgain calls =
       (c d : Call V) (text : Bytes) → IsBefore calls c d → printed w c ≡ Some text → NoTime c → Walk w c text Accepted
@@ -70,9 +72,9 @@ module _ {V : Type 0} (w : World V) where
     pub ignore_time_macros : w.config.ignore_time_macros ≡ false
     pub file_stat_matches : w.config.file_stat_matches ≡ false
 
-  -- all of these, over the calls of a run
+  -- All of these, over the calls of a run. One key may be of several requests, where it has the working directory.
   pub record Premises (calls : List (Call V)) : Type 0 where
     pub hash : NoSharedDigest calls
-    pub requests : OneRequest calls
+    pub requests : w.config.hash_working_directory ≡ false → OneRequest calls
     pub compiler : PrintsAgain calls
     pub options : OptionsOff

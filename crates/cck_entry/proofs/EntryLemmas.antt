@@ -24,6 +24,7 @@ use Rattle.cck_path.specs.TextOrder.{text_cmp}
 use Rattle.cck_time.specs.declared.error.Error.{Error}
 use Rattle.cck_time.specs.declared.error.Error.TheVariants.{Io, Deserialization, UnknownFormat, Memory}
 use Rattle.cck_path.proofs.TestLemmas.{true_from_T}
+use Rattle.cck_preprocessor_key.specs.PreprocessorKey.{format_version}
 use Rattle.cck_entry.specs.Results.{KeyResult, result_in, FitsResult}
 use Rattle.cck_entry.specs.Writing.{entry_bytes, include_bytes, length_prefixed, result_bytes}
 use Rattle.cck_entry.specs.Reading.{entry_at, comes_after, Fails}
@@ -97,34 +98,34 @@ after_copied es front r behind h e = after_front front r behind (ap (is_sorted t
 -- ---- what bytes spell
 
 abbrev one_more : List ℕ → List ℕ
-one_more b = 1 ∷ b
+one_more b = format_version ∷ b
 
 tail_is : (a b : List ℕ) → one_more a ≡ one_more b → a ≡ b
 tail_is a b e = cc
 
-pub as_entry : (e : Entry) (rest : List ℕ) → EntryText e (1 ∷ rest) → entry_at rest ≡ Some (entries e)
+pub as_entry : (e : Entry) (rest : List ℕ) → EntryText e (format_version ∷ rest) → entry_at rest ≡ Some (entries e)
 as_entry e rest h =
     let fits : IsEntry (entries e) = record { count = h.count; each = h.each; ascends = ascends_from (entries e) [] (none_in_front (entries e)) (true_from_T _ (entries_sorted e)) } in
     let text = tail_is rest _ h.text in
     ap entry_at text ∙ entry_again (entries e) fits
 
 -- it is the text of what is read
-pub read_text : (rest : List ℕ) (rs : List KeyResult) → IsBytes rest → entry_at rest ≡ Some rs → EntryText (from_sorted rs) (1 ∷ rest)
+pub read_text : (rest : List ℕ) (rs : List KeyResult) → IsBytes rest → entry_at rest ≡ Some rs → EntryText (from_sorted rs) (format_version ∷ rest)
 read_text rest rs fits e =
     let t = entry_takes rest rs fits e in
     let same : entries (from_sorted {R = text_cmp} rs) ≡ rs = entries-from_sorted text_cmp rs (T_from_true _ (sorted_from rs [] t.0.ascends)) in
     record {
       count = rw same t.0.count;
       each = rw same t.0.each;
-      text = rw same (ap (λ (b : List ℕ). 1 ∷ b) t.1);
+      text = rw same (ap (λ (b : List ℕ). format_version ∷ b) t.1);
     }
 
 -- and of nothing where nothing is read
-pub no_text : (rest : List ℕ) → entry_at rest ≡ None → (e : Entry) → EntryText e (1 ∷ rest) → ⊥
+pub no_text : (rest : List ℕ) → entry_at rest ≡ None → (e : Entry) → EntryText e (format_version ∷ rest) → ⊥
 no_text rest none e h = let s = as_entry e rest h in absurd cc
 
 -- a text is of one entry
-pub one_entry : (rest : List ℕ) (rs : List KeyResult) (e : Entry) → IsBytes rest → entry_at rest ≡ Some rs → EntryText e (1 ∷ rest) → from_sorted rs ≡ e
+pub one_entry : (rest : List ℕ) (rs : List KeyResult) (e : Entry) → IsBytes rest → entry_at rest ≡ Some rs → EntryText e (format_version ∷ rest) → from_sorted rs ≡ e
 one_entry rest rs e fits is h =
     let t = entry_takes rest rs fits is in
     let found : rs ≡ entries e = same_Some rs (entries e) (sym is ∙ as_entry e rest h) in

@@ -13,6 +13,7 @@ use Rattle.cck_entry.specs.Results.{FitsResult, KeyResult, result_in}
 use Rattle.cck_include.specs.Include.{Include}
 use Rattle.cck_entry.specs.Writing.{entry_bytes}
 use Rattle.cck_include.specs.declared.include.IncludeEntry.{IncludeEntry}
+use Rattle.cck_preprocessor_key.specs.PreprocessorKey.{format_version}
 
 -- an entry has, for each key, a list of includes
 abbrev pub Entry : Type 0
@@ -51,8 +52,8 @@ pub record EntryText (e : Entry) (bytes : List ℕ) : Type 0 where
 -- what bytes may be read as
 abbrev pub Reads : Result Entry Error → List ℕ → Type 0
 Reads (Ok e) bytes = EntryText e bytes ⊎ ((bytes ≡ []) × (e ≡ empty))
-Reads (Err (UnknownFormat x)) bytes = (rest : List ℕ) × (bytes ≡ x ∷ rest) × (x ≢ 1)
-Reads (Err Deserialization) bytes = (rest : List ℕ) × (bytes ≡ 1 ∷ rest) × ((e : Entry) → EntryText e bytes → ⊥)
+Reads (Err (UnknownFormat x)) bytes = (rest : List ℕ) × (bytes ≡ x ∷ rest) × (x ≢ format_version)
+Reads (Err Deserialization) bytes = (rest : List ℕ) × (bytes ≡ format_version ∷ rest) × ((e : Entry) → EntryText e bytes → ⊥)
 Reads (Err Memory) bytes = Unit {0}
 Reads (Err (Io u)) bytes = ⊥
 
@@ -66,9 +67,9 @@ IsEntryOrMemory e (Err (Io u)) = ⊥
 
 -- what the bytes behind the format may be read as, and as nothing else
 abbrev pub IsReadFrom : List ℕ → Result Entry Error → Type 0
-IsReadFrom rest (Ok e) = EntryText e (1 ∷ rest) × ((f : Entry) → EntryText f (1 ∷ rest) → e ≡ f)
+IsReadFrom rest (Ok e) = EntryText e (format_version ∷ rest) × ((f : Entry) → EntryText f (format_version ∷ rest) → e ≡ f)
 IsReadFrom rest (Err Memory) = Unit {0}
-IsReadFrom rest (Err Deserialization) = (e : Entry) → EntryText e (1 ∷ rest) → ⊥
+IsReadFrom rest (Err Deserialization) = (e : Entry) → EntryText e (format_version ∷ rest) → ⊥
 IsReadFrom rest (Err (UnknownFormat x)) = ⊥
 IsReadFrom rest (Err (Io u)) = ⊥
 

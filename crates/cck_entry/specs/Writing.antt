@@ -5,6 +5,7 @@ use Rattle.std.specs.List.{flat_map}
 use Rattle.cck_path.specs.Timestamp.{Moment}
 use Rattle.cck_entry.specs.Results.{KeyResult}
 use Rattle.cck_include.specs.Include.{Include}
+use Rattle.cck_preprocessor_key.specs.PreprocessorKey.{format_version}
 
 -- the length of these bytes in 8 bytes, and the bytes
 abbrev pub length_prefixed : List ℕ → List ℕ
@@ -28,4 +29,4 @@ result_bytes r = length_prefixed (r.0) ++ (to_le_bytes w64 (length (r.1)) ++ fla
 
 -- the format, how many results follow, and these
 abbrev pub entry_bytes : List KeyResult → List ℕ
-entry_bytes rs = 1 ∷ (to_le_bytes w64 (length rs) ++ flat_map result_bytes rs)
+entry_bytes rs = format_version ∷ (to_le_bytes w64 (length rs) ++ flat_map result_bytes rs)

@@ -69,8 +69,8 @@ impl PreprocessorCacheEntry {
 
     /// The entry whose text these bytes are; for no bytes it is the one without results.
     ///
-    /// [`Error::UnknownFormat`] names a first byte other than 1. [`Error::Deserialization`] says
-    /// that the bytes begin with 1 and are the text of no entry. A count is judged by the bytes
+    /// [`Error::UnknownFormat`] names a first byte other than 2. [`Error::Deserialization`] says
+    /// that the bytes begin with 2 and are the text of no entry. A count is judged by the bytes
     /// left before memory is taken for it. [`Error::Memory`] says that memory was refused.
     pub fn read(alloc: Global, bytes: &[u8]) -> Result<PreprocessorCacheEntry, Error>
         ensures reads { Reads result bytes.now }

@@ -7,7 +7,7 @@ ghost use Rattle.cck_entry.specs.Laws.{AddedIsLimited, AddedToAllOrNothing, OneT
 
 use crate::PreprocessorCacheEntry;
 pub use cck_include::laws::{equal_digests_tell, recorded_has_length};
-pub use cck_preprocessor_key::laws::one_request_one_material;
+pub use cck_preprocessor_key::laws::preprocessor_material_tells_parts;
 pub use cck_time::laws::{dates_of_days, equal_parts_tell, one_day, one_second, parts_exist};
 
 /// Texts of entries are equal exactly if the entries are: an entry has at most one text, and bytes

@@ -52,8 +52,8 @@ impl<'a> EntryView<'a> {
     ///
     /// It accepts and refuses as
     /// [`PreprocessorCacheEntry::read`](crate::PreprocessorCacheEntry::read):
-    /// [`Error::UnknownFormat`] names a first byte other than 1, [`Error::Deserialization`] says that
-    /// the bytes begin with 1 and are the text of no entry, and [`Error::Memory`] that memory was
+    /// [`Error::UnknownFormat`] names a first byte other than 2, [`Error::Deserialization`] says that
+    /// the bytes begin with 2 and are the text of no entry, and [`Error::Memory`] that memory was
     /// refused. Memory is taken once, for as many results as the bytes name, after this count was
     /// judged by the bytes left.
     pub fn read(alloc: Global, bytes: &'a [u8]) -> Result<EntryView<'a>, Error>

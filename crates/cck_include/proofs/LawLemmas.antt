@@ -10,7 +10,7 @@ use Rattle.cck_files.specs.FileMap.{FileNode}
 use Rattle.cck_path.specs.Timestamp.{Moment, nanos_of}
 use Rattle.cck_path.specs.Variables.{Variable}
 use Rattle.cck_time.proofs.PartLemmas.{days_told, seconds_told}
-use Rattle.cck_time.specs.TimePart.{epoch_text, local_day, time_part}
+use Rattle.cck_time.specs.TimePart.{local_day, source_date_epoch, time_part}
 use Rattle.cck_include.specs.Laws.{AreTold, ShowTheSame, at_moment}
 use Rattle.cck_include.specs.Recorded.{counts_part, file_time_part, has_date, has_time, has_timestamp, is_timed, recorded, recorded_by}
 use Rattle.cck_include.specs.Setting.{Setting}
@@ -64,7 +64,7 @@ equal_digests_tell s moment variables n o digest long told e f =
     (p, is-p, ap (λ (c : List ℕ). time_part (has_date c) (has_timestamp c) o.modified moment s.zone variables) contents ∙ is-q ∙ ap (λ (x : List ℕ). Some x) (sym same))
     in
     let dated : s.config.ignore_time_macros ≡ false → has_date n.contents ≡ true
-    → (local_day s.zone (nanos_of s.moment) ≡ local_day s.zone (nanos_of moment)) × (epoch_text s.variables ≡ epoch_text variables) =
+    → (local_day s.zone (nanos_of s.moment) ≡ local_day s.zone (nanos_of moment)) × (source_date_epoch s.variables ≡ source_date_epoch variables) =
     λ counts date.
     let (p, first, second) = parts (counted s.config.ignore_time_macros (is_timed n.contents) counts ∙ ap (λ b. b || has_timestamp n.contents) date) in
     days_told s.zone (has_timestamp n.contents) n.modified o.modified s.moment moment s.variables variables p

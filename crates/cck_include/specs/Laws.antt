@@ -4,7 +4,7 @@ use Rattle.cck_digest.specs.Digest.{digest_text}
 use Rattle.cck_files.specs.FileMap.{FileNode}
 use Rattle.cck_path.specs.Timestamp.{Moment, nanos_of}
 use Rattle.cck_path.specs.Variables.{Variable}
-use Rattle.cck_time.specs.TimePart.{AreOfOneSecond, epoch_text, local_day}
+use Rattle.cck_time.specs.TimePart.{AreOfOneSecond, local_day, source_date_epoch}
 use Rattle.cck_include.specs.Recorded.{counts_part, file_time_part, has_date, has_time, has_timestamp, recorded}
 use Rattle.cck_include.specs.Setting.{Setting}
 
@@ -33,7 +33,7 @@ pub record ShowTheSame (s t : Setting) (n o : FileNode) : Type 0 where
   pub contents : n.contents ≡ o.contents
   pub time : s.config.ignore_time_macros ≡ false → has_time n.contents ≡ false
   pub day : s.config.ignore_time_macros ≡ false → has_date n.contents ≡ true → local_day s.zone (nanos_of s.moment) ≡ local_day s.zone (nanos_of t.moment)
-  pub epoch : s.config.ignore_time_macros ≡ false → has_date n.contents ≡ true → epoch_text s.variables ≡ epoch_text t.variables
+  pub epoch : s.config.ignore_time_macros ≡ false → has_date n.contents ≡ true → source_date_epoch s.variables ≡ source_date_epoch t.variables
   pub second : s.config.ignore_time_macros ≡ false → has_timestamp n.contents ≡ true
       → AreOfOneSecond s.zone n.modified o.modified
 

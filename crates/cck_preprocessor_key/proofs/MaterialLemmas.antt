@@ -1,49 +1,77 @@
--- Equal material of one request is of equal files.
-use Rattle.std.proofs.Common.{◌≡◌, ℕ, suc, List, [], ◌∷◌, ◌++◌, All, length, map, refl, sym, ◌∙◌, arith, append_assoc}
-use Rattle.std.proofs.lemmas.List.{append_cancel_left}
-use Rattle.std.specs.List.{flat_map}
-use Rattle.cck_digest.proofs.ReadsBack.{pieces_read_back}
-use Rattle.cck_strip.specs.Argument.{argument_bytes, stripped_argument}
-use Rattle.cck_strip.specs.Text.{stripped_text}
-use Rattle.cck_util.specs.Key.{assembler_bytes, flag_byte}
+-- Equal material is of equal parts.
+use Rattle.std.proofs.Common.{◌≡◌, ◌↔◌, ℕ, List, [], ◌∷◌, ◌++◌, refl, sym, ◌∙◌, append_assoc, append-nil}
+use Rattle.cck_digest.specs.Frames.{frame, framed_list, framed_option}
+use Rattle.cck_digest.proofs.FrameLemmas.{frame_reads_back, framed_list_reads_back, option_reads_back}
+use Rattle.cck_digest.proofs.ReadsBack.{bytes_read_back}
+use Rattle.cck_util.proofs.MaterialLemmas.{flag_reads_back, language_from_name, variable_reads_back}
+use Rattle.cck_util.specs.Key.{cache_version, flag_byte}
 use Rattle.cck_util.specs.Language.{language_name}
-use Rattle.cck_util.specs.Variables.{variable_bytes, variables_named}
-use Rattle.cck_preprocessor_key.specs.PreprocessorKey.{RequestParts, multiarch_bytes, preprocessor_material, preprocessor_variable_names}
+use Rattle.cck_util.specs.Variables.{variable_frames}
+use Rattle.cck_preprocessor_key.specs.PreprocessorKey.{RequestParts, compiler_material, format_version, preprocessor_material}
 
-equal_lengths : (xs ys : List (List ℕ)) → length xs ≡ length ys → All (λ x. length x ≡ 64) xs → All (λ y. length y ≡ 64) ys → map length xs ≡ map length ys
-equal_lengths [] [] c h k = refl
-equal_lengths [] (y ∷ ys) c h k = absurd (omega arith)
-equal_lengths (x ∷ xs) [] c h k = absurd (omega arith)
-equal_lengths (x ∷ xs) (y ∷ ys) c h k =
-    let first : length x ≡ length y = h 0 x (omega arith) ∙ sym (k 0 y (omega arith)) in
-    let rest = equal_lengths xs ys (omega arith) (λ i d lt. h (suc i) d (omega arith)) (λ i d lt. k (suc i) d (omega arith)) in
-    cc
+-- what stands before the lists of arguments, before what follows it
+abbrev begun : RequestParts → List ℕ → List ℕ
+begun p rest =
+    (format_version ∷ []) ++ (frame cache_version ++ (frame p.compiler_digest ++ ((flag_byte p.plusplus ∷ []) ++ (frame (language_name p.language)
+    ++ ((flag_byte p.multiarch ∷ []) ++ rest)))))
 
--- what stands before the digest texts of further files, and behind them
-abbrev before : RequestParts → List ℕ
-before p =
-    p.compiler_digest ++ (flag_byte p.plusplus ∷ 1 ∷ [] ++ (language_name p.language ++ (multiarch_bytes p.multiarch
-    ++ flat_map argument_bytes (map (stripped_argument p.basedirs) p.arguments))))
+-- the lists, before what follows them
+abbrev listed : RequestParts → List (List ℕ) → List ℕ → List ℕ
+listed p xs rest =
+    framed_list frame p.preprocessor_args ++ (framed_list frame p.arch_args ++ (framed_list frame p.common_args ++ (framed_list frame xs ++ rest)))
 
-abbrev behind : RequestParts → List ℕ
-behind p =
-    assembler_bytes p.assembler_digest
-    ++ (flat_map variable_bytes (variables_named preprocessor_variable_names p.env_vars) ++ stripped_text p.basedirs p.input_file)
+-- and what stands behind them
+abbrev ended : RequestParts → List ℕ → List ℕ
+ended p r =
+    framed_option p.assembler_digest ++ (framed_list variable_frames p.variables ++ (frame p.input_file ++ (framed_option p.directory ++ frame r)))
 
-parted : (a b c d e f g h i j : List ℕ) → a ++ b ++ c ++ d ++ e ++ f ++ g ++ h ++ i ++ j ≡ (a ++ (b ++ (c ++ (d ++ e)))) ++ (f ++ ((g ++ (h ++ i)) ++ j))
-parted a b c d e f g h i j = simp append_assoc
-
-material-nested : (p : RequestParts) (xs : List (List ℕ)) (r : List ℕ) → preprocessor_material p xs r ≡ before p ++ (flat_map (λ digest. digest) xs ++ (behind p ++ r))
-unfolding preprocessor_material
+-- the material, each part before all that follows it
+material-nested : (p : RequestParts) (xs : List (List ℕ)) (r : List ℕ) → preprocessor_material p xs r ≡ begun p (listed p xs (ended p r))
+unfolding preprocessor_material compiler_material
 material-nested p xs r =
-    parted p.compiler_digest (flag_byte p.plusplus ∷ 1 ∷ []) (language_name p.language) (multiarch_bytes p.multiarch)
-    (flat_map argument_bytes (map (stripped_argument p.basedirs) p.arguments)) (flat_map (λ digest. digest) xs) (assembler_bytes p.assembler_digest)
-    (flat_map variable_bytes (variables_named preprocessor_variable_names p.env_vars)) (stripped_text p.basedirs p.input_file) r
+    parted (format_version ∷ []) (frame cache_version) (frame p.compiler_digest) (flag_byte p.plusplus ∷ []) (frame (language_name p.language)) (flag_byte p.multiarch ∷ [])
+    (framed_list frame p.preprocessor_args) (framed_list frame p.arch_args) (framed_list frame p.common_args) (framed_list frame xs)
+    (framed_option p.assembler_digest) (framed_list variable_frames p.variables) (frame p.input_file) (framed_option p.directory) (frame r)
+  where
+    parted : (a b c d e f g h i j k l m n o : List ℕ)
+        → a ++ b ++ c ++ d ++ e ++ f ++ g ++ h ++ i ++ j ++ k ++ l ++ m ++ n ++ o
+        ≡ a ++ (b ++ (c ++ (d ++ (e ++ (f ++ (g ++ (h ++ (i ++ (j ++ (k ++ (l ++ (m ++ (n ++ o)))))))))))))
+    parted a b c d e f g h i j k l m n o = simp append_assoc
 
-pub one_request_one_material : (p : RequestParts) (xs ys : List (List ℕ)) (r s : List ℕ) → length xs ≡ length ys
-    → All (λ x. length x ≡ 64) xs → All (λ y. length y ≡ 64) ys
-    → preprocessor_material p xs r ≡ preprocessor_material p ys s → (xs ≡ ys) × (r ≡ s)
-one_request_one_material p xs ys r s c h k e =
-    let rest = append_cancel_left (before p) _ _ (sym (material-nested p xs r) ∙ (e ∙ material-nested p ys s)) in
-    let texts = pieces_read_back xs ys (equal_lengths xs ys c h k) _ _ rest in
-    (texts.0, append_cancel_left (behind p) r s texts.1)
+parts_from_material : (p q : RequestParts) (xs ys : List (List ℕ)) (r s : List ℕ) → preprocessor_material p xs r ≡ preprocessor_material q ys s → (p ≡ q) × (xs ≡ ys) × (r ≡ s)
+parts_from_material p q xs ys r s e =
+    let (_, after_format) = bytes_read_back (format_version ∷ []) (format_version ∷ []) _ _ refl (sym (material-nested p xs r) ∙ (e ∙ material-nested q ys s)) in
+    let (_, after_version) = frame_reads_back cache_version cache_version _ _ after_format in
+    let (compiler_digest, after_compiler) = frame_reads_back p.compiler_digest q.compiler_digest _ _ after_version in
+    let (plusplus, after_flag) = flag_reads_back p.plusplus q.plusplus _ _ after_compiler in
+    let (names, after_language) = frame_reads_back (language_name p.language) (language_name q.language) _ _ after_flag in
+    let (multiarch, after_mark) = flag_reads_back p.multiarch q.multiarch _ _ after_language in
+    let (preprocessor_args, after_preprocessor) = framed_list_reads_back frame frame_reads_back p.preprocessor_args q.preprocessor_args _ _ after_mark in
+    let (arch_args, after_arch) = framed_list_reads_back frame frame_reads_back p.arch_args q.arch_args _ _ after_preprocessor in
+    let (common_args, after_common) = framed_list_reads_back frame frame_reads_back p.common_args q.common_args _ _ after_arch in
+    let (extra_hashes, after_hashes) = framed_list_reads_back frame frame_reads_back xs ys _ _ after_common in
+    let (assembler_digest, after_assembler) = option_reads_back p.assembler_digest q.assembler_digest _ _ after_hashes in
+    let (variables, after_variables) = framed_list_reads_back variable_frames variable_reads_back p.variables q.variables _ _ after_assembler in
+    let (input_file, after_input) = frame_reads_back p.input_file q.input_file _ _ after_variables in
+    let (directory, after_directory) = option_reads_back p.directory q.directory _ _ after_input in
+    let (recorded, _) = frame_reads_back r s [] [] (append-nil (frame r) ∙ (after_directory ∙ sym (append-nil (frame s)))) in
+    let language = language_from_name p.language q.language names in
+    let parts : p ≡ q = λ i. record {
+      compiler_digest = compiler_digest i;
+      plusplus = plusplus i;
+      language = language i;
+      multiarch = multiarch i;
+      preprocessor_args = preprocessor_args i;
+      arch_args = arch_args i;
+      common_args = common_args i;
+      assembler_digest = assembler_digest i;
+      variables = variables i;
+      input_file = input_file i;
+      directory = directory i;
+    }
+    in
+    (parts, extra_hashes, recorded)
+
+pub preprocessor_material_tells_parts : (p q : RequestParts) (xs ys : List (List ℕ)) (r s : List ℕ) → preprocessor_material p xs r ≡ preprocessor_material q ys s ↔ ((p ≡ q) × (xs ≡ ys) × (r ≡ s))
+preprocessor_material_tells_parts p q xs ys r s =
+    (parts_from_material p q xs ys r s, λ same. (λ i. preprocessor_material (same.0 i) (same.1 i) (same.2 i)))

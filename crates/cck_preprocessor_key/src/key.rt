@@ -1,96 +1,122 @@
 //! The key of a request in the preprocessor cache.
-ghost use Rattle.std.specs.Prelude.{◌≡◌, ◌++◌, ℕ, List, IfOk, IsOkAnd, IsOkUnless, MatchResult, map, string_bytes};
+ghost use Rattle.std.specs.Prelude.{◌≡◌, IfOk, IsOkAnd, IsOkUnless, MatchResult, map, string_bytes};
 ghost use Rattle.std.specs.Option.{option_map};
 ghost use Rattle.cck_files.specs.Calls.{Keeps, Rose};
 ghost use Rattle.cck_files.specs.FileMap.{file_at};
 ghost use Rattle.cck_include.specs.Recorded.{recorded};
 ghost use Rattle.cck_include.specs.Refusal.{IsIoRefusal};
 ghost use Rattle.cck_include.specs.Setting.{setting_in};
+ghost use Rattle.cck_path.specs.Bytes.{lists_of, variables_of};
 ghost use Rattle.cck_path.specs.Path.{components};
+ghost use Rattle.cck_util.specs.Variables.{request_variables};
 ghost use Rattle.jiff.specs.Words.{plain_zone};
-ghost use Rattle.cck_preprocessor_key.specs.PreprocessorKey.{multiarch_bytes, preprocessor_key, request_parts_in};
+ghost use Rattle.cck_preprocessor_key.specs.PreprocessorKey.{RequestParts, compiler_material, hashed_directory, preprocessor_key};
 
-use cck_digest::{Digest, HashState, UtilError};
+use cck_digest::{Digest, HashState, UtilError, hash_len_prefixed};
 use cck_files::Files;
 use cck_include::recorded_digest;
 use cck_path::Timestamp;
-use cck_strip::{hash_arguments, strip_basedirs};
 use cck_time::{Error, PreprocessorCacheModeConfig};
-use cck_util::{Language, hash_assembler_digest, hash_extra_hashes, hash_variables_named};
+use cck_util::{CACHE_VERSION, Language, hash_option, hash_request_variables, hash_text_list};
 use jiff::tz::TimeZone;
 use std::alloc::Global;
+use std::marker::Model;
 
-// The names of the variables that change which files a preprocessor finds.
-const PREPROCESSOR_VARIABLES: [&[u8]; 6] = [
-    b"SCCACHE_C_CUSTOM_CACHE_BUSTER",
-    b"CPATH",
-    b"C_INCLUDE_PATH",
-    b"CPLUS_INCLUDE_PATH",
-    b"OBJC_INCLUDE_PATH",
-    b"OBJCPLUS_INCLUDE_PATH",
-];
-
-/// The format of entries: their first byte, and a byte of each key material, so that keys of
-/// several formats differ.
+/// The format of entries: their first byte, and the first byte of each key material, so that keys
+/// of several formats differ.
 ///
 /// Upstream's `FORMAT_VERSION`.
-pub const FORMAT_VERSION: u8 = 1;
+pub const FORMAT_VERSION: u8 = 2;
 
-// Feeds a mark of requests for several architectures.
-fn hash_multiarch<H: HashState>(digest: &mut Digest<H>, multiarch: bool)
-    ensures { (fed : List ℕ) → H.holds digest.old fed →
-        H.holds digest.new (fed ++ multiarch_bytes multiarch) }
+// What a request says for its key, beside what its files hold.
+#[derive(Drop)]
+struct Request<'a> {
+    compiler_digest: &'a str,
+    plusplus: bool,
+    language: Language,
+    multiarch: bool,
+    preprocessor_args: &'a [Vec<u8>],
+    arch_args: &'a [Vec<u8>],
+    common_args: &'a [Vec<u8>],
+    assembler_digest: Option<&'a str>,
+    env_vars: &'a [(Vec<u8>, Vec<u8>)],
+    input_file: &'a [u8],
+    directory: Option<&'a [u8]>,
+}
+
+impl<'a> Model for Request<'a> {
+    ghost use Rattle.cck_preprocessor_key.specs.PreprocessorKey.{RequestParts};
+
+    ghost Value = { RequestParts };
+
+    ghost use Rattle.cck_preprocessor_key.specs.Request.{parts_of};
+
+    ghost view = { parts_of };
+}
+
+// The working directory, where the options have it enter the key.
+fn hashed_directory(config: PreprocessorCacheModeConfig, cwd: &[u8]) -> Option<&[u8]>
+    ensures { option_map (λ directory. directory.now) result ≡ hashed_directory config cwd.now }
 {
-    if multiarch {
-        digest.update(b"multiarch-per-pass");
+    if config.hash_working_directory {
+        Some(cwd)
+    } else {
+        None
     }
+}
+
+// A digest that was fed the versions, the compiler and in which way it is run.
+#[tactic(auto, unfolding(crate::specs::PreprocessorKey::compiler_material))]
+fn compiler_material<H: HashState>(request: &Request<'_>) -> Digest<H>
+    ensures { H.holds result (compiler_material request.now) }
+{
+    let mut digest = Digest::<H>::new();
+    digest.update(&[FORMAT_VERSION]);
+    hash_len_prefixed(&mut digest, CACHE_VERSION);
+    hash_len_prefixed(&mut digest, request.compiler_digest.as_bytes());
+    digest.update(&[u8::from(request.plusplus)]);
+    hash_len_prefixed(&mut digest, request.language.as_str().as_bytes());
+    digest.update(&[u8::from(request.multiarch)]);
+    digest
 }
 
 // The digest text of the key material.
 #[tactic(auto, unfolding(crate::specs::PreprocessorKey::preprocessor_material))]
 fn key_text<H: HashState>(
     alloc: Global,
-    compiler_digest: &str,
-    language: Language,
-    arguments: &[Vec<u8>],
+    request: &Request<'_>,
     extra_hashes: &[String],
-    assembler_digest: Option<&str>,
-    env_vars: &[(Vec<u8>, Vec<u8>)],
-    input_file: &[u8],
-    plusplus: bool,
-    multiarch: bool,
-    basedirs: &[Vec<u8>],
     recorded: &str,
 ) -> Result<String, UtilError>
-    ensures key { IfOk result (λ key. string_bytes key ≡ preprocessor_key H.hash
-        (request_parts_in compiler_digest.now plusplus language multiarch arguments.now
-        (option_map (λ d. d.now) assembler_digest.entry) env_vars.now input_file.now basedirs.now)
-        (map string_bytes extra_hashes.now) recorded.now) }
+    ensures key { IfOk result (λ key. string_bytes key
+        ≡ preprocessor_key H.hash request.now (map string_bytes extra_hashes.now) recorded.now) }
     ensures refused { IsOkUnless result UtilError.Memory }
 {
-    let input = strip_basedirs(alloc, input_file, basedirs)?;
-    let mut digest = Digest::<H>::new();
-    digest.update(compiler_digest.as_bytes());
-    digest.update(&[u8::from(plusplus), FORMAT_VERSION]);
-    digest.update(language.as_str().as_bytes());
-    hash_multiarch(&mut digest, multiarch);
-    hash_arguments(alloc, &mut digest, arguments, basedirs)?;
-    hash_extra_hashes(&mut digest, extra_hashes);
-    hash_assembler_digest(&mut digest, assembler_digest);
-    hash_variables_named(&mut digest, env_vars, &PREPROCESSOR_VARIABLES);
-    digest.update(input.as_slice());
-    digest.update(recorded.as_bytes());
+    let mut digest = compiler_material::<H>(request);
+    hash_text_list(&mut digest, request.preprocessor_args);
+    hash_text_list(&mut digest, request.arch_args);
+    hash_text_list(&mut digest, request.common_args);
+    hash_text_list(&mut digest, extra_hashes);
+    hash_option(&mut digest, request.assembler_digest);
+    hash_request_variables(&mut digest, request.env_vars);
+    hash_len_prefixed(&mut digest, request.input_file);
+    hash_option(&mut digest, request.directory);
+    hash_len_prefixed(&mut digest, recorded.as_bytes());
     digest.finish(alloc)
 }
 
 /// The key of a request in the preprocessor cache: the digest text of its key material.
 ///
-/// The material is, in this order: the compiler's digest; a byte 0 or 1 for `plusplus`; the format
-/// byte 1; the language's name; `multiarch-per-pass` if the request is for several architectures;
-/// the arguments as in [`hash_arguments`]; the extra hashes, unseparated; the assembler's digest,
-/// if there is one; of the variables those that change which files a preprocessor finds, each as
-/// length-prefixed name, `=` and length-prefixed value; the path of the input without the base
-/// directories; the recorded digest of the input.
+/// The material is, in this order: the byte [`FORMAT_VERSION`]; a frame of [`CACHE_VERSION`]; of the
+/// compiler's digest text; the byte 1 for C++ and else 0; a frame of the language's name; the byte 1
+/// for several architectures and else 0; the lists of the preprocessor's arguments, of those of
+/// architectures and of the common ones, all as they are; the list of the digest texts of the
+/// further files; the assembler's digest text, as an option; the list of the variables that change
+/// what is compiled or which files a preprocessor finds, each as a frame of its name and one of its
+/// value; a frame of the input's path; the working directory, as an option that is there where
+/// [`hash_working_directory`](PreprocessorCacheModeConfig::hash_working_directory) is on; and a
+/// frame of the recorded digest of the input. Frames, lists and options are those of the object's
+/// key.
 ///
 /// There is none (`None`) exactly if the input is a regular file without a
 /// [recorded digest](recorded_digest). It is refused as [`Error::Io`] with
@@ -106,26 +132,38 @@ pub fn preprocessor_cache_entry_hash_key<H: HashState, F: Files>(
     alloc: Global,
     compiler_digest: &str,
     language: Language,
-    arguments: &[Vec<u8>],
+    preprocessor_args: &[Vec<u8>],
+    arch_args: &[Vec<u8>],
+    common_args: &[Vec<u8>],
     extra_hashes: &[String],
     assembler_digest: Option<&str>,
     env_vars: &[(Vec<u8>, Vec<u8>)],
     input_file: &[u8],
+    cwd: &[u8],
     plusplus: bool,
     multiarch: bool,
     config: PreprocessorCacheModeConfig,
-    basedirs: &[Vec<u8>],
     files: &mut F,
     moment: Timestamp,
     zone: &TimeZone<'_>,
 ) -> Result<Option<String>, Error>
     ensures keeps { Keeps F.file_map F.faults F.is_quiet files.old files.new }
     ensures answer { let found = file_at (F.file_map files.old) (components input_file.now) in
+        let parts : RequestParts = record {
+          compiler_digest = compiler_digest.now;
+          plusplus = plusplus;
+          language = language;
+          multiarch = multiarch;
+          preprocessor_args = lists_of preprocessor_args.now;
+          arch_args = lists_of arch_args.now;
+          common_args = lists_of common_args.now;
+          assembler_digest = option_map (λ d. d.now) assembler_digest.entry;
+          variables = request_variables (variables_of env_vars.now);
+          input_file = input_file.now;
+          directory = hashed_directory config cwd.now;
+        } in
         MatchResult result (λ key. IsOkAnd found (λ file. option_map string_bytes key
-        ≡ option_map (preprocessor_key H.hash
-        (request_parts_in compiler_digest.now plusplus language multiarch arguments.now
-        (option_map (λ d. d.now) assembler_digest.entry) env_vars.now input_file.now basedirs.now)
-        (map string_bytes extra_hashes.now))
+        ≡ option_map (preprocessor_key H.hash parts (map string_bytes extra_hashes.now))
         (recorded (setting_in H.hash config moment (plain_zone zone.now) env_vars.now) file)))
         (IsIoRefusal found (Rose (F.faults files.old) (F.faults files.new))) }
 {
@@ -135,21 +173,20 @@ pub fn preprocessor_cache_entry_hash_key<H: HashState, F: Files>(
     let Some(recorded) = recorded else {
         return Ok(None);
     };
-    let key = key_text::<H>(
-        alloc,
+    let request = Request {
         compiler_digest,
+        plusplus,
         language,
-        arguments,
-        extra_hashes,
+        multiarch,
+        preprocessor_args,
+        arch_args,
+        common_args,
         assembler_digest,
         env_vars,
         input_file,
-        plusplus,
-        multiarch,
-        basedirs,
-        &recorded,
-    );
-    match key {
+        directory: hashed_directory(config, cwd),
+    };
+    match key_text::<H>(alloc, &request, extra_hashes, &recorded) {
         Ok(key) => Ok(Some(key)),
         Err(_) => Err(Error::Memory),
     }

@@ -1,12 +1,10 @@
 //! Laws about the definitions, each the contract of a function that does nothing.
-ghost use Rattle.cck_preprocessor_key.specs.Laws.{OneRequestOneMaterial};
+ghost use Rattle.cck_preprocessor_key.specs.Laws.{PreprocessorMaterialTellsParts};
 
-/// Within one request, equal key material is of equal digest texts of the further files and of an
-/// equal recorded digest of the input: so equal keys are of inputs and further files that are the
-/// same.
+/// Equal key material is of equal parts, and the other way round: of one request as far as the key
+/// has it, of equal digest texts of the further files, and of one recorded digest of the input.
 ///
-/// It asks that there are equally many of these texts, of 64 characters each, as every digest text
-/// is.
-pub fn one_request_one_material()
-    ensures { OneRequestOneMaterial }
+/// Each length and each count stands before what it is of, so no two requests share a material.
+pub fn preprocessor_material_tells_parts()
+    ensures { PreprocessorMaterialTellsParts }
 {}

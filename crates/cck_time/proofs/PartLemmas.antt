@@ -10,12 +10,14 @@ use Rattle.jiff.specs.Words.{offset_at, IsOffsetSeconds, IsTimestampNanos, IsEpo
 use Rattle.jiff_core.proofs.SignedLemmas.{signed_arith}
 use Rattle.jiff_tz.specs.PosixRule as PosixRule
 use Rattle.jiff_tz.specs.Tzif as Table
+use Rattle.cck_digest.proofs.FrameLemmas.{option_reads_back}
 use Rattle.cck_digest.proofs.ReadsBack.{bytes_read_back}
+use Rattle.cck_digest.specs.Frames.{framed_option}
 use Rattle.cck_path.specs.Timestamp.{Moment, nanos_of}
 use Rattle.cck_path.specs.Variables.{Variable}
 use Rattle.cck_path.proofs.TestLemmas.{from_and_then}
 use Rattle.cck_time.specs.Calendar.{CivilDate, IsInCalendar, day_number}
-use Rattle.cck_time.specs.TimePart.{AreOfOneSecond, is_instant, instant_nanos, local_day, local_second, local_date, delimiter, i64_bytes, date_bytes, epoch_text, date_part, stamp_part, time_part}
+use Rattle.cck_time.specs.TimePart.{AreOfOneSecond, is_instant, instant_nanos, local_day, local_second, local_date, delimiter, i64_bytes, date_bytes, source_date_epoch, date_part, stamp_part, time_part}
 use Rattle.cck_time.proofs.CalendarLemmas.{date_has_day}
 use Rattle.cck_time.proofs.NumberLemmas.{i64_back, nested, date_reads_back}
 
@@ -62,10 +64,10 @@ from_instant t n e = by (is_instant (nanos_of t)) refl e
     by false at k = absurd cc
 
 pub from_date_part : (moment : Moment) (zone : TimeZone) (v : List Variable) (part : List ℕ) → date_part true moment zone v ≡ Some part
-    → (d : CivilDate) × IsInCalendar d × (day_number d ≡ local_day zone (nanos_of moment)) × (is_instant (nanos_of moment) ≡ true) × ((delimiter (codes "date") ++ date_bytes d) ++ epoch_text v ≡ part)
+    → (d : CivilDate) × IsInCalendar d × (day_number d ≡ local_day zone (nanos_of moment)) × (is_instant (nanos_of moment) ≡ true) × ((delimiter (codes "date") ++ date_bytes d) ++ framed_option (source_date_epoch v) ≡ part)
 unfolding date_part
 from_date_part moment zone v part e =
-    let date = from_map (λ d. (delimiter (codes "date") ++ date_bytes d) ++ epoch_text v) (option_and_then (local_date zone) (instant_nanos moment)) part e in
+    let date = from_map (λ d. (delimiter (codes "date") ++ date_bytes d) ++ framed_option (source_date_epoch v)) (option_and_then (local_date zone) (instant_nanos moment)) part e in
     let instant = from_and_then (local_date zone) (instant_nanos moment) date.0 date.1 in
     let at = from_instant moment instant.0 instant.1 in
     let is = date_has_day (local_day zone instant.0) date.0 instant.2 in
@@ -106,18 +108,18 @@ stamp_length true m n zone s t p q =
 -- equal parts tell the day, and what the variable says
 pub days_told : (zone : TimeZone) (timestamp : Bool) (m n : Option Moment) (a b : Moment) (v w : List Variable) (part : List ℕ)
     → time_part true timestamp m a zone v ≡ Some part → time_part true timestamp n b zone w ≡ Some part
-    → (local_day zone (nanos_of a) ≡ local_day zone (nanos_of b)) × (epoch_text v ≡ epoch_text w)
+    → (local_day zone (nanos_of a) ≡ local_day zone (nanos_of b)) × (source_date_epoch v ≡ source_date_epoch w)
 days_told zone timestamp m n a b v w part p q =
     let x = from_time_part true timestamp m a zone v part p in
     let y = from_time_part true timestamp n b zone w part q in
     let first = from_date_part a zone v x.0 x.2 in
     let second = from_date_part b zone w y.0 y.2 in
-    let left = sym (nested (delimiter (codes "date")) (date_bytes first.0) (epoch_text v) x.1) ∙ ap (λ (l : List ℕ). l ++ x.1) first.4 ∙ x.4 in
-    let right = sym (nested (delimiter (codes "date")) (date_bytes second.0) (epoch_text w) y.1) ∙ ap (λ (l : List ℕ). l ++ y.1) second.4 ∙ y.4 in
+    let left = sym (nested (delimiter (codes "date")) (date_bytes first.0) (framed_option (source_date_epoch v)) x.1) ∙ ap (λ (l : List ℕ). l ++ x.1) first.4 ∙ x.4 in
+    let right = sym (nested (delimiter (codes "date")) (date_bytes second.0) (framed_option (source_date_epoch w)) y.1) ∙ ap (λ (l : List ℕ). l ++ y.1) second.4 ∙ y.4 in
     let behind = append_cancel_left (delimiter (codes "date")) _ _ (left ∙ sym right) in
-    let same = date_reads_back first.0 second.0 first.1 second.1 (epoch_text v ++ x.1) (epoch_text w ++ y.1) behind in
-    let long : length (epoch_text v) ≡ length (epoch_text w) = omega (arith, ap length same.1, length-append (epoch_text v) x.1, length-append (epoch_text w) y.1, stamp_length timestamp m n zone x.1 y.1 x.3 y.3) in
-    (sym first.2 ∙ ap day_number same.0 ∙ second.2, (bytes_read_back (epoch_text v) (epoch_text w) x.1 y.1 long same.1).0)
+    let same = date_reads_back first.0 second.0 first.1 second.1 (framed_option (source_date_epoch v) ++ x.1) (framed_option (source_date_epoch w) ++ y.1) behind in
+    let told = option_reads_back (source_date_epoch v) (source_date_epoch w) x.1 y.1 same.1 in
+    (sym first.2 ∙ ap day_number same.0 ∙ second.2, told.0)
 
 -- and the second
 pub seconds_told : (zone : TimeZone) (date : Bool) (m n : Option Moment) (a b : Moment) (v w : List Variable) (part : List ℕ)

@@ -4,9 +4,10 @@ use Rattle.std.specs.Option.{option_map, option_and_then, IsSome, IsSomeAnd}
 use Rattle.std.proofs.lemmas.Int.{ints}
 use Rattle.jiff.specs.Types.{TimeZone}
 use Rattle.jiff.specs.Words.{IsTimestampNanos}
+use Rattle.cck_digest.specs.Frames.{framed_option}
 use Rattle.cck_path.specs.Timestamp.{Moment, nanos_of}
 use Rattle.cck_path.specs.Variables.{Variable}
-use Rattle.cck_time.specs.TimePart.{is_instant, instant_nanos, local_day, local_second, local_date, delimiter, i64_bytes, date_bytes, epoch_text, date_part, stamp_part, time_part}
+use Rattle.cck_time.specs.TimePart.{is_instant, instant_nanos, local_day, local_second, local_date, delimiter, i64_bytes, date_bytes, source_date_epoch, date_part, stamp_part, time_part}
 use Rattle.cck_time.proofs.EveryDayLemmas.{every_day}
 use Rattle.cck_time.proofs.PartLemmas.{day_range, from_date_part, from_stamp_part, from_time_part, instant_range}
 
@@ -30,7 +31,7 @@ date_there false moment zone v h = ([], refl)
 date_there true moment zone v h =
     let n = instant_there moment (h refl) in
     let d = every_day (local_day zone (nanos_of moment)) (day_range zone (nanos_of moment) (range_instant (nanos_of moment) (h refl))) in
-    ((delimiter (codes "date") ++ date_bytes d.0) ++ epoch_text v, ap (λ o. option_map (λ e. (delimiter (codes "date") ++ date_bytes e) ++ epoch_text v) (option_and_then (local_date zone) o)) n ∙ ap (λ o. option_map (λ e. (delimiter (codes "date") ++ date_bytes e) ++ epoch_text v) o) d.1)
+    ((delimiter (codes "date") ++ date_bytes d.0) ++ framed_option (source_date_epoch v), ap (λ o. option_map (λ e. (delimiter (codes "date") ++ date_bytes e) ++ framed_option (source_date_epoch v)) (option_and_then (local_date zone) o)) n ∙ ap (λ o. option_map (λ e. (delimiter (codes "date") ++ date_bytes e) ++ framed_option (source_date_epoch v)) o) d.1)
 
 stamp_there : (timestamp : Bool) (modified : Option Moment) (zone : TimeZone) → (timestamp ≡ true → IsSomeAnd modified (λ t. IsTimestampNanos (nanos_of t))) → (part : List ℕ) × (stamp_part timestamp modified zone ≡ Some part)
 unfolding stamp_part

@@ -1,8 +1,9 @@
 -- what a file's text can show at a moment, in a zone
 use Rattle.std.specs.Prelude.{◌≡◌, ℕ, ◌&&◌, Bool, true, false, ℤ, pos, neg_ℤ, ◌+ℤ◌, int_le, List, [], ◌++◌, Option, Some, None, option_map, codes, if◌then◌else◌}
-use Rattle.std.specs.Option.{option_and_then, unwrap_or}
+use Rattle.std.specs.Option.{option_and_then}
 use Rattle.std.specs.Int.{w32, w64, cast_unsigned, to_le_bytes, int_div_euclid}
 use Rattle.cck_digest.specs.Digest.{delimiter_bytes}
+use Rattle.cck_digest.specs.Frames.{framed_option}
 use Rattle.cck_path.specs.Timestamp.{Moment, nanos_of}
 use Rattle.cck_path.specs.Variables.{Variable, first_value}
 use Rattle.jiff.specs.Types.{TimeZone}
@@ -50,15 +51,15 @@ i64_bytes n = to_le_bytes w64 (cast_unsigned w64 n)
 abbrev pub date_bytes : CivilDate → List ℕ
 date_bytes d = i32_bytes d.year ++ u32_bytes d.month ++ u32_bytes d.day
 
--- what a compiler is told to show in place of the date
-abbrev pub epoch_text : List Variable → List ℕ
-epoch_text variables = unwrap_or (first_value variables (codes "SOURCE_DATE_EPOCH")) []
+-- what a compiler is told to show in place of the date, if it is told so
+abbrev pub source_date_epoch : List Variable → Option (List ℕ)
+source_date_epoch variables = first_value variables (codes "SOURCE_DATE_EPOCH")
 
 -- the date at the moment, where the text shows it
 unfoldable pub date_part : Bool → Moment → TimeZone → List Variable → Option (List ℕ)
 date_part false moment zone variables = Some []
 date_part true moment zone variables =
-    option_map (λ d. delimiter (codes "date") ++ date_bytes d ++ epoch_text variables)
+    option_map (λ d. delimiter (codes "date") ++ date_bytes d ++ framed_option (source_date_epoch variables))
     (option_and_then (local_date zone) (instant_nanos moment))
 
 -- the second at which the file was modified, where the text shows it

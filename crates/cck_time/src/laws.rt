@@ -6,7 +6,7 @@ ghost use Rattle.cck_path.specs.Variables.{Variable};
 ghost use Rattle.jiff.specs.Types.{TimeZone};
 ghost use Rattle.jiff.specs.Words.{IsEpochDay, IsTimestampNanos};
 ghost use Rattle.cck_time.specs.Calendar.{CivilDate, IsInCalendar, date_of_day, day_number};
-ghost use Rattle.cck_time.specs.TimePart.{AreOfOneSecond, date_bytes, epoch_text, i64_bytes, is_instant, local_date, local_day, local_second, time_part};
+ghost use Rattle.cck_time.specs.TimePart.{AreOfOneSecond, date_bytes, i64_bytes, is_instant, local_date, local_day, local_second, source_date_epoch, time_part};
 
 use crate::{Error, PreprocessorCacheModeConfig};
 
@@ -45,15 +45,15 @@ pub fn one_second()
 {}
 
 /// Equal time parts of one zone and of equal flags, whatever else they were made for, tell what
-/// they show: with a date the local day of the moment and what `SOURCE_DATE_EPOCH` says, and with a
-/// timestamp that both modification times are known and of one local second.
+/// they show: with a date the local day of the moment, and the `SOURCE_DATE_EPOCH` or that there is
+/// none; and with a timestamp that both modification times are known and of one local second.
 pub fn equal_parts_tell()
     ensures days { (zone : TimeZone) (timestamp : Bool) (m n : Option Moment) (a b : Moment)
         (v w : List Variable) (part : List ℕ) →
         time_part true timestamp m a zone v ≡ Some part →
         time_part true timestamp n b zone w ≡ Some part →
         (local_day zone (nanos_of a) ≡ local_day zone (nanos_of b))
-        × (epoch_text v ≡ epoch_text w) }
+        × (source_date_epoch v ≡ source_date_epoch w) }
     ensures seconds { (zone : TimeZone) (date : Bool) (m n : Option Moment) (a b : Moment)
         (v w : List Variable) (part : List ℕ) →
         time_part date true m a zone v ≡ Some part →

@@ -1,9 +1,10 @@
 //! The time part of a file: what its text can show at a moment, in a zone.
 ghost use Rattle.std.specs.Prelude.{◌≡◌, ◌++◌, codes, IfOk, IfErr, OnOk, Some, map, option_map};
+ghost use Rattle.cck_digest.specs.Frames.{framed_option, length_bytes};
 ghost use Rattle.cck_path.specs.Bytes.{variables_of};
 ghost use Rattle.jiff.specs.Words.{plain_zone};
 ghost use Rattle.cck_time.specs.Calendar.{civil_date};
-ghost use Rattle.cck_time.specs.TimePart.{IsAppended, date_bytes, date_part, delimiter, epoch_text, i32_bytes, i64_bytes, instant_nanos, local_date, local_second, stamp_part, time_part, u32_bytes};
+ghost use Rattle.cck_time.specs.TimePart.{IsAppended, date_bytes, date_part, delimiter, i32_bytes, i64_bytes, instant_nanos, local_date, local_second, source_date_epoch, stamp_part, time_part, u32_bytes};
 
 use crate::Error;
 use cck_path::{Timestamp, first_value};
@@ -32,16 +33,6 @@ fn second_at(zone: &TimeZone<'_>, instant: jiff::Timestamp) -> i64
     ensures { result ≡ local_second (plain_zone zone.now) instant.nanosecond }
 {
     zone.to_datetime(instant).to_plain().to_second()
-}
-
-// What a compiler is told to show in place of the date, empty where it isn't told.
-fn epoch_text<'a>(vars: &'a [(Vec<u8>, Vec<u8>)]) -> &'a [u8]
-    ensures { result.now ≡ epoch_text (variables_of vars.now) }
-{
-    match first_value(vars, b"SOURCE_DATE_EPOCH") {
-        Some(value) => value,
-        None => &[],
-    }
 }
 
 #[tactic(auto, unfolding(crate::specs::TimePart::delimiter))]
@@ -82,6 +73,31 @@ fn put_i64(part: &mut Vec<u8>, number: i64) -> Result<(), Error>
     Ok(())
 }
 
+fn put_length(part: &mut Vec<u8>, length: usize) -> Result<(), Error>
+    ensures value { OnOk result (part.new.items ≡ part.old.items ++ length_bytes length) }
+    ensures refused { IfErr result (λ e. e ≡ Error.Memory) }
+{
+    let length = length as u64;
+    part.extend_from_slice(&length.to_le_bytes())?;
+    Ok(())
+}
+
+fn put_option(part: &mut Vec<u8>, bytes: Option<&[u8]>) -> Result<(), Error>
+    ensures value { OnOk result (part.new.items ≡ part.old.items
+        ++ framed_option (option_map (λ b. b.now) bytes.entry)) }
+    ensures refused { IfErr result (λ e. e ≡ Error.Memory) }
+{
+    match bytes {
+        None => part.push(0)?,
+        Some(bytes) => {
+            part.push(1)?;
+            put_length(part, bytes.len())?;
+            part.extend_from_slice(bytes)?;
+        }
+    }
+    Ok(())
+}
+
 fn put_year_month_day(part: &mut Vec<u8>, date: Date) -> Result<(), Error>
     ensures value { OnOk result (part.new.items ≡ part.old.items
         ++ date_bytes (civil_date date)) }
@@ -97,12 +113,12 @@ fn put_year_month_day(part: &mut Vec<u8>, date: Date) -> Result<(), Error>
 fn put_date(part: &mut Vec<u8>, date: Date, vars: &[(Vec<u8>, Vec<u8>)]) -> Result<(), Error>
     ensures value { OnOk result (part.new.items ≡ part.old.items ++ (delimiter (codes "date")
         ++ date_bytes (civil_date date)
-        ++ epoch_text (variables_of vars.now))) }
+        ++ framed_option (source_date_epoch (variables_of vars.now)))) }
     ensures refused { IfErr result (λ e. e ≡ Error.Memory) }
 {
     put_delimiter(part, b"date")?;
     put_year_month_day(part, date)?;
-    part.extend_from_slice(epoch_text(vars))?;
+    put_option(part, first_value(vars, b"SOURCE_DATE_EPOCH"))?;
     Ok(())
 }
 
@@ -169,11 +185,12 @@ fn put_stamp_part(
 /// zone, where it holds a `__DATE__` (`date`) or a `__TIMESTAMP__` (`timestamp`).
 ///
 /// For a date these are the delimiter `date`, the civil year (an `i32`), month and day (`u32` each,
-/// from 1), lowest byte first, of the moment in the zone, and then the value of the first variable
-/// `SOURCE_DATE_EPOCH`, which compilers show in place of the date. For a timestamp they are the
-/// delimiter `timestamp` and the civil second in the zone at which the file was last modified (an
-/// `i64`), counted from 1970-01-01T00:00:00 without a zone and rounded down. With neither there are
-/// no bytes.
+/// from 1), lowest byte first, of the moment in the zone, and then, as compilers show it in place
+/// of the date, the value of the first variable `SOURCE_DATE_EPOCH`: a byte 1, its length in 8 bytes,
+/// lowest byte first, and the value, or a byte 0 where there is no such variable. For a timestamp
+/// they are the delimiter `timestamp` and the civil second in the zone at which the file was last
+/// modified (an `i64`), counted from 1970-01-01T00:00:00 without a zone and rounded down. With
+/// neither there are no bytes.
 ///
 /// There is no part (`None`) exactly where a time that is needed is missing or outside `jiff`'s
 /// range of instants, from -9999-01-02T01:59:59Z to 9999-12-30T22:00:00.999999999Z. The moment is

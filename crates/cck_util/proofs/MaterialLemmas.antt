@@ -1,11 +1,11 @@
 -- Equal material is of equal parts.
-use Rattle.std.proofs.Common.{◌≡◌, ◌↔◌, ℕ, List, [], ◌∷◌, ◌++◌, Bool, true, false, Option, Some, codes, find, refl, sym, ap, ◌∙◌, arith, append_assoc, append-nil}
+use Rattle.std.proofs.Common.{◌≡◌, ◌↔◌, ℕ, List, [], ◌∷◌, ◌++◌, Bool, true, false, Option, Some, find, refl, sym, ap, ◌∙◌, arith, append_assoc, append-nil}
 use Rattle.std.specs.Str.{bytes_eq}
 use Rattle.cck_digest.specs.Frames.{frame, framed_list, framed_option}
 use Rattle.cck_digest.proofs.FrameLemmas.{frame_reads_back, framed_list_reads_back, option_reads_back}
 use Rattle.cck_digest.proofs.ReadsBack.{ReadsBack}
 use Rattle.cck_path.specs.Variables.{Variable}
-use Rattle.cck_util.specs.Key.{KeyParts, flag_byte, material}
+use Rattle.cck_util.specs.Key.{KeyParts, cache_version, flag_byte, material}
 use Rattle.cck_util.specs.Language.{language_name}
 use Rattle.cck_util.specs.Variables.{variable_frames}
 use Rattle.cck_util.specs.declared.language.Language.{Language}
@@ -35,12 +35,12 @@ named_by_its_name ObjectiveCxxPreprocessed = refl
 named_by_its_name Cuda = refl
 named_by_its_name Hip = refl
 
-language_from_name : (a b : Language) → language_name a ≡ language_name b → a ≡ b
+pub language_from_name : (a b : Language) → language_name a ≡ language_name b → a ≡ b
 language_from_name a b e =
     let both : ◌≡◌ {A = Option Language} (Some a) (Some b) = sym (named_by_its_name a) ∙ (ap named e ∙ named_by_its_name b) in
     cc
 
-flag_reads_back : (a b : Bool) → ReadsBack (λ flag. flag_byte flag ∷ []) a b
+pub flag_reads_back : (a b : Bool) → ReadsBack (λ flag. flag_byte flag ∷ []) a b
 flag_reads_back true true s t e = (refl, cc)
 flag_reads_back false false s t e = (refl, cc)
 flag_reads_back true false s t e = let one : ◌≡◌ {A = ℕ} 1 0 = cc in absurd (omega arith)
@@ -49,7 +49,7 @@ flag_reads_back false true s t e = let one : ◌≡◌ {A = ℕ} 0 1 = cc in abs
 pair_from_parts : (v w : Variable) → v.0 ≡ w.0 → v.1 ≡ w.1 → v ≡ w
 pair_from_parts (a, b) (c, d) e f = cc
 
-variable_reads_back : (v w : Variable) → ReadsBack variable_frames v w
+pub variable_reads_back : (v w : Variable) → ReadsBack variable_frames v w
 variable_reads_back v w s t e =
     let split = sym (append_assoc (frame (v.0)) (frame (v.1)) s) ∙ (e ∙ append_assoc (frame (w.0)) (frame (w.1)) t) in
     let names = frame_reads_back (v.0) (w.0) _ _ split in
@@ -57,12 +57,12 @@ variable_reads_back v w s t e =
     (pair_from_parts v w names.0 values.0, values.1)
 
 -- the material, each part before all that follows it
-material-nested : (p : KeyParts) → material p ≡ frame (codes "14") ++ (frame p.compiler_digest ++ ((flag_byte p.plusplus ∷ []) ++ (frame (language_name p.language)
+material-nested : (p : KeyParts) → material p ≡ frame cache_version ++ (frame p.compiler_digest ++ ((flag_byte p.plusplus ∷ []) ++ (frame (language_name p.language)
     ++ (framed_list frame p.arguments ++ (framed_list frame p.extra_hashes ++ (framed_option p.assembler_digest
     ++ (framed_list variable_frames p.variables ++ frame p.output)))))))
 unfolding material
 material-nested p =
-    parted (frame (codes "14")) (frame p.compiler_digest) (flag_byte p.plusplus ∷ []) (frame (language_name p.language)) (framed_list frame p.arguments)
+    parted (frame cache_version) (frame p.compiler_digest) (flag_byte p.plusplus ∷ []) (frame (language_name p.language)) (framed_list frame p.arguments)
     (framed_list frame p.extra_hashes) (framed_option p.assembler_digest) (framed_list variable_frames p.variables) (frame p.output)
   where
     parted : (a b c d e f g h i : List ℕ) → a ++ b ++ c ++ d ++ e ++ f ++ g ++ h ++ i ≡ a ++ (b ++ (c ++ (d ++ (e ++ (f ++ (g ++ (h ++ i)))))))
@@ -70,7 +70,7 @@ material-nested p =
 
 parts_from_material : (p q : KeyParts) → material p ≡ material q → p ≡ q
 parts_from_material p q e =
-    let (_, after_version) = frame_reads_back (codes "14") (codes "14") _ _ (sym (material-nested p) ∙ (e ∙ material-nested q)) in
+    let (_, after_version) = frame_reads_back cache_version cache_version _ _ (sym (material-nested p) ∙ (e ∙ material-nested q)) in
     let (compiler_digest, after_compiler) = frame_reads_back p.compiler_digest q.compiler_digest _ _ after_version in
     let (plusplus, after_flag) = flag_reads_back p.plusplus q.plusplus _ _ after_compiler in
     let (names, after_language) = frame_reads_back (language_name p.language) (language_name q.language) _ _ after_flag in

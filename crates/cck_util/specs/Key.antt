@@ -65,15 +65,14 @@ abbrev pub flag_byte : Bool → ℕ
 flag_byte true = 1
 flag_byte false = 0
 
--- the digest text of an assembler, if there is one
-abbrev pub assembler_bytes : Option (List ℕ) → List ℕ
-assembler_bytes None = []
-assembler_bytes (Some digest) = digest
+-- the version of key material
+abbrev pub cache_version : List ℕ
+cache_version = codes "14"
 
 -- the key material: all that is hashed for a key, in order
 unfoldable pub material : KeyParts → List ℕ
 material p =
-    frame (codes "14") ++ frame p.compiler_digest ++ flag_byte p.plusplus ∷ [] ++ frame (language_name p.language)
+    frame cache_version ++ frame p.compiler_digest ++ flag_byte p.plusplus ∷ [] ++ frame (language_name p.language)
     ++ framed_list frame p.arguments
     ++ framed_list frame p.extra_hashes
     ++ framed_option p.assembler_digest

@@ -12,6 +12,12 @@ object_variable_names =
     ∷ codes "IPHONEOS_DEPLOYMENT_TARGET" ∷ codes "TVOS_DEPLOYMENT_TARGET"
     ∷ codes "WATCHOS_DEPLOYMENT_TARGET" ∷ codes "SDKROOT" ∷ codes "CCC_OVERRIDE_OPTIONS" ∷ []
 
+-- the names of the variables in which a preprocessor finds folders of included files
+abbrev pub include_path_names : List (List ℕ)
+include_path_names =
+    codes "CPATH" ∷ codes "C_INCLUDE_PATH" ∷ codes "CPLUS_INCLUDE_PATH"
+    ∷ codes "OBJC_INCLUDE_PATH" ∷ codes "OBJCPLUS_INCLUDE_PATH" ∷ []
+
 -- the variables that have one of these names, in their order
 abbrev pub variables_named : List (List ℕ) → List Variable → List Variable
 variables_named names variables = filter (λ v. list_any (bytes_eq (v.0)) names) variables
@@ -20,10 +26,10 @@ variables_named names variables = filter (λ v. list_any (bytes_eq (v.0)) names)
 abbrev pub object_variables : List Variable → List Variable
 object_variables variables = variables_named object_variable_names variables
 
+-- the variables that stand in the key of a request, in their order: those of an object's key, and those of included files
+abbrev pub request_variables : List Variable → List Variable
+request_variables variables = variables_named (object_variable_names ++ include_path_names) variables
+
 -- a variable as frames of its name and of its value
 abbrev pub variable_frames : Variable → List ℕ
 variable_frames variable = frame (variable.0) ++ frame (variable.1)
-
--- the same with a `=` between them
-abbrev pub variable_bytes : Variable → List ℕ
-variable_bytes variable = (frame (variable.0) ++ 61 ∷ []) ++ frame (variable.1)

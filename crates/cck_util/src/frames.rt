@@ -1,5 +1,5 @@
 //! Lists and options as key material that tells where each of its parts ends.
-ghost use Rattle.std.specs.Prelude.{◌≡◌, ℕ, List, ◌++◌, OnOk, IsOkUnless, map, string_bytes};
+ghost use Rattle.std.specs.Prelude.{◌≡◌, ℕ, List, ◌++◌, OnOk, IsOkUnless, map};
 ghost use Rattle.std.specs.Option.{option_map};
 ghost use Rattle.cck_digest.specs.Frames.{framed_list, frame, framed_option};
 ghost use Rattle.cck_path.specs.Bytes.{lists_of};
@@ -8,28 +8,29 @@ ghost use Rattle.cck_strip.specs.Argument.{stripped_argument};
 use cck_digest::{Digest, HashState, UtilError, hash_len_prefixed, hash_length};
 use cck_strip::strip_basedirs_from_arg;
 use std::alloc::Global;
+use std::convert::AsSlice;
 
 /// Feeds the count of these texts, and a frame of each, in order. It takes no memory.
-pub fn hash_text_list<H: HashState>(digest: &mut Digest<H>, texts: &[String])
+pub fn hash_text_list<H: HashState, T: AsSlice<u8>>(digest: &mut Digest<H>, texts: &[T])
     ensures { (fed : List ℕ) → H.holds digest.old fed →
-        H.holds digest.new (fed ++ framed_list frame (map string_bytes texts.now)) }
+        H.holds digest.new (fed ++ framed_list frame (map T.items texts.now)) }
 {
     hash_length(digest, texts.len());
     for text in texts {
-        hash_len_prefixed(digest, text.as_bytes());
+        hash_len_prefixed(digest, text.as_slice());
     }
 }
 
 /// Feeds a byte 0 where there is no text, and else a byte 1 and a frame of it. It takes no memory.
-pub fn hash_option<H: HashState>(digest: &mut Digest<H>, text: Option<&str>)
+pub fn hash_option<H: HashState, T: AsSlice<u8> + Copy>(digest: &mut Digest<H>, text: Option<T>)
     ensures { (fed : List ℕ) → H.holds digest.old fed →
-        H.holds digest.new (fed ++ framed_option (option_map (λ t. t.now) text.entry)) }
+        H.holds digest.new (fed ++ framed_option (option_map T.items text)) }
 {
     match text {
         None => digest.update(&[0]),
         Some(text) => {
             digest.update(&[1]);
-            hash_len_prefixed(digest, text.as_bytes());
+            hash_len_prefixed(digest, text.as_slice());
         }
     }
 }

@@ -1,9 +1,8 @@
 //! The key of an object.
-ghost use Rattle.std.specs.Prelude.{◌≡◌, ℕ, List, ◌++◌, IfOk, IsOkUnless, string_bytes, map};
-ghost use Rattle.std.specs.List.{flat_map};
+ghost use Rattle.std.specs.Prelude.{◌≡◌, IfOk, IsOkUnless, string_bytes, map};
 ghost use Rattle.std.specs.Option.{option_map};
 ghost use Rattle.cck_path.specs.Bytes.{lists_of, variables_of};
-ghost use Rattle.cck_util.specs.Key.{assembler_bytes, object_key, plain_params};
+ghost use Rattle.cck_util.specs.Key.{object_key, plain_params};
 
 use crate::Language;
 use crate::frames::{hash_argument_list, hash_option, hash_text_list};
@@ -146,25 +145,5 @@ impl<'a> HashKeyParams<'a> {
         hash_object_variables(&mut digest, self.env_vars);
         hash_len_prefixed(&mut digest, output.as_slice());
         digest.finish(alloc)
-    }
-}
-
-/// Feeds the digest texts of further files, with nothing between them. It takes no memory.
-pub fn hash_extra_hashes<H: HashState>(digest: &mut Digest<H>, hashes: &[String])
-    ensures { (fed : List ℕ) → H.holds digest.old fed →
-        H.holds digest.new (fed ++ flat_map (λ hash. hash) (map string_bytes hashes.now)) }
-{
-    for hash in hashes {
-        digest.update(hash.as_bytes());
-    }
-}
-
-/// Feeds the digest text of the assembler, if there is one. It takes no memory.
-pub fn hash_assembler_digest<H: HashState>(digest: &mut Digest<H>, assembler_digest: Option<&str>)
-    ensures { (fed : List ℕ) → H.holds digest.old fed →
-        H.holds digest.new (fed ++ assembler_bytes (option_map (λ d. d.now) assembler_digest.entry)) }
-{
-    if let Some(text) = assembler_digest {
-        digest.update(text.as_bytes());
     }
 }

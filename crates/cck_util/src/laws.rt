@@ -1,6 +1,7 @@
 //! Laws about the definitions: what they say beyond what they compute. Each is the contract of a
 //! function that does nothing.
-ghost use Rattle.std.specs.Prelude.{◌≡◌, ◌↔◌, IsTrue, codes, count_by};
+ghost use Rattle.std.specs.Prelude.{◌≡◌, ◌↔◌, IsTrue, count_by};
+ghost use Rattle.cck_util.specs.Key.{cache_version};
 ghost use Rattle.cck_util.specs.Laws.{EqualWithoutBasedirs, MaterialTellsParts};
 
 use crate::{CACHE_VERSION, Language, UnknownLanguage};
@@ -44,5 +45,5 @@ pub fn each_language_once()
 
 /// [`CACHE_VERSION`] is the version that the key material names.
 pub fn version_in_the_material()
-    ensures { CACHE_VERSION.now ≡ codes "14" }
+    ensures { CACHE_VERSION.now ≡ cache_version }
 {}

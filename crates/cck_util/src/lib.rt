@@ -12,9 +12,8 @@
 //!
 //! - [`Language`] is the language of an input, and has the name that stands in the key; a text that
 //!   is none's is an [`UnknownLanguage`]. [`CACHE_VERSION`] stands in the key too.
-//! - [`hash_text_list`], [`hash_option`] and [`hash_variable_list`] feed single parts to a digest, so
-//!   that the bytes tell where each ends; [`hash_extra_hashes`], [`hash_assembler_digest`] and
-//!   [`hash_variables_named`] feed them as the preprocessor key has them.
+//! - [`hash_text_list`], [`hash_option`], [`hash_variable_list`] and [`hash_request_variables`] feed
+//!   single parts to a digest, so that the bytes tell where each ends.
 //! - [`resolve_compiler_avoiding_wrapper`] finds the compiler behind a wrapper such as `ccache`.
 //! - [`laws`] has what the definitions say beyond what they compute.
 //!
@@ -49,7 +48,7 @@ pub use cck_strip::{
     BasedirTrie, hash_arguments, pathname_positions, strip_basedirs, strip_basedirs_from_arg,
 };
 pub use frames::{hash_option, hash_text_list};
-pub use key::{CACHE_VERSION, HashKeyParams, hash_assembler_digest, hash_extra_hashes};
+pub use key::{CACHE_VERSION, HashKeyParams};
 pub use language::{Language, UnknownLanguage};
-pub use variables::{hash_variable_list, hash_variables_named};
+pub use variables::{hash_request_variables, hash_variable_list};
 pub use wrapper::resolve_compiler_avoiding_wrapper;

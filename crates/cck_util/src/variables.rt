@@ -1,15 +1,16 @@
 //! The variables of the environment that change what a compiler writes.
 ghost use Rattle.std.specs.Prelude.{◌≡◌, ℕ, List, ◌++◌, length, map};
-ghost use Rattle.std.specs.List.{flat_map, list_any};
+ghost use Rattle.std.specs.List.{list_any};
 ghost use Rattle.std.specs.Str.{bytes_eq};
 ghost use Rattle.cck_digest.specs.Frames.{framed_list};
 ghost use Rattle.cck_path.specs.Bytes.{variables_of};
-ghost use Rattle.cck_util.specs.Variables.{object_variables, variable_bytes, variable_frames, variables_named};
+ghost use Rattle.cck_util.specs.Variables.{object_variables, request_variables, variable_frames, variables_named};
 
 use cck_digest::{Digest, HashState, hash_len_prefixed, hash_length};
 
-// The names of the variables that stand in an object's key.
-const OBJECT_VARIABLES: [&[u8]; 7] = [
+// The names of the variables that stand in the key of a request. Those of an object's key are the
+// first ones; in the others a preprocessor finds folders of included files.
+const REQUEST_VARIABLES: [&[u8]; 12] = [
     b"SCCACHE_C_CUSTOM_CACHE_BUSTER",
     b"MACOSX_DEPLOYMENT_TARGET",
     b"IPHONEOS_DEPLOYMENT_TARGET",
@@ -17,7 +18,15 @@ const OBJECT_VARIABLES: [&[u8]; 7] = [
     b"WATCHOS_DEPLOYMENT_TARGET",
     b"SDKROOT",
     b"CCC_OVERRIDE_OPTIONS",
+    b"CPATH",
+    b"C_INCLUDE_PATH",
+    b"CPLUS_INCLUDE_PATH",
+    b"OBJC_INCLUDE_PATH",
+    b"OBJCPLUS_INCLUDE_PATH",
 ];
+
+// How many of these stand in an object's key.
+const OBJECT_VARIABLES: usize = 7;
 
 // Whether the name is one of these, byte for byte.
 fn is_one_of(name: &[u8], names: &[&[u8]]) -> bool
@@ -65,26 +74,6 @@ pub fn hash_variable_list<H: HashState>(
     }
 }
 
-/// Feeds the variables that have one of these names, in their order: the length-prefixed name, `=`
-/// and the length-prefixed value. A name that comes twice is fed twice. It takes no memory.
-pub fn hash_variables_named<H: HashState>(
-    digest: &mut Digest<H>,
-    variables: &[(Vec<u8>, Vec<u8>)],
-    names: &[&[u8]],
-)
-    ensures { (fed : List ℕ) → H.holds digest.old fed →
-        H.holds digest.new (fed ++ flat_map variable_bytes
-        (variables_named (map (λ n. n.now) names.now) (variables_of variables.now))) }
-{
-    for (name, value) in variables {
-        if is_one_of(name, names) {
-            hash_len_prefixed(digest, name);
-            digest.update(b"=");
-            hash_len_prefixed(digest, value);
-        }
-    }
-}
-
 // Feeds the variables that stand in an object's key.
 pub(crate) fn hash_object_variables<H: HashState>(
     digest: &mut Digest<H>,
@@ -94,5 +83,19 @@ pub(crate) fn hash_object_variables<H: HashState>(
         H.holds digest.new (fed ++ framed_list variable_frames
         (object_variables (variables_of variables.now))) }
 {
-    hash_variable_list(digest, variables, &OBJECT_VARIABLES);
+    hash_variable_list(digest, variables, &REQUEST_VARIABLES[..OBJECT_VARIABLES]);
+}
+
+/// Feeds the variables that stand in the key of a request, as [`hash_variable_list`] does: those of
+/// an object's key, and those in which a preprocessor finds folders of included files. It takes no
+/// memory.
+pub fn hash_request_variables<H: HashState>(
+    digest: &mut Digest<H>,
+    variables: &[(Vec<u8>, Vec<u8>)],
+)
+    ensures { (fed : List ℕ) → H.holds digest.old fed →
+        H.holds digest.new (fed ++ framed_list variable_frames
+        (request_variables (variables_of variables.now))) }
+{
+    hash_variable_list(digest, variables, &REQUEST_VARIABLES);
 }

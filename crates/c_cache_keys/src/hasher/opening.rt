@@ -15,7 +15,7 @@ ghost use Rattle.c_cache_keys.specs.Step.{StopsOpening};
 use super::CCompilerHasher;
 use crate::conditions::Conditions;
 use crate::refusals::{extra_refusal, key_refusal};
-use cck_compiler::{CCompilerImpl, KeyError, push_copies};
+use cck_compiler::{CCompilerImpl, KeyError};
 use cck_digest::HashState;
 use cck_file_digest::hash_all;
 use cck_files::Files;
@@ -143,23 +143,21 @@ impl<I: CCompilerImpl> CCompilerHasher<I> {
             Ok(input) => input,
             Err(_) => return Err(KeyError::Memory),
         };
-        let mut arguments = Vec::new(alloc);
-        push_copies(alloc, &mut arguments, &args.preprocessor_args)?;
-        push_copies(alloc, &mut arguments, &args.arch_args)?;
-        push_copies(alloc, &mut arguments, &args.common_args)?;
         let key = preprocessor_cache_entry_hash_key::<H, F>(
             alloc,
             self.executable_digest.as_str(),
             args.language,
-            &arguments,
+            &args.preprocessor_args,
+            &args.arch_args,
+            &args.common_args,
             extra_hashes,
             self.assembler_digest(),
             conditions.vars,
             &input,
+            conditions.cwd,
             self.compiler.plusplus(),
             args.is_multiarch(),
             conditions.config,
-            conditions.basedirs,
             files,
             conditions.moment,
             conditions.zone,

@@ -15,16 +15,11 @@ returns-in-Ok-key-clause-answer g c =
     key_of_input w call F (map string_bytes c.args.extra_hashes.now) (option_map string_bytes c.in-Ok-key.key) _ refl
     (rw (
       c.as_str.ensures.value,
-      c.deref-5.ensures.value,
-      c.in_ok-push_copies-3.ensures,
-      c.in_ok-push_copies-2.ensures,
-      c.in_ok-push_copies.ensures,
-      c.new-arguments.ensures.items,
       c.deref-2.ensures.value,
       c.deref-3.ensures.value,
       c.deref-4.ensures.value,
       c.assembler_digest.ensures,
-      c.deref-6.ensures.value,
+      c.deref-5.ensures.value,
       c.in-Ok.ensures.bytes,
       c.deref.ensures.value,
       c.plusplus.ensures,
@@ -37,4 +32,4 @@ returns-clause-answer g c =
     let call = call_under g.I.CCompilerImpl.value (g.F.Files.file_map c.args.files.now) c.args.self.now (given_of c.args.conditions.now) in
     let F = Rose (g.F.Files.faults c.args.files.now) (g.F.Files.faults c.preprocessor_cache_entry_hash_key-key.new.files) in
     rw c.key_refusal.ensures
-    (input_refused w call F c.in-Err-key.error (rw (c.deref-6.ensures.value, c.in-Ok.ensures.bytes, c.deref.ensures.value) at c.in-Err-key.ensures.answer))
+    (input_refused w call F c.in-Err-key.error (rw (c.deref-5.ensures.value, c.in-Ok.ensures.bytes, c.deref.ensures.value) at c.in-Err-key.ensures.answer))
