@@ -203,6 +203,7 @@ impl BasedirTrie {
     /// The length in bytes of the longest base directory that stands at this place of the text, and 0
     /// if there is none, as at its end and behind it. What stands before the place doesn't matter. It
     /// takes no memory.
+    #[inline(never)]
     pub fn longest_at(&self, text: &[u8], at: usize) -> usize
         ensures { (words : List (List ℕ)) → IsTrie self.now words → result ≡ longest_prefix words (drop at text.now) }
     {
@@ -220,21 +221,21 @@ impl BasedirTrie {
             };
             let node = self.nodes[current.0];
             let run = self.runs[current.0];
-            next = if run > 0 {
+            next = if node.byte != rest[depth] {
+                node.beside
+            } else if run > 1 {
                 let bytes = &self.bytes[current.0..current.0 + run];
                 if !rest[depth..].starts_with(bytes) {
                     return longest;
                 }
                 depth += run;
                 Some(NodeId(current.0 + run))
-            } else if node.byte == rest[depth] {
+            } else {
                 depth += 1;
                 if node.ends {
                     longest = depth;
                 }
                 node.below
-            } else {
-                node.beside
             };
         }
         longest
