@@ -1,5 +1,5 @@
 -- Nodes that a walk passes one after the other.
-use Rattle.std.proofs.Common.{◌≡◌, ◌≢◌, inl, inr, ℕ, zero, suc, ◌+◌, ◌-◌, ◌<◌, ◌≤◌, List, [], ◌∷◌, Bool, true, false, ◌&&◌, Option, Some, None, map, nat_eq, length, get_or, set, take, drop, add-one, refl, sym, ap, subst, ◌∙◌, arith}
+use Rattle.std.proofs.Common.{◌≡◌, ◌≢◌, inl, inr, ℕ, zero, suc, ◌+◌, ◌-◌, ◌<◌, ◌≤◌, List, ◌∷◌, Bool, true, false, ◌&&◌, Option, Some, map, nat_eq, length, get_or, set, take, drop, add-one, refl, sym, ap, subst, ◌∙◌, arith}
 use Rattle.std.specs.List.{starts_with}
 use Rattle.std.proofs.Math.ListN.{get_or-map}
 use Rattle.std.proofs.Math.Seq.{drop-cons}
@@ -12,6 +12,7 @@ use Rattle.cck_strip.specs.declared.node.NodeId.{NodeId}
 use Rattle.cck_strip.specs.Trie.{At, HasRuns, IsForward, IsRun, IsStraight, IsTrie}
 use Rattle.cck_strip.proofs.WalkLemmas.{Pending, Pending-end, Pending-match, Pending-none, Pending-pass, Pending-some}
 
+-- a run lies in the vector
 IsRun-within : (n : ℕ) (nodes : List Node) (i : ℕ) → IsRun n nodes i → i ≤ length nodes → i + n ≤ length nodes
 IsRun-within zero nodes i run h = omega arith
 IsRun-within (suc n) nodes i (node, at, straight, rest) h =
@@ -19,9 +20,11 @@ IsRun-within (suc n) nodes i (node, at, straight, rest) h =
     let others = IsRun-within n nodes (i + 1) rest (omega arith) in
     omega arith
 
+-- the node that is read at a place
 pub At-get : (nodes : List Node) (i : ℕ) (default : Node) → i < length nodes → At nodes i (get_or nodes i default)
 At-get nodes i default h = record { within = h; is = get_or_default nodes i (get_or nodes i default) default h }
 
+-- the byte of a node
 byte_at : (nodes : List Node) (i : ℕ) (node : Node) → At nodes i node → get_or (map (λ node. node.byte) nodes) i 0 ≡ node.byte
 byte_at nodes i node at =
     let within = at.within in
@@ -45,6 +48,7 @@ Walked-more : (nodes : List Node) (text : List ℕ) (at id : NodeId) (n depth be
 Walked-more nodes text at id n depth best true next w = λ end later e d. w end later (omega arith) (omega arith)
 Walked-more nodes text at id n depth best false next w = w
 
+-- the text does not go on with these bytes
 ended : (nodes : List Node) (text : List ℕ) (at : NodeId) (n depth best : ℕ) (b : Bool) → b ≡ false
     → ((words : List (List ℕ)) → IsTrie nodes words → best ≡ longest_prefix words text) → Walked nodes text at n depth best b
 ended nodes text at n depth best true e w = absurd cc
@@ -56,7 +60,6 @@ equal a b e = grind (arith, nat_tests)
 unequal : (a b : ℕ) → a ≢ b → nat_eq a b ≡ false
 unequal a b e = grind (arith, nat_tests)
 
--- the number of nodes of a run that is kept for a node
 -- one straight node more before a run
 pub IsRun-longer : (nodes : List Node) (node : Node) (i later n run : ℕ) → At nodes i node → IsStraight node (i + 1) → IsRun n nodes later
     → later ≡ i + 1 → run ≡ n + 1 → IsRun run nodes i
@@ -64,16 +67,18 @@ IsRun-longer nodes node i later n run at straight rest next e =
     let longer : suc n ≡ run = omega arith in
     subst (λ m. IsRun m nodes i) longer (node, at, straight, subst (IsRun n nodes) next rest)
 
+-- the run whose length is kept for a node
 IsRun-kept : (nodes : List Node) (bytes runs : List ℕ) (i n : ℕ) → HasRuns nodes bytes runs → i < length nodes → n ≡ get_or runs i n → IsRun n nodes i
 IsRun-kept nodes bytes runs i n h within e =
     subst (λ m. IsRun m nodes i) (sym (e ∙ get_or_default runs i n 0 (omega (arith, h.size)))) (h.each i within)
 
--- the bytes of a run
+-- where a run ends
 pub run_ends : (nodes : List Node) (bytes runs : List ℕ) (i n : ℕ) → HasRuns nodes bytes runs → i < length nodes → n ≡ get_or runs i n → i + n ≤ length bytes
 run_ends nodes bytes runs i n h within e =
     let ends = IsRun-within n nodes i (IsRun-kept nodes bytes runs i n h within e) (omega arith) in
     omega (arith, ap length h.bytes_are, length-map nodes (λ (node : Node). node.byte))
 
+-- a walk along a run
 Pending-run : (nodes : List Node) (text : List ℕ) (best n : ℕ) (at : NodeId) (depth : ℕ) → IsForward nodes → IsRun n nodes (at.0)
     → Pending nodes text (Some at) depth best
     → (b : Bool) → starts_with nat_eq (drop depth text) (take n (drop (at.0) (map (λ node. node.byte) nodes))) ≡ b
