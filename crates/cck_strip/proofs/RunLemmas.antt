@@ -1,5 +1,5 @@
 -- Nodes that a walk passes one after the other.
-use Rattle.std.proofs.Common.{◌≡◌, ◌≢◌, inl, inr, ℕ, zero, suc, ◌+◌, ◌-◌, ◌<◌, ◌≤◌, List, [], ◌∷◌, Bool, true, false, cond, ◌&&◌, Some, None, map, nat_eq, length, get_or, set, take, drop, add-one, refl, sym, ap, subst, ◌∙◌, arith}
+use Rattle.std.proofs.Common.{◌≡◌, ◌≢◌, inl, inr, ℕ, zero, suc, ◌+◌, ◌-◌, ◌<◌, ◌≤◌, List, ◌∷◌, Bool, true, false, ◌&&◌, Option, Some, map, nat_eq, length, get_or, set, take, drop, add-one, refl, sym, ap, subst, ◌∙◌, arith}
 use Rattle.std.specs.List.{starts_with}
 use Rattle.std.proofs.Math.ListN.{get_or-map}
 use Rattle.std.proofs.Math.Seq.{drop-cons}
@@ -12,16 +12,19 @@ use Rattle.cck_strip.specs.declared.node.NodeId.{NodeId}
 use Rattle.cck_strip.specs.Trie.{At, HasRuns, IsForward, IsRun, IsStraight, IsTrie}
 use Rattle.cck_strip.proofs.WalkLemmas.{Pending, Pending-end, Pending-match, Pending-none, Pending-pass, Pending-some}
 
-pub IsRun-within : (n : ℕ) (nodes : List Node) (i : ℕ) → IsRun n nodes i → i ≤ length nodes → i + n ≤ length nodes
+-- a run lies in the vector
+IsRun-within : (n : ℕ) (nodes : List Node) (i : ℕ) → IsRun n nodes i → i ≤ length nodes → i + n ≤ length nodes
 IsRun-within zero nodes i run h = omega arith
 IsRun-within (suc n) nodes i (node, at, straight, rest) h =
     let within = at.within in
     let others = IsRun-within n nodes (i + 1) rest (omega arith) in
     omega arith
 
+-- the node that is read at a place
 pub At-get : (nodes : List Node) (i : ℕ) (default : Node) → i < length nodes → At nodes i (get_or nodes i default)
 At-get nodes i default h = record { within = h; is = get_or_default nodes i (get_or nodes i default) default h }
 
+-- the byte of a node
 byte_at : (nodes : List Node) (i : ℕ) (node : Node) → At nodes i node → get_or (map (λ node. node.byte) nodes) i 0 ≡ node.byte
 byte_at nodes i node at =
     let within = at.within in
@@ -45,6 +48,7 @@ Walked-more : (nodes : List Node) (text : List ℕ) (at id : NodeId) (n depth be
 Walked-more nodes text at id n depth best true next w = λ end later e d. w end later (omega arith) (omega arith)
 Walked-more nodes text at id n depth best false next w = w
 
+-- the text does not go on with these bytes
 ended : (nodes : List Node) (text : List ℕ) (at : NodeId) (n depth best : ℕ) (b : Bool) → b ≡ false
     → ((words : List (List ℕ)) → IsTrie nodes words → best ≡ longest_prefix words text) → Walked nodes text at n depth best b
 ended nodes text at n depth best true e w = absurd cc
@@ -56,7 +60,6 @@ equal a b e = grind (arith, nat_tests)
 unequal : (a b : ℕ) → a ≢ b → nat_eq a b ≡ false
 unequal a b e = grind (arith, nat_tests)
 
--- the number of nodes of a run that is kept for a node
 -- one straight node more before a run
 pub IsRun-longer : (nodes : List Node) (node : Node) (i later n run : ℕ) → At nodes i node → IsStraight node (i + 1) → IsRun n nodes later
     → later ≡ i + 1 → run ≡ n + 1 → IsRun run nodes i
@@ -64,11 +67,19 @@ IsRun-longer nodes node i later n run at straight rest next e =
     let longer : suc n ≡ run = omega arith in
     subst (λ m. IsRun m nodes i) longer (node, at, straight, subst (IsRun n nodes) next rest)
 
-pub IsRun-kept : (nodes : List Node) (bytes runs : List ℕ) (i n : ℕ) → HasRuns nodes bytes runs → i < length nodes → n ≡ get_or runs i n → IsRun n nodes i
+-- the run whose length is kept for a node
+IsRun-kept : (nodes : List Node) (bytes runs : List ℕ) (i n : ℕ) → HasRuns nodes bytes runs → i < length nodes → n ≡ get_or runs i n → IsRun n nodes i
 IsRun-kept nodes bytes runs i n h within e =
     subst (λ m. IsRun m nodes i) (sym (e ∙ get_or_default runs i n 0 (omega (arith, h.size)))) (h.each i within)
 
-pub Pending-run : (nodes : List Node) (text : List ℕ) (best n : ℕ) (at : NodeId) (depth : ℕ) → IsForward nodes → IsRun n nodes (at.0)
+-- where a run ends
+pub run_ends : (nodes : List Node) (bytes runs : List ℕ) (i n : ℕ) → HasRuns nodes bytes runs → i < length nodes → n ≡ get_or runs i n → i + n ≤ length bytes
+run_ends nodes bytes runs i n h within e =
+    let ends = IsRun-within n nodes i (IsRun-kept nodes bytes runs i n h within e) (omega arith) in
+    omega (arith, ap length h.bytes_are, length-map nodes (λ (node : Node). node.byte))
+
+-- a walk along a run
+Pending-run : (nodes : List Node) (text : List ℕ) (best n : ℕ) (at : NodeId) (depth : ℕ) → IsForward nodes → IsRun n nodes (at.0)
     → Pending nodes text (Some at) depth best
     → (b : Bool) → starts_with nat_eq (drop depth text) (take n (drop (at.0) (map (λ node. node.byte) nodes))) ≡ b
     → Walked nodes text at n depth best b
@@ -122,11 +133,13 @@ Pending-run nodes text best (suc n) at depth f (node, there, straight, rest) p b
     short : length text ≤ depth → starts_with nat_eq (drop depth text) (take (suc n) (drop (at.0) bytes)) ≡ false
     short past = ap (starts_with nat_eq (drop depth text)) expected ∙ ap (λ x. starts_with nat_eq x (node.byte ∷ take n (drop (straight.id.0) bytes))) (drop_all depth text past)
 
--- a comparison of a text with the bytes of a run, as it is made
-pub compared : (text own bytes : List ℕ) (depth i n m : ℕ) (b : Bool) → own ≡ bytes → m ≡ n
-    → b ≡ starts_with nat_eq (take (length text - depth) (drop depth text)) (take m (drop i own))
-    → starts_with nat_eq (drop depth text) (take n (drop i bytes)) ≡ b
-compared text own bytes depth i n m b e f h = sym (h ∙ rw (take_rest text depth, e, f) refl)
+-- what is known of a walk behind a run, whose bytes were compared with the text
+pub Pending-compared : (nodes : List Node) (bytes own runs text : List ℕ) (next : Option NodeId) (at : NodeId) (depth best n m : ℕ) (b now : Bool)
+    → IsForward nodes → HasRuns nodes bytes runs → Pending nodes text next depth best → next ≡ Some at → n ≡ get_or runs (at.0) n → own ≡ bytes → m ≡ n
+    → b ≡ starts_with nat_eq (take (length text - depth) (drop depth text)) (take m (drop (at.0) own)) → b ≡ now → Walked nodes text at n depth best now
+Pending-compared nodes bytes own runs text next at depth best n m b now f h p is kept e same stands told =
+    Pending-run nodes text best n at depth f (IsRun-kept nodes bytes runs (at.0) n h (p.within at is) kept) (Pending-some nodes text next at depth best is p) now
+    (sym (sym told ∙ (stands ∙ rw (take_rest text depth, e, h.bytes_are, same) refl)))
 
 -- the runs from a place on, each of the length that is kept for it
 abbrev pub RunsFrom : List Node → List ℕ → ℕ → Type 0

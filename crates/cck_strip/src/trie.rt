@@ -104,7 +104,7 @@ fn insert(nodes: &mut Vec<Node>, word: &[u8]) -> Result<(), UtilError>
     Ok(())
 }
 
-// Whether this node ends nothing, has no node beside it, and has the node of this name below it.
+// Whether this node ends nothing, has no node beside it, and has the node at this place below it.
 fn is_straight(node: &Node, next: usize) -> bool
     ensures { IsTrue result ↔ IsStraight node.now next }
 {
@@ -117,7 +117,8 @@ fn is_straight(node: &Node, next: usize) -> bool
     }
 }
 
-// For each node how many nodes from it on are straight, each with the next one of the vector below it.
+// For each node how many nodes from it on, one behind the other in the vector, end nothing, have no
+// node beside them, and have the next one below them.
 //
 // It is refused only for lack of memory, as [`UtilError::Memory`].
 fn run_lengths(alloc: Global, nodes: &[Node]) -> Result<Vec<usize>, UtilError>
@@ -140,7 +141,7 @@ fn run_lengths(alloc: Global, nodes: &[Node]) -> Result<Vec<usize>, UtilError>
     Ok(runs)
 }
 
-// The bytes of the nodes.
+// The bytes of the nodes, in their order.
 //
 // It is refused only for lack of memory, as [`UtilError::Memory`].
 fn node_bytes(alloc: Global, nodes: &[Node]) -> Result<Vec<u8>, UtilError>
@@ -158,11 +159,12 @@ fn node_bytes(alloc: Global, nodes: &[Node]) -> Result<Vec<u8>, UtilError>
 /// stand there, however many there are.
 ///
 /// The nodes stand in one vector and name each other by their places in it. Equal base directories
-/// are one word of the trie, and empty ones none. Where only one way leads on, the bytes of all nodes
-/// on it are compared at once.
+/// are one word of the trie, and empty ones none.
 #[derive(Drop)]
 pub struct BasedirTrie {
     nodes: Vec<Node>,
+    // Nodes that a search passes only one after the other are a run, whose bytes it compares at once:
+    // for each node its byte, and how many nodes from it on are a run.
     bytes: Vec<u8>,
     runs: Vec<usize>,
 }
@@ -203,6 +205,8 @@ impl BasedirTrie {
     /// The length in bytes of the longest base directory that stands at this place of the text, and 0
     /// if there is none, as at its end and behind it. What stands before the place doesn't matter. It
     /// takes no memory.
+    // Inlined, it takes registers from the search of the text around it.
+    #[inline(never)]
     pub fn longest_at(&self, text: &[u8], at: usize) -> usize
         ensures { (words : List (List ℕ)) → IsTrie self.now words → result ≡ longest_prefix words (drop at text.now) }
     {
@@ -220,21 +224,21 @@ impl BasedirTrie {
             };
             let node = self.nodes[current.0];
             let run = self.runs[current.0];
-            next = if run > 0 {
+            next = if node.byte != rest[depth] {
+                node.beside
+            } else if run > 1 {
                 let bytes = &self.bytes[current.0..current.0 + run];
                 if !rest[depth..].starts_with(bytes) {
                     return longest;
                 }
                 depth += run;
                 Some(NodeId(current.0 + run))
-            } else if node.byte == rest[depth] {
+            } else {
                 depth += 1;
                 if node.ends {
                     longest = depth;
                 }
                 node.below
-            } else {
-                node.beside
             };
         }
         longest
