@@ -110,9 +110,9 @@ module _ (vs : List (Vec ℕ × Vec ℕ)) (names keys : List (Vec ℕ)) (name : 
   set_new after copy new le is copied same =
       let none = is_new name.items vs (omega (arith, at_place, le)) in (
         ap variables_of is ∙ map-append (λ (v : Vec ℕ × Vec ℕ). (v.0.items, v.1.items)) vs ((copy, new) ∷ [])
-        ∙ (λ i. variables_of vs ++ ((copied ∙ sym e) i, same i) ∷ []) ∙ sym (none.0 value) ∙ ap (λ n. with_variable n value (variables_of vs)) e,
+            ∙ (λ i. variables_of vs ++ ((copied ∙ sym e) i, same i) ∷ []) ∙ sym (none.0 value) ∙ ap (λ n. with_variable n value (variables_of vs)) e,
         keys_are false none.1 ∙ map-append (λ (v : Vec ℕ). v.items) names (name ∷ []) ∙ (λ i. are i ++ (e ∙ sym copied) i ∷ [])
-        ∙ sym (ap names_in is ∙ map-append (λ (v : Vec ℕ × Vec ℕ). v.0.items) vs ((copy, new) ∷ [])),
+            ∙ sym (ap names_in is ∙ map-append (λ (v : Vec ℕ × Vec ℕ). v.0.items) vs ((copy, new) ∷ [])),
       )
 
 -- ---- the variables after some lines, as one more is set
