@@ -1,5 +1,5 @@
 -- what bytes are read as, from the left: none where they begin with nothing of the kind
-use Rattle.std.specs.Prelude.{◌≡◌, ℕ, zero, suc, ◌/◌, List, [], ◌∷◌, ◌++◌, length, take, drop, Option, Some, None, Result, Ok, Err, Bool, nat_lt, ◌==◌, if◌then◌else◌}
+use Rattle.std.specs.Prelude.{◌≡◌, ℕ, zero, suc, ◌*◌, ◌/◌, List, [], ◌∷◌, ◌++◌, length, take, drop, Option, Some, None, Result, Ok, Err, Bool, nat_lt, ◌==◌, ◌<◌, if◌then◌else◌}
 use Rattle.std.specs.Int.{Width, w32, w64, byte_len, from_le_bytes, cast_signed}
 use Rattle.std.specs.Str.{is_utf8}
 use Rattle.std.specs.Ordering.{is_lt}
@@ -99,3 +99,10 @@ unfoldable pub entry_at : List ℕ → Option (List KeyResult)
 entry_at bytes = do
   n ← number_at w64 bytes
   if nat_lt (length n.1 / 16) n.0 then None else (results_from [] n.0 n.1 >>= λ rs. if length rs.1 == 0 then Some rs.0 else None)
+
+-- These bytes begin with a count of results that the bytes behind it can't hold.
+pub record IsOvercounted (bytes : List ℕ) : Type 0 where
+  pub count : ℕ
+  pub left : List ℕ
+  pub counted : number_at w64 bytes ≡ Some (count, left)
+  pub more : length left < 16 * count

@@ -1,11 +1,13 @@
 //! Entries.
-ghost use Rattle.std.specs.Prelude.{◌≡◌, ◌||◌, ◌+◌, IfErr, IfOk, List, OnErr, OnOk, ℕ, map, nat_lt};
+ghost use Rattle.std.specs.Prelude.{◌≡◌, ◌∷◌, ◌||◌, ◌+◌, Err, IfErr, IfOk, List, OnErr, OnOk, ℕ, map, nat_lt};
 ghost use Rattle.std.specs.FinMap.{empty, entries, len};
 ghost use Rattle.std.specs.Io.KnownBytes.{Appends};
 ghost use Rattle.std.specs.String.{string_bytes};
 ghost use Rattle.cck_digest.specs.declared.error.UtilError.TheVariants as util;
 ghost use Rattle.cck_include.specs.Include.{includes_in};
+ghost use Rattle.cck_preprocessor_key.specs.PreprocessorKey.{format_version};
 ghost use Rattle.cck_entry.specs.Entry.{Entry, EntryText, IsEntryOrMemory, Reads, added, include_count, is_over};
+ghost use Rattle.cck_entry.specs.Reading.{IsOvercounted};
 ghost use Rattle.cck_entry.specs.Results.{result_in};
 
 use crate::results::{Results, copy_results, insert_counted};
@@ -71,10 +73,13 @@ impl PreprocessorCacheEntry {
     ///
     /// [`Error::UnknownFormat`] names a first byte other than 2. [`Error::Deserialization`] says
     /// that the bytes begin with 2 and are the text of no entry. A count is judged by the bytes
-    /// left before memory is taken for it. [`Error::Memory`] says that memory was refused.
+    /// left before memory is taken for it, so a count of results that they can't hold is never
+    /// refused as [`Error::Memory`], which says that memory was refused.
     pub fn read(alloc: Global, bytes: &[u8]) -> Result<PreprocessorCacheEntry, Error>
         ensures reads { Reads result bytes.now }
         ensures only { (e : Entry) → EntryText e bytes.now → IsEntryOrMemory e result }
+        ensures counted { (rest : List ℕ) → bytes.now ≡ format_version ∷ rest → IsOvercounted rest
+            → result ≡ Err Error.Deserialization }
     {
         match EntryView::read(alloc, bytes) {
             Ok(view) => copy_view(alloc, &view),

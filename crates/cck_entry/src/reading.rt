@@ -1,13 +1,13 @@
 //! What bytes are read as, from the left: each call takes what they begin with, and hands back the
 //! bytes behind it. Keys, paths and digests are left where they stand. All lengths and counts are
 //! looked at before memory is taken for them.
-ghost use Rattle.std.specs.Prelude.{[], IfOk, map};
+ghost use Rattle.std.specs.Prelude.{◌≡◌, ◌≤◌, ◌/◌, [], Err, IfErr, IfOk, length, map, vec_capacity};
 ghost use Rattle.std.specs.Int.{w32, w64};
 ghost use Rattle.std.specs.List.{AllByRecursion};
 ghost use Rattle.std.specs.Option.{option_map};
 ghost use Rattle.cck_include.specs.Include.{include_lent};
 ghost use Rattle.cck_entry.specs.Lent.{IsWhole, result_lent};
-ghost use Rattle.cck_entry.specs.Reading.{Gives, entry_at, include_at, includes_at, length_prefixed_at, moment_at, number_at, result_at, results_from, text_at, time_at};
+ghost use Rattle.cck_entry.specs.Reading.{Gives, IsOvercounted, entry_at, include_at, includes_at, length_prefixed_at, moment_at, number_at, result_at, results_from, text_at, time_at};
 
 use crate::lent::{ResultRef, comes_last};
 use cck_include::IncludeRef;
@@ -38,7 +38,8 @@ fn read_u32(bytes: &[u8]) -> Result<(u32, &[u8]), Error>
 
 /// A number of 8 bytes.
 fn read_u64(bytes: &[u8]) -> Result<(u64, &[u8]), Error>
-    ensures { Gives (λ x. (x.0, x.1.now)) result (number_at w64 bytes.now) }
+    ensures read { Gives (λ x. (x.0, x.1.now)) result (number_at w64 bytes.now) }
+    ensures err { IfErr result (λ e. e ≡ Error.Deserialization) }
 {
     if bytes.len() < 8 {
         return Err(Error::Deserialization);
@@ -168,15 +169,18 @@ fn read_result(bytes: &[u8]) -> Result<(ResultRef<'_>, &[u8]), Error>
     ))
 }
 
-/// So many results, whose keys ascend. The memory for all of them is taken at once.
+/// So many results, whose keys ascend. The memory for all of them is taken at once, and for no more
+/// of them than the bytes can hold.
 fn read_results(
     alloc: Global,
     count: u64,
     bytes: &[u8],
 ) -> Result<(Vec<ResultRef<'_>>, &[u8]), Error>
+    requires fits { count ≤ length bytes.now / 16 }
     ensures read { Gives
         (λ x. (map result_lent x.0.items, x.1.now)) result (results_from [] count bytes.now) }
     ensures whole { IfOk result (λ x. AllByRecursion IsWhole x.0.items) }
+    ensures room { IfOk result (λ x. vec_capacity x.0 ≤ length bytes.now / 16) }
 {
     let mut results = Vec::with_capacity(alloc, count as usize)?;
     let mut rest = bytes;
@@ -188,17 +192,22 @@ fn read_results(
         if !comes_last(&results, lent.key) {
             return Err(Error::Deserialization);
         }
-        results.push(lent)?;
+        results.push_reserved(lent);
         rest = after;
     }
     Ok((results, rest))
 }
 
 /// The results that make up the whole of the bytes, which stand behind the format.
+///
+/// A count of results that the bytes left can't hold is refused as damaged, and never for lack of
+/// memory: none is taken for it.
 #[tactic(auto, unfolding(crate::specs::Reading::entry_at))]
 pub(crate) fn read_entry(alloc: Global, bytes: &[u8]) -> Result<Vec<ResultRef<'_>>, Error>
     ensures read { Gives (λ x. map result_lent x.items) result (entry_at bytes.now) }
     ensures whole { IfOk result (λ x. AllByRecursion IsWhole x.items) }
+    ensures room { IfOk result (λ x. vec_capacity x ≤ length bytes.now / 16) }
+    ensures counted { IsOvercounted bytes.now → result ≡ Err Error.Deserialization }
 {
     let (count, rest) = read_u64(bytes)?;
     if ((rest.len() / SHORTEST_RESULT) as u64) < count {

@@ -1,10 +1,12 @@
 //! Entries that are looked at where their bytes lie.
-ghost use Rattle.std.specs.Prelude.{◌≡◌, map, true};
+ghost use Rattle.std.specs.Prelude.{◌≡◌, ◌∷◌, Err, List, ℕ, map, true};
 ghost use Rattle.std.specs.FinMap.{empty, entries, is_sorted, len};
 ghost use Rattle.std.specs.List.{AllByRecursion};
 ghost use Rattle.cck_path.specs.TextOrder.{text_cmp};
+ghost use Rattle.cck_preprocessor_key.specs.PreprocessorKey.{format_version};
 ghost use Rattle.cck_entry.specs.Entry.{Entry, EntryText, IsEntryOrMemory, IsReadFrom, Reads, include_count};
 ghost use Rattle.cck_entry.specs.Lent.{IsWhole, result_lent};
+ghost use Rattle.cck_entry.specs.Reading.{IsOvercounted};
 
 use crate::lent::{ResultRef, total};
 use crate::reading::read_entry;
@@ -55,10 +57,13 @@ impl<'a> EntryView<'a> {
     /// [`Error::UnknownFormat`] names a first byte other than 2, [`Error::Deserialization`] says that
     /// the bytes begin with 2 and are the text of no entry, and [`Error::Memory`] that memory was
     /// refused. Memory is taken once, for as many results as the bytes name, after this count was
-    /// judged by the bytes left.
+    /// judged by the bytes left: where they can't hold so many, the refusal is never
+    /// [`Error::Memory`].
     pub fn read(alloc: Global, bytes: &'a [u8]) -> Result<EntryView<'a>, Error>
         ensures reads { Reads result bytes.now }
         ensures only { (e : Entry) → EntryText e bytes.now → IsEntryOrMemory e result }
+        ensures counted { (rest : List ℕ) → bytes.now ≡ format_version ∷ rest → IsOvercounted rest
+            → result ≡ Err Error.Deserialization }
     {
         let Some((version, rest)) = bytes.split_first() else {
             return Ok(EntryView::new(alloc));
@@ -104,7 +109,8 @@ impl Debug for EntryView<'_> {
 
 /// The entry of the bytes behind the format.
 fn read_body(alloc: Global, rest: &[u8]) -> Result<EntryView<'_>, Error>
-    ensures { IsReadFrom rest.now result }
+    ensures read { IsReadFrom rest.now result }
+    ensures counted { IsOvercounted rest.now → result ≡ Err Error.Deserialization }
 {
     match read_entry(alloc, rest) {
         Ok(results) => Ok(EntryView {

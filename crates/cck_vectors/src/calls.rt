@@ -128,11 +128,13 @@ impl Calls {
     fn give_own(&mut self, word: &str, rest: &str) -> Result<bool, CaseError> {
         match word {
             "add_call" => {
-                let call = lists::call_of(&self.request, &self.given, &self.world)?;
+                let mut call = lists::call_of(&self.request, &self.given, &self.world)?;
+                call.files.is_bytewise = self.noting.is_bytewise;
                 self.list.push(call)?;
             }
             "counted_path" => self.noting.path = bytes_of(self.given.alloc, rest)?,
             "count" => self.noting.count = number(rest)?,
+            "bytewise" => self.noting.is_bytewise = true,
             _ => return Ok(false),
         }
         Ok(true)
@@ -150,6 +152,7 @@ impl Subject for Calls {
                 files: MapFiles::new(alloc),
                 path: Vec::new(alloc),
                 count: 0,
+                is_bytewise: false,
             },
             list: Vec::new(alloc),
             is_prepared: false,
@@ -163,6 +166,7 @@ impl Subject for Calls {
         self.request = Request::new(alloc);
         self.stores = Stores::new(alloc);
         self.noting.count = 0;
+        self.noting.is_bytewise = false;
         self.list.clear();
         self.is_prepared = false;
     }

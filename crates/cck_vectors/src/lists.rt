@@ -34,6 +34,7 @@ fn noting(alloc: Global, world: &World) -> Result<NotingFiles, CaseError> {
         files: world.files.copy(alloc)?,
         path: PREPROCESSED.to_vec(alloc)?,
         count: 0,
+        is_bytewise: false,
     })
 }
 

@@ -16,7 +16,8 @@
 //!   store `new_store`, `empty_store`, `store_fail_at N`, `store_fail_after N` and
 //!   `store_forget_at N`;
 //! - `add_call` adds a call of all this to the list that `run_calls` makes. `counted_path PATH` and
-//!   `count N` say on which path calls are counted, and from where on.
+//!   `count N` say on which path calls are counted, and from where on; `bytewise`, that each read
+//!   of a file gives one byte.
 //!
 //! The calls of each module are in its table `CALLS`.
 #![tactic(auto)]

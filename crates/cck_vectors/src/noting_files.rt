@@ -1,4 +1,4 @@
-//! Files in memory that count the calls on one path.
+//! Files in memory that count the calls on one path, and that can be read in single bytes.
 ghost use Rattle.std.specs.Prelude.{◌≡◌, ◌⊎◌, false, true, map, IsOkAnd, MatchBool, MatchResult, Ok, vec_items};
 ghost use Rattle.cck_path.specs.Path.{components};
 ghost use Rattle.cck_files.specs.Calls.{IsRead, IsRefusal, IsRefusalOrMemory, Keeps, Rose};
@@ -13,7 +13,7 @@ use std::alloc::Global;
 /// Files in memory that count the calls on one path. Each call is made on the files that they hold.
 ///
 /// A call counts where its path has the same components. The count is a `u64` and stays at
-/// `u64::MAX`.
+/// `u64::MAX`. A read gives as many bytes as there are and fit, or one of them.
 #[derive(Drop)]
 pub(crate) struct NotingFiles {
     /// The files.
@@ -22,6 +22,8 @@ pub(crate) struct NotingFiles {
     pub(crate) path: Vec<u8>,
     /// How many there were.
     pub(crate) count: u64,
+    /// Whether a read gives one byte at most.
+    pub(crate) is_bytewise: bool,
 }
 
 impl NotingFiles {
@@ -66,6 +68,10 @@ impl Files for NotingFiles {
         ensures call { IsNoted self.old (components path.now) self.new }
     {
         self.note(path);
+        if self.is_bytewise {
+            let end = buffer.len().min(1);
+            return self.files.read_at(path, offset, &mut buffer[..end]);
+        }
         self.files.read_at(path, offset, buffer)
     }
 

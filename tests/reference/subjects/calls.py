@@ -116,10 +116,12 @@ class FixedCompiler:
 
 
 class NotingFiles:
-    """Files that count the calls on one path. Each call is made on the files that they hold."""
+    """Files that count the calls on one path. Each call is made on the files that they hold, and a
+    read gives as many bytes as there are and fit, or one of them."""
 
-    def __init__(self, files, path=PREPROCESSED, count=0):
+    def __init__(self, files, is_bytewise, path=PREPROCESSED, count=0):
         self.files = files
+        self.is_bytewise = is_bytewise
         self.path = path
         self.count = count
 
@@ -136,7 +138,7 @@ class NotingFiles:
     def read_at(self, path, offset, size):
         """The same of the files."""
         self.note(path)
-        return self.files.read_at(path, offset, size)
+        return self.files.read_at(path, offset, min(size, 1) if self.is_bytewise else size)
 
     def read_dir(self, path):
         """The same of the files."""
@@ -600,6 +602,7 @@ class Subject(BaseSubject):
         self.store = self.map_store
         self.path = PREPROCESSED
         self.count = 0
+        self.is_bytewise = False
         self.list = []
 
     def noting(self):
@@ -626,7 +629,7 @@ class Subject(BaseSubject):
     def add_call(self):
         """Adds a call over a copy of the files."""
         compiler = dataclasses.replace(self.compiler)
-        call = self.call_over(NotingFiles(self.world.files.copy()))
+        call = self.call_over(NotingFiles(self.world.files.copy(), self.is_bytewise))
         call.hasher = dataclasses.replace(call.hasher, compiler=compiler)
         self.list.append(call)
 
@@ -699,6 +702,8 @@ class Subject(BaseSubject):
             self.path = undo(rest)
         elif word == "count":
             self.count = number_in(rest)
+        elif word == "bytewise":
+            self.is_bytewise = True
         elif word == "add_call":
             self.add_call()
         else:
@@ -727,7 +732,7 @@ class Counted(NotingFiles):
     """The files of an adapter, whose count is the adapter's."""
 
     def __init__(self, subject):
-        super().__init__(subject.world.files, subject.path, subject.count)
+        super().__init__(subject.world.files, subject.is_bytewise, subject.path, subject.count)
         self.subject = subject
 
     def note(self, path):

@@ -1,4 +1,4 @@
-use Rattle.std.proofs.Common.{true, false, ◌≡◌, ◌∙◌, ◌++◌, ◌∷◌, [], sym, map, subst}
+use Rattle.std.proofs.Common.{true, false, ◌≡◌, ◌∙◌, ◌++◌, ◌∷◌, [], sym, map, subst, ap, ◌+◌}
 use Rattle.std.proofs.lemmas.List.{map_push}
 use Rattle.cck_entry.specs.Lent.{result_lent}
 use Rattle.cck_entry.specs.Reading.{Fails, comes_after}
@@ -24,9 +24,11 @@ loop-preserved c =
     let lent = c.in-Ok.read.0 in
     let front = map result_lent c.loop.results.items in
     let below : comes_after front lent.key.now ≡ true = rw (← c.deref.ensures.value) (sym c.if-not-comes_last.ensures) in
-    let all : map result_lent c.push.new.self.items ≡ front ++ result_lent lent ∷ [] = rw c.in_ok-push.ensures.items (map_push result_lent c.loop.results.items lent) in
+    let all : map result_lent c.push_reserved.new.self.items ≡ front ++ result_lent lent ∷ [] = rw c.push_reserved.ensures.items (map_push result_lent c.loop.results.items lent) in
     record {
       so_far = rw all (result_goes_on front c.args.count c.loop.counter c.loop.rest.now (result_lent lent) c.in-Ok.read.1.now c.loop-test.true c.in-Ok.ensures.read below ∙ c.loop.invariant.so_far);
       ascend = rw all (sorted_push front (result_lent lent) c.loop.invariant.ascend below);
-      whole = rw c.in_ok-push.ensures.items (whole_push c.loop.results.items lent c.loop.invariant.whole c.in-Ok.ensures.whole);
+      whole = rw c.push_reserved.ensures.items (whole_push c.loop.results.items lent c.loop.invariant.whole c.in-Ok.ensures.whole);
+      len = c.push_reserved.ensures.len ∙ ap (λ n. n + 1) c.loop.invariant.len;
+      room = c.push_reserved.ensures.capacity ∙ c.loop.invariant.room;
     }

@@ -6,8 +6,8 @@ use Rattle.cck_entry.proofs.LentLemmas.{lent_count}
 use Rattle.cck_entry.proofs.TextLemmas.{entry_takes}
 use Rattle.cck_entry.proofs.view.read_body.Goals as goal
 
-pub returns-in-Err : goal.returns-in-Err
-returns-in-Err c = read_error c.in-Err.error c.args.rest.now c.in-Err.ensures.read
+pub returns-in-Err-clause-read : goal.returns-in-Err-clause-read
+returns-in-Err-clause-read c = read_error c.in-Err.error c.args.rest.now c.in-Err.ensures.read
 
 pub total-requires : goal.total-requires
 total-requires c =
@@ -25,8 +25,8 @@ invariant_of-result c =
       count = c.total.ensures ∙ ap counts c.deref.ensures.value ∙ sym (lent_count rs c.in-Ok.ensures.whole);
     }
 
-pub returns-in-Ok : goal.returns-in-Ok
-returns-in-Ok c =
+pub returns-in-Ok-clause-read : goal.returns-in-Ok-clause-read
+returns-in-Ok-clause-read c =
     let bytes : IsBytes c.args.rest.now = λ i. omega (arith, c.type_inv.rest i) in
     let rs = map result_lent c.in-Ok.results.items in
     (read_text c.args.rest.now rs bytes c.in-Ok.ensures.read, λ e. one_entry c.args.rest.now rs e bytes c.in-Ok.ensures.read)
