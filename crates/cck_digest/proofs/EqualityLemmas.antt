@@ -1,4 +1,4 @@
--- The tests of equality tell whether two refusals are one.
+-- The equality tests of the errors decide whether two errors are equal.
 use Rattle.std.proofs.Common.{◌≡◌, ℕ, ◌==◌, Bool, false, refl, sym, ap, ◌∙◌}
 use Rattle.std.proofs.lemmas.Bool.{true≢false}
 use Rattle.std.proofs.lemmas.Bool.Decides.{Decides-eqb, Decides-like}
@@ -13,7 +13,7 @@ use Rattle.cck_digest.specs.declared.error.FileError.{FileError}
 use Rattle.cck_digest.specs.declared.error.UtilError.{UtilError}
 use Rattle.cck_digest.specs.declared.error.UtilError.TheVariants.{Memory, Read, File, TooDeep, TooLong, Write, IncompleteEscape, InvalidEscape, IncompleteHex, InvalidHex}
 
--- what a number tells apart is not one
+-- values with different numbers are not equal
 pub apart : {X : Type 0} (number : X → ℕ) (a b : X) {t : Bool} → t ≡ false → (number a == number b) ≡ false → Decides t (a ≡ b)
 apart number a b is other =
     (λ e. absurd (true≢false (sym e ∙ is)), λ e. absurd (true≢false (sym ((Decides-eqb (number a) (number b)).1 (ap number e)) ∙ other)))

@@ -1,10 +1,10 @@
--- A word of at most 13 bytes in a stream of two pieces stands in the first, in the second, or across.
+-- A word of at most 13 bytes in a stream of two pieces is in the first piece, in the second, or across the cut between them.
 use Rattle.std.proofs.Common.{◌≡◌, ℕ, ◌+◌, ◌-◌, ◌≤◌, List, [], ◌∷◌, ◌++◌, ◌⊎◌, inl, inr, length, take, drop, append_assoc, refl, sym, ap, ◌∙◌, arith, subst, length-append}
 use Rattle.std.proofs.lemmas.List.{append-nil, take_all, length-drop, drop-drop, drop-append-le, take-append-drop}
 use Rattle.std.proofs.Math.Seq.{take-append-add, drop-append-add}
 use Rattle.cck_digest.specs.TimeMacros.{Has, last_bytes}
 
--- two ways to cut a list: one cut lies before the other, or they are one
+-- two ways to cut a list: the first part of one cut is a beginning of the first part of the other
 append_split : (s p a x : List ℕ) → s ++ p ≡ a ++ x
     → ((c : List ℕ) × (s ≡ a ++ c) × (x ≡ c ++ p)) ⊎ ((c : List ℕ) × (a ≡ s ++ c) × (p ≡ c ++ x))
 append_split [] p a x e = inr (a, refl, e)
@@ -17,18 +17,18 @@ append_split (y ∷ s) p (z ∷ a) x e =
       | inr q ↦ let eq = q.1 in inr (q.0, cc, q.2)
     ]
 
--- a word of the first or of the second part is one of the whole
+-- a word in the first or in the second part is in the whole
 Has-left : (s p w : List ℕ) → Has s w → Has (s ++ p) w
 Has-left s p w (a, b, e) = (a, b ++ p, ap (λ x. x ++ p) e ∙ simp append_assoc)
 
 Has-right : (s p w : List ℕ) → Has p w → Has (s ++ p) w
 Has-right s p w (a, b, e) = (s ++ a, b, ap (λ x. s ++ x) e ∙ simp append_assoc)
 
--- an end of at most 12 bytes stands at the end of the last 12
+-- an end of at most 12 bytes is an end of the last 12 bytes
 last_bytes-end : (a c : List ℕ) → length c ≤ 12 → (d : List ℕ) × (last_bytes (a ++ c) ≡ d ++ c)
 last_bytes-end a c h = (drop (length (a ++ c) - 12) a, drop-append-le _ a c (omega (arith, length-append a c)))
 
--- a beginning of at most 12 bytes begins the first 12
+-- a beginning of at most 12 bytes is a beginning of the first 12 bytes
 first-beginning : (d b : List ℕ) → length d ≤ 12 → (f : List ℕ) × (take 12 (d ++ b) ≡ d ++ f)
 first-beginning d b h =
     let whole : length d + (12 - length d) ≡ 12 = omega arith in
@@ -56,7 +56,7 @@ crossing s p w a b (x ∷ c) (y ∷ d) h first word second =
           (ap last_bytes first ∙ ends.1) (ap (λ z. take 12 z) second ∙ begins.1) word,
     ))
 
--- a word across two pieces
+-- where a word of the whole can be
 pub across : (s p w : List ℕ) → length w ≤ 13 → Has (s ++ p) w → Has s w ⊎ (Has p w ⊎ Has (last_bytes s ++ take 12 p) w)
 across s p w h (a, b, e) = elim (append_split s p a (w ++ b) e) [
   | inr q ↦ inr (inl (q.0, b, q.2))
@@ -66,7 +66,7 @@ across s p w h (a, b, e) = elim (append_split s p a (w ++ b) e) [
   ]
 ]
 
--- what stands across two pieces stands in the whole
+-- a word in the bytes around the cut is in the whole
 across-back : (s p w : List ℕ) → Has (last_bytes s ++ take 12 p) w → Has (s ++ p) w
 across-back s p w h =
     let n : ℕ = length s - 12 in
@@ -75,7 +75,7 @@ across-back s p w h =
     rw (append_assoc, take-append-drop 12 p, ← append_assoc, take-append-drop n s) refl in
     subst (λ x. Has x w) same wide
 
--- a word of the whole, by where it may stand
+-- a word is in the whole exactly if it is in one of the three
 pub Has-append : (s p w : List ℕ) → length w ≤ 13
     → (Has (s ++ p) w → Has s w ⊎ (Has (last_bytes s ++ take 12 p) w ⊎ Has p w))
     × (Has s w ⊎ (Has (last_bytes s ++ take 12 p) w ⊎ Has p w) → Has (s ++ p) w)

@@ -1,4 +1,4 @@
--- What a finder knows after one more piece.
+-- The state of a finder after another piece.
 use Rattle.std.proofs.Common.{◌≡◌, ℕ, ◌+◌, ◌<◌, ◌≤◌, ◌↔◌, List, [], ◌++◌, ◌⊎◌, inl, inr, Bool, true, false, IsTrue, Option, Some, None, is_some, length, take, drop, refl, sym, ap, ◌∙◌, arith, subst, length-append}
 use Rattle.std.proofs.Math.Seq.{drop-append_seam, take-append_seam}
 use Rattle.std.proofs.lemmas.List.{take-append-drop}
@@ -8,7 +8,7 @@ use Rattle.memchr.proofs.lemmas.MatchLemmas.{OccursAt-split, OccursAt-from_part}
 use Rattle.cck_digest.specs.TimeMacros.{Has, last_bytes, Follows, Seen, time_macro, date_macro, timestamp_macro}
 use Rattle.cck_digest.proofs.FindLemmas.{Has-append, last_bytes-long, last_bytes-short}
 
--- a word that has bytes stands in no empty text
+-- an empty text contains no word of at least one byte
 Has-nothing : (w : List ℕ) → 0 < length w → Has [] w → ⊥
 Has-nothing w h (a, b, e) =
     let whole = ap length e in
@@ -20,7 +20,7 @@ occurs text w a b e =
     OccursAt-from_part text w (length a) (omega (arith, length-append a (w ++ b), length-append w b))
     (rw (e, drop-append_seam a (w ++ b)) (take-append_seam w b))
 
--- a search finds a word exactly where the text has it
+-- a search finds a word exactly if the text contains it
 pub Has-found : (text w : List ℕ) (r : Option ℕ) → FindsNeedle text w 0 r → IsTrue (is_some r) ↔ Has text w
 Has-found text w (Some k) f = (
   λ q. (take k text, drop (k + length w) text, sym (take-append-drop k text) ∙ ap (λ x. take k text ++ x) (OccursAt-split text w k f.1)),
@@ -31,7 +31,7 @@ Has-found text w None f = (
   λ (a, b, e). let at = occurs text w a b e in let fits = at.fits in absurd (f (length a) (omega arith) (omega arith) at),
 )
 
--- a finder of nothing
+-- a finder of an empty stream
 pub Follows-nothing : (seen : Seen) → seen.time ≡ false → seen.date ≡ false → seen.timestamp ≡ false → seen.tail ≡ [] → Follows seen []
 Follows-nothing seen t d s e = record {
   time = none seen.time time_macro t (omega arith);
@@ -77,7 +77,7 @@ pub record Marks (old new : Seen) (text : List ℕ) : Type 0 where
   pub date : IsTrue new.date ↔ (IsTrue old.date ⊎ Has text date_macro)
   pub timestamp : IsTrue new.timestamp ↔ (IsTrue old.timestamp ⊎ Has text timestamp_macro)
 
--- a finder after one more piece
+-- a finder after another piece
 pub Follows-append : (seen between after : Seen) (stream piece across : List ℕ)
     → Follows seen stream
     → across ≡ seen.tail ++ take 12 piece

@@ -1,4 +1,4 @@
--- A length, and what stands after one, is told by the bytes, whatever follows.
+-- A length, and what is written after one, can be read back from the bytes, whatever follows them.
 use native.Mathlib.Nat as nat
 use Rattle.std.proofs.Common.{◌≡◌, ℕ, zero, suc, ◌/◌, ◌%◌, ◌<◌, ◌^◌, List, [], ◌∷◌, ◌++◌, Option, Some, None, length, refl, sym, ap, ◌∙◌, arith, append_assoc}
 use Rattle.std.specs.Int.{to_le_bytes, w64}
@@ -49,7 +49,7 @@ option_reads_back (Some x) (Some y) s t e =
     let both = frame_reads_back x y s t rest in
     (ap Some both.0, both.1)
 
--- below 2 ^ 64 they are the bytes of a 64-bit number
+-- below 2 ^ 64 the digits of a length are the bytes of a 64-bit number
 pub length_bytes_are_bytes : (n : ℕ) → n < 2 ^ 64 → length_bytes n ≡ to_le_bytes w64 n
 unfolding length_bytes
 length_bytes_are_bytes n fits =

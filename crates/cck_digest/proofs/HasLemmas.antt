@@ -1,4 +1,4 @@
--- The test for a part of a text tells whether the word is one.
+-- The Boolean function `has` decides whether a word is a part of a text.
 use Rattle.std.proofs.Common.{◌≡◌, ℕ, inl, inr, ◌||◌, ◌↔◌, List, [], ◌∷◌, ◌++◌, IsTrue, length, drop, refl, ap, ◌∙◌}
 use Rattle.std.proofs.lemmas.Bool.Decides.{Decides-eqb}
 use Rattle.std.proofs.lemmas.Slice.Eq.{starts_is}

@@ -1,4 +1,4 @@
--- A byte is told by its two digits.
+-- The two digits of a byte determine the byte.
 use Rattle.std.proofs.Common.{◌≡◌, ℕ, ◌<◌, ◌*◌, ◌%◌, ◌/◌, List, [], ◌∷◌, length, refl, arith, All}
 use Rattle.std.proofs.lemmas.Bool.Decides.{nat_tests}
 use Rattle.std.proofs.lemmas.List.Elements.{recursion_from_All}
@@ -26,11 +26,11 @@ bytes_from_digits (x ∷ a) (y ∷ b) ha hb e =
 pub bytes_from_hex : (a b : List ℕ) → All (λ byte. byte < 256) a → All (λ byte. byte < 256) b → hex_text a ≡ hex_text b → a ≡ b
 bytes_from_hex a b ha hb e = bytes_from_digits a b (recursion_from_All _ a ha) (recursion_from_All _ b hb) e
 
--- and each has two
+-- each byte has two digits
 pub hex_length : (bytes : List ℕ) → length (hex_text bytes) ≡ 2 * length bytes
 hex_length [] = refl
 hex_length (byte ∷ bytes) = omega (arith, hex_length bytes)
 
--- so the text of 32 bytes has 64
+-- so the hex digest of 32 bytes has 64 digits
 pub text_length : (hash : List ℕ → List ℕ) (fed : List ℕ) → length (hash fed) ≡ 32 → length (digest_text hash fed) ≡ 64
 text_length hash fed h = omega (arith, hex_length (hash fed), h)

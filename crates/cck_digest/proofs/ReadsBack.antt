@@ -1,12 +1,12 @@
--- When a text, with whatever follows it, tells what it was written for.
+-- When a text, with whatever follows it, determines the value that it was written for.
 use Rattle.std.proofs.Common.{◌≡◌, ℕ, List, [], ◌∷◌, ◌++◌, length, map, refl, sym, ◌∙◌, arith, append_assoc}
 use Rattle.std.specs.List.{flat_map}
 
--- equal texts with what follows are of equal values, and equal texts follow
+-- if two texts are equal together with what follows them, their values are equal, and what follows is equal
 abbrev pub ReadsBack : {X : Type 0} → (X → List ℕ) → X → X → Type 0
 ReadsBack item x y = (s t : List ℕ) → item x ++ s ≡ item y ++ t → (x ≡ y) × (s ≡ t)
 
--- bytes of one length
+-- bytes of equal lengths
 pub bytes_read_back : (x y s t : List ℕ) → length x ≡ length y → x ++ s ≡ y ++ t → (x ≡ y) × (s ≡ t)
 bytes_read_back [] [] s t h e = (refl, e)
 bytes_read_back [] (b ∷ y) s t h e = absurd (omega arith)
@@ -18,7 +18,7 @@ bytes_read_back (a ∷ x) (b ∷ y) s t h e =
     let first = rest.0 in
     (cc, rest.1)
 
--- two lists of one count, whose items read back
+-- two lists of equal lengths whose items read back
 pub items_read_back : {X : Type 0} (item : X → List ℕ) → ((x y : X) → ReadsBack item x y) → (xs ys : List X) → length xs ≡ length ys → ReadsBack (flat_map item) xs ys
 items_read_back item one [] [] c s t e = (refl, e)
 items_read_back item one [] (y ∷ ys) c s t e = absurd (omega arith)
@@ -31,7 +31,7 @@ items_read_back item one (x ∷ xs) (y ∷ ys) c s t e =
     let head = first.0 in let tail = rest.0 in
     (cc, rest.1)
 
--- two lists of pieces, of equal lengths place by place
+-- two lists of pieces of which each pair has equal lengths
 pub pieces_read_back : (xs ys : List (List ℕ)) → map length xs ≡ map length ys → ReadsBack (flat_map (λ piece. piece)) xs ys
 pieces_read_back [] [] c s t e = (refl, e)
 pieces_read_back [] (y ∷ ys) c s t e = cc

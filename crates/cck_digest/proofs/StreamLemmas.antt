@@ -1,4 +1,4 @@
--- How far a reader was read into a sink.
+-- What a sink has taken of a reader.
 use Rattle.std.proofs.Common.{◌≡◌, ℕ, ◌<◌, ◌≤◌, arith, List, [], ◌∷◌, ◌++◌, length, length-take-le, Option, Some, None, IfSome, Result, Ok, Err, IfOk, take, refl, sym, ap, ◌∙◌, subst, append_assoc, All, Vec, Global}
 use Rattle.std.specs.Prelude.{OnErr, if◌then◌else◌, is_ok}
 use Rattle.std.specs.List.{FoldsTo}
@@ -8,7 +8,7 @@ use Rattle.std.proofs.lemmas.List.{append-nil, flat_map_more}
 use Rattle.std.proofs.lemmas.List.Elements.{All-nil, All-push}
 use Rattle.cck_digest.specs.Stream.{HasTaken, IsPiece, TakesBeginning, buffer_size, concatenation}
 
--- what a reader loses in two steps
+-- what is consumed of a reader in two steps
 consumes_more : (old new newer : Option (List ℕ)) (front piece : List ℕ) → Consumes old new front → Consumes new newer piece → Consumes old newer (front ++ piece)
 consumes_more None new newer front piece first second = tt
 consumes_more (Some stream) None newer front piece first second = absurd first
@@ -27,7 +27,7 @@ pub HasTaken-nothing : {S : Type 0} (takes : S → List ℕ → S → Type 0) (s
 HasTaken-nothing takes sink None = ([], refl, All-nil IsPiece, tt)
 HasTaken-nothing takes sink (Some stream) = ([], refl, All-nil IsPiece, refl)
 
--- one more piece
+-- after another piece
 pub HasTaken-push : {S : Type 0} (takes : S → List ℕ → S → Type 0) (first now later : S) (old new newer : Option (List ℕ)) (piece : List ℕ)
     → HasTaken takes first now old new → takes now piece later → IsPiece piece → Consumes new newer piece → HasTaken takes first later old newer
 HasTaken-push takes first now later old new newer piece (pieces, folds, small, consumed) taking fits more = (
@@ -43,7 +43,7 @@ read_is_piece count buffer some within room =
     let long = length-take-le count buffer within in
     (omega (arith, long), omega (arith, long))
 
--- a failed read loses nothing
+-- a failed read consumes nothing
 consumes_kept : (old new newer : Option (List ℕ)) (bytes : List ℕ) → Consumes old new bytes → Keeps new newer → Consumes old newer bytes
 consumes_kept None new newer bytes consumed kept = tt
 consumes_kept (Some stream) None newer bytes consumed kept = absurd consumed
@@ -54,7 +54,7 @@ pub HasTaken-kept : {S : Type 0} (takes : S → List ℕ → S → Type 0) (firs
     → HasTaken takes first now old new → Keeps new newer → HasTaken takes first now old newer
 HasTaken-kept takes first now old new newer (pieces, folds, small, consumed) kept = (pieces, folds, small, consumes_kept old new newer (concatenation pieces) consumed kept)
 
--- at the end of the reader the pieces are all of its stream
+-- at the end of the reader the pieces are its whole stream
 whole_stream : (old new : Option (List ℕ)) (bytes : List ℕ) → Consumes old new bytes → IsAtEnd new → IfSome old (λ stream. stream ≡ bytes)
 whole_stream None new bytes consumed ended = tt
 whole_stream (Some stream) None bytes consumed ended = absurd consumed
@@ -68,12 +68,12 @@ HasTaken-end takes first now old new newer count buffer (pieces, folds, small, c
     let lost = subst (Consumes old newer) (append-nil (concatenation pieces)) (consumes_more old new newer (concatenation pieces) [] consumed nothing) in
     (pieces, folds, small, whole_stream old newer (concatenation pieces) lost ended)
 
--- pieces that were taken in two turns
+-- the pieces of two steps
 folds_on : {S : Type 0} (takes : S → List ℕ → S → Type 0) (first mid last : S) (xs ys : List (List ℕ)) → FoldsTo takes first xs mid → FoldsTo takes mid ys last → FoldsTo takes first (xs ++ ys) last
 folds_on takes first mid last [] ys before after = subst (λ s. FoldsTo takes s ys last) (sym before) after
 folds_on takes first mid last (x ∷ xs) ys (next, step, before) after = (next, step, folds_on takes next mid last xs ys before after)
 
--- a beginning of what comes behind other pieces
+-- a beginning of what comes after other pieces
 pub begun_behind : {S : Type 0} (takes : S → List ℕ → S → Type 0) (first mid last : S) (pieces : List (List ℕ)) (front back : List ℕ)
     → FoldsTo takes first pieces mid → front ≡ concatenation pieces → TakesBeginning takes mid back last → TakesBeginning takes first (front ++ back) last
 begun_behind takes first mid last pieces front back before whole (more, rest, after, begun) = (
@@ -91,7 +91,7 @@ pub begun_longer : {S : Type 0} (takes : S → List ℕ → S → Type 0) (first
 begun_longer takes first last bytes more (pieces, rest, folds, begun) =
     (pieces, rest ++ more, folds, ap (λ x. x ++ more) begun ∙ append_assoc (concatenation pieces) rest more)
 
--- nothing is a beginning
+-- the empty list is a beginning
 pub begun_with_nothing : {S : Type 0} (takes : S → List ℕ → S → Type 0) (sink : S) (bytes : List ℕ) → TakesBeginning takes sink bytes sink
 begun_with_nothing takes sink bytes = ([], bytes, refl, refl)
 
@@ -102,7 +102,7 @@ begun_so_far takes first now None new taken = tt
 begun_so_far takes first now (Some stream) None (pieces, folds, small, consumed) = absurd consumed
 begun_so_far takes first now (Some stream) (Some left) (pieces, folds, small, consumed) = (pieces, left, folds, consumed)
 
--- and so with a beginning of one more piece
+-- and still is with a beginning of another piece
 pub begun_with_piece : {S : Type 0} (takes : S → List ℕ → S → Type 0) (first now later : S) (old new newer : Option (List ℕ)) (piece : List ℕ)
     → HasTaken takes first now old new → Consumes new newer piece → TakesBeginning takes now piece later → IfSome old (λ stream. TakesBeginning takes first stream later)
 begun_with_piece takes first now later None new newer piece taken more begun = tt
@@ -112,18 +112,18 @@ begun_with_piece takes first now later (Some stream) (Some left) (Some rest) pie
     subst (λ bytes. TakesBeginning takes first bytes later) (sym (consumed ∙ ap (λ x. concatenation pieces ++ x) more))
     (begun_behind takes first now later pieces (concatenation pieces) (piece ++ rest) folds refl (begun_longer takes now later piece rest begun))
 
--- what holds anyway holds after a refusal
+-- what holds in any case holds after an error
 pub after_refusal : {T E : Type 0} (r : Result T E) (P : Type 0) → P → OnErr r P
 after_refusal (Ok x) P p = tt
 after_refusal (Err e) P p = p
 
--- a vector that is refused memory took nothing
+-- a vector takes nothing where memory is lacking
 pub vector_refused : {T E : Type 0} (r : Result T E) (before after : Vec ℕ Global) (piece : List ℕ) → after.items ≡ (if is_ok r then before.items ++ piece else before.items)
     → OnErr r (TakesBeginning (λ old bytes new. new.items ≡ old.items ++ bytes) before piece after)
 vector_refused (Ok x) before after piece is = tt
 vector_refused (Err e) before after piece is = ([] ∷ [], piece, (after, is ∙ sym (append-nil before.items), refl), refl)
 
--- what holds of a sink and its stream piece by piece, holds of the whole
+-- what each piece preserves of a sink and its stream holds of the whole stream
 pub holds_after : {S : Type 0} (takes : S → List ℕ → S → Type 0) (holds : S → List ℕ → Type 0)
     → ((before : S) (piece : List ℕ) (after : S) → takes before piece after → (fed : List ℕ) → holds before fed → holds after (fed ++ piece))
     → (pieces : List (List ℕ)) (first last : S) → FoldsTo takes first pieces last → (fed : List ℕ) → holds first fed → holds last (fed ++ concatenation pieces)
@@ -133,7 +133,7 @@ holds_after takes holds keeps (piece ∷ pieces) first last (mid, step, folds) f
     subst (holds last) (append_assoc fed piece (concatenation pieces))
     (holds_after takes holds keeps pieces mid last folds (fed ++ piece) (keeps first piece mid step fed h))
 
--- the same on what a part of the sink holds, from an empty stream to the reader's
+-- the same from an empty stream to the reader's stream
 pub holds_of_stream : {S : Type 0} (takes : S → List ℕ → S → Type 0) (holds : S → List ℕ → Type 0)
     → ((before : S) (piece : List ℕ) (after : S) → takes before piece after → (fed : List ℕ) → holds before fed → holds after (fed ++ piece))
     → (first last : S) (known : Option (List ℕ))
@@ -143,7 +143,7 @@ holds_of_stream takes holds keeps first last None read h = tt
 holds_of_stream takes holds keeps first last (Some stream) (pieces, folds, small, whole) h =
     subst (holds last) (sym whole) (holds_after takes holds keeps pieces first last folds [] h)
 
--- what a part of the sink took
+-- what a part of the sink has taken
 pub part_taken : {S T : Type 0} (takes : S → List ℕ → S → Type 0) (part_takes : T → List ℕ → T → Type 0) (part : S → T)
     → ((before : S) (piece : List ℕ) (after : S) → takes before piece after → part_takes (part before) piece (part after))
     → (pieces : List (List ℕ)) (first last : S) → FoldsTo takes first pieces last → FoldsTo part_takes (part first) pieces (part last)
@@ -151,7 +151,7 @@ part_taken takes part_takes part taken [] first last folds = ap part folds
 part_taken takes part_takes part taken (piece ∷ pieces) first last (mid, step, folds) =
     (part mid, taken first piece mid step, part_taken takes part_takes part taken pieces mid last folds)
 
--- what a result says of any list that holds, it says of the reader's stream
+-- what a result says of every list with a property, it says of the reader's stream
 pub told_of_stream : {T E : Type 0} (r : Result T E) (known : Option (List ℕ)) (holds : List ℕ → Type 0) (told : T → List ℕ → Type 0)
     → IfOk r (λ x. (fed : List ℕ) → holds fed → told x fed) → IfSome known holds → IfOk r (λ x. IfSome known (told x))
 told_of_stream (Ok x) None holds told says h = tt

@@ -1,4 +1,4 @@
--- digests, and the text that stands for one
+-- hexadecimal digits and hex digests
 use Rattle.std.specs.Prelude.{◌≡◌, ℕ, ◌+◌, ◌%◌, ◌/◌, ◌<◌, All, List, [], ◌∷◌, ◌++◌, codes, nat_lt, if◌then◌else◌}
 use Rattle.std.specs.List.{flat_map}
 
@@ -14,14 +14,14 @@ hex_pair byte = hex_digit (byte % 16) ∷ hex_digit (byte / 16) ∷ []
 abbrev pub hex_text : List ℕ → List ℕ
 hex_text bytes = flat_map hex_pair bytes
 
--- the digest text of these bytes, by this hash
+-- the hex digest of these bytes, by this hash function
 abbrev pub digest_text : (List ℕ → List ℕ) → List ℕ → List ℕ
 digest_text hash bytes = hex_text (hash bytes)
 
--- a name between the bytes that set it apart
+-- the bytes that are fed for a delimiter of this name
 abbrev pub delimiter_bytes : List ℕ → List ℕ
 delimiter_bytes name = (0 ∷ codes "SCCACHE" ++ 0 ∷ []) ++ name ++ 0 ∷ []
 
--- equal digits are of equal bytes
+-- bytes with equal digits are equal
 abbrev pub HexTellsBytes : Type 0
 HexTellsBytes = (a b : List ℕ) → All (λ byte. byte < 256) a → All (λ byte. byte < 256) b → hex_text a ≡ hex_text b → a ≡ b

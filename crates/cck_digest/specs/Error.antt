@@ -1,10 +1,10 @@
--- what a refusal of a call on files is as one of the libraries
+-- the error of the libraries for an error of a call on files
 use Rattle.cck_digest.specs.declared.error.FileError.{FileError}
 use Rattle.cck_digest.specs.declared.error.FileError.TheVariants.{NotFound, OtherKind, Fault, Memory}
 use Rattle.cck_digest.specs.declared.error.UtilError.{UtilError}
 use Rattle.cck_digest.specs.declared.error.UtilError.TheVariants as util
 
--- a lack of memory stays one
+-- lack of memory stays lack of memory, and any other error is wrapped
 abbrev pub util_error : FileError → UtilError
 util_error NotFound = util.File NotFound
 util_error OtherKind = util.File OtherKind

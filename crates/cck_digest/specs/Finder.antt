@@ -1,4 +1,4 @@
--- what a finder knows
+-- the state of a finder, as its contracts see it
 use Rattle.std.specs.Prelude.{take}
 use Rattle.cck_digest.specs.TimeMacros.{Seen}
 use Rattle.cck_digest.specs.declared.finder.TimeMacroFinder.TheInside.{Inside}

@@ -1,4 +1,4 @@
--- the macros of time that a stream holds
+-- the time macros in a stream
 use Rattle.std.specs.Prelude.{◌≡◌, ℕ, ◌-◌, List, [], ◌∷◌, ◌++◌, ◌↔◌, ◌||◌, Bool, IsTrue, length, drop, codes, nat_eq}
 use Rattle.std.specs.List.{starts_with}
 
@@ -6,12 +6,12 @@ use Rattle.std.specs.List.{starts_with}
 abbrev pub Has : List ℕ → List ℕ → Type 0
 Has text word = (before : List ℕ) × (after : List ℕ) × (text ≡ before ++ (word ++ after))
 
--- the same as a test
+-- the same as a Boolean function
 abbrev pub has : List ℕ → List ℕ → Bool
 has [] word = starts_with nat_eq [] word
 has (byte ∷ text) word = starts_with nat_eq (byte ∷ text) word || has text word
 
--- the test tells whether the word is a part
+-- the Boolean function is true exactly if the word is a part of the text
 abbrev pub HasIsTested : Type 0
 HasIsTested = (text word : List ℕ) → IsTrue (has text word) ↔ Has text word
 
@@ -28,14 +28,14 @@ timestamp_macro = codes "__TIMESTAMP__"
 abbrev pub last_bytes : List ℕ → List ℕ
 last_bytes stream = drop (length stream - 12) stream
 
--- what a finder knows of a stream: the macros that were found, and the last bytes
+-- the state of a finder: the macros that were found, and the last bytes of the stream
 pub record Seen : Type 0 where
   pub time : Bool
   pub date : Bool
   pub timestamp : Bool
   pub tail : List ℕ
 
--- this is what a finder knows after this stream
+-- this is the state of a finder after this stream
 pub record Follows (seen : Seen) (stream : List ℕ) : Type 0 where
   pub time : IsTrue seen.time ↔ Has stream time_macro
   pub date : IsTrue seen.date ↔ Has stream date_macro

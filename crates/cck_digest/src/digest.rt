@@ -1,4 +1,4 @@
-//! Digests, and the text that stands for one.
+//! Digests and hex digests.
 ghost use Rattle.std.specs.Prelude.{◌≡◌, ◌<◌, ℕ, List, [], ◌++◌, length, IfOk, IsOkUnless, string_bytes};
 ghost use Rattle.cck_digest.specs.Digest.{delimiter_bytes, digest_text, hex_digit, hex_text};
 ghost use Rattle.cck_digest.specs.Frames.{frame, length_bytes};
@@ -7,9 +7,10 @@ use crate::{HashState, UtilError};
 use std::alloc::Global;
 use std::marker::Model;
 
-/// A digest in the making: what is fed piece by piece is one text, and its pieces don't show.
+/// A digest that is computed incrementally. It depends on the bytes that were fed, in their order,
+/// and not on how they were cut into pieces.
 ///
-/// Upstream's `util::Digest`, with the hash function handed in.
+/// Upstream's `util::Digest`, with the hash function as a type parameter.
 #[derive(Drop)]
 pub struct Digest<H: HashState> {
     state: H,
@@ -22,22 +23,22 @@ impl<H: HashState> Model for Digest<H> {
 }
 
 impl<H: HashState> Digest<H> {
-    /// A digest that was fed nothing. It takes no memory.
+    /// A digest that was fed no bytes. It allocates no memory.
     pub fn new() -> Digest<H>
         ensures { H.holds result [] }
     {
         Digest { state: H::start() }
     }
 
-    /// Feeds these bytes. It takes no memory.
+    /// Feeds these bytes. It allocates no memory.
     pub fn update(&mut self, bytes: &[u8])
         ensures { (fed : List ℕ) → H.holds self.old fed → H.holds self.new (fed ++ bytes.now) }
     {
         self.state.feed(bytes);
     }
 
-    /// Feeds a zero byte, `SCCACHE`, a zero byte, the name and a zero byte, so that what follows
-    /// is told from what came before. It takes no memory.
+    /// Feeds a zero byte, `SCCACHE`, a zero byte, the name and a zero byte. They separate what is
+    /// fed after them from what was fed before. It allocates no memory.
     pub fn delimiter(&mut self, name: &[u8])
         ensures { (fed : List ℕ) → H.holds self.old fed → H.holds self.new (fed ++ delimiter_bytes name.now) }
     {
@@ -46,9 +47,10 @@ impl<H: HashState> Digest<H> {
         self.update(b"\0");
     }
 
-    /// The digest text of all that was fed: the 64 digits that [`hex`] writes of the output.
+    /// The hex digest of all that was fed: the 64 digits that [`hex`] writes for the output of the
+    /// hash function.
     ///
-    /// It is refused only for lack of memory, as [`UtilError::Memory`].
+    /// The only error is [`UtilError::Memory`].
     pub fn finish(self, alloc: Global) -> Result<String, UtilError>
         ensures text { IfOk result (λ text. (fed : List ℕ) → H.holds self fed → string_bytes text ≡ digest_text H.hash fed) }
         ensures digits { IfOk result (λ text. length (string_bytes text) ≡ 64) }
@@ -59,9 +61,9 @@ impl<H: HashState> Digest<H> {
     }
 }
 
-/// Feeds a length or a count as 8 bytes, with the lowest first. It takes no memory.
+/// Feeds a length or a count as 8 bytes, the lowest first. It allocates no memory.
 ///
-/// In the place of upstream's `HashToDigest`, whose lengths are as wide as the machine's words.
+/// It replaces upstream's `HashToDigest`, whose lengths have the width of the machine's words.
 pub fn hash_length<H: HashState>(digest: &mut Digest<H>, length: usize)
     ensures { (fed : List ℕ) → H.holds digest.old fed → H.holds digest.new (fed ++ length_bytes length) }
 {
@@ -69,8 +71,8 @@ pub fn hash_length<H: HashState>(digest: &mut Digest<H>, length: usize)
     digest.update(&length.to_le_bytes());
 }
 
-/// Feeds a frame: the length of these bytes as [`hash_length`] does, and then the bytes. It takes no
-/// memory.
+/// Feeds a frame: the length of these bytes, as [`hash_length`] feeds it, and then the bytes. It
+/// allocates no memory.
 pub fn hash_len_prefixed<H: HashState>(digest: &mut Digest<H>, bytes: &[u8])
     ensures { (fed : List ℕ) → H.holds digest.old fed → H.holds digest.new (fed ++ frame bytes.now) }
 {
@@ -78,7 +80,7 @@ pub fn hash_len_prefixed<H: HashState>(digest: &mut Digest<H>, bytes: &[u8])
     digest.update(bytes);
 }
 
-// The digit of half a byte, in lower case.
+// The hexadecimal digit of half a byte, in lower case.
 fn digit(half: u8) -> char
     requires { half < 16 }
     ensures { result ≡ hex_digit half }
@@ -90,10 +92,10 @@ fn digit(half: u8) -> char
     }
 }
 
-/// Two hexadecimal digits for each byte, in lower case, those of the low half first.
+/// Two hexadecimal digits for each byte, in lower case, that of the low half first.
 ///
-/// The order of the halves is upstream's `util::hex`: `1f` is written `f1`. It is refused only for
-/// lack of memory, as [`UtilError::Memory`].
+/// The order of the halves is that of upstream's `util::hex`: the byte `0x1f` is written `f1`. The
+/// only error is [`UtilError::Memory`].
 pub fn hex(alloc: Global, bytes: &[u8]) -> Result<String, UtilError>
     ensures text { IfOk result (λ text. string_bytes text ≡ hex_text bytes.now) }
     ensures refused { IsOkUnless result UtilError.Memory }

@@ -1,4 +1,4 @@
-//! What the calls of the libraries are refused for.
+//! The errors of the libraries' calls.
 ghost use Rattle.std.specs.Prelude.{◌≡◌};
 ghost use Rattle.cck_digest.specs.declared.error.UtilError.TheVariants.{Memory};
 ghost use Rattle.cck_digest.specs.declared.error.FileError.TheVariants.{Memory as FileMemory};
@@ -6,54 +6,54 @@ ghost use Rattle.cck_digest.specs.declared.error.FileError.TheVariants.{Memory a
 use std::alloc::{AllocError, AllocFailed};
 use thiserror::Error;
 
-/// Why a call on files gave no answer.
+/// The error of a call on files.
 #[derive(Debug, Clone, Copy, PartialEq, Eq, Error)]
 pub enum FileError {
-    /// Nothing stands at the path.
+    /// There is no node at the path.
     #[error("there is no such file")]
     NotFound,
-    /// What stands at the path is of another kind than the call asks for.
+    /// The node at the path is of another kind than the call asks for.
     #[error("the file is of another kind")]
     OtherKind,
     /// A device or a file system failed.
     #[error("a call on a file failed")]
     Fault,
-    /// A growth of memory was refused.
+    /// An allocation failed.
     #[error("out of memory")]
     Memory,
 }
 
-/// Why a call of the libraries gave no answer.
+/// The error of a call of the libraries.
 #[derive(Debug, Clone, Copy, PartialEq, Eq, Error)]
 pub enum UtilError {
-    /// A growth of memory was refused.
+    /// An allocation failed.
     #[error("out of memory")]
     Memory,
-    /// A reader failed, by an interrupted read too.
+    /// A reader failed. An interrupted read counts as a failure.
     #[error("a read failed")]
     Read,
-    /// A call on files failed, for this reason. Lack of memory is [`UtilError::Memory`] instead.
+    /// A call on files failed with this error. Lack of memory is [`UtilError::Memory`] instead.
     #[error("a file can't be read: {0}")]
     File(FileError),
-    /// A folder stands deeper than 100 levels.
+    /// A directory is nested deeper than 100 levels.
     #[error("a folder stands too deep")]
     TooDeep,
-    /// There are more bytes than their length in four bytes can say: more than 4294967295.
+    /// There are more bytes than a length of four bytes can state: more than 4294967295.
     #[error("too many bytes for a length of four bytes")]
     TooLong,
     /// A writer failed.
     #[error("a write failed")]
     Write,
-    /// A text ends behind the `\` that begins an escape.
+    /// A text ends after the `\` that begins an escape.
     #[error("the text ends within an escape")]
     IncompleteEscape,
-    /// A `\` stands before a byte that begins no escape.
+    /// A `\` is followed by a byte that begins no escape.
     #[error("there is no such escape")]
     InvalidEscape,
     /// A text ends before the two digits of `\x`.
     #[error("the text ends within the digits of an escape")]
     IncompleteHex,
-    /// A digit of `\x` is no hexadecimal digit.
+    /// A digit of `\x` is not hexadecimal.
     #[error("a digit of an escape is not hexadecimal")]
     InvalidHex,
 }
@@ -74,7 +74,8 @@ impl<T: Drop> From<AllocFailed<T>> for FileError {
     }
 }
 
-/// A lack of memory stays one, and all else is [`UtilError::File`].
+/// [`FileError::Memory`] becomes [`UtilError::Memory`], and every other error becomes
+/// [`UtilError::File`].
 impl From<FileError> for UtilError {
     ghost use Rattle.cck_digest.specs.Error.{util_error};
 

@@ -1,4 +1,4 @@
-//! Which macros of time a stream holds, however it is cut into pieces.
+//! The time macros in a stream, however the stream is cut into pieces.
 ghost use Rattle.std.specs.Prelude.{◌≡◌, ℕ, List, [], ◌++◌, ◌≤◌, ◌⊎◌, ◌↔◌, IsTrue, length, take};
 ghost use Rattle.cck_digest.specs.TimeMacros.{Follows, Has, date_macro, last_bytes, time_macro, timestamp_macro};
 
@@ -11,20 +11,21 @@ const DATE: &[u8] = b"__DATE__";
 
 const TIMESTAMP: &[u8] = b"__TIMESTAMP__";
 
-// What both macros with a time in them begin with. Where it is absent, so are they.
+// The common beginning of `__TIME__` and `__TIMESTAMP__`. A text that lacks it has neither.
 const TIME_STEM: &[u8] = b"__TIME";
 
-// How much of the longest macro can stand at the end of a piece.
+// The most bytes that a macro cut by the end of a piece can have in that piece: one less than the
+// length of the longest macro, `__TIMESTAMP__`.
 const TAIL_LENGTH: usize = 12;
 
-// The end of what came before, and as much of the next piece.
+// The last `TAIL_LENGTH` bytes before a piece, and the first `TAIL_LENGTH` bytes of the piece.
 const WINDOW_LENGTH: usize = 24;
 
-/// Finds the macros `__TIME__`, `__DATE__` and `__TIMESTAMP__` in a stream that is handed over
-/// piece by piece. Where the pieces are cut changes nothing.
+/// Finds the macros `__TIME__`, `__DATE__` and `__TIMESTAMP__` in a stream that is passed piece by
+/// piece. The result does not depend on where the stream is cut.
 ///
-/// It keeps the last 12 bytes of the stream, and takes no memory. In the place of upstream's
-/// `util::TimeMacroFinder`, which can join pieces that are not neighbours.
+/// It keeps the last 12 bytes of the stream and allocates no memory. It replaces upstream's
+/// `util::TimeMacroFinder`, which can join pieces that are not adjacent.
 #[derive(Debug, Drop)]
 pub struct TimeMacroFinder {
     found_time: bool,
@@ -47,15 +48,15 @@ impl Model for TimeMacroFinder {
     ghost invariant = { λ finder. finder.length ≤ 12 };
 }
 
-// Whether the word stands in the text.
+// Whether the text contains the word.
 fn has(text: &[u8], word: &[u8]) -> bool
     ensures { IsTrue result ↔ Has text.now word.now }
 {
     memmem::find(text, word).is_some()
 }
 
-// Writes the end of what came before and the beginning of the piece, and says how many bytes they
-// are.
+// Writes the tail and the beginning of the piece to the window, and returns the number of bytes
+// written.
 fn fill(window: &mut [u8; WINDOW_LENGTH], tail: &[u8], piece: &[u8]) -> usize
     requires { length tail.now ≤ 12 }
     ensures within { result ≤ 24 }
@@ -68,7 +69,7 @@ fn fill(window: &mut [u8; WINDOW_LENGTH], tail: &[u8], piece: &[u8]) -> usize
     kept + first
 }
 
-// Writes the last bytes of a text, and says how many they are.
+// Copies the last bytes of a text to the tail, at most `TAIL_LENGTH`, and returns their number.
 fn keep(tail: &mut [u8; TAIL_LENGTH], text: &[u8]) -> usize
     ensures within { result ≤ 12 }
     ensures last { take result tail.new ≡ last_bytes text.now }
@@ -80,7 +81,7 @@ fn keep(tail: &mut [u8; TAIL_LENGTH], text: &[u8]) -> usize
 }
 
 impl TimeMacroFinder {
-    /// A finder that was handed nothing.
+    /// A finder of an empty stream.
     pub fn new() -> TimeMacroFinder
         ensures { Follows result [] }
     {
@@ -93,7 +94,7 @@ impl TimeMacroFinder {
         }
     }
 
-    /// Goes on with the next piece of the stream. An empty one changes nothing.
+    /// Searches the next piece of the stream. An empty piece changes nothing.
     pub fn find_time_macros(&mut self, piece: &[u8])
         ensures follows { (stream : List ℕ) → Follows self.old stream → Follows self.new (stream ++ piece.now) }
         ensures empty { piece.now ≡ [] → self.new ≡ self.old }
@@ -114,7 +115,8 @@ impl TimeMacroFinder {
         self.length = keep(&mut self.tail, last);
     }
 
-    // Sets the flags of the macros that stand in this text. No search is made for what was found.
+    // Sets the flags of the macros in this text. A macro that was found before is not searched for
+    // again.
     fn mark(&mut self, text: &[u8])
         ensures time { IsTrue self.new.time ↔ (IsTrue self.old.time ⊎ Has text.now time_macro) }
         ensures date { IsTrue self.new.date ↔ (IsTrue self.old.date ⊎ Has text.now date_macro) }
@@ -129,7 +131,7 @@ impl TimeMacroFinder {
         }
     }
 
-    /// Whether any of the three macros stands in the stream.
+    /// Whether the stream contains any of the three macros.
     pub fn found_time_macros(&self) -> bool
         ensures { (stream : List ℕ) → Follows self.now stream
             → IsTrue result ↔ (Has stream time_macro ⊎ (Has stream date_macro ⊎ Has stream timestamp_macro)) }
@@ -137,21 +139,21 @@ impl TimeMacroFinder {
         self.found_time || self.found_date || self.found_timestamp
     }
 
-    /// Whether `__TIME__` stands in the stream.
+    /// Whether the stream contains `__TIME__`.
     pub fn found_time(&self) -> bool
         ensures { (stream : List ℕ) → Follows self.now stream → IsTrue result ↔ Has stream time_macro }
     {
         self.found_time
     }
 
-    /// Whether `__DATE__` stands in the stream.
+    /// Whether the stream contains `__DATE__`.
     pub fn found_date(&self) -> bool
         ensures { (stream : List ℕ) → Follows self.now stream → IsTrue result ↔ Has stream date_macro }
     {
         self.found_date
     }
 
-    /// Whether `__TIMESTAMP__` stands in the stream.
+    /// Whether the stream contains `__TIMESTAMP__`.
     pub fn found_timestamp(&self) -> bool
         ensures { (stream : List ℕ) → Follows self.now stream → IsTrue result ↔ Has stream timestamp_macro }
     {

@@ -1,16 +1,16 @@
-//! The hash function under every digest. It is handed in, so that no theorem rests on which one it
-//! is.
+//! The hash function of every digest. It is a type parameter, so that no theorem depends on which
+//! function it is.
 ghost use Rattle.std.specs.Prelude.{◌≡◌, ℕ, List, [], ◌++◌, length};
 ghost use Rattle.sha2.specs.Sha256.{sha256};
 ghost use Rattle.sha2.specs.Hashers.{Holds256};
 
 use sha2::{Digest as _, Sha256};
 
-/// A hash function with an output of 32 bytes, fed piece by piece.
+/// A hash function with an output of 32 bytes, whose input is fed piece by piece.
 ///
-/// A state may be said to hold a list of bytes: those that it was fed. Feeding two pieces in turn
-/// is feeding their concatenation, and the output depends on what is held and on nothing else.
-/// No call takes memory.
+/// A state holds the list of bytes that it was fed. Feeding two pieces one after the other is the
+/// same as feeding their concatenation. The output depends on the bytes that the state holds, and
+/// on nothing else. No call allocates memory.
 pub trait HashState: Drop {
     // The state was fed these bytes.
     ghost holds: { Self → List ℕ → Type 0 };
@@ -18,11 +18,11 @@ pub trait HashState: Drop {
     // The output for these bytes.
     ghost hash: { List ℕ → List ℕ };
 
-    /// A state that was fed nothing.
+    /// A state that was fed no bytes.
     fn start() -> Self
         ensures { holds result [] };
 
-    /// Feeds a piece, behind what was fed before.
+    /// Feeds a piece after what was fed before.
     fn feed(&mut self, bytes: &[u8])
         ensures { (fed : List ℕ) → holds self.old fed → holds self.new (fed ++ bytes.now) };
 

@@ -1,4 +1,4 @@
-//! Laws about the definitions, each the contract of a function that does nothing.
+//! Laws about the definitions. Each is the contract of a function with an empty body.
 ghost use Rattle.std.specs.Int.{to_le_bytes, w64};
 ghost use Rattle.std.specs.Prelude.{◌≡◌, ◌↔◌, ◌<◌, ◌^◌, ℕ, IsTrue, List, length};
 ghost use Rattle.cck_digest.specs.Digest.{HexTellsBytes, digest_text};
@@ -7,28 +7,28 @@ ghost use Rattle.cck_digest.specs.TimeMacros.{HasIsTested};
 
 use crate::{FileError, HashState, UtilError};
 
-/// Equal digits are of equal bytes: a digest text tells the digest.
+/// Bytes with equal digits are equal, so a hex digest determines its digest.
 pub fn hex_tells_bytes()
     ensures { HexTellsBytes }
 {}
 
-/// A digest text has 64 characters, whatever the hash.
+/// A hex digest has 64 characters, whatever the hash function is.
 pub fn text_has_64_characters<H: HashState>()
     ensures { (fed : List ℕ) → length (digest_text H.hash fed) ≡ 64 }
 {}
 
-/// Below 2^64, as every length and every count of a program is, the bytes of a length are those of a
-/// number of 64 bits, with the lowest first.
+/// A length below 2^64, as every length and every count of a program is, is written as the bytes of
+/// a 64-bit number, the lowest first.
 pub fn lengths_are_little_endian()
     ensures { (n : ℕ) → n < 2 ^ 64 → length_bytes n ≡ to_le_bytes w64 n }
 {}
 
-/// A word stands in a text exactly if the test for it says so.
+/// The Boolean definition `has` is true exactly if the text contains the word.
 pub fn has_is_tested()
     ensures { HasIsTested }
 {}
 
-/// Refusals are equal exactly if they are the same, with the same cause.
+/// Two errors compare as equal exactly if they are the same error with the same cause.
 pub fn equality_is_exact()
     ensures file_errors { (a b : FileError) →
         IsTrue (⟦<FileError as PartialEq>⟧.eq a b) ↔ (a ≡ b) }

@@ -1,19 +1,20 @@
-//! Digests, and what they are fed.
+//! Digests and what is fed to them.
 //!
-//! A cache key is the *digest text* of a list of bytes, its *material*: the output of a hash
-//! function, written as digits. This crate has the calls that make one, and each of them says
-//! which bytes it feeds, so that a layer above can say what its whole material is.
+//! A cache key is the *hex digest* of a list of bytes, its *key material*: the output of a hash
+//! function, written as digits. The contract of each call here says which bytes it feeds, so that a
+//! crate above can state its whole key material.
 //!
-//! - [`HashState`] is the hash function, handed in by the caller; [`Sha256State`] is the program's.
-//! - [`Digest`] is fed piece by piece and ends in a text; [`hash_length`], [`hash_len_prefixed`] and
-//!   [`hex`] go with it.
-//! - [`read_to_end`] reads a reader to its end, [`HASH_BUFFER_SIZE`] bytes at a time at most, and
-//!   hands each piece to a [`Sink`]; [`read_all`] gives all that it reads.
-//! - [`Digest::reader_sync`] and its kin digest what a reader gives.
-//! - [`TimeMacroFinder`] finds the macros of time in a stream, however it is cut, and
+//! - [`HashState`] is the hash function, which the caller chooses; the program's is
+//!   [`Sha256State`].
+//! - [`Digest`] is fed piece by piece and returns the hex digest; [`hash_length`] and
+//!   [`hash_len_prefixed`] feed lengths and frames, and [`hex`] writes bytes as digits.
+//! - [`read_to_end`] reads a reader to its end, at most [`HASH_BUFFER_SIZE`] bytes at a time, and
+//!   passes each piece to a [`Sink`]; [`read_all`] returns all that it reads.
+//! - [`Digest::reader_sync`] and its variants compute the digest of what a reader gives.
+//! - [`TimeMacroFinder`] finds the time macros in a stream, however the stream is cut, and
 //!   [`WatchedDigest`] feeds it and a digest in one pass.
-//! - [`UtilError`] and [`FileError`] say why a call is refused, here and in the crates above.
-//! - [`laws`] has what the definitions say beyond what they compute.
+//! - [`UtilError`] and [`FileError`] are the errors of this crate and of the crates above.
+//! - [`laws`] states properties of the definitions.
 //!
 //! ```rust
 //! let mut digest = Digest::<Sha256State>::new();

@@ -1,5 +1,5 @@
-//! Digests of what a reader gives: upstream's `Digest::reader_sync` and its kin, with the allocator
-//! handed in.
+//! Digests of what a reader gives: upstream's `Digest::reader_sync` and its variants, with the
+//! allocator as a parameter.
 ghost use Rattle.std.specs.Prelude.{◌≡◌, ◌++◌, ◌⊎◌, ℕ, List, [], All, length, IfOk, IfSome, IfErr, IsOkUnless, OnOk, string_bytes};
 ghost use Rattle.std.specs.Fn.{CalledAt};
 ghost use Rattle.std.specs.Io.KnownBytes.{IsAtEnd};
@@ -13,7 +13,7 @@ use crate::{Digest, HashState, Sink, TimeMacroFinder, UtilError, new_hash_buffer
 use std::alloc::{AllocError, Global};
 use std::io::Read;
 
-/// Feeds each piece.
+/// Feeds each piece to the digest.
 impl<H: HashState> Sink for Digest<H> {
     ghost takes = { λ before piece after. (fed : List ℕ) → H.holds before fed → H.holds after (fed ++ piece) };
 
@@ -23,19 +23,19 @@ impl<H: HashState> Sink for Digest<H> {
     }
 }
 
-/// A digest and a finder of the macros of time, for one stream in one pass.
+/// A digest and a finder of time macros that are fed one stream in one pass.
 ///
-/// As a [`Sink`] it hands each piece to both.
+/// As a [`Sink`] it passes each piece to both.
 #[derive(Drop)]
 pub struct WatchedDigest<H: HashState> {
     /// The digest of the stream so far.
     pub digest: Digest<H>,
-    /// The finder that was handed the stream so far.
+    /// The finder after the stream so far.
     pub finder: TimeMacroFinder,
 }
 
 impl<H: HashState> WatchedDigest<H> {
-    /// A digest that was fed nothing, and a finder that was handed nothing. It takes no memory.
+    /// A digest that was fed no bytes, and a finder of an empty stream. It allocates no memory.
     pub fn new() -> WatchedDigest<H>
         ensures digest { H.holds result.digest [] }
         ensures finder { Follows result.finder [] }
@@ -46,9 +46,9 @@ impl<H: HashState> WatchedDigest<H> {
         }
     }
 
-    /// The digest text of all that was fed, and the finder.
+    /// The hex digest of all that was fed, and the finder.
     ///
-    /// It is refused only for lack of memory, as [`UtilError::Memory`].
+    /// The only error is [`UtilError::Memory`].
     pub fn finish(self, alloc: Global) -> Result<(String, TimeMacroFinder), UtilError>
         ensures text { IfOk result (λ pair. (fed : List ℕ) → H.holds self.digest fed
             → string_bytes pair.0 ≡ digest_text H.hash fed) }
@@ -73,7 +73,7 @@ impl<H: HashState> Sink for WatchedDigest<H> {
     }
 }
 
-// A digest whose pieces are shown to a closure.
+// A digest that passes each piece to a closure before the piece is fed.
 #[derive(Drop)]
 struct Each<H: HashState, F: Drop> {
     digest: Digest<H>,
@@ -95,8 +95,8 @@ impl<H: HashState, F: FnMut(&[u8]) + Drop> OpenSink for Each<H, F> {
 }
 
 impl<H: HashState> Digest<H> {
-    /// The digest text of all that the reader gives. It is refused as [`read_to_end`] is, and there
-    /// is no digest then.
+    /// The hex digest of all that the reader gives. The errors are those of [`read_to_end`]; after
+    /// one there is no digest.
     pub fn reader_sync<R: Read>(alloc: Global, reader: &mut R) -> Result<String, UtilError>
         ensures text { IfOk result (λ text. IfSome (R.remaining reader.old) (λ stream.
             string_bytes text ≡ digest_text H.hash stream)) }
@@ -109,9 +109,10 @@ impl<H: HashState> Digest<H> {
         digest.finish(alloc)
     }
 
-    /// A digest that was fed all that the reader gives. `each` is called with each piece before
-    /// the piece is fed: with a byte at least, and [`HASH_BUFFER_SIZE`](crate::HASH_BUFFER_SIZE)
-    /// bytes at most. It is refused as [`read_to_end`] is.
+    /// A digest that was fed all that the reader gives. `each` is called with each piece before the
+    /// piece is fed. A piece has at least one byte and at most
+    /// [`HASH_BUFFER_SIZE`](crate::HASH_BUFFER_SIZE) bytes. The errors are those of
+    /// [`read_to_end`].
     pub fn reader_sync_with<R: Read, F: FnMut(&[u8]) + Drop>(
         alloc: Global,
         reader: &mut R,
@@ -134,8 +135,8 @@ impl<H: HashState> Digest<H> {
         Ok(shown.digest)
     }
 
-    /// The digest text of all that the reader gives, and a finder that was handed the same. It is
-    /// refused as [`read_to_end`] is.
+    /// The hex digest of all that the reader gives, and a finder after the same stream. The errors
+    /// are those of [`read_to_end`].
     pub fn reader_sync_time_macros<R: Read>(
         alloc: Global,
         reader: &mut R,

@@ -1,4 +1,4 @@
-//! Streams: what takes one piece by piece, and the loop that reads a reader to its end.
+//! Streams: consumers of pieces, and the loop that reads a reader to its end.
 ghost use Rattle.std.specs.Prelude.{◌≡◌, ◌++◌, ◌⊎◌, ℕ, List, All, length, ⊤, IfOk, IfSome, IfErr, IsErrOf, OnErr, OnOk, vec_len};
 ghost use Rattle.std.specs.List.{FoldsTo};
 ghost use Rattle.std.specs.Io.KnownBytes.{IsAtEnd};
@@ -8,10 +8,11 @@ use crate::UtilError;
 use std::alloc::{AllocError, Global};
 use std::io::Read;
 
-/// How many bytes are asked of a reader at once. Upstream's `util::HASH_BUFFER_SIZE`.
+/// The number of bytes that one read requests. Upstream's `util::HASH_BUFFER_SIZE`.
 pub const HASH_BUFFER_SIZE: usize = 131072;
 
-/// A buffer of [`HASH_BUFFER_SIZE`] bytes, 131072, to read a stream through.
+/// A buffer of [`HASH_BUFFER_SIZE`] bytes, 131072, to read a stream through. The only error is lack
+/// of memory.
 pub fn new_hash_buffer(alloc: Global) -> Result<Vec<u8>, AllocError>
     ensures room { IfOk result (λ buffer. vec_len buffer ≡ HASH_BUFFER_SIZE) }
     ensures size { HASH_BUFFER_SIZE ≡ buffer_size }
@@ -19,19 +20,19 @@ pub fn new_hash_buffer(alloc: Global) -> Result<Vec<u8>, AllocError>
     Ok(vec![in alloc; 0u8; HASH_BUFFER_SIZE]?)
 }
 
-/// What takes a stream piece by piece.
+/// A consumer of a stream's pieces.
 pub trait Sink {
-    // Taking this piece may lead from the one to the other.
+    // Taking this piece may change the first state to the second.
     ghost takes: { Self → List ℕ → Self → Type 0 };
 
-    /// Takes the next piece. It is refused only for lack of memory, and has taken a beginning of
-    /// the piece then, which may be nothing.
+    /// Takes the next piece. The only error is lack of memory. After an error the sink has taken a
+    /// beginning of the piece, which may be empty.
     fn take(&mut self, piece: &[u8]) -> Result<(), AllocError>
         ensures taken { OnOk result (takes self.old piece.now self.new) }
         ensures begun { OnErr result (TakesBeginning takes self.old piece.now self.new) };
 }
 
-/// Appends each piece, or nothing of it where it is refused.
+/// Appends each piece, or nothing of it where memory is lacking.
 impl Sink for Vec<u8> {
     ghost takes = { λ before piece after. after.items ≡ before.items ++ piece };
 
@@ -40,16 +41,16 @@ impl Sink for Vec<u8> {
     }
 }
 
-// What takes a stream piece by piece while it is open, as what calls a closure does. A [`Sink`] is
-// always open.
+// A consumer of a stream's pieces that takes them only while it is open, as one that calls a
+// closure. A [`Sink`] is always open.
 pub(crate) trait OpenSink {
-    // A piece may be handed over.
+    // A piece may be passed.
     ghost is_open: { Self → Type 0 };
 
-    // Taking this piece may lead from the one to the other.
+    // Taking this piece may change the first state to the second.
     ghost takes: { Self → List ℕ → Self → Type 0 };
 
-    // Takes the next piece, as [`Sink::take`] does, and is open afterwards.
+    // Takes the next piece, as [`Sink::take`] does. After a success it is open.
     fn take_open(&mut self, piece: &[u8]) -> Result<(), AllocError>
         requires { is_open self.old }
         ensures taken { OnOk result (takes self.old piece.now self.new × is_open self.new) }
@@ -66,7 +67,7 @@ impl<S: Sink> OpenSink for S {
     }
 }
 
-// Hands over all that the reader gives, read through this buffer.
+// Reads the reader to its end through this buffer, and passes each piece to the sink.
 pub(crate) fn read_through<S: OpenSink, R: Read>(
     buffer: &mut [u8],
     reader: &mut R,
@@ -96,14 +97,15 @@ pub(crate) fn read_through<S: OpenSink, R: Read>(
     Err(UtilError::Read)
 }
 
-/// Reads the reader to its end, and hands each piece to the sink. A piece has a byte at least, and
-/// [`HASH_BUFFER_SIZE`] bytes at most. No read is tried again.
+/// Reads the reader to its end, and passes each piece to the sink. A piece has at least one byte
+/// and at most [`HASH_BUFFER_SIZE`] bytes. A failed read is not repeated.
 ///
-/// It is refused as [`UtilError::Read`] where a read fails, an interrupted one too, or where
-/// `u64::MAX` reads meet no end, and as [`UtilError::Memory`]. After [`UtilError::Read`] the sink
-/// has taken what the reader gave so far, so that a second call goes on where this one stopped.
-/// After [`UtilError::Memory`] it has taken a beginning of the stream, and the reader may have
-/// given more.
+/// The error is [`UtilError::Read`] where a read fails, an interrupted one too, or where `u64::MAX`
+/// reads do not reach the end. It is [`UtilError::Memory`] where memory is lacking.
+///
+/// After [`UtilError::Read`] the sink has taken what the reader gave so far, so that a second call
+/// continues where this one stopped. After [`UtilError::Memory`] the sink has taken a beginning of
+/// the stream, and the reader may have given more.
 pub fn read_to_end<S: Sink, R: Read>(
     alloc: Global,
     reader: &mut R,
@@ -122,7 +124,7 @@ pub fn read_to_end<S: Sink, R: Read>(
     read_through(&mut buffer, reader, sink)
 }
 
-/// All that the reader gives, up to its end. It is refused as [`read_to_end`] is.
+/// All that the reader gives, up to its end. The errors are those of [`read_to_end`].
 pub fn read_all<R: Read>(alloc: Global, reader: &mut R) -> Result<Vec<u8>, UtilError>
     ensures text { IfOk result (λ text. IfSome (R.remaining reader.old) (λ stream. text.items ≡ stream)) }
     ensures end { OnOk result (IsAtEnd (R.remaining reader.new)) }

@@ -21,7 +21,7 @@ same_prefix (x ∷ a) (y ∷ b) (suc n) h = by_test (nat_eq x y) refl h (same_pr
     by_test true e le more = ap (λ c. c ∷ take n a) (eqb-true x y e) ∙ ap (λ s. y ∷ s) (more (omega arith))
     by_test false e le more = absurd (omega arith)
 
--- bytes that are the same at the beginning of both texts count, and then those after them
+-- the common length is that of equal beginnings, and then that of what follows them
 pub same_front : (n : ℕ) (a b : List ℕ) → n ≤ length a → n ≤ length b → take n a ≡ take n b → common_prefix_len nat_eq a b ≡ n + common_prefix_len nat_eq (drop n a) (drop n b)
 same_front zero a b in_a in_b e = omega arith
 same_front (suc n) [] b in_a in_b e = absurd (omega arith)
@@ -34,7 +34,7 @@ ends_cons : (c : ℕ) (s : List ℕ) → ends_in_slash s ≡ true → ends_in_sl
 ends_cons c [] e = cc
 ends_cons c (d ∷ s) e = e
 
--- what stands up to a slash ends in it
+-- a text up to and with a slash ends in a slash
 ends_up_to : (s : List ℕ) (n : ℕ) → n < length s → nat_eq (get_or s n 0) 47 ≡ true → ends_in_slash (take (n + 1) s) ≡ true
 ends_up_to [] n h e = absurd (omega arith)
 ends_up_to (c ∷ s) zero h e = e
@@ -48,7 +48,7 @@ components_parted (c ∷ p) s e = components_ended c p s e
 parted_at : (s : List ℕ) (n : ℕ) → n < length s → nat_eq (get_or s n 0) 47 ≡ true → components s ≡ components (take (n + 1) s) ++ inner_components (drop (n + 1) s)
 parted_at s n h e = ap components (sym (take-append-drop (n + 1) s)) ∙ components_parted (take (n + 1) s) (drop (n + 1) s) (ends_up_to s n h e)
 
--- the order of two paths that are the same up to a slash is that of what follows it
+-- the order of two paths that are the same up to a slash is that of what follows the slash
 pub order_after : (a b : List ℕ) (n k : ℕ) → k ≡ common_prefix_len nat_eq a b → n < k → nat_eq (get_or (take k a) n 0) 47 ≡ true
     → path_cmp (inner_components (drop (n + 1) a)) (inner_components (drop (n + 1) b)) ≡ path_cmp (components a) (components b)
 order_after a b n k is below slash =

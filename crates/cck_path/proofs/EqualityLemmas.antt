@@ -1,4 +1,4 @@
--- The tests of equality tell whether two values are one.
+-- The equality tests decide whether two values are equal.
 use Rattle.std.proofs.Common.{◌≡◌, ℕ, Bool, List, Option, Some, None, map, refl, sym, ap}
 use Rattle.std.specs.Cmp.Derive.Mapped.{pointwise-map}
 use Rattle.std.specs.Cmp.Lexicographic.{bytes_decides, pointwise, pointwise_decides}
@@ -14,7 +14,7 @@ moment_decides a b =
     Decides-like (same_moment a b) (λ h. λ i. record { seconds = h.0 i; nanoseconds = h.1 i }) (λ e. (ap (λ (m : Moment). m.seconds) e, ap (λ (m : Moment). m.nanoseconds) e))
     (Decides-and _ _ (Decides-int_eq a.seconds b.seconds) (Decides-eqb a.nanoseconds b.nanoseconds))
 
--- values or none, and lists of values, by what is seen of each value
+-- optional values, and lists of values, by what is seen of each value
 module _ {X Y : Type 0} (f : X → Y) (E : Y → Y → Bool) (each : (a b : Y) → Decides (E a b) (a ≡ b)) where
   pub option_decides : (a b : Option X) → Decides (option_eq (λ x y. E (f x) (f y)) a b) (option_map f a ≡ option_map f b)
   option_decides None None = (λ _. refl, λ _. refl)

@@ -16,7 +16,7 @@ use std::alloc::Global;
 use std::cmp::Ordering;
 use std::io::Write;
 
-// Texts are compared by so many bytes at once as long as they are the same.
+// The number of bytes that are compared at once while two texts are the same.
 const CHUNK_LEN: usize = 32;
 
 /// A component of a path, as `std::path::Component` on Unix. Components are ordered as listed here,
@@ -25,7 +25,7 @@ const CHUNK_LEN: usize = 32;
 pub enum Component<'a> {
     /// The root: a `/` that the path begins with.
     RootDir,
-    /// A `.` that is the first part of a path. Others are left out.
+    /// A `.` that is the first part of a path. Any other `.` is left out.
     CurDir,
     /// `..`.
     ParentDir,
@@ -35,8 +35,8 @@ pub enum Component<'a> {
 
 /// The components of a path, in order, as `std::path::Components` on Unix.
 ///
-/// `/` separates. Empty parts are left out, and so is a part `.` unless it is the first part of a
-/// path without root. Two paths are the same if their components are.
+/// `/` separates the parts of a path. Empty parts are left out, and so is a part `.` unless it is
+/// the first part of a path without root. Two paths are the same if their components are.
 ///
 /// ```rust
 /// Components::new(b"/a//./b/") // the root, `a`, `b`
@@ -48,7 +48,7 @@ pub struct Components<'a> {
 }
 
 impl<'a> Components<'a> {
-    /// The components of this path. It takes no memory.
+    /// The components of this path. It allocates no memory.
     pub fn new(path: &'a [u8]) -> Components<'a>
         ensures { components_left result ≡ components path.now }
     {
@@ -58,7 +58,8 @@ impl<'a> Components<'a> {
         }
     }
 
-    // The components of what follows a `/` in a path. It has no root, and its first `.` is left out.
+    // The components of what follows a `/` in a path. It has no root, and a `.` at its beginning is
+    // left out.
     fn after(rest: &'a [u8]) -> Components<'a>
         ensures { components_left result ≡ inner_components rest.now }
     {
@@ -84,7 +85,7 @@ impl<'a> Iterator for Components<'a> {
     }
 }
 
-// The first of the components that are still to come, and what follows it.
+// The next component, and the text after it.
 #[tactic(auto, unfolding(crate::specs::Path::components))]
 fn take_component(has_started: bool, rest: &[u8]) -> Option<(Component<'_>, &[u8])>
     ensures { MatchOption result (components_behind has_started rest.now ≡ []) (λ next.
@@ -100,7 +101,7 @@ fn take_component(has_started: bool, rest: &[u8]) -> Option<(Component<'_>, &[u8
     }
 }
 
-// The root or the `.` that the path begins with.
+// The root or the `.` that the path begins with, if it has one.
 fn first_component(path: &[u8]) -> Option<Component<'_>>
     ensures { option_to_list (option_map component_of result) ≡ beginning path.now }
 {
@@ -112,7 +113,7 @@ fn first_component(path: &[u8]) -> Option<Component<'_>>
     }
 }
 
-// The first component behind the beginning of a path, and what follows it.
+// The first component after the beginning of a path, and the text after it.
 fn next_component(path: &[u8]) -> Option<(Component<'_>, &[u8])>
     ensures { MatchOption result (inner_components path.now ≡ []) (λ next.
         inner_components path.now ≡ component_of next.0 ∷ inner_components next.1.now) }
@@ -128,7 +129,7 @@ fn next_component(path: &[u8]) -> Option<(Component<'_>, &[u8])>
     None
 }
 
-// What stands before the first `/`, and what stands behind it.
+// The text before the first `/`, and the text after it.
 fn cut_part(path: &[u8]) -> (&[u8], &[u8])
     requires { 0 < length path.now }
     ensures parts { inner_components path.now
@@ -141,7 +142,7 @@ fn cut_part(path: &[u8]) -> (&[u8], &[u8])
     }
 }
 
-// The component that a part stands for, behind the beginning of a path.
+// The component of a part that comes after the beginning of a path.
 fn part_component(part: &[u8]) -> Option<Component<'_>>
     ensures { option_to_list (option_map component_of result) ≡ part_components part.now }
 {
@@ -152,11 +153,11 @@ fn part_component(part: &[u8]) -> Option<Component<'_>>
     }
 }
 
-/// The order of two paths: that of their lists of components, with a beginning before what it
-/// begins. It takes no memory.
+/// The lexicographic order of two paths as lists of components: a list comes before each longer
+/// list that begins with it. It allocates no memory.
 ///
-/// Paths of the same bytes are equal at once. Else components are read only from the part on in
-/// which the first different byte stands.
+/// Equal bytes are not read as components. Otherwise components are read only from the part on that
+/// has the first different byte.
 #[tactic(auto, using(crate::proofs::CommonPrefixLemmas::same_bytes))]
 pub fn compare_paths(a: &[u8], b: &[u8]) -> Ordering
     ensures { result ≡ path_cmp (components a.now) (components b.now) }
@@ -183,7 +184,7 @@ fn compare_components(a: Components<'_>, b: Components<'_>) -> Ordering
     a.cmp(b)
 }
 
-// How many bytes are the same at the beginning of both texts.
+// The number of bytes at the beginning that are the same in both texts.
 fn common_prefix_len(a: &[u8], b: &[u8]) -> usize
     ensures count { result ≡ common_prefix_len nat_eq a.now b.now }
     ensures in_first { result ≤ length a.now }
@@ -196,7 +197,7 @@ fn common_prefix_len(a: &[u8], b: &[u8]) -> usize
     at
 }
 
-// How many bytes the chunks have that are the same at the beginning of both texts.
+// The number of bytes in the chunks at the beginning that are the same in both texts.
 fn same_chunks_len(a: &[u8], b: &[u8]) -> usize
     ensures in_first { result ≤ length a.now }
     ensures in_second { result ≤ length b.now }
@@ -213,7 +214,7 @@ fn same_chunks_len(a: &[u8], b: &[u8]) -> usize
     at
 }
 
-/// Whether two paths have the same components. It takes no memory.
+/// Whether two paths have the same components. It allocates no memory.
 pub fn same_path(a: &[u8], b: &[u8]) -> bool
     ensures { MatchBool result (components a.now ≡ components b.now)
         (components a.now ≢ components b.now) }
@@ -221,7 +222,7 @@ pub fn same_path(a: &[u8], b: &[u8]) -> bool
     compare_paths(a, b).is_eq()
 }
 
-/// Whether a path begins at the root. It takes no memory.
+/// Whether a path begins at the root. It allocates no memory.
 #[tactic(auto, using(crate::proofs::PartLemmas::root_by_slash))]
 pub fn is_absolute(path: &[u8]) -> bool
     ensures { result ≡ has_root (components path.now) }
@@ -234,7 +235,7 @@ pub fn is_absolute(path: &[u8]) -> bool
 
 /// The file name of a path: its last component, if that is a name.
 ///
-/// As `std::path::Path::file_name` on Unix. It takes no memory.
+/// As `std::path::Path::file_name` on Unix. It allocates no memory.
 pub fn file_name(path: &[u8]) -> Option<&[u8]>
     ensures { option_copied result ≡ file_name_of (components path.now) }
 {
@@ -251,7 +252,7 @@ pub fn file_name(path: &[u8]) -> Option<&[u8]>
 /// The extension of a path: what follows the last `.` of its file name. There is none where that
 /// `.` is missing or is the first byte.
 ///
-/// As `std::path::Path::extension` on Unix. It takes no memory.
+/// As `std::path::Path::extension` on Unix. It allocates no memory.
 pub fn extension(path: &[u8]) -> Option<&[u8]>
     ensures { option_copied result
         ≡ option_and_then extension_of (file_name_of (components path.now)) }
@@ -264,10 +265,10 @@ pub fn extension(path: &[u8]) -> Option<&[u8]>
     Some(&name[dot + 1..])
 }
 
-/// `path` as seen from `base`: `path` itself if it is absolute or `base` is empty, and else `base`,
-/// a `/` unless `base` ends in one, and `path`.
+/// `path` resolved against `base`: `path` itself if it is absolute or `base` is empty, and else
+/// `base`, a `/` unless `base` ends in one, and `path`.
 ///
-/// It is refused only for lack of memory, as [`UtilError::Memory`].
+/// The only error is [`UtilError::Memory`].
 pub fn join_path(alloc: Global, base: &[u8], path: &[u8]) -> Result<Vec<u8>, UtilError>
     ensures bytes { IfOk result (λ whole. whole.items ≡ joined_text base.now path.now) }
     ensures components { IfOk result (λ whole.
@@ -296,11 +297,11 @@ fn ends_in_slash(path: &[u8]) -> bool
     }
 }
 
-/// The path without `.`, `..` and doubled slashes: its root, if it has one, and the names that lead
-/// to its place. A `..` takes the name before it away, and does nothing where there is none.
+/// The path without `.`, `..` and doubled slashes: its root, if it has one, and the names that
+/// remain. A `..` removes the name before it, and does nothing where there is none.
 ///
-/// Upstream's `util::normalize_path`. No link is followed. It is refused only for lack of memory,
-/// as [`UtilError::Memory`].
+/// Upstream's `util::normalize_path`. Symbolic links are not followed. The only error is
+/// [`UtilError::Memory`].
 pub fn normalize_path(alloc: Global, path: &[u8]) -> Result<Vec<u8>, UtilError>
     ensures bytes { IfOk result (λ text. text.items ≡ path_text (normal (components path.now))) }
     ensures components { IfOk result (λ text.
@@ -325,7 +326,7 @@ pub fn normalize_path(alloc: Global, path: &[u8]) -> Result<Vec<u8>, UtilError>
     Ok(text)
 }
 
-// Appends the names, with a `/` between each two.
+// Appends the names, separated by `/`.
 fn push_names(text: &mut Vec<u8>, names: &[&[u8]]) -> Result<(), UtilError>
     ensures appended { OnOk result
         (text.new.items ≡ text.old.items ++ join_with_byte 47 (map (λ n. n.now) names.now)) }
@@ -344,8 +345,8 @@ fn push_names(text: &mut Vec<u8>, names: &[&[u8]]) -> Result<(), UtilError>
 
 /// Writes the bytes of a path.
 ///
-/// Upstream's `util::encode_path`. It is refused where the writer fails, as [`UtilError::Write`],
-/// and nothing is known then of how much went out. It takes no memory.
+/// Upstream's `util::encode_path`. The only error is [`UtilError::Write`], where the writer fails.
+/// The number of bytes that were written is not known then. It allocates no memory.
 pub fn encode_path<W: Write>(writer: &mut W, path: &[u8]) -> Result<(), UtilError>
     ensures written { OnOk result
         (Appends (W.contents writer.old) (W.contents writer.new) path.now) }
@@ -357,9 +358,9 @@ pub fn encode_path<W: Write>(writer: &mut W, path: &[u8]) -> Result<(), UtilErro
     }
 }
 
-/// The path that these bytes are: themselves.
+/// The path of these bytes: the bytes themselves.
 ///
-/// Upstream's `util::decode_path`. It is refused only for lack of memory, as [`UtilError::Memory`].
+/// Upstream's `util::decode_path`. The only error is [`UtilError::Memory`].
 pub fn decode_path(alloc: Global, bytes: &[u8]) -> Result<Vec<u8>, UtilError>
     ensures path { IfOk result (λ path. path.items ≡ bytes.now) }
     ensures refused { IsOkUnless result UtilError.Memory }
