@@ -82,7 +82,7 @@ fn push_named_files(
     Ok(())
 }
 
-// Puts what stands between the colons behind the others.
+// Appends the parts between the colons.
 fn push_parts(alloc: Global, all: &mut Vec<Vec<u8>>, value: &[u8]) -> Result<(), AllocError>
     ensures { OnOk result
         (lists_of all.new.items ≡ lists_of all.old.items ++ slice_split (λ c. c == 58) value.now) }
@@ -93,7 +93,7 @@ fn push_parts(alloc: Global, all: &mut Vec<Vec<u8>>, value: &[u8]) -> Result<(),
     Ok(())
 }
 
-// The folder of the device libraries.
+// The directory of the device libraries.
 #[tactic(auto, unfolding(crate::specs::ExtraFiles::library_folder))]
 fn library_folder(
     alloc: Global,
