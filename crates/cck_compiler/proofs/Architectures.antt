@@ -20,7 +20,7 @@ same a b h = (bytes_eq-Decides a b).0 h
 itself : (a : Bytes) → bytes_eq a a ≡ true
 itself a = (bytes_eq-Decides a a).1 refl
 
--- one more behind them: it is added where it isn't among them
+-- one after them: it is added if it isn't among them
 pub each_once_more : (xs : List Bytes) (x : Bytes) → each_once (xs ++ x ∷ []) ≡ each_once xs ++ cond (list_any (λ y. bytes_eq y x) (each_once xs)) [] (x ∷ [])
 each_once_more [] x = refl
 each_once_more (a ∷ xs) x =
@@ -69,7 +69,7 @@ some_left test (x ∷ xs) = by (test x) (some_left test xs)
     by true h = grind (arith, nat_tests)
     by false h = h
 
--- another one stands among them as well where each stands once
+-- another one is among them also where each is kept once
 some_other : (x : Bytes) (ys : List Bytes) → list_any (λ b. not (bytes_eq b x)) (each_once ys) ≡ list_any (λ b. not (bytes_eq b x)) ys
 some_other x [] = refl
 some_other x (a ∷ ys) = by (bytes_eq a x) refl (some_other x ys)
@@ -94,7 +94,7 @@ one_less n = by (nat_le 1 n) refl
     by true h = grind (arith, nat_tests)
     by false h = grind (arith, nat_tests)
 
--- whether another one stands among the arguments
+-- whether another one is among the arguments
 abbrev pub has_other : List Bytes → Bytes → Bool
 has_other args first = list_any (λ arg. is_arch arg && not (bytes_eq arg first)) args
 

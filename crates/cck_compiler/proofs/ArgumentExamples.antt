@@ -1,4 +1,4 @@
--- What written arguments ask for.
+-- Examples of arguments that ask for architectures.
 use Rattle.std.proofs.Common.{◌≡◌, true, false, [], ◌∷◌, codes, refl}
 use Rattle.cck_compiler.specs.Arguments.{Arguments, archs, is_multiarch}
 

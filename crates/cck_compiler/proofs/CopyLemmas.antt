@@ -27,7 +27,7 @@ same_rest o p os ps e = cc
 nothing : (o : Output) (os : List Output) → ◌≡◌ {A = List Output} (o ∷ os) [] → ⊥
 nothing o os e = cc
 
--- a name below all names of a list is below the one that stands in it behind others
+-- a name below all names of a list is below the one that is in it after others
 below_one : (name : String Global) (front : List Named) (o : Named) (behind : List Output) (es : List Named)
     → AllByRecursion (λ y. string_cmp name y ≡ Less) (keys_of es) → map output_of front ++ output_of o ∷ behind ≡ map output_of es
     → string_cmp name (o.0) ≡ Less
@@ -37,7 +37,7 @@ below_one name [] o behind (x ∷ es) h e =
 below_one name (f ∷ front) o behind [] h e = absurd (nothing _ _ e)
 below_one name (f ∷ front) o behind (x ∷ es) h e = below_one name front o behind es h.1 (same_rest _ _ _ _ e)
 
--- in a list in order those in front of an output are below it
+-- in a list in order, the names before that of an output are below it
 front_is_below : (front : List Named) (o : Named) (behind : List Output) (es : List Named) → IsStrictlySortedBy string_cmp (keys_of es)
     → map output_of front ++ output_of o ∷ behind ≡ map output_of es → list_all (λ e. is_lt (string_cmp (e.0) (o.0))) front ≡ true
 unfolding IsStrictlySortedBy
@@ -49,7 +49,7 @@ front_is_below (f ∷ front) o behind (x ∷ es) h e =
     ap (λ (p : Output). slice_cmp nat_cmp p.name (string_bytes (o.0))) (same_first _ _ _ _ e) ∙ below_one (x.0) front o behind es h.0 rest
     in rw (less, front_is_below front o behind es h.1 rest) refl
 
--- one more that is copied
+-- the copies with another output copied
 pub copied_more : (es copies : List Named) (o : Named) (left : List Named) (name : String Global) (copy : ArtifactDescriptor) → IsStrictlySortedBy string_cmp (keys_of es)
     → map output_of copies ++ map output_of (o ∷ left) ≡ map output_of es → output_of (name, copy) ≡ output_of o
     → map output_of (insert_entry string_cmp copies name copy) ++ map output_of left ≡ map output_of es

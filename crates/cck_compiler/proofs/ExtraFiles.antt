@@ -27,14 +27,14 @@ text_test (Err e) bytes Q h = by (is_utf8 bytes) refl
     by true is = absurd (h.0 (IsUtf8-from_is_utf8 bytes is))
     by false is = refl
 
--- the libraries among the names of a folder
+-- the libraries among the names in a directory
 pub libraries_listed : (m : FileMap) (folder : Bytes) (names : List Bytes) → folder_at m (components folder) ≡ Ok tt → names ≡ child_names m.nodes (components folder) → map (join_path folder) (filter is_library names) ≡ libraries m folder
 unfolding libraries
 libraries_listed m folder names there are =
     ap (λ ns. map (join_path folder) (filter is_library ns)) are
     ∙ ap (λ r. map (join_path folder) (filter is_library (if_folder r (child_names m.nodes (components folder))))) (sym there)
 
--- no folder is there
+-- there is no directory
 pub no_libraries : (m : FileMap) (folder : Bytes) (HasFault : Type 0) (e : FileError) → e ≢ file.Memory → e ≢ file.Fault → IsRefusalOrMemory (folder_at m (components folder)) HasFault e → libraries m folder ≡ []
 unfolding libraries
 no_libraries m folder HasFault file.NotFound h k is = ap (λ r. map (join_path folder) (filter is_library (if_folder r (child_names m.nodes (components folder))))) is

@@ -1,4 +1,4 @@
--- What written variables and arguments say of further files.
+-- Examples of variables and arguments that give extra files.
 use lib.Utf8.{encode}
 use Rattle.std.proofs.Common.{◌≡◌, [], ◌∷◌, codes, refl}
 use Rattle.std.specs.Str.{chars, is_utf8}
@@ -14,12 +14,12 @@ empty_named : named_files ((codes "SCCACHE_EXTRAFILES", []) ∷ []) ≡ [] ∷ [
 unfolding named_files
 empty_named = refl
 
--- each such variable counts
+-- every variable of the name counts
 all_named : named_files ((codes "SCCACHE_EXTRAFILES", codes "/x") ∷ (codes "SCCACHE_EXTRAFILES", codes "/y:") ∷ []) ≡ codes "/x" ∷ codes "/y" ∷ [] ∷ []
 unfolding named_files
 all_named = refl
 
--- a flag before a variable, and the folder itself before the release
+-- a flag has precedence over a variable, and the directory itself over the release
 told_by_flag : library_folder (codes "--rocm-path=/r" ∷ codes "--hip-device-lib-path=/d" ∷ []) ((codes "HIP_DEVICE_LIB_PATH", codes "/e") ∷ []) ≡ codes "/d"
 unfolding chars encode flag_value is_utf8 join_path library_folder text_value
 told_by_flag = refl

@@ -1,4 +1,4 @@
--- The test of equality of outputs tells whether two are one.
+-- The test of equality of outputs is true exactly if they are equal.
 use Rattle.std.proofs.Common.{◌≡◌, Bool, ◌&&◌, nat_eq, ap}
 use Rattle.std.proofs.lemmas.Bool.Decides.{Decides-and, Decides-like}
 use Rattle.std.specs.Bool.{beq}

@@ -18,7 +18,7 @@ use Rattle.cck_compiler.specs.Arguments.{Arguments, output_name, output_path}
 use Rattle.cck_compiler.specs.Seen.{output_of}
 use Rattle.cck_compiler.specs.declared.arguments.ArtifactDescriptor.{ArtifactDescriptor}
 
--- what a look into it finds
+-- what a look-up in it finds
 pub found_output : (name : Bytes) (es : List (String Global × ArtifactDescriptor))
     → option_map (λ o. o.path.items) (lookup (is_at (λ k. slice_cmp nat_cmp name (string_bytes k))) es)
     ≡ option_map (λ o. o.path) (find (λ o. bytes_eq name o.name) (map output_of es))

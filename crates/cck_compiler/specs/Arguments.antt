@@ -1,4 +1,4 @@
--- what a command line was parsed into
+-- a parsed command line
 use Rattle.std.specs.Prelude.{List, [], ◌∷◌, Bool, not, Option, codes, filter, length, nat_le}
 use Rattle.std.specs.List.{find}
 use Rattle.std.specs.Option.{option_and_then, option_map, option_map_or}
@@ -16,7 +16,7 @@ pub record Output : Type 0 where
   pub path : Bytes
   pub optional : Bool
 
--- a parsed command line, without where it lies in memory
+-- a parsed command line, without its places in memory
 pub record Arguments : Type 0 where
   pub input : Bytes
   pub double_dash_input : Bool
@@ -39,7 +39,7 @@ pub record Arguments : Type 0 where
   pub suppress_rewrite_includes_only : Bool
   pub too_hard_for_preprocessor_cache_mode : Option Bytes
 
--- these, each where it stands first
+-- these, each at its first place alone
 abbrev pub each_once : List Bytes → List Bytes
 each_once [] = []
 each_once (a ∷ others) = a ∷ filter (λ b. not (bytes_eq b a)) (each_once others)
@@ -52,7 +52,7 @@ is_arch argument = not (bytes_eq argument (codes "-arch"))
 unfoldable pub archs : Arguments → List Bytes
 archs a = each_once (filter is_arch a.arch_args)
 
--- two of them or more
+-- there are two of them or more
 unfoldable pub is_multiarch : Arguments → Bool
 is_multiarch a = nat_le 2 (length (archs a))
 
@@ -60,6 +60,6 @@ is_multiarch a = nat_le 2 (length (archs a))
 abbrev pub output_path : Bytes → Arguments → Option Bytes
 output_path name a = option_map (λ o. o.path) (find (λ o. bytes_eq name o.name) a.outputs)
 
--- how the output `obj` is called: by the file name of its path, with U+FFFD for what is no UTF-8
+-- the displayed name of the output `obj`: the file name of its path, with U+FFFD for what is no UTF-8
 unfoldable pub output_name : Arguments → Bytes
 output_name a = option_map_or lossy (option_and_then (λ path. file_name_of (components path)) (output_path (codes "obj") a)) (codes "Unknown filename")

@@ -1,4 +1,4 @@
--- compilers, by what they are seen as
+-- compilers, by their values
 use Rattle.std.specs.Prelude.{List, Bool, Option}
 use Rattle.cck_files.specs.FileMap.{FileMap}
 use Rattle.cck_path.specs.Bytes.{Bytes}
@@ -7,14 +7,14 @@ use Rattle.cck_path.specs.Variables.{Variable}
 use Rattle.cck_compiler.specs.Arguments.{Arguments}
 use Rattle.cck_compiler.specs.declared.compiler.CCompilerKind.{CCompilerKind}
 
--- what a command line comes to: a compilation; one that can't be answered from a cache, for a reason and a detail; or none
+-- the result of parsing a command line: a compilation; one whose result can't be cached, for a reason and with a detail; or none
 pub data Parsed : Type 0 where
   Compilation : Arguments → Parsed
   CannotCache : Bytes → Option Bytes → Parsed
   NotCompilation : Parsed
 
--- a compiler, by what it is seen as: what it says of itself, how it reads a command line in a directory under variables, and what
--- its preprocessor prints, if it prints anything, by the path of its executable, over files at a moment
+-- a compiler, by its value: what it says of itself, how it reads a command line in a directory under variables, and what
+-- its preprocessor prints, if it prints anything, by the path of its executable, over files at a call time
 pub record Compiler (V : Type 0) : Type 0 where
   pub kind : V → CCompilerKind
   pub plusplus : V → Bool

@@ -1,4 +1,4 @@
--- the files that no command line names, but whose digests stand in the keys
+-- the files that no command line names, but whose digests are part of the keys
 use Rattle.std.specs.Prelude.{◌==◌, List, [], ◌∷◌, ◌++◌, length, take, drop, Bool, true, false, ◌&&◌, if◌then◌else◌, Option, None, Some, Result, Ok, Err, codes, filter, map}
 use Rattle.std.specs.List.{find, flat_map, slice_split}
 use Rattle.std.specs.Option.{option_and_then, option_map, option_map_or, unwrap_or}
@@ -16,7 +16,7 @@ use Rattle.cck_util.specs.declared.language.Language.TheVariants.{Hip}
 use Rattle.cck_compiler.specs.Compiler.{CannotCache, Compilation, NotCompilation, Parsed}
 use Rattle.cck_compiler.specs.Arguments.{Arguments}
 
--- the paths that a variable tells, if it is the one that names further files: what stands between its colons
+-- the paths that a variable gives, if it is the one that names extra files: the parts between its colons
 abbrev pub named_by : Variable → List Bytes
 named_by v = if bytes_eq (v.0) (codes "SCCACHE_EXTRAFILES") then slice_split (λ c. c == 58) (v.1) else []
 
@@ -46,7 +46,7 @@ first_of (Some x ∷ others) = Some x
 abbrev pub below_release : Bytes → Bytes
 below_release release = join_path release (codes "amdgcn/bitcode")
 
--- the folder of the device libraries: as a flag says, as a variable says, or as these say where the release stands
+-- the directory of the device libraries: by a flag, by a variable, or by a flag or a variable for the release's place
 unfoldable pub library_folder : List Bytes → List Variable → Bytes
 library_folder arguments variables = unwrap_or (first_of (
     flag_value (codes "--hip-device-lib-path=") arguments
@@ -59,12 +59,12 @@ library_folder arguments variables = unwrap_or (first_of (
 unfoldable pub is_library : Bytes → Bool
 is_library name = option_map_or (λ extension. bytes_eq extension (codes "bc")) (option_and_then extension_of (file_name_of (components name))) false
 
--- these, if a folder is there
+-- these, if there is a directory
 abbrev pub if_folder : Result (Unit {0}) FileError → List Bytes → List Bytes
 if_folder (Ok u) names = names
 if_folder (Err e) names = []
 
--- the paths of the device libraries in a folder, in order; none where it is no folder
+-- the paths of the device libraries in a directory, in order; none where it is no directory
 unfoldable pub libraries : FileMap → Bytes → List Bytes
 libraries m folder = map (join_path folder) (filter is_library (if_folder (folder_at m (components folder)) (child_names m.nodes (components folder))))
 
@@ -72,15 +72,15 @@ abbrev pub is_hip : Language → Bool
 is_hip Hip = true
 is_hip other = false
 
--- the files beside those that the command line names: what the variables name and, for HIP, the device libraries
+-- the extra files: those that the variables name and, for HIP, the device libraries
 unfoldable pub extra_files : FileMap → List Variable → Arguments → List Bytes
 extra_files m variables a = named_files variables ++ (if is_hip a.language then libraries m (library_folder a.common_args variables) else [])
 
--- the arguments with these files behind those whose digests stand in the keys
+-- the arguments with these files after those whose digests are part of the keys already
 abbrev pub with_extra_files : FileMap → List Variable → Arguments → Arguments
 with_extra_files m variables a = record a { extra_hash_files = a.extra_hash_files ++ extra_files m variables a }
 
--- what a command line comes to, with them
+-- the result of parsing, with them
 abbrev pub completed : FileMap → List Variable → Parsed → Parsed
 completed m variables (Compilation a) = Compilation (with_extra_files m variables a)
 completed m variables (CannotCache reason detail) = CannotCache reason detail

@@ -1,4 +1,4 @@
--- what the program's values are seen as
+-- the program's values, as the definitions describe them
 use Rattle.std.specs.Prelude.{◌≡◌, ℕ, Option, Some, None, Result, Ok, Err, String, map}
 use Rattle.std.specs.Global.{Vec}
 use Rattle.std.specs.Option.{option_map}
@@ -46,7 +46,7 @@ parsed_of (parsed.Ok a) = Compilation (arguments_of a)
 parsed_of (parsed.CannotCache reason detail) = CannotCache reason.now (option_map string_bytes detail)
 parsed_of parsed.NotCompilation = NotCompilation
 
--- what is printed, or nothing where nothing is; a fault where one came; or lack of memory
+-- the text that is printed; a failure where none is; a fault only where one came; or lack of memory
 abbrev pub IsPrinted : Option Bytes → Type 0 → Result (Vec ℕ) PreprocessError → Type 0
 IsPrinted prints HasFault (Ok printed) = prints ≡ Some printed.items
 IsPrinted prints HasFault (Err text.Fault) = HasFault

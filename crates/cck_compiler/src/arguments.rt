@@ -1,4 +1,4 @@
-//! What a command line of a compiler was parsed into.
+//! The parsed command line of a compiler.
 ghost use Rattle.std.specs.Prelude.{◌≡◌, ◌&&◌, codes, map, not, IfOk, IsOkUnless, string_bytes};
 ghost use Rattle.std.specs.List.{find, list_any};
 ghost use Rattle.std.specs.Option.{option_map};
@@ -35,7 +35,7 @@ pub enum ColorMode {
     Off,
     /// They are.
     On,
-    /// Where they go to a terminal.
+    /// They are if they go to a terminal.
     Auto,
 }
 
@@ -46,7 +46,7 @@ pub enum ColorMode {
 pub struct ParsedArguments {
     /// The file that is compiled.
     pub input: Vec<u8>,
-    /// Whether a `--` stands before the input.
+    /// Whether a `--` precedes the input.
     pub double_dash_input: bool,
     /// The language of the input.
     pub language: Language,
@@ -62,32 +62,32 @@ pub struct ParsedArguments {
     pub preprocessor_args: Vec<Vec<u8>>,
     /// The arguments that preprocessor and compiler look at.
     pub common_args: Vec<Vec<u8>>,
-    /// The arguments about architectures, each behind its `-arch`.
+    /// The arguments about architectures, each after its `-arch`.
     pub arch_args: Vec<Vec<u8>>,
-    /// The arguments that stand in no key.
+    /// The arguments that are part of no key.
     pub unhashed_args: Vec<Vec<u8>>,
-    /// Further files that a compilation elsewhere needs.
+    /// The files that a compilation on another machine needs in addition.
     pub extra_dist_files: Vec<Vec<u8>>,
-    /// Further files or folders whose digests stand in the keys.
+    /// Extra files and directories, whose digests are part of the keys.
     pub extra_hash_files: Vec<Vec<u8>>,
-    /// Whether the assembler is a program of its own.
+    /// Whether the assembler is a separate program.
     pub uses_external_assembler: bool,
     /// Whether includes are shown in Visual C's form.
     pub msvc_show_includes: bool,
-    /// Whether Visual C was told the language.
+    /// Whether the language was given to Visual C explicitly.
     pub msvc_explicit_language: bool,
     /// Whether a profile is written.
     pub profile_generate: bool,
     /// Whether diagnostics are coloured.
     pub color_mode: ColorMode,
-    /// Whether includes may not be left in a text that is preprocessed for elsewhere.
+    /// Whether includes must not be left in a text that is preprocessed for another machine.
     pub suppress_rewrite_includes_only: bool,
     /// The argument that keeps the request out of the preprocessor cache, if there is one.
     pub too_hard_for_preprocessor_cache_mode: Option<Vec<u8>>,
 }
 
 impl ParsedArguments {
-    /// Whether two architectures or more are asked for. It takes no memory.
+    /// Returns whether two or more architectures are asked for. It allocates no memory.
     ///
     /// Upstream's `ParsedArguments::is_multiarch`.
     pub fn is_multiarch(&self) -> bool
@@ -99,10 +99,9 @@ impl ParsedArguments {
         }
     }
 
-    /// The architectures that are asked for, each once, in the order in which they first stand.
+    /// Returns the architectures that are asked for, each once, in the order of their first places.
     ///
-    /// Upstream's `ParsedArguments::archs`. It is refused only for lack of memory, as
-    /// [`KeyError::Memory`].
+    /// Upstream's `ParsedArguments::archs`. The only error is [`KeyError::Memory`].
     pub fn archs(&self, alloc: Global) -> Result<Vec<&[u8]>, KeyError>
         ensures archs { IfOk result (λ found.
             map (λ arch. arch.now) found.items ≡ archs (arguments_of self.now)) }
@@ -118,11 +117,10 @@ impl ParsedArguments {
         Ok(found)
     }
 
-    /// The file name of the output `obj`, to be shown, with U+FFFD for what is no UTF-8; or
-    /// `Unknown filename` where there is no such output or its path has no file name.
+    /// Returns the file name of the output `obj` for display, with U+FFFD for what is no UTF-8. It
+    /// is `Unknown filename` if there is no such output or if its path has no file name.
     ///
-    /// Upstream's `ParsedArguments::output_pretty`. It is refused only for lack of memory, as
-    /// [`KeyError::Memory`].
+    /// Upstream's `ParsedArguments::output_pretty`. The only error is [`KeyError::Memory`].
     pub fn output_pretty(&self, alloc: Global) -> Result<String, KeyError>
         ensures name { IfOk result (λ name.
             string_bytes name ≡ output_name (arguments_of self.now)) }
@@ -170,7 +168,7 @@ fn has_other_arch(args: &[Vec<u8>], arch: &[u8]) -> bool
     false
 }
 
-// A name as text.
+// A name as text, with U+FFFD for what is no UTF-8.
 #[tactic(auto, unfolding(cck_file_digest::specs::FolderText::lossy))]
 fn shown_name(alloc: Global, name: &[u8]) -> Result<String, KeyError>
     ensures text { IfOk result (λ text. string_bytes text ≡ lossy name.now) }
@@ -180,7 +178,7 @@ fn shown_name(alloc: Global, name: &[u8]) -> Result<String, KeyError>
     Ok(format!(in alloc; "{text}")?)
 }
 
-// What is shown where there is no name.
+// What is shown if there is no name.
 fn unknown_name(alloc: Global) -> Result<String, KeyError>
     ensures text { IfOk result (λ text. string_bytes text ≡ codes "Unknown filename") }
     ensures refused { IsOkUnless result KeyError.Memory }

@@ -35,15 +35,15 @@ pub enum CCompilerKind {
     TaskingVX,
 }
 
-/// What a command line comes to.
+/// The result of parsing a command line.
 ///
 /// Upstream's `compiler::CompilerArguments`.
 #[derive(Debug, Drop)]
 pub enum CompilerArguments<T> {
     /// A compilation.
     Ok(T),
-    /// A compilation whose result can't be cached, for this reason, and what of the command line is
-    /// the cause.
+    /// A compilation whose result can't be cached: the reason, and the part of the command line
+    /// that is the cause.
     CannotCache(&'static str, Option<String>),
     /// No compilation.
     NotCompilation,
@@ -51,13 +51,13 @@ pub enum CompilerArguments<T> {
 
 /// A compiler.
 ///
-/// It is seen as a value. That value decides, together with what is handed in, what each call
-/// answers, but for lack of memory, and what its preprocessor prints.
+/// The contracts describe a compiler by a value. That value and the parameters decide what each
+/// call returns, except for lack of memory, and what the preprocessor prints.
 ///
 /// An implementation chooses the type of that value, `Value`. It must not be the implementing type
 /// itself where that holds a pointer, as a `String`, a `Vec` or a `Box` does: requests are compared
-/// by the value, and equal compilers at two places in memory would be two values. Take what the
-/// compiler is told by: lists of bytes, numbers and flags.
+/// by the value, and equal compilers at two places in memory would be two values. Take what
+/// identifies the compiler: lists of bytes, numbers and flags.
 ///
 /// Upstream's `compiler::c::CCompilerImpl`.
 pub trait CCompilerImpl {
@@ -67,33 +67,33 @@ pub trait CCompilerImpl {
     ghost use Rattle.cck_files.specs.Calls.{Keeps, Rose};
     ghost use Rattle.cck_compiler.specs.Seen.{IsPrinted, arguments_of, parsed_of};
 
-    // What a compiler is seen as.
+    // The value of a compiler in contracts.
     ghost Value: { Type 0 };
 
     ghost value: { Self → Value };
 
-    // What is answered and printed, by that value.
+    // What is returned and printed, by that value.
     ghost compiler: { Compiler Value };
 
-    /// Its family.
+    /// Returns its family.
     fn kind(&self) -> CCompilerKind
         ensures { result ≡ compiler.kind (value self.now) };
 
-    /// Whether it is a compiler of C++ by its name.
+    /// Returns whether it is a compiler of C++ by its name.
     fn plusplus(&self) -> bool
         ensures { result ≡ compiler.plusplus (value self.now) };
 
-    /// Its version, if it has one that stands in keys.
+    /// Returns its version, if it has one that is part of keys.
     fn version(&self) -> Option<&str>
         ensures { option_map (λ v. v.now) result ≡ compiler.version (value self.now) };
 
-    /// The digest text of the assembler that it calls, if there is one.
+    /// Returns the hex digest of the assembler that it calls, if there is one.
     fn assembler_digest(&self) -> Option<&str>
         ensures { option_map (λ d. d.now) result ≡ compiler.assembler_digest (value self.now) };
 
-    /// What a command line comes to, in a directory and under variables.
+    /// Parses a command line, given its working directory and the variables.
     ///
-    /// It is refused only for lack of memory, as [`KeyError::Memory`].
+    /// The only error is [`KeyError::Memory`].
     fn parse_arguments(
         &self,
         alloc: Global,
@@ -105,15 +105,15 @@ pub trait CCompilerImpl {
             ≡ compiler.parsed (value self.now) (lists_of arguments.now) cwd.now (variables_of vars.now)) }
         ensures refused { IsOkUnless result KeyError.Memory };
 
-    /// The preprocessed text of what a command line was parsed into.
+    /// Returns the preprocessed text of a parsed command line. `moment` is the call time.
     ///
-    /// It is refused as
+    /// The errors are
     ///
-    /// - [`PreprocessError::Fault`] only where the files' count of faults rose,
-    /// - [`PreprocessError::Failed`] only where the compiler's definition gives no text,
+    /// - [`PreprocessError::Fault`], only if the files' count of faults rose,
+    /// - [`PreprocessError::Failed`], only if the compiler's definition gives no text,
     /// - [`PreprocessError::Memory`].
     ///
-    /// Whatever it answers, the files stay as they were.
+    /// Whatever it returns, the files are unchanged.
     fn preprocess<F: Files>(
         &self,
         alloc: Global,
@@ -130,9 +130,9 @@ pub trait CCompilerImpl {
             (variables_of vars.now) (F.file_map files.old) moment)
             (Rose (F.faults files.old) (F.faults files.new)) result };
 
-    /// A compiler of the same value.
+    /// Returns a compiler of the same value.
     ///
-    /// It is refused only for lack of memory, as [`KeyError::Memory`].
+    /// The only error is [`KeyError::Memory`].
     fn copy(&self, alloc: Global) -> Result<Self, KeyError>
         ensures same { IfOk result (λ copy. value copy ≡ value self.now) }
         ensures refused { IsOkUnless result KeyError.Memory };

@@ -12,9 +12,9 @@ use std::alloc::Global;
 use std::collections::BTreeMap;
 
 impl ArtifactDescriptor {
-    /// The same file, in memory of its own.
+    /// Returns a copy that shares no memory with this one.
     ///
-    /// [`KeyError::Memory`] is the only refusal.
+    /// The only error is [`KeyError::Memory`].
     pub fn copy(&self, alloc: Global) -> Result<ArtifactDescriptor, KeyError>
         ensures path { IfOk result (λ copy. copy.path.items ≡ self.now.path.items) }
         ensures optional { IfOk result (λ copy. copy.optional ≡ self.now.optional) }
@@ -28,9 +28,9 @@ impl ArtifactDescriptor {
 }
 
 impl ParsedArguments {
-    /// The same command line, in memory of its own.
+    /// Returns a copy that shares no memory with this one.
     ///
-    /// [`KeyError::Memory`] is the only refusal.
+    /// The only error is [`KeyError::Memory`].
     pub fn copy(&self, alloc: Global) -> Result<ParsedArguments, KeyError>
         ensures value { IfOk result (λ copy. arguments_of copy ≡ arguments_of self.now) }
         ensures refused { IsOkUnless result KeyError.Memory }
@@ -63,7 +63,7 @@ impl ParsedArguments {
     }
 }
 
-// The same bytes, or none.
+// A copy of the bytes, if there are any to copy.
 fn copy_option(alloc: Global, bytes: &Option<Vec<u8>>) -> Result<Option<Vec<u8>>, KeyError>
     ensures value { IfOk result (λ copy.
         option_map (λ v. v.items) copy ≡ option_map (λ v. v.items) bytes.now) }
@@ -75,7 +75,7 @@ fn copy_option(alloc: Global, bytes: &Option<Vec<u8>>) -> Result<Option<Vec<u8>>
     }
 }
 
-// The same outputs by their names.
+// A copy of the outputs, by their names.
 fn copy_outputs(
     alloc: Global,
     outputs: &BTreeMap<String, ArtifactDescriptor>,

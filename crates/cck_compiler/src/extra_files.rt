@@ -1,4 +1,4 @@
-//! Files that no command line names, but whose digests stand in the keys.
+//! Extra files: no command line names them, but their digests are part of the keys.
 ghost use Rattle.std.specs.Prelude.{◌≡◌, ◌++◌, ◌==◌, ◌⊎◌, true, None, Some, drop, filter, if◌then◌else◌, length, map, IfErr, IfOk, IsOkUnless, OnOk};
 ghost use Rattle.std.specs.List.{slice_split};
 ghost use Rattle.std.specs.Option.{option_map, option_or};
@@ -19,24 +19,24 @@ use cck_path::{extension, join_path};
 use cck_util::Language;
 use std::alloc::{AllocError, Global};
 
-/// Puts the paths of further files behind those that the arguments have:
+/// Appends the paths of extra files to `extra_hash_files` of the arguments:
 ///
-/// - what stands between the colons of each variable `SCCACHE_EXTRAFILES`, where an empty value
-///   tells one empty path,
+/// - the parts between the colons of each variable `SCCACHE_EXTRAFILES`, where an empty value gives
+///   one empty path,
 /// - for HIP the device libraries, in path order: the direct children with the extension `bc` of
-///   one folder. That is the first that is told of: by the argument `--hip-device-lib-path=`, by
-///   the variable `HIP_DEVICE_LIB_PATH`, by the argument `--rocm-path=` or the variable
-///   `ROCM_PATH`, each with `amdgcn/bitcode` behind it; or it is `/opt/rocm/amdgcn/bitcode`. Of
-///   arguments and variables those that are no UTF-8 don't count. Where no folder stands, there
-///   are no libraries.
+///   one directory. The first of these that is given names it: the argument
+///   `--hip-device-lib-path=`, the variable `HIP_DEVICE_LIB_PATH`, the argument `--rocm-path=`, the
+///   variable `ROCM_PATH`, the last two with `amdgcn/bitcode` after them. Without any it is
+///   `/opt/rocm/amdgcn/bitcode`. Arguments and values of variables that are no UTF-8 don't count.
+///   If there is no such directory, there are no libraries.
 ///
-/// It is refused as
+/// The errors are
 ///
-/// - [`KeyError::Extra`] of a fault only where the count of faults rose, for HIP,
+/// - [`KeyError::Extra`] of a fault, only for HIP and if the files' count of faults rose,
 /// - [`KeyError::Memory`].
 ///
-/// After a refusal some of the paths may have been put there. This is what upstream's
-/// `CCompiler::parse_arguments` does with what a compiler parsed.
+/// After an error some of the paths may have been appended. This is what upstream's
+/// `CCompiler::parse_arguments` does after a compiler has parsed the arguments.
 pub fn add_extra_files<F: Files>(
     alloc: Global,
     files: &mut F,
@@ -64,7 +64,7 @@ fn is_hip(language: Language) -> bool
     matches!(language, Language::Hip)
 }
 
-// Puts the paths that the variables name behind the others.
+// Appends the paths that the variables name.
 #[tactic(auto, unfolding(crate::specs::ExtraFiles::named_files))]
 fn push_named_files(
     alloc: Global,
@@ -82,7 +82,7 @@ fn push_named_files(
     Ok(())
 }
 
-// Puts what stands between the colons behind the others.
+// Appends the parts between the colons.
 fn push_parts(alloc: Global, all: &mut Vec<Vec<u8>>, value: &[u8]) -> Result<(), AllocError>
     ensures { OnOk result
         (lists_of all.new.items ≡ lists_of all.old.items ++ slice_split (λ c. c == 58) value.now) }
@@ -93,7 +93,7 @@ fn push_parts(alloc: Global, all: &mut Vec<Vec<u8>>, value: &[u8]) -> Result<(),
     Ok(())
 }
 
-// The folder of the device libraries.
+// The directory of the device libraries.
 #[tactic(auto, unfolding(crate::specs::ExtraFiles::library_folder))]
 fn library_folder(
     alloc: Global,
@@ -118,7 +118,7 @@ fn library_folder(
     }
 }
 
-// What follows a flag or, without it, what a variable says.
+// What follows a flag, or without that flag the value of a variable.
 fn told<'a>(
     args: &'a [Vec<u8>],
     flag: &[u8],
@@ -171,15 +171,15 @@ fn text_value<'a>(vars: &'a [(Vec<u8>, Vec<u8>)], name: &[u8]) -> Option<&'a [u8
     None
 }
 
-// Whether these bytes are text.
+// Whether these bytes are UTF-8.
 fn is_text(bytes: &[u8]) -> bool
     ensures { result ≡ is_utf8 bytes.now }
 {
     str::from_utf8(bytes).is_ok()
 }
 
-// Puts the paths of the device libraries in a folder behind the others. Where it can't be listed,
-// but for a fault or lack of memory, there are none.
+// Appends the paths of the device libraries in a directory. There are none if it can't be listed
+// for another reason than a fault or lack of memory.
 fn push_libraries<F: Files>(
     alloc: Global,
     files: &mut F,
@@ -202,7 +202,7 @@ fn push_libraries<F: Files>(
     }
 }
 
-// Puts the paths of those of these names in a folder that are libraries behind the others.
+// Appends the paths of those of these names in a directory that are libraries.
 fn push_listed(
     alloc: Global,
     all: &mut Vec<Vec<u8>>,
@@ -232,7 +232,7 @@ fn is_library(name: &[u8]) -> bool
     }
 }
 
-// A path as seen from another.
+// A path joined to another.
 fn joined(alloc: Global, base: &[u8], path: &[u8]) -> Result<Vec<u8>, KeyError>
     ensures bytes { IfOk result (λ whole. whole.items ≡ joined_text base.now path.now) }
     ensures refused { IsOkUnless result KeyError.Memory }

@@ -4,8 +4,8 @@ ghost use Rattle.cck_compiler.specs.Seen.{arguments_of};
 
 use crate::{ArtifactDescriptor, CCompilerKind, ColorMode, ParsedArguments};
 
-/// Parsed arguments are equal exactly if all their fields say the same, byte for byte: so are
-/// outputs, and families and modes exactly if they are the same.
+/// Parsed arguments, and outputs, are equal exactly if all their fields say the same, byte for
+/// byte. Families and modes are equal exactly if they are the same.
 pub fn equality_is_exact()
     ensures arguments { (a b : ParsedArguments) →
         IsTrue (⟦<ParsedArguments as PartialEq>⟧.eq a b) ↔ (arguments_of a ≡ arguments_of b) }

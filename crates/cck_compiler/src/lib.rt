@@ -1,12 +1,12 @@
-//! C compilers: what a cache asks of one, and what it makes of a command line.
+//! C compilers: what a cache needs of one, and the parsed form of a command line.
 //!
 //! A compiler is whatever implements [`CCompilerImpl`]: it says its family and its version, parses
-//! a command line into [`ParsedArguments`], and prints preprocessed text. It is seen as a value
-//! that decides all of these, which is what a proof about keys knows of it.
+//! a command line into [`ParsedArguments`], and prints preprocessed text. Contracts describe it by
+//! a value that decides all of these, and proofs about keys know no more of it.
 //!
-//! Behind the arguments come files that no command line names but whose digests stand in the keys:
-//! [`add_extra_files`] puts them there. [`KeyError`], which is passed on from `cck_key_error` with
-//! [`PreprocessError`], is why a call for a key gave no answer, parsing among them.
+//! [`add_extra_files`] adds to the arguments the files that no command line names but whose digests
+//! are part of the keys. [`KeyError`] is the error of a call for a key, parsing included. It and
+//! [`PreprocessError`] are those of `cck_key_error`.
 //!
 //! ```rust
 //! let mut parsed = match compiler.parse_arguments(alloc, &arguments, b"/w", &vars)? {
@@ -15,7 +15,7 @@
 //! };
 //! parsed.archs(alloc)?; // of `-arch x -arch y -arch x`: `x` and `y`
 //! add_extra_files(alloc, &mut files, &mut parsed, &vars)?;
-//! parsed.extra_hash_files; // behind the others, what `SCCACHE_EXTRAFILES` names
+//! parsed.extra_hash_files; // after the others, what `SCCACHE_EXTRAFILES` names
 //! ```
 #![tactic(auto)]
 

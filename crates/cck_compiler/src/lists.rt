@@ -5,7 +5,8 @@ ghost use Rattle.cck_path.specs.Bytes.{lists_of};
 use cck_key_error::KeyError;
 use std::alloc::{AllocError, Global};
 
-/// Puts copies of these behind the others. After a refusal some of them may stand there.
+/// Appends copies of these byte strings to a list. After an error some of them may have been
+/// appended.
 pub fn push_copies(
     alloc: Global,
     all: &mut Vec<Vec<u8>>,
@@ -19,9 +20,9 @@ pub fn push_copies(
     Ok(())
 }
 
-/// The same byte strings, in memory of their own.
+/// Returns copies of these byte strings, in memory of their own.
 ///
-/// It is refused only for lack of memory, as [`KeyError::Memory`].
+/// The only error is [`KeyError::Memory`].
 pub fn copy_lists(alloc: Global, lists: &[Vec<u8>]) -> Result<Vec<Vec<u8>>, KeyError>
     ensures same { IfOk result (λ copies. lists_of copies.items ≡ lists_of lists.now) }
     ensures refused { IsOkUnless result KeyError.Memory }

@@ -12,7 +12,7 @@ slice_from text place = take_all (length text - place) (drop place text) (omega 
 pub cut_at : (text : List ℕ) (place d : ℕ) → place < length text → text ≡ take place text ++ get_or text place d ∷ drop (place + 1) text
 cut_at text place d l = sym (take-append-drop place text) ∙ ap (λ rest. take place text ++ rest) (drop_more text place d l)
 
--- all that stands before a place
+-- the bytes before a place
 all_before : (P : ℕ → Type 0) (text : List ℕ) (place : ℕ) → place ≤ length text → ((k : ℕ) → k < place → P (get_or text k 0)) → All P (take place text)
 all_before P text place le h = λ k d l.
     let below : k < place = omega (arith, l, length-take place text) in

@@ -1,4 +1,4 @@
--- The tests of equality tell whether two marks say the same.
+-- the tests of equality are true exactly if two marks say the same
 use Rattle.std.proofs.Common.{◌≡◌, refl, ap}
 use Rattle.std.proofs.lemmas.Bool.Decides.{Decides-and, Decides-eqb, Decides-like}
 use Rattle.std.specs.Cmp.{booleans_Decides}

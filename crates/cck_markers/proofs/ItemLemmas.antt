@@ -1,4 +1,4 @@
--- what stands before the marks that are left
+-- what is before the marks that are left
 use Rattle.std.proofs.Common.{◌≡◌, ◌≢◌, ℕ, ◌+◌, ◌<◌, Bool, true, false, ◌==◌, List, [], ◌∷◌, ◌++◌, length, drop, take, get_or, refl, sym, ap, ap₂, ◌∙◌, subst, arith, Some, None, inl, inr, length-append, append_assoc}
 use Rattle.std.proofs.lemmas.Bool.{cases_lt}
 use Rattle.std.proofs.lemmas.List.{drop_at, drop_more, length-drop}
@@ -19,7 +19,7 @@ some_byte starts_line text h =
       | inr none ↦ absurd (h (no_bytes starts_line text none))
     ]
 
--- nothing is left behind all of a text
+-- nothing is left after all of a text
 none_left : (starts_line : Bool) (text : List ℕ) (marks : List Mark) → Marks starts_line (drop (length text) text) marks → marks ≡ []
 none_left starts_line text marks left =
     one_list starts_line (drop (length text) text) marks [] left (at_end (no_bytes starts_line (drop (length text) text) (omega (arith, length-drop (length text) text))) refl)
@@ -71,7 +71,7 @@ hidden_rest starts_line text is found = hidden_to_end is (byte_nowhere 10 text f
 pub nothing_left : (starts_line : Bool) (text : List ℕ) → what starts_line text ≡ Short → Marks starts_line text []
 nothing_left starts_line text is = at_end is refl
 
--- one after the other
+-- two items in a row
 pub gives_both : (old middle new : Unread) (first second : List Mark) → Gives old first middle → Gives middle second new → Gives old (first ++ second) new
 gives_both old middle new first second f g = λ marks left. subst (λ (ms : List Mark). MarksLeft old ms) (sym (append_assoc first second marks)) (f (second ++ marks) (g marks left))
 

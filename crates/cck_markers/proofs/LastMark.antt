@@ -1,9 +1,9 @@
--- a refusal or a malformed marker is the last mark
+-- a mark that is no name is the last one
 use Rattle.std.proofs.Common.{◌≡◌, ℕ, Bool, List, [], ◌∷◌, ◌++◌, refl}
 use Rattle.cck_markers.specs.Marks.{Mark, Name, Refusal, Malformed, Marks, at_end, unnamed, named, malformed, hidden, hidden_to_end, refused, plain}
 use Rattle.cck_markers.proofs.OneList.{middle_some}
 
--- nothing stands behind a mark that is no name
+-- nothing follows a mark that is no name
 abbrev Ends : List Mark → Type 0
 Ends [] = Unit {0}
 Ends (Name name is_system_in ∷ marks) = Ends marks

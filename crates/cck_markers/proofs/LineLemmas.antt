@@ -27,7 +27,7 @@ unnamed_line text first d h e = (
   omega (arith, h.0.high, length-take first text),
 )
 
--- what a name says, by what stands behind the first quote
+-- what a name says, by what is after the first quote
 abbrev NamesFrom : List ℕ → ℕ → ℕ → List ℕ → Bool → Type 0
 NamesFrom text begin end name is_system_in = (marker : Named text) × IsNamedAt text begin end marker × (marker.name ≡ name) × (is_system marker.rest ≡ is_system_in)
 

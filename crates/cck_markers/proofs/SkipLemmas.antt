@@ -1,4 +1,4 @@
--- bytes that are plain because words stand nowhere among them
+-- bytes that are plain because the words do not occur among them
 use Rattle.std.proofs.Common.{◌≡◌, ◌≢◌, ℕ, zero, suc, ◌+◌, ◌-◌, ◌<◌, ◌≤◌, Bool, true, false, ◌==◌, ◌&&◌, nat_eq, nat_lt, List, [], ◌∷◌, ◌++◌, length, drop, take, get_or, refl, sym, ap, ap₂, inl, inr, add-one, ◌∙◌, arith, length-append}
 use Rattle.std.specs.Prelude.{codes, if◌then◌else◌}
 use Rattle.std.specs.List.{starts_with}
@@ -15,7 +15,7 @@ use Rattle.cck_markers.proofs.Cuts.{slice_from}
 use Rattle.cck_markers.proofs.EachText.{any_true, behind_word, marker_starts}
 use Rattle.cck_markers.proofs.ItemLemmas.{gives_both, gives_nothing}
 
--- plain bytes give no mark
+-- plain bytes have no mark
 pub plain_bytes : (text : List ℕ) (size : ℕ) → size ≤ length text → ArePlain text size
     → Gives (record { starts_line = false; text = text }) [] (record { starts_line = starts_line_at text size; text = drop size text })
 plain_bytes text zero within are_plain = gives_nothing _
@@ -26,7 +26,7 @@ plain_bytes text (suc size) within are_plain =
     next_byte : (place : ℕ) → place < length text → drop place text ≡ get_or text place 0 ∷ drop (suc place) text
     next_byte place l = rw (← add-one place) (drop_more text place 0 l)
 
--- a word with which the rest begins stands there
+-- a word with which the rest begins occurs there
 pub occurs : (text word rest : List ℕ) (place : ℕ) → 0 < length word → drop place text ≡ word ++ rest → OccursAt text word place
 occurs text word rest place some is =
     record {
@@ -34,7 +34,7 @@ occurs text word rest place some is =
       reads = λ j l. sym (get_or-drop place text j 0) ∙ ap (λ (t : List ℕ). get_or t j 0) is ∙ get_or_append_left word rest 0 j l;
     }
 
--- a word with which a text begins stands at its first place
+-- a word with which a text begins occurs at its first place
 pub occurs_first : (text word : List ℕ) → starts_with nat_eq text word ≡ true → OccursAt text word (length text - length text)
 occurs_first text word begins =
     let is = behind_word text word begins in
@@ -43,13 +43,13 @@ occurs_first text word begins =
       reads = λ j l. ap (λ (k : ℕ). get_or text k 0) (omega arith) ∙ ap (λ (t : List ℕ). get_or t j 0) is ∙ get_or_append_left word (drop (length word) text) 0 j l;
     }
 
--- behind a line's end it is one with that
+-- after a line's end, a word occurs together with that line's end
 occurs_behind : (text word rest : List ℕ) (place : ℕ) → suc place ≤ length text → starts_line_at text (suc place) ≡ true → drop (suc place) text ≡ word ++ rest → OccursAt text (10 ∷ word) place
 occurs_behind text word rest place within starts is =
     occurs text (10 ∷ word) rest place (omega arith)
     (drop_more text place 0 within ∙ ap₂ (λ byte behind. byte ∷ behind) (eqb-true (get_or text place 0) 10 starts) (rw (add-one place) is))
 
--- where nothing else stands a byte is plain
+-- a byte is plain where nothing else is
 what_plain : (a b c d e : Bool) → a ≡ false → (b ≡ true → (c ≡ false) × (d ≡ false)) → e ≡ false
     → (if a then Short else if b && c then Marker else if b && d then Hidden else if e then Inclusion else Plain) ≡ Plain
 what_plain true b c d e p q r = cc
@@ -94,14 +94,14 @@ module _ (text : List ℕ) (marker hidden inclusion : ℕ)
       let word = inclusion_starts (drop place text) e in
       no_inclusion place (omega arith) (omega arith) (occurs text (codes ".incbin") word.0 place (omega arith) word.1)))
 
--- a line's end before a marker, in what is left behind some bytes and in all of a text
+-- a line's end before a marker, in what is left after some bytes and in all of a text
 pub ends_later : (text : List ℕ) (size place : ℕ) → EndsBeforeMarker (drop size text) place → EndsBeforeMarker text (size + place)
 ends_later text size place ends = (
   sym (get_or-drop size text place 0) ∙ ends.0,
   ap is_marker (ap (λ (k : ℕ). drop k text) (omega arith) ∙ sym (drop-drop (place + 1) size text)) ∙ ends.1,
 )
 
--- behind a line's end with no marker behind it the search for the next one goes on
+-- after a line's end that no marker follows, the search for the next one goes on
 pub no_end_before : (text : List ℕ) (from left : ℕ) → from ≤ length text → left ≤ length (drop from text)
     → Nowhere (OccursAt (drop from text) (10 ∷ 35 ∷ [])) 0 (length (drop from text) - left) → Nowhere (EndsBeforeMarker text) 0 from
     → Nowhere (EndsBeforeMarker text) 0 (length text - left)
@@ -162,7 +162,7 @@ known_after searches text size known within =
       inclusion = search_behind _ searches.inclusion text size known.inclusion within;
     }
 
--- marks are as they are where no line starts, if what stands there is
+-- the marks are those of a place where no line starts, if what is there is the same
 pub same_marks : (a b : Bool) (text : List ℕ) (marks : List Mark) → what a text ≡ what b text → Marks b text marks → Marks a text marks
 same_marks a b text marks same (at_end is none) = at_end (same ∙ is) none
 same_marks a b text marks same (unnamed is marker more) = unnamed (same ∙ is) marker more
@@ -192,7 +192,7 @@ pub passed_bytes : (text : List ℕ) (size : ℕ) → size ≤ length text → s
 passed_bytes text size within some are_plain =
     rw (slice_from text size, ← starts_behind text size some) (plain_bytes text size within are_plain)
 
--- an item behind them, as the program cuts it off
+-- an item after them, as the program cuts it off
 pub passed_item : (old : Unread) (starts_line starts_after : Bool) (text : List ℕ) (given : List Mark) (size : ℕ) → Gives old [] (record { starts_line = starts_line; text = text })
     → Gives (record { starts_line = starts_line; text = text }) given (record { starts_line = starts_after; text = drop size text })
     → Gives old given (record { starts_line = starts_after; text = take (length text - size) (drop size text) })

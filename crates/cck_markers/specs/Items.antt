@@ -8,7 +8,7 @@ use Rattle.cck_markers.specs.declared.item.What.{What}
 use Rattle.cck_markers.specs.declared.item.What.TheVariants.{Short, Marker, Hidden, Inclusion, Plain}
 use Rattle.cck_markers.specs.declared.mark.Mark.{Mark}
 
--- what is meant to stand at a place
+-- what a `What` says is at a place
 abbrev pub what_of : What → marks.What
 what_of Short = marks.Short
 what_of Marker = marks.Marker
@@ -21,12 +21,12 @@ abbrev pub marks_of : Option Mark → List marks.Mark
 marks_of None = []
 marks_of (Some mark) = mark_of mark ∷ []
 
--- a text that begins with an item: the marks that it makes, how many bytes it is, and whether a line starts behind it
+-- a text that begins with an item: its marks, its length in bytes, and whether a line starts after it
 abbrev pub IsItem : Bool → List ℕ → List marks.Mark → ℕ → Bool → Type 0
 IsItem starts_line text given size starts_behind =
     (0 < size) × (size ≤ length text) × Gives (record { starts_line = starts_line; text = text }) given (record { starts_line = starts_behind; text = drop size text })
 
--- a text that begins with this item, or makes no more marks
+-- a text that begins with this item, or has no more marks
 abbrev pub BeginsWith : Bool → List ℕ → Option Item → Type 0
 BeginsWith starts_line text None = Marks starts_line text []
 BeginsWith starts_line text (Some item) = IsItem starts_line text (marks_of item.mark) item.size item.starts_line

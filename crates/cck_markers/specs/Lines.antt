@@ -8,7 +8,7 @@ use Rattle.cck_markers.specs.declared.line.Line.TheVariants as line
 abbrev pub IsUnnamedTo : List ℕ → ℕ → Type 0
 IsUnnamedTo text end = (marker : Unnamed text) × (end ≡ length marker.front)
 
--- a marker with a name that stands from one place up to another
+-- a marker with a name from one place up to another
 pub record IsNamedAt (text : List ℕ) (begin end : ℕ) (marker : Named text) : Type 0 where
   pub begins : begin ≡ length marker.front + 1
   pub ends : end ≡ begin + length marker.name

@@ -1,11 +1,11 @@
--- what a reader of marks has given and will give
+-- what a reader of marks has yielded and will yield
 use Rattle.std.specs.Prelude.{ℕ, Bool, true, List, [], ◌∷◌, ◌++◌, Option, Some, None}
 use Rattle.cck_markers.specs.Marks.{Marks}
 use Rattle.cck_markers.specs.Marks as marks
 use Rattle.cck_markers.specs.declared.mark.Mark.{Mark}
 use Rattle.cck_markers.specs.declared.mark.Mark.TheVariants.{Name, Refusal, Malformed}
 
--- the mark that is meant
+-- the mark in the definitions that a `Mark` is
 abbrev pub mark_of : Mark → marks.Mark
 mark_of (Name name is_system_in) = marks.Name name.now is_system_in
 mark_of Refusal = marks.Refusal
@@ -20,7 +20,7 @@ pub record Unread : Type 0 where
 abbrev pub whole : List ℕ → Unread
 whole text = record { starts_line = true; text = text }
 
--- the marks that are still to come
+-- the marks that are not yet read
 abbrev pub MarksLeft : Unread → List marks.Mark → Type 0
 MarksLeft unread marks = Marks unread.starts_line unread.text marks
 
@@ -28,7 +28,7 @@ MarksLeft unread marks = Marks unread.starts_line unread.text marks
 abbrev pub Gives : Unread → List marks.Mark → Unread → Type 0
 Gives old given new = (marks : List marks.Mark) → MarksLeft new marks → MarksLeft old (given ++ marks)
 
--- the first mark of what was left came, or none was left
+-- the first mark of what was left was yielded, or none was left
 abbrev pub YieldsMark : Unread → Option Mark → Unread → Type 0
 YieldsMark old None new = MarksLeft old [] × MarksLeft new []
 YieldsMark old (Some mark) new = Gives old (mark_of mark ∷ []) new

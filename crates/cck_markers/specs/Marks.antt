@@ -2,7 +2,7 @@
 use Rattle.std.specs.Prelude.{◌≡◌, ◌≢◌, ℕ, Bool, true, false, ◌&&◌, ◌||◌, ◌==◌, if◌then◌else◌, nat_eq, nat_le, nat_lt, List, [], ◌∷◌, ◌++◌, length, get_or, All, codes}
 use Rattle.std.specs.List.{starts_with}
 
--- what a text says: the name of a file, and whether a system header has it; that the text must be refused; or that a marker is malformed
+-- what a text says: the name of a file, and whether a system header has it; that the text is refused, for a file that no marker names; or that a marker is malformed
 pub data Mark : Type 0 where
   Name : List ℕ → Bool → Mark
   Refusal : Mark
@@ -21,13 +21,13 @@ is_marker text = (starts_with nat_eq text (codes "# ") && is_digit (get_or text 
 unfoldable pub is_hidden : List ℕ → Bool
 is_hidden text = starts_with nat_eq text (codes "__________")
 
--- `.incbin` and a quote, by itself, behind a space, or behind a space and a backslash
+-- `.incbin` and then a quote, with nothing, a space, or a space and a backslash between them
 unfoldable pub is_inclusion : List ℕ → Bool
 is_inclusion text = starts_with nat_eq text (codes ".incbin" ++ 34 ∷ [])
     || starts_with nat_eq text (codes ".incbin " ++ 34 ∷ [])
     || starts_with nat_eq text (codes ".incbin " ++ 92 ∷ 34 ∷ [])
 
--- what stands at a place: too few bytes to be looked at, a line marker, a line that is skipped, the inclusion of a file's bytes, or any other byte
+-- what is at a place: too few bytes to be looked at, a line marker, a line that is skipped, the inclusion of a file's bytes, or any other byte
 pub data What : Type 0 where
   Short : What
   Marker : What
@@ -35,7 +35,7 @@ pub data What : Type 0 where
   Inclusion : What
   Plain : What
 
--- what stands where this text is left, by whether a line starts there
+-- what the rest of a text begins with, by whether a line starts there
 unfoldable pub what : Bool → List ℕ → What
 what starts_line text =
     if nat_lt (length text) 7 then Short else
@@ -53,29 +53,29 @@ IsOneLine bytes = All (λ byte. byte ≢ 10) bytes
 abbrev pub IsUnquoted : List ℕ → Type 0
 IsUnquoted bytes = All (λ byte. byte ≢ 34) bytes
 
--- nothing, or what starts with a quote
+-- no bytes, or bytes that start with a quote
 abbrev pub IsClosed : List ℕ → Type 0
 IsClosed [] = Unit {0}
 IsClosed (byte ∷ bytes) = byte ≡ 34
 
--- a `3` stands before the line's end
+-- there is a `3` before the line's end
 abbrev pub has_three : List ℕ → Bool
 has_three [] = false
 has_three (byte ∷ bytes) = if byte == 10 then false else if byte == 51 then true else has_three bytes
 
--- a `3` stands between the quote that begins this and the line's end
+-- there is a `3` between the quote that begins this and the line's end
 abbrev pub is_system : List ℕ → Bool
 is_system [] = false
 is_system (quote ∷ behind) = has_three behind
 
--- a marker whose line ends before a quote comes
+-- a marker whose line ends before any quote
 pub record Unnamed (text : List ℕ) : Type 0 where
   pub front : List ℕ
   pub rest : List ℕ
   pub is : text ≡ front ++ 10 ∷ rest
   pub free : IsFree front
 
--- a marker with a name, which runs from its line's first quote to the next one, or to the end; it is no quote alone
+-- a marker with a name, which runs from its line's first quote to the next one, or to the end; the marker is not a single quote at the text's end
 pub record Named (text : List ℕ) : Type 0 where
   pub front : List ℕ
   pub name : List ℕ
@@ -98,6 +98,6 @@ pub data Marks : Bool → List ℕ → List Mark → Type 0 where
   refused : {starts_line : Bool} {text : List ℕ} {marks : List Mark} → what starts_line text ≡ Inclusion → marks ≡ Refusal ∷ [] → Marks starts_line text marks
   plain : {starts_line : Bool} {text : List ℕ} {marks : List Mark} → what starts_line text ≡ Plain → (byte : ℕ) (rest : List ℕ) → text ≡ byte ∷ rest → Marks (byte == 10) rest marks → Marks starts_line text marks
 
--- a text has a list of marks, and one alone
+-- a text has exactly one list of marks
 abbrev pub HasOneList : Type 0
 HasOneList = (starts_line : Bool) (text : List ℕ) → (marks : List Mark) × Marks starts_line text marks × ((others : List Mark) → Marks starts_line text others → others ≡ marks)

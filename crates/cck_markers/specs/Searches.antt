@@ -6,20 +6,20 @@ use Rattle.cck_markers.specs.declared.search.MarkerSearch.{MarkerSearch}
 use Rattle.cck_markers.specs.declared.search.Searches.{Searches}
 use Rattle.cck_markers.specs.declared.search.WordSearch.{WordSearch}
 
--- the word stands nowhere before the place from which so many bytes are left
+-- the word does not occur before the place from which n bytes are left
 abbrev pub IsKnown : ℕ → List ℕ → List ℕ → Type 0
 IsKnown left word text = Nowhere (OccursAt text word) 0 (length text - left)
 
--- a search is for this word, and the word stands nowhere before the place that it keeps
+-- a search is for this word, and the word does not occur before the place that it keeps
 pub record IsSearchFor (word : List ℕ) (search : WordSearch) (text : List ℕ) : Type 0 where
   pub word_is : search.finder ≡ word
   pub known : IsKnown search.left word text
 
--- a line's end stands here, and a marker behind it
+-- a line's end is here, and a marker follows it
 abbrev pub EndsBeforeMarker : List ℕ → ℕ → Type 0
 EndsBeforeMarker text place = (get_or text place 0 ≡ 10) × (is_marker (drop (place + 1) text) ≡ true)
 
--- a search is for a line's end and `#`, and no line's end has a marker behind it before the place that it keeps
+-- a search is for a line's end and `#`, and no marker follows a line's end before the place that it keeps
 pub record IsMarkerSearch (search : MarkerSearch) (text : List ℕ) : Type 0 where
   pub word_is : search.finder ≡ 10 ∷ 35 ∷ []
   pub known : Nowhere (EndsBeforeMarker text) 0 (length text - search.left)
@@ -35,6 +35,6 @@ abbrev pub starts_line_at : List ℕ → ℕ → Bool
 starts_line_at text zero = false
 starts_line_at text (suc place) = get_or text place 0 == 10
 
--- so many bytes are plain, if no line starts at the first
+-- the first n bytes are plain, if no line starts at the first of them
 abbrev pub ArePlain : List ℕ → ℕ → Type 0
 ArePlain text size = (place : ℕ) → place < size → what (starts_line_at text place) (drop place text) ≡ Plain

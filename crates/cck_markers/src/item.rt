@@ -7,10 +7,10 @@ use crate::line::{Line, read_line};
 use crate::mark::Mark;
 use memchr::memchr;
 
-/// How many bytes must be left for a place to be looked at.
+/// The number of bytes that must be left for a place to be looked at.
 pub(crate) const LEAST_LEFT: usize = 7;
 
-/// What stands at a place.
+/// What is at a place of a text.
 enum What {
     Short,
     Marker,
@@ -24,14 +24,14 @@ enum What {
 pub(crate) struct Item<'a> {
     /// The mark that it makes.
     pub(crate) mark: Option<Mark<'a>>,
-    /// How many bytes it is.
+    /// Its length in bytes.
     pub(crate) size: usize,
-    /// Whether a line starts behind it.
+    /// Whether a line starts after it.
     pub(crate) starts_line: bool,
 }
 
-// Whether a line that starts here is a marker. The first byte is compared by itself, here and below,
-// since it decides most lines.
+// Whether a line that starts here is a marker. The first byte is compared by itself, here and
+// below, since it decides for most lines.
 #[tactic(auto, unfolding(crate::specs::Marks::is_marker))]
 pub(crate) fn is_marker(text: &[u8]) -> bool
     requires { 0 < length text.now }
@@ -79,7 +79,7 @@ pub(crate) fn may_be_marked(text: &[u8], starts_line: bool) -> bool
     starts_line && (text.starts_with(b"#") || text.starts_with(b"_"))
 }
 
-// What stands where this text is left, by whether a line starts there.
+// What the rest of a text begins with, by whether a line starts there.
 #[tactic(auto, unfolding(crate::specs::Marks::what))]
 fn what_stands(text: &[u8], starts_line: bool) -> What
     ensures { what_of result ≡ what starts_line text.now }
@@ -99,7 +99,8 @@ fn what_stands(text: &[u8], starts_line: bool) -> What
     What::Plain
 }
 
-/// What a text begins with, by whether a line starts there. `None` where no mark is to come.
+/// Returns what a text begins with, by whether a line starts there, or `None` if the text has no
+/// more marks.
 pub(crate) fn read_item(text: &[u8], starts_line: bool) -> Option<Item<'_>>
     ensures { BeginsWith starts_line text.now result }
 {
@@ -127,7 +128,7 @@ pub(crate) fn read_item(text: &[u8], starts_line: bool) -> Option<Item<'_>>
     }
 }
 
-// A marker is passed up to its line's end or its closing quote, and no line starts there.
+// The item of a marker ends before its line's end or its closing quote, and no line starts there.
 fn read_marker(text: &[u8], starts_line: bool) -> Item<'_>
     requires { what starts_line text.now ≡ Marker }
     ensures { BeginsWith starts_line text.now (Some result) }

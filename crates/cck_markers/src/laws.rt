@@ -12,7 +12,7 @@ pub fn one_list_of_marks()
     ensures { HasOneList }
 {}
 
-/// Nothing stands behind a refusal or a malformed marker in a list of marks.
+/// Nothing follows `Refusal` or `Malformed` in a list of marks.
 pub fn nothing_behind_the_last_mark()
     ensures refusal { (starts_line : Bool) (text : List ℕ) (before behind : List marks.Mark) →
         Marks starts_line text (before ++ Refusal ∷ behind) → behind ≡ [] }
@@ -20,7 +20,8 @@ pub fn nothing_behind_the_last_mark()
         Marks starts_line text (before ++ Malformed ∷ behind) → behind ≡ [] }
 {}
 
-/// A marker has a name or none, and not both, and the name stands at one place.
+/// No marker both has a name and has none. There is one place for the name, and one for the line's
+/// end of a marker with none.
 pub fn one_name_at_one_place()
     ensures apart { (text : List ℕ) → Unnamed text → Named text → ⊥ }
     ensures unnamed { (text : List ℕ) (a b : Unnamed text) → a.front ≡ b.front }
@@ -28,8 +29,8 @@ pub fn one_name_at_one_place()
         (a.front ≡ b.front) × (a.name ≡ b.name) × (a.rest ≡ b.rest) }
 {}
 
-/// Marks, and what is read of line markers, are equal exactly if they say the same, names byte for
-/// byte.
+/// Two marks, or two results of [`read_line`](crate::read_line), are equal exactly if they say the
+/// same. Names are compared byte for byte.
 pub fn equality_is_exact()
     ensures marks { (a b : Mark) →
         IsTrue (⟦<Mark<'static> as PartialEq>⟧.eq a b) ↔ (mark_of a ≡ mark_of b) }

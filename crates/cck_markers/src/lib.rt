@@ -1,21 +1,22 @@
-//! Which files a preprocessed text says that it was made of.
+//! Reads the line markers of a preprocessed text, which name the files that it was made of.
 //!
 //! A C preprocessor leaves *line markers* in the text that it prints: `# 33 "stdio.h" 3 4` says
-//! that the next line is the 33rd of `stdio.h`, which is a system header by the `3`. Who knows the
-//! files that a text names knows what it was made of, unless the assembler is told to include one
-//! more. So a text is read as a list of marks:
+//! that the next line is the 33rd of `stdio.h`, which is a system header by the `3`. A text was
+//! made of the files that its markers name, unless it makes the assembler include one more. So a
+//! text is read as a list of marks:
 //!
 //! - a *name* that a line marker gives;
-//! - a *refusal*: `.incbin` and a quote stand somewhere, with nothing, a space, or a space and a
-//!   backslash between, so the assembler may include a file that no marker names;
+//! - a *refusal*: `.incbin` and a quote, with nothing, a space, or a space and a backslash between
+//!   them, so the assembler may include a file that no marker names;
 //! - a *malformed* marker, which neither has a name nor ends its line without one.
 //!
-//! [`Markers`] gives them in order, up to the first that is no name. [`read_line`] reads a single
-//! marker and says where its name stands, as a [`Line`]. Neither opens a file or takes memory, and
-//! a text is read in time linear in its length. Text is bytes, in no encoding.
+//! [`Markers`] yields them in order, up to the first that is no name. [`read_line`] reads a single
+//! marker and returns its name and the place of the name, as a [`Line`]. Neither opens a file or
+//! allocates memory, and the time is linear in the length of the text. Text is bytes, in no
+//! encoding.
 //!
 //! A place is looked at while at least 7 bytes are left from it on. A line starts at the text's
-//! start and behind each line feed. A marker starts a line with `# ` and a digit, with `#line ` or
+//! start and after each line feed. A marker starts a line with `# ` and a digit, with `#line ` or
 //! with `#pragma GCC pch_preprocess`. A line that starts with ten underscores is skipped.
 //!
 //! ```rust
@@ -30,7 +31,7 @@
 //! Ok(Some(names)) // `a.c`
 //! ```
 //!
-//! [`laws`] has what the definitions say beyond what they compute.
+//! [`laws`] states properties of the definitions.
 #![tactic(auto)]
 
 mod item;

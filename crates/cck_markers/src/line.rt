@@ -1,40 +1,40 @@
-//! One line marker, and where its name stands.
+//! One line marker and the place of its name.
 ghost use Rattle.std.specs.Prelude.{◌≡◌};
 ghost use Rattle.cck_markers.specs.Marks.{has_three};
 ghost use Rattle.cck_markers.specs.Lines.{IsLine};
 
 use memchr::{memchr, memchr2};
 
-/// What a line marker says. Places are counted in bytes from the marker's first, at 0.
+/// What a line marker says. Places are byte offsets from the marker's start.
 #[derive(Debug, Clone, Copy, PartialEq, Eq)]
 pub enum Line<'a> {
-    /// No name: its line ends before a quote comes.
+    /// No name: the line ends before any quote.
     Unnamed {
         /// The place of the line feed.
         end: usize,
     },
     /// A name, which may be empty and may have line feeds in it.
     Named {
-        /// The place of its first byte, behind the quote.
+        /// The place of its first byte, after the quote.
         begin: usize,
-        /// The place behind its last byte: that of the closing quote, or the text's end.
+        /// The place after its last byte: that of the closing quote, or the text's end.
         end: usize,
         /// Its bytes.
         name: &'a [u8],
-        /// Whether a `3` stands between the closing quote and the line's end, by which a
+        /// Whether there is a `3` between the closing quote and the line's end, by which a
         /// preprocessor marks a system header.
         is_system: bool,
     },
-    /// Neither a quote nor a line feed comes, or the first of them is a quote with which the text
-    /// ends.
+    /// There is neither a quote nor a line feed, or the first of them is a quote and the text's
+    /// last byte.
     Malformed,
 }
 
-/// What the marker says with which a text begins.
+/// Returns what the line marker at the start of a text says.
 ///
-/// The first quote or line feed decides. A name runs from behind the quote to the next quote, over
-/// line feeds too, or to the end. The text may begin with anything: nothing before the quote is
-/// looked at. This is the reading part of upstream's `process_preprocessor_line`.
+/// The first quote or line feed decides. A name runs from after the quote to the next quote, over
+/// line feeds too, or to the end. The text may begin with anything: what is before the quote has no
+/// effect. This is the reading part of upstream's `process_preprocessor_line`.
 pub fn read_line(text: &[u8]) -> Line<'_>
     ensures { IsLine text.now result }
 {
@@ -63,7 +63,7 @@ pub fn read_line(text: &[u8]) -> Line<'_>
     }
 }
 
-// Whether a `3` stands before the line's end.
+// Whether there is a `3` before the line's end.
 fn has_three(text: &[u8]) -> bool
     ensures { result ≡ has_three text.now }
 {

@@ -1,4 +1,4 @@
-//! The marks of a text, one after another.
+//! The marks of a text, in order.
 ghost use Rattle.std.specs.Prelude.{◌≡◌, length};
 ghost use Rattle.std.specs.Iterator.{at_most};
 ghost use Rattle.cck_markers.specs.Markers.{YieldsMark, whole};
@@ -12,26 +12,26 @@ use std::marker::Model;
 pub enum Mark<'a> {
     /// A line marker's name.
     Name {
-        /// Its bytes, as they stand in the text. They may be none.
+        /// Its bytes, a slice of the text. It may be empty.
         name: &'a [u8],
-        /// Whether a `3` stands between the closing quote and the line's end.
+        /// Whether there is a `3` between the closing quote and the line's end.
         is_system: bool,
     },
-    /// `.incbin` and a quote, by itself, behind a space, or behind a space and a backslash: bytes
-    /// of a file are included that no marker names.
+    /// `.incbin` and then a quote, with nothing, a space, or a space and a backslash between them:
+    /// the bytes of a file that no marker names are included.
     Refusal,
     /// A line marker that neither has a name nor ends its line without one.
     Malformed,
 }
 
-/// The marks of a text, in order, up to the first that is no name: behind a refusal or a malformed
-/// marker nothing comes.
+/// The marks of a text, in order, up to the first that is no name: after [`Mark::Refusal`] or
+/// [`Mark::Malformed`] there are no more.
 ///
-/// It takes no memory and looks at each byte a few times at most, whatever the text. This is the
-/// scan of upstream's `process_preprocessed_file`.
+/// It allocates no memory and looks at each byte a few times at most, in any text. This is the scan
+/// of upstream's `process_preprocessed_file`.
 ///
 /// ```rust
-/// Markers::new(b"# 1 \"a.h\" 3\n.incbin \"f\"") // the name `a.h`, of a system header; a refusal
+/// Markers::new(b"# 1 \"a.h\" 3\n.incbin \"f\"") // the name `a.h`, of a system header; `Refusal`
 /// ```
 #[derive(Debug, Drop)]
 pub struct Markers<'a> {
@@ -53,7 +53,7 @@ impl<'a> Model for Markers<'a> {
 }
 
 impl<'a> Markers<'a> {
-    /// The marks of this text, from its start on.
+    /// Returns the marks of this text, from its start on.
     pub fn new(text: &'a [u8]) -> Markers<'a>
         ensures { result ≡ whole text.now }
     {

@@ -1,4 +1,4 @@
-//! How far nothing but plain bytes stands, by searches for words.
+//! How many bytes from a place on are plain, found by searches for words.
 ghost use Rattle.std.specs.Prelude.{◌≡◌, ◌≤◌, ◌<◌, ◌-◌, ◌^◌, ◌∷◌, ℕ, List, [], length};
 ghost use Rattle.memchr.specs.Find.{Nowhere, OccursAt};
 ghost use Rattle.cck_markers.specs.Markers.{Gives};
@@ -11,14 +11,15 @@ use memchr::memmem::Finder;
 // A line's end and the first byte of each marker.
 const MARKER: &[u8] = b"\n#";
 
-// A line's end and what a line begins with that is skipped.
+// A line's end and the beginning of a line that is skipped.
 const HIDDEN: &[u8] = b"\n__________";
 
-// What each inclusion begins with.
+// The beginning of each inclusion.
 const INCLUSION: &[u8] = b".incbin";
 
-// A search for a word in what is left of a text. It keeps how many bytes were left where it found
-// the word last: 0 where the word stands nowhere, and more than there are before the first search.
+// A search for a word in the rest of a text. `left` is the number of bytes from the place where the
+// word was found last to the end: 0 if there was no such place, and more than a text has before the
+// first search.
 #[derive(Debug, Drop)]
 struct WordSearch {
     finder: Finder<'static>,
@@ -26,7 +27,7 @@ struct WordSearch {
 }
 
 impl WordSearch {
-    // A search that was not made yet.
+    // A search that has not run yet.
     fn new(word: &'static [u8]) -> WordSearch
         ensures { result ≡ record { finder = word.now; left = 2 ^ 64 - 1 } }
     {
@@ -36,8 +37,8 @@ impl WordSearch {
         }
     }
 
-    // The first place of the word in what is left of a text, or the end. No search is made until
-    // the place that was found last is passed.
+    // Returns the first place of the word in the rest of a text, or the end. It does not search
+    // again before the place that was found last is passed.
     fn first_place(&mut self, rest: &[u8]) -> usize
         ensures known { (word : List ℕ) → IsSearchFor word self.old rest.now → IsSearchFor word self.new rest.now }
         ensures within { result ≤ length rest.now }
@@ -52,7 +53,7 @@ impl WordSearch {
     }
 }
 
-// How many bytes are left where the word stands first, or 0.
+// Returns the number of bytes from the word's first place to the end, or 0 if it has none.
 fn bytes_left(finder: &Finder<'_>, rest: &[u8]) -> usize
     ensures within { result ≤ length rest.now }
     ensures nowhere { IsKnown result finder.now rest.now }
@@ -68,7 +69,7 @@ fn bytes_left(finder: &Finder<'_>, rest: &[u8]) -> usize
     }
 }
 
-// A search for a line's end with a marker behind it. It keeps what a `WordSearch` keeps.
+// A search for a line's end that a marker follows. `left` is as in a `WordSearch`.
 #[derive(Debug, Drop)]
 struct MarkerSearch {
     finder: Finder<'static>,
@@ -76,7 +77,7 @@ struct MarkerSearch {
 }
 
 impl MarkerSearch {
-    // A search that was not made yet.
+    // A search that has not run yet.
     fn new() -> MarkerSearch
         ensures { result ≡ record { finder = 10 ∷ 35 ∷ []; left = 2 ^ 64 - 1 } }
     {
@@ -86,7 +87,7 @@ impl MarkerSearch {
         }
     }
 
-    // The first place of such a line's end in what is left of a text, or the end.
+    // Returns the first place of such a line's end in the rest of a text, or the end.
     fn first_place(&mut self, rest: &[u8]) -> usize
         requires known { IsMarkerSearch self.old rest.now }
         ensures known { IsMarkerSearch self.new rest.now }
@@ -102,8 +103,9 @@ impl MarkerSearch {
     }
 }
 
-// How many bytes are left where a line's end with a marker behind it stands first, or 0. A line that
-// begins with `#` and is no marker costs a few comparisons, as in a text of such lines.
+// Returns the number of bytes from the first line's end that a marker follows to the text's end, or
+// 0 if there is none. A line that begins with `#` and is no marker costs a few comparisons, also
+// where a text has many.
 fn marker_left(finder: &Finder<'_>, text: &[u8]) -> usize
     requires { finder.now ≡ 10 ∷ 35 ∷ [] }
     ensures within { result ≤ length text.now }
@@ -133,7 +135,7 @@ pub(crate) struct Searches {
 }
 
 impl Searches {
-    /// Searches that were not made yet.
+    /// Searches that have not run yet.
     pub(crate) fn new() -> Searches
         ensures { (text : List ℕ) → length text < 2 ^ 64 → AreKnown result text }
     {
@@ -144,8 +146,8 @@ impl Searches {
         }
     }
 
-    /// What is left behind plain bytes, and whether a line starts there. None are passed where a
-    /// line starts that may be a marker or may be skipped.
+    /// Returns what is left after plain bytes, and whether a line starts there. Nothing is passed
+    /// over where a line starts that may be a marker or may be skipped.
     pub(crate) fn skip_plain<'a>(&mut self, text: &'a [u8], starts_line: bool) -> (&'a [u8], bool)
         requires known { AreKnown self.old text.now }
         ensures known { AreKnown self.new result.0.now }
@@ -163,7 +165,8 @@ impl Searches {
         (&text[size..], text[size - 1] == b'\n')
     }
 
-    // How many plain bytes a text begins with, at least, if no line starts with it.
+    // Returns the length of a prefix of plain bytes, not always the longest, if no line starts with
+    // the text.
     fn plain_size(&mut self, text: &[u8]) -> usize
         requires known { AreKnown self.old text.now }
         ensures known { AreKnown self.new text.now }

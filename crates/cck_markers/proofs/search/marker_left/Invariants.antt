@@ -3,7 +3,7 @@ use Rattle.memchr.specs.Find.{Nowhere}
 use Rattle.cck_markers.specs.Searches.{EndsBeforeMarker}
 use Rattle.cck_markers.proofs.search.marker_left.Given as goal
 
--- no line's end has a marker behind it so far
+-- no line's end so far has a marker after it
 abbrev pub invariant-loop-from : goal.invariant-loop-from
 invariant-loop-from l = record {
   within : l.from ≤ length l.text;

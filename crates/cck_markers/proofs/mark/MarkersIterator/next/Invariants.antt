@@ -3,7 +3,7 @@ use Rattle.cck_markers.specs.Markers.{Gives}
 use Rattle.cck_markers.specs.Searches.{AreKnown}
 use Rattle.cck_markers.proofs.mark.MarkersIterator.next.Given as goal
 
--- what was passed so far gave no mark
+-- what was passed so far has no mark
 abbrev pub invariant-loop-item : goal.invariant-loop-item
 invariant-loop-item l = record {
   nothing : Gives (record { starts_line = l.initial.self-inside.starts_line; text = l.initial.self-inside.rest.now }) [] (record { starts_line = l.self-inside.starts_line; text = l.self-inside.rest.now });
