@@ -91,7 +91,7 @@ def length_prefixed(data):
 def entry(results, includes, path):
     """The text of an entry of so many results of so many includes each, of paths of one length."""
     tail = length_prefixed(b"0" * 64) + bytes(8) + bytes(2)
-    parts = [b"\1" + results.to_bytes(8, "little")]
+    parts = [b"\2" + results.to_bytes(8, "little")]
     for number in range(results):
         parts += [length_prefixed(b"%064d" % number), includes.to_bytes(8, "little")]
         parts += [length_prefixed(b"%0*d" % (path, turn)) + tail for turn in range(includes)]
@@ -177,13 +177,13 @@ def scripts_table(what, words, path):
 
 def empty_includes(count):
     """The text of an entry with a result of so many includes, which take as few bytes as can be."""
-    return b"\1" + (1).to_bytes(8, "little") + bytes(8) + count.to_bytes(8, "little") + bytes(26 * count)
+    return b"\2" + (1).to_bytes(8, "little") + bytes(8) + count.to_bytes(8, "little") + bytes(26 * count)
 
 
 def empty_results(count):
     """The text of an entry with so many results without includes, of keys of eight bytes."""
     results = (length_prefixed(b"%08d" % number) + bytes(8) for number in range(count))
-    return b"\1" + count.to_bytes(8, "little") + b"".join(results)
+    return b"\2" + count.to_bytes(8, "little") + b"".join(results)
 
 
 def one_include(size):

@@ -137,14 +137,16 @@ def preprocessor_key_of(call, conditions, extra_hashes):
     parts = RequestParts(
         compiler_digest=call.hasher.executable_digest,
         language=arguments.language,
-        arguments=arguments.preprocessor_args + arguments.arch_args + arguments.common_args,
-        input_file=input_path(call),
+        preprocessor_args=arguments.preprocessor_args,
+        arch_args=arguments.arch_args,
+        common_args=arguments.common_args,
         extra_hashes=extra_hashes,
         assembler_digest=assembler_digest_of(call),
         variables=call.variables,
+        input_file=input_path(call),
+        cwd=call.cwd,
         plusplus=call.hasher.compiler.plusplus,
         multiarch=is_multiarch(arguments),
-        basedirs=conditions.basedirs,
     )
     setting = setting_of(call, conditions)
     return refused_as("Input", preprocessor_key, parts, call.files, setting)

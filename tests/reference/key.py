@@ -38,6 +38,15 @@ OBJECT_VARIABLES = {
     b"CCC_OVERRIDE_OPTIONS",
 }
 
+# `include_path_names`.
+INCLUDE_PATHS = {
+    b"CPATH",
+    b"C_INCLUDE_PATH",
+    b"CPLUS_INCLUDE_PATH",
+    b"OBJC_INCLUDE_PATH",
+    b"OBJCPLUS_INCLUDE_PATH",
+}
+
 
 @dataclasses.dataclass
 class Params:
@@ -72,19 +81,9 @@ def variables_named(names, variables):
     return [variable for variable in variables if variable[0] in names]
 
 
-def variables_bytes(variables):
-    """`variable_bytes` of each variable: the length-prefixed name, `=`, the length-prefixed value."""
-    return b"".join(frame(name) + b"=" + frame(value) for name, value in variables)
-
-
 def flag_byte(flag):
     """`flag_byte`: 1 for true and 0 for false."""
     return b"\x01" if flag else b"\x00"
-
-
-def assembler_bytes(digest):
-    """`assembler_bytes`: the digest of an assembler, or nothing."""
-    return b"" if digest is None else digest
 
 
 def variable_frames(variable):

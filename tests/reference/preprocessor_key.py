@@ -1,56 +1,60 @@
 """The key under which a store is asked before anything is preprocessed."""
 import dataclasses
 
-from .digests import digest_text
-from .key import assembler_bytes, flag_byte, variables_bytes, variables_named
+from .digests import digest_text, frame, framed_list, framed_option
+from .key import CACHE_VERSION, INCLUDE_PATHS, OBJECT_VARIABLES, flag_byte, variable_frames, variables_named
 from .recorded import recorded_digest
-from .strip import arguments_bytes, stripped_text
 
-ENTRY_FORMAT = b"\x01"
-SEVERAL_ARCHITECTURES = b"multiarch-per-pass"
-
-# `preprocessor_variable_names`.
-PREPROCESSOR_VARIABLES = {
-    b"SCCACHE_C_CUSTOM_CACHE_BUSTER",
-    b"CPATH",
-    b"C_INCLUDE_PATH",
-    b"CPLUS_INCLUDE_PATH",
-    b"OBJC_INCLUDE_PATH",
-    b"OBJCPLUS_INCLUDE_PATH",
-}
+# `format_version`.
+ENTRY_FORMAT = b"\x02"
 
 
 @dataclasses.dataclass
 class RequestParts:
-    """`RequestParts`: what a request says for this key, beside what its files hold."""
+    """`RequestParts`: what a request says for this key, and the digests of its further files.
+
+    The variables are all, and the directory is that of the call.
+    """
 
     compiler_digest: bytes
     language: bytes
-    arguments: list
-    input_file: bytes
+    preprocessor_args: list
+    arch_args: list
+    common_args: list
     extra_hashes: list
     assembler_digest: bytes | None
     variables: list
+    input_file: bytes
+    cwd: bytes
     plusplus: bool
     multiarch: bool
-    basedirs: list
 
 
-def preprocessor_material(parts, input_digest):
+def hashed_directory(config, cwd):
+    """`hashed_directory`: the working directory where the options have it enter the key, else None."""
+    return cwd if config.hash_working_directory else None
+
+
+def preprocessor_material(parts, config, input_digest):
     """`preprocessor_material`: the bytes whose digest text is the preprocessor key."""
+    variables = variables_named(OBJECT_VARIABLES | INCLUDE_PATHS, parts.variables)
     return b"".join(
         [
-            parts.compiler_digest,
-            flag_byte(parts.plusplus),
             ENTRY_FORMAT,
-            parts.language,
-            SEVERAL_ARCHITECTURES if parts.multiarch else b"",
-            arguments_bytes(parts.arguments, parts.basedirs),
-            b"".join(parts.extra_hashes),
-            assembler_bytes(parts.assembler_digest),
-            variables_bytes(variables_named(PREPROCESSOR_VARIABLES, parts.variables)),
-            stripped_text(parts.input_file, parts.basedirs),
-            input_digest,
+            frame(CACHE_VERSION),
+            frame(parts.compiler_digest),
+            flag_byte(parts.plusplus),
+            frame(parts.language),
+            flag_byte(parts.multiarch),
+            framed_list(frame, parts.preprocessor_args),
+            framed_list(frame, parts.arch_args),
+            framed_list(frame, parts.common_args),
+            framed_list(frame, parts.extra_hashes),
+            framed_option(parts.assembler_digest),
+            framed_list(variable_frames, variables),
+            frame(parts.input_file),
+            framed_option(hashed_directory(config, parts.cwd)),
+            frame(input_digest),
         ]
     )
 
@@ -60,4 +64,4 @@ def preprocessor_key(parts, files, setting):
     input_digest = recorded_digest(files, parts.input_file, setting)
     if input_digest is None:
         return None
-    return digest_text(preprocessor_material(parts, input_digest))
+    return digest_text(preprocessor_material(parts, setting.config, input_digest))

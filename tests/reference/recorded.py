@@ -1,7 +1,7 @@
 """What is recorded of a file: the digest text of its contents, and of its times where they count."""
 import dataclasses
 
-from .digests import delimiter, digest_text
+from .digests import delimiter, digest_text, framed_option
 from .errors import Refused
 from .files import call_files, read_pieces
 from .texts import first_value
@@ -59,10 +59,9 @@ def date_bytes(date):
     )
 
 
-def epoch_text(variables):
-    """`epoch_text`: the value of the first variable `SOURCE_DATE_EPOCH`, nothing if there is none."""
-    value = first_value(variables, b"SOURCE_DATE_EPOCH")
-    return b"" if value is None else value
+def source_date_epoch(variables):
+    """`source_date_epoch`: the value of the first variable `SOURCE_DATE_EPOCH`, or None."""
+    return first_value(variables, b"SOURCE_DATE_EPOCH")
 
 
 def date_part(with_date, moment, zone, variables):
@@ -71,7 +70,8 @@ def date_part(with_date, moment, zone, variables):
         return b""
     if not is_instant(moment):
         return None
-    return delimiter(b"date") + date_bytes(local_date(moment, zone)) + epoch_text(variables)
+    shown = framed_option(source_date_epoch(variables))
+    return delimiter(b"date") + date_bytes(local_date(moment, zone)) + shown
 
 
 def stamp_part(with_timestamp, modified, zone):

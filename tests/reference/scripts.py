@@ -3,8 +3,7 @@
 A script has few paths and few contents, so that the same things come again in other orders.
 """
 from .cases import escape
-from .key import LANGUAGES, OBJECT_VARIABLES
-from .preprocessor_key import PREPROCESSOR_VARIABLES
+from .key import INCLUDE_PATHS, LANGUAGES, OBJECT_VARIABLES
 
 SECOND = 1000000000
 DAY = 86400 * SECOND
@@ -204,7 +203,7 @@ class ScriptMaker:
         elif kind < 0.55:
             name, value = b"SOURCE_DATE_EPOCH", self.one(VALUES)
         else:
-            names = sorted(OBJECT_VARIABLES | PREPROCESSOR_VARIABLES | {b"HOME", b"cpath", b"SDKROOT2"})
+            names = sorted(OBJECT_VARIABLES | INCLUDE_PATHS | {b"HOME", b"cpath", b"SDKROOT2"})
             name, value = self.one(names), self.one(VALUES)
         return b"var " + self.word(name) + b" " + self.text(value)
 

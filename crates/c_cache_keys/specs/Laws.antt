@@ -77,9 +77,10 @@ module _ {V S : Type 0} (w : World V) (st : Store S) where
 
   -- The headline. Its first half: every answered key of a run from an empty store, stored or fresh, is its call's plain key, and no call
   -- is refused for what the store handed out. Its second half: a stored key that matches is answered, whatever a preprocessor prints.
-  -- The first half has five premises. Four are `Premises`: no shared digest, one request, prints again, options off. The fifth, an honest
-  -- store, is part of what each `PreprocessorStore` keeps to (`got_some`, `got_old` and `put_old` of `StoreLaws`). The second half needs
-  -- none of them, nor an empty store, but that the call can hit (`CanHit`).
+  -- The first half has four premises, and a fifth where the option `hash_working_directory` is off. `Premises` has all but one: no shared
+  -- digest, prints again, options off, and one request for that option. The other one, an honest store, is part of what each
+  -- `PreprocessorStore` keeps to (`got_some`, `got_old` and `put_old` of `StoreLaws`). The second half needs none of them, nor an empty
+  -- store, but that the call can hit (`CanHit`).
   abbrev pub Headline : Type 0
   Headline =
       (s t : S) (done : List (Done V)) (answers : List Answer) → Run w st s done answers t

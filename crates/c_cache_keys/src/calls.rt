@@ -46,9 +46,13 @@ pub struct Call<I, F> {
 /// out, if
 ///
 /// - no two different strings that may be hashed share a digest;
-/// - calls that have one preprocessor key ask for the same;
-/// - a preprocessor prints the same text again over the same input and the same included files;
+/// - a preprocessor prints the same text again for a later call that agrees with the first one in
+///   all that the preprocessor key has of a request and in the working directory, over the same
+///   input and the same included files;
 /// - the options that let a changed file count as unchanged are off;
+/// - calls that have one preprocessor key ask for the same, if
+///   [`hash_working_directory`](PreprocessorCacheModeConfig::hash_working_directory) is off. Where it
+///   is on, nothing of the kind is asked;
 /// - the store hands out only what was put under the key: its interface demands it, so it is no
 ///   further condition here. It may forget, fail and run out of memory at any time.
 ///

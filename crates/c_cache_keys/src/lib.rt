@@ -17,10 +17,13 @@
 //! calls in order on a store that starts empty every answered key is the plain key, where
 //!
 //! - no two different strings that may be hashed share a digest;
-//! - calls that have one preprocessor key ask for the same;
-//! - a preprocessor prints the same text again over the same input and the same included files;
+//! - a preprocessor prints the same text again for a later call that agrees with the first one in
+//!   all that the preprocessor key has of a request and in the working directory, over the same
+//!   input and the same included files;
 //! - the options that let a changed file count as unchanged are off;
-//! - the store hands out only what was put, as its interface demands.
+//! - the store hands out only what was put, as its interface demands;
+//! - calls that have one preprocessor key ask for the same, if the option `hash_working_directory`
+//!   is off. Where it is on, nothing of the kind is asked.
 //!
 //! And on any store a stored key that matches is answered, by a call that may use the store and
 //! meets no fault and no lack of memory.

@@ -27,7 +27,7 @@
 //!
 //! | part | bytes |
 //! |---|---|
-//! | the format | one byte, 1 |
+//! | the format | one byte, 2 |
 //! | the number of results | 8 bytes |
 //! | each result, keys ascending by their bytes | the key's length in 8 bytes, the key, the number of its includes in 8 bytes, these in their order |
 //! | each include | the path's length in 8 bytes, the path, the digest's length in 8 bytes, the digest, the size in 8 bytes, the time of the modification, the time of the change |

@@ -16,7 +16,7 @@ fn the_time_part_of_a_date(rt: HostRuntime) -> Result<(), Fail> {
     let part = local_time_part(rt.alloc(), true, false, None, moment, &zone, &[])?;
     assert_eq!(rt;
         part.ok_or("a part")?.as_slice(),
-        b"\0SCCACHE\0date\0\xb2\x07\0\0\x01\0\0\0\x02\0\0\0".as_slice()
+        b"\0SCCACHE\0date\0\xb2\x07\0\0\x01\0\0\0\x02\0\0\0\0".as_slice()
     );
     Ok(())
 }
@@ -115,20 +115,22 @@ fn the_key_of_a_request(rt: HostRuntime) -> Result<(), Fail> {
         Language::C,
         &[],
         &[],
+        &[],
+        &[],
         None,
         &[],
         b"/w/a.c",
+        b"/w",
         false,
         false,
         PreprocessorCacheModeConfig::activated(),
-        &[],
         &mut files,
         Timestamp::new(0, 0),
         &TimeZone::UTC,
     )?;
     assert_eq!(rt;
         key.ok_or("a key")?.as_str(),
-        "da8c3370dc7ac608a89b38ba3c5ee366dfb840fc4b48d4d625bd63974dfd35ed"
+        "1b0a2c38f5ff7ad4d72aac17890d1e03bbab12e00a239e33fb4aabdf96be2ed6"
     );
     Ok(())
 }

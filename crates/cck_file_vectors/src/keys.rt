@@ -23,23 +23,25 @@ pub(crate) fn call<'a>(
 }
 
 fn key<'a>(cases: &'a mut Cases, input: &[u8]) -> Result<Value<'a>, CaseError> {
-    let (given, world) = (&cases.given, &mut cases.world);
+    let (given, wanted, world) = (&cases.given, &cases.wanted, &mut cases.world);
     let key = preprocessor_cache_entry_hash_key::<Sha256State, MapFiles>(
         cases.alloc,
         given.compiler(),
         given.language,
+        &wanted.preprocessor_args,
+        &wanted.arch_args,
         &given.arguments,
         &given.extra_hashes,
         given.assembler(),
         &given.variables,
         input,
+        &wanted.cwd,
         given.plusplus,
         given.multiarch,
         world.config,
-        &given.basedirs,
         &mut world.files,
         world.moment,
-        &cases.wanted.zone,
+        &wanted.zone,
     )?;
     Ok(found_text(key))
 }

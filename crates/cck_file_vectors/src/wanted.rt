@@ -17,9 +17,12 @@ enum Word {
     Includes,
     NoIncludes,
     Passing,
+    PreprocessorArgs,
+    ArchArgs,
+    Cwd,
 }
 
-const WORDS: [(&str, Word); 11] = [
+const WORDS: [(&str, Word); 14] = [
     ("paths", Word::Paths),
     ("offset", Word::Offset),
     ("room", Word::Room),
@@ -31,6 +34,9 @@ const WORDS: [(&str, Word); 11] = [
     ("includes", Word::Includes),
     ("no_includes", Word::NoIncludes),
     ("passing", Word::Passing),
+    ("preprocessor_args", Word::PreprocessorArgs),
+    ("arch_args", Word::ArchArgs),
+    ("cwd", Word::Cwd),
 ];
 
 /// What lines give to calls on files and entries.
@@ -59,6 +65,12 @@ pub(crate) struct Wanted {
     pub(crate) included: Vec<(String, Vec<u8>)>,
     /// `passing N`: how many writes pass before one fails. 0 at first.
     pub(crate) passing: u64,
+    /// `preprocessor_args LIST`: the arguments of a preprocessor. None at first.
+    pub(crate) preprocessor_args: Vec<Vec<u8>>,
+    /// `arch_args LIST`: the arguments of architectures. None at first.
+    pub(crate) arch_args: Vec<Vec<u8>>,
+    /// `cwd TEXT`: the working directory. Empty at first.
+    pub(crate) cwd: Vec<u8>,
 }
 
 impl Wanted {
@@ -75,6 +87,9 @@ impl Wanted {
             zone: TimeZone::UTC,
             included: Vec::new(alloc),
             passing: 0,
+            preprocessor_args: Vec::new(alloc),
+            arch_args: Vec::new(alloc),
+            cwd: Vec::new(alloc),
         }
     }
 
@@ -89,6 +104,9 @@ impl Wanted {
         self.zone = TimeZone::UTC;
         self.included.clear();
         self.passing = 0;
+        self.preprocessor_args.clear();
+        self.arch_args.clear();
+        self.cwd.clear();
     }
 
     /// Takes what a line gives, and returns whether it knows the line's word.
@@ -108,6 +126,9 @@ impl Wanted {
             Word::Includes => self.include_often(rest)?,
             Word::NoIncludes => self.included.clear(),
             Word::Passing => self.passing = number(rest)?,
+            Word::PreprocessorArgs => self.preprocessor_args = words_of(self.alloc, rest)?,
+            Word::ArchArgs => self.arch_args = words_of(self.alloc, rest)?,
+            Word::Cwd => self.cwd = bytes_of(self.alloc, rest)?,
         }
         Ok(true)
     }

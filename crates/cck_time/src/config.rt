@@ -21,8 +21,8 @@ pub struct PreprocessorCacheModeConfig {
     pub ignore_time_macros: bool,
     /// Whether headers that a line marker calls a system's are left out. Off by default.
     pub skip_system_headers: bool,
-    /// Nothing reads it: the path of the input, joined to the working directory, stands in the
-    /// preprocessor key either way. On by default, as upstream.
+    /// Whether the working directory stands in the preprocessor key, so that requests in several
+    /// directories have keys of their own. On by default, as upstream.
     pub hash_working_directory: bool,
 }
 

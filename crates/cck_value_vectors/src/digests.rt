@@ -1,9 +1,8 @@
 //! Digests of known bytes, and of what calls feed.
 use cck_cases::{CaseError, Given, Value};
 use cck_util::{
-    Digest, HASH_BUFFER_SIZE, HashState, Sha256State, hash_arguments, hash_assembler_digest,
-    hash_extra_hashes, hash_len_prefixed, hash_length, hash_option, hash_text_list,
-    hash_variable_list, hash_variables_named, hex,
+    Digest, HASH_BUFFER_SIZE, HashState, Sha256State, hash_arguments, hash_len_prefixed,
+    hash_length, hash_option, hash_request_variables, hash_text_list, hash_variable_list, hex,
 };
 use std::alloc::Global;
 
@@ -20,13 +19,11 @@ pub(crate) enum DigestCall {
     TextList,
     Option,
     VariableList,
+    RequestVariables,
     Arguments,
-    ExtraHashes,
-    Assembler,
-    Variables,
 }
 
-pub(crate) const CALLS: [(&str, DigestCall); 15] = [
+pub(crate) const CALLS: [(&str, DigestCall); 13] = [
     ("hex_digits", DigestCall::Hex),
     ("hash_buffer_size", DigestCall::BufferSize),
     ("state", DigestCall::State),
@@ -38,10 +35,8 @@ pub(crate) const CALLS: [(&str, DigestCall); 15] = [
     ("hash_text_list", DigestCall::TextList),
     ("hash_option", DigestCall::Option),
     ("hash_variable_list", DigestCall::VariableList),
+    ("hash_request_variables", DigestCall::RequestVariables),
     ("hash_arguments", DigestCall::Arguments),
-    ("hash_extra_hashes", DigestCall::ExtraHashes),
-    ("hash_assembler_digest", DigestCall::Assembler),
-    ("hash_variables_named", DigestCall::Variables),
 ];
 
 // Where a call feeds a digest, the digest was fed `base` before it.
@@ -66,10 +61,8 @@ pub(crate) fn call<'a>(
         DigestCall::TextList => hash_text_list(&mut digest, &given.extra_hashes),
         DigestCall::Option => hash_option(&mut digest, given.assembler()),
         DigestCall::VariableList => feed_variable_list(given, &mut digest)?,
+        DigestCall::RequestVariables => hash_request_variables(&mut digest, &given.variables),
         DigestCall::Arguments => feed_arguments(given, &mut digest)?,
-        DigestCall::ExtraHashes => hash_extra_hashes(&mut digest, &given.extra_hashes),
-        DigestCall::Assembler => hash_assembler_digest(&mut digest, given.assembler()),
-        DigestCall::Variables => feed_variables(given, &mut digest)?,
     }
     Ok(Value::Text(digest.finish(alloc)?))
 }
@@ -94,12 +87,6 @@ fn feed_arguments(given: &Given, digest: &mut Digest<Sha256State>) -> Result<(),
 }
 
 // The variables whose names are the arguments.
-fn feed_variables(given: &Given, digest: &mut Digest<Sha256State>) -> Result<(), CaseError> {
-    hash_variables_named(digest, &given.variables, &names_of(given)?);
-    Ok(())
-}
-
-// The same as a list.
 fn feed_variable_list(given: &Given, digest: &mut Digest<Sha256State>) -> Result<(), CaseError> {
     hash_variable_list(digest, &given.variables, &names_of(given)?);
     Ok(())

@@ -101,6 +101,21 @@ def give_passing(subject, rest):
     subject.passing = number_of(rest)
 
 
+def give_preprocessor_args(subject, rest):
+    """`preprocessor_args LIST`: the arguments of a preprocessor."""
+    subject.preprocessor_args = list_of(rest)
+
+
+def give_arch_args(subject, rest):
+    """`arch_args LIST`: the arguments of architectures."""
+    subject.arch_args = list_of(rest)
+
+
+def give_cwd(subject, rest):
+    """`cwd TEXT`: the working directory."""
+    subject.cwd = undo(rest)
+
+
 WORDS = {
     name.removeprefix("give_"): function
     for name, function in list(globals().items())
@@ -321,14 +336,16 @@ def call_preprocessor_key(subject, rest, made):
     parts = RequestParts(
         compiler_digest=given.compiler,
         language=given.language,
-        arguments=given.arguments,
-        input_file=made.text(rest),
+        preprocessor_args=subject.preprocessor_args,
+        arch_args=subject.arch_args,
+        common_args=given.arguments,
         extra_hashes=given.extra_hashes,
         assembler_digest=given.assembler,
         variables=given.variables,
+        input_file=made.text(rest),
+        cwd=subject.cwd,
         plusplus=given.plusplus,
         multiarch=given.multiarch,
-        basedirs=given.basedirs,
     )
     return found(preprocessor_key(parts, subject.world.files, setting_of(subject)))
 
@@ -525,6 +542,9 @@ class Subject(BaseSubject):
         self.modified = None
         self.included = []
         self.passing = 0
+        self.preprocessor_args = []
+        self.arch_args = []
+        self.cwd = b""
 
     def give(self, word, rest):
         """Takes what a line gives."""

@@ -89,21 +89,24 @@ def fed_arguments(subject, data):
     return strip.arguments_bytes(subject.given.arguments, subject.given.basedirs)
 
 
-def fed_variables(subject, data):
-    """The variables whose names are the arguments."""
-    given = subject.given
-    return key.variables_bytes(key.variables_named(given.arguments, given.variables))
-
-
 def fed_text_list(subject, data):
     """A list of frames of the extra hashes."""
     return digests.framed_list(digests.frame, subject.given.extra_hashes)
 
 
+def framed_variables(subject, names):
+    """A list of frames of the names and values of the variables that have one of these names."""
+    return digests.framed_list(key.variable_frames, key.variables_named(names, subject.given.variables))
+
+
 def fed_variable_list(subject, data):
-    """The same as a list of frames of their names and values."""
-    given = subject.given
-    return digests.framed_list(key.variable_frames, key.variables_named(given.arguments, given.variables))
+    """The variables whose names are the arguments."""
+    return framed_variables(subject, subject.given.arguments)
+
+
+def fed_request_variables(subject, data):
+    """The variables that stand in the key of a request."""
+    return framed_variables(subject, key.OBJECT_VARIABLES | key.INCLUDE_PATHS)
 
 
 def call_taken(subject, rest, made):
@@ -159,9 +162,7 @@ DIGEST_CALLS = {
     "hash_option": fed(lambda subject, data: digests.framed_option(subject.given.assembler)),
     "hash_variable_list": fed(fed_variable_list),
     "hash_arguments": fed(fed_arguments),
-    "hash_extra_hashes": fed(lambda subject, data: b"".join(subject.given.extra_hashes)),
-    "hash_assembler_digest": fed(lambda subject, data: key.assembler_bytes(subject.given.assembler)),
-    "hash_variables_named": fed(fed_variables),
+    "hash_request_variables": fed(fed_request_variables),
     "read_all": lambda subject, rest, made: b"".join(subject.streams.read_all(made.text(rest))),
     "read_to_end": call_read_to_end,
     "taken_by_read_to_end": call_taken,
