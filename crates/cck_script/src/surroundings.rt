@@ -111,7 +111,8 @@ impl Surroundings {
             }
             Command::Clear => {
                 self.variables.clear();
-                self.names.clear();
+                // A set that is emptied goes over all places of its table, and each time anew.
+                self.names = IndexSet::new(alloc);
                 Ok(())
             }
             _ => Ok(()),
