@@ -107,8 +107,8 @@ abbrev pub material_of : List (Path × FileNode) → Option (List ℕ)
 material_of [] = None
 material_of (e ∷ es) = if list_any is_other (e ∷ es) || list_any (is_too_deep 1) (e ∷ es) then None else Some (material None (e ∷ es))
 
--- the bytes that are hashed for the node at a path. For a file they are its contents, and for a directory the delimiter of the name and the contents
--- of each file that is reached from it, in path order. There are none where there is no node, or where a node of another kind or a directory of a
--- level above 100 is reached. The node at the path has level 1
+-- the bytes that are hashed for the node at a path. For a file they are its contents. For a directory they are the delimiter of the name and the
+-- contents of each file that is reached from it, in path order. There are none where there is no node, or where a node of another kind or a directory
+-- of a level above 100 is reached. The node at the path has level 1
 unfoldable pub digest_material : FileMap → Path → Option (List ℕ)
 digest_material fm p = material_of (whole fm.nodes p)

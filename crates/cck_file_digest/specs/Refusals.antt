@@ -15,8 +15,8 @@ IsFileRefusalAt fm p HasFault OtherKind = list_any is_other (whole fm.nodes p) �
 IsFileRefusalAt fm p HasFault Fault = HasFault
 IsFileRefusalAt fm p HasFault Memory = ⊥
 
--- the errors for the node at a path, which has this level: there is no node; a node that is neither a file nor a directory is reached, or a directory
--- of a level above 100; there was a fault, or memory is lacking
+-- the errors for the node at a path, which has this level: there is no node; a node of another kind or a directory of a level above 100 is reached;
+-- there was a fault; memory is lacking
 abbrev pub IsRefusalAt : ℕ → FileMap → Path → Type 0 → UtilError → Type 0
 IsRefusalAt level fm p HasFault util.Memory = Unit {0}
 IsRefusalAt level fm p HasFault util.Read = ⊥

@@ -20,10 +20,10 @@ pub trait DigestFiles {
     /// The hex digest of the node at a path.
     ///
     /// The digest of a regular file is that of its contents. The digest of a directory is that of
-    /// each regular file that is reached from it through directories, in path order: of the
-    /// delimiter of the file's name and of its contents. The name is the path relative to the
-    /// directory, with U+FFFD in place of what is not UTF-8. Upstream's `Digest::file`. The error
-    /// is
+    /// the regular files that are reached from it through directories, in path order. For each file
+    /// it is fed the delimiter of the file's name, and the contents. The name is the path relative
+    /// to the directory, with U+FFFD in place of what is not UTF-8. Upstream's `Digest::file`. The
+    /// error is
     ///
     /// - [`UtilError::File`] of `NotFound` where there is no node at the path,
     /// - [`UtilError::File`] of `OtherKind` where the node there, or one that is reached, is

@@ -98,8 +98,8 @@ fn name_child(alloc: Global, folder: Option<&[u8]>, child: &[u8]) -> Result<Vec<
     Ok(name)
 }
 
-/// Feeds the node at a path, which has this level: a file after the delimiter of its name, if it
-/// has one, or all that is reached from a directory, in path order.
+/// Feeds the node at a path, which has this level. A file is fed after the delimiter of its name,
+/// if it has one. Of a directory, all that is reached from it is fed, in path order.
 pub(crate) fn feed_node<H: HashState, F: Files>(
     alloc: Global,
     files: &mut F,

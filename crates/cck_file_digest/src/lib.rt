@@ -2,8 +2,9 @@
 //!
 //! The node at a path is a regular file, a directory, or something else. The digest of a file is
 //! that of its contents, so it does not depend on its name or its times. The digest of a directory
-//! is that of every regular file that is reached from it through directories: of its name, between
-//! the bytes of a [delimiter](cck_digest::Digest::delimiter), and of its contents.
+//! is that of every regular file that is reached from it through directories. For each file it is
+//! fed its name, between the bytes of a [delimiter](cck_digest::Digest::delimiter), and its
+//! contents.
 //!
 //! - [`DigestFiles`] has the calls `file` and `reader` of a [`Digest`](cck_digest::Digest), and
 //!   [`hash_all`] returns the hex digests of many paths.

@@ -27,8 +27,8 @@ pub record AreTold (s t : Setting) (n o : FileNode) : Type 0 where
   pub contents : IsTold s.hash n.contents o.contents
   pub parts : (p q : List ℕ) → counts_part s n ≡ true → counts_part t o ≡ true → file_time_part s n ≡ Some p → file_time_part t o ≡ Some q → IsTold s.hash p q
 
--- Two files show the same text: their contents are the same, and where time macros count, there is no `__TIME__` in them, the local day and
--- `SOURCE_DATE_EPOCH` are the same with a `__DATE__`, and the local second of modification is the same with a `__TIMESTAMP__`.
+-- Two files show the same text: their contents are the same, and where time macros count, there is no `__TIME__` in them. With a `__DATE__`, the
+-- local day and `SOURCE_DATE_EPOCH` are the same, and with a `__TIMESTAMP__` the local second of modification.
 pub record ShowTheSame (s t : Setting) (n o : FileNode) : Type 0 where
   pub contents : n.contents ≡ o.contents
   pub time : s.config.ignore_time_macros ≡ false → has_time n.contents ≡ false

@@ -13,11 +13,11 @@ pub fn recorded_has_length()
 
 /// Files with the same recorded digest show the same text to a preprocessor, even where the digests
 /// were recorded at two call times and with different variables. Their contents are the same. Where
-/// time macros count, there is no `__TIME__` in them; with a `__DATE__` the local day and
+/// time macros count, there is no `__TIME__` in them. With a `__DATE__`, the local day and
 /// `SOURCE_DATE_EPOCH` are the same, and with a `__TIMESTAMP__` the local second of modification.
 ///
-/// It is required that the output of the hash function has 32 bytes, and that it has no collision
-/// between the contents of the two files, nor between their time parts.
+/// The output of the hash function must have 32 bytes. It must have no collision between the
+/// contents of the two files, nor between their time parts.
 pub fn equal_digests_tell()
     ensures { EqualDigestsTell }
 {}

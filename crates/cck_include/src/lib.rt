@@ -1,11 +1,11 @@
 //! Included files: what is recorded of them, and whether they still match it.
 //!
 //! The digest of a file's contents does not determine the text that the file shows to a
-//! preprocessor: a `__DATE__` in it shows another text tomorrow, and a `__TIMESTAMP__` once the
+//! preprocessor. A `__DATE__` in it shows another text tomorrow, and a `__TIMESTAMP__` once the
 //! file was modified. So, unless the options ignore these macros, the *recorded digest* of a file
 //! with one of the two continues with the digest of its time part. A file with `__TIME__` has no
-//! recorded digest then, and files with equal recorded digests show the same text, if no two digests
-//! collide.
+//! recorded digest then, and files with equal recorded digests show the same text, if no two
+//! digests collide.
 //!
 //! - [`recorded_digest`] returns that digest of one file.
 //! - [`gather`] records each file that a result included as an [`IncludeEntry`]: its path, recorded

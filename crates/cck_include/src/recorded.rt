@@ -134,8 +134,8 @@ fn digest_of<H: HashState>(
 /// [`equal_digests_tell`](crate::laws::equal_digests_tell).
 ///
 /// There is none (`None`) exactly where time macros count and the contents have `__TIME__`, or the
-/// time part cannot be computed: a time that it needs is missing or out of range. The file is read
-/// once.
+/// time part cannot be computed. That is so where a time that it needs is missing or out of range.
+/// The file is read once.
 ///
 /// The error is [`Error::Io`] with
 ///

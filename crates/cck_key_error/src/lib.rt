@@ -1,9 +1,9 @@
 //! The error of the calls that compute keys.
 //!
-//! [`KeyError`] is the one error of all calls that compute a key or a part of one: for parsed
-//! command lines, for extra files, for walks over preprocessed text, and for whole keys. So this
-//! crate is below the crates of all these calls. [`PreprocessError`] is why a compiler returned no
-//! preprocessed text, which is one of the causes.
+//! [`KeyError`] is the error of all calls that compute a key or a part of one. These are the calls
+//! on parsed command lines, on extra files and for whole keys, and the walks over preprocessed
+//! text. So this crate is below the crates of all these calls. [`PreprocessError`] is why a
+//! compiler returned no preprocessed text, which is one of the causes.
 //!
 //! - [`KeyError::number`] is the number of each variant.
 //! - [`laws`] states what `==` means for the two types.
