@@ -20,7 +20,7 @@
 //! let mut digest = Digest::<Sha256State>::new();
 //! digest.update(b"ab");
 //! digest.update(b"c");
-//! let text = digest.finish(alloc)?; // the text of the SHA-256 of `abc`
+//! let text = digest.finish(alloc)?; // the hex digest of `abc`, by SHA-256
 //! ```
 #![tactic(auto)]
 

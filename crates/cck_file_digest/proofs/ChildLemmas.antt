@@ -1,4 +1,4 @@
--- What is reached from a folder is what its children are, and what is reached from them.
+-- What is reached from a directory is its children, and what is reached from them.
 use Rattle.std.proofs.Common.{◌≡◌, ℕ, List, [], ◌∷◌, ◌++◌, Bool, true, false, ◌&&◌, ◌||◌, cond, Option, Some, None, map, refl, sym, ◌∙◌, ap, subst, append_assoc, IsSome}
 use Rattle.std.specs.Prelude.{flat_map, T}
 use Rattle.std.specs.declared.cmp.Ordering.{Ordering}
@@ -126,7 +126,7 @@ module _ (m : Nodes) (f : Path) where
       ∙ ap (λ o. or_else o (find path_cmp [] (flat_map (child_nodes m f) ns))) (find-child_nil n (get m (f ++ Name n ∷ [])))
       ∙ find-children_nil ns
 
-  -- each child is named
+  -- each child is among the names
   abbrev pub IsComplete : List (List ℕ) → Type 0
   IsComplete ns = (n : List ℕ) → IsSome (get m (f ++ Name n ∷ [])) → any_name (Name n) ns ≡ true
 
@@ -177,7 +177,7 @@ then_less : (c : Component) (r q : Path) → T (head_above c q) → T (is_lt (pa
 then_less c r [] h = absurd h
 then_less c r (d ∷ q) h = subst (λ o. T (is_lt (ordering_then o (path_cmp r q)))) (sym (less_from_T _ h)) tt
 
--- what has this head comes before what has greater ones
+-- a path with this first component comes before those with greater ones
 sorted_before : (c : Component) (r : Path) (v : FileNode) (ys : List (Path × FileNode)) → T (heads_above c ys) → T (is_sorted path_cmp ys) → T (is_sorted path_cmp ((c ∷ r, v) ∷ ys))
 sorted_before c r v [] h s = tt
 sorted_before c r v (y ∷ ys) h s =
@@ -225,7 +225,7 @@ module _ (m : Nodes) (f : Path) where
   sorted_children [] h = tt
   sorted_children (n ∷ ns) h = sorted_with_child n (get m (f ++ Name n ∷ [])) (flat_map (child_nodes m f) ns) (above_children n ns h) (sorted_children ns (rises_rest n ns h))
 
--- What is reached from a folder is, for each child in order, the child and what is reached from it.
+-- What is reached from a directory is, for each child in order, the child and what is reached from it.
 pub reached_children : (m : Nodes) (f : Path) (ns : List (List ℕ)) → T (rises ns) → IsComplete m f ns → reached m f ≡ flat_map (child_nodes m f) ns
 reached_children m f ns up all = same_sorted (reached m f) (flat_map (child_nodes m f) ns) (T_parts _ _ (reached_sorted m f any_node)).1 (sorted_children m f ns up) (found_children m f ns all)
   where

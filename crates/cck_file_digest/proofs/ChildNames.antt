@@ -1,4 +1,4 @@
--- The names of a folder's children, by what is reached from it.
+-- The names of a directory's children, from what is reached from it.
 use Rattle.std.proofs.Common.{◌≡◌, ℕ, suc, ◌<◌, List, [], ◌∷◌, ◌++◌, length, Bool, true, false, cond, Option, None, Some, map, refl, sym, ap, subst, ◌∙◌, arith, get_or}
 use Rattle.std.specs.Prelude.{T, filter_map, flat_map, is_some}
 use Rattle.std.specs.FinMap.{entries, get}
@@ -14,7 +14,7 @@ use Rattle.cck_file_digest.proofs.ChildLemmas.{child_nodes, child_part, reached_
 abbrev only : List (Path × FileNode) → List (List ℕ)
 only es = filter_map (λ e. only_name e.0) es
 
--- a path that isn't empty
+-- a path that is not empty
 abbrev IsBelow : Path × FileNode → Type 0
 IsBelow e = (c : Component) × (q : Path) × (e.0 ≡ c ∷ q)
 
@@ -39,7 +39,7 @@ below m f = all (entries m)
     all [] = tt
     all (e ∷ es) = more (if_reached m f e.1 (behind f e.0)) (filter_map (λ d. if_reached m f d.1 (behind f d.0)) es) (one e.1 (behind f e.0)) (all es)
 
--- what is deeper has no name alone
+-- what is below a child has no single name
 deeper : (n : List ℕ) (es : List (Path × FileNode)) → AllByRecursion IsBelow es → only (map (under (Name n)) es) ≡ []
 deeper n [] h = refl
 deeper n (e ∷ es) h = ap (λ q. only ((Name n ∷ q, e.1) ∷ map (under (Name n)) es)) h.0.2 ∙ deeper n es h.1
@@ -59,7 +59,7 @@ module _ (m : Nodes) (f : Path) where
       ∙ ap (λ xs. xs ++ only (flat_map (child_nodes m f) ns)) (child_alone n (get m (f ++ Name n ∷ [])) (stand 0 (omega arith)))
       ∙ ap (λ xs. n ∷ xs) (children_alone ns (λ i low. stand (suc i) (omega (arith, low))))
 
-  -- names of all children, in order
+  -- the names of all children, in order
   pub names_in_order : (names : List (List ℕ)) → IsInOrder m f names → names ≡ child_names m f
   unfolding child_names
   names_in_order names order =

@@ -1,4 +1,4 @@
--- A folder's children are fed, one after another.
+-- A directory's children are fed, one after another.
 use Rattle.std.proofs.Common.{◌≡◌, ℕ, zero, suc, ◌+◌, ◌≤◌, ◌<◌, List, [], ◌∷◌, ◌++◌, length, Bool, true, false, ◌&&◌, ◌||◌, cond, refl, sym, ◌∙◌, ap, subst, append_assoc, arith, get_or, take, map, Option, Some, None}
 use Rattle.std.specs.Prelude.{flat_map, T, nat_lt}
 use Rattle.std.specs.List.{list_any}
@@ -50,7 +50,7 @@ deep_under level n (x ∷ xs) =
     ap (λ k. (is_folder_kind x.1.kind && nat_lt 100 k) || list_any (is_too_deep level) (map (under (Name n)) xs)) same
     ∙ ap (λ b. is_too_deep (level + 1) x || b) (deep_under level n xs)
 
--- the nodes of a child are the whole of it, under its name
+-- the nodes of a child in its directory are those of the child alone, under its name
 child_whole : (m : Nodes) (p q : Path) (n : List ℕ) → q ≡ p ++ Name n ∷ [] → child_nodes m p n ≡ map (under (Name n)) (whole m q)
 unfolding whole
 child_whole m p q n at = by (get m (p ++ Name n ∷ [])) ∙ ap (λ z. map (under (Name n)) (whole m z)) (sym at)
@@ -59,7 +59,7 @@ child_whole m p q n at = by (get m (p ++ Name n ∷ [])) ∙ ap (λ z. map (unde
     by None = refl
     by (Some node) = elim (is_folder_kind node.kind) as (λ k. (Name n ∷ [], node) ∷ cond k (map (under (Name n)) (reached m (p ++ Name n ∷ []))) [] ≡ (Name n ∷ [], node) ∷ map (under (Name n)) (cond k (reached m (p ++ Name n ∷ [])) [])) [ true ↦ refl | false ↦ refl ]
 
--- what was fed for a child is what its folder wants
+-- what was fed for a child is what its directory requires
 pub fed_child : {S : Type 0} (holds : S → List ℕ → Type 0) (level : ℕ) (name : Option (List ℕ)) (m : Nodes) (p q : Path) (n : List ℕ) (a b : S) → q ≡ p ++ Name n ∷ []
     → IsFedNodes holds (level + 1) (Some (child_name name n)) (whole m q) a b → IsFedNodes holds level name (child_nodes m p n) a b
 fed_child holds level name m p q n a b at f =
@@ -82,14 +82,14 @@ module _ {S : Type 0} (holds : S → List ℕ → Type 0) (level : ℕ) (name : 
       ∙ ap (λ z. flat_map (child_nodes m p) (take i names) ++ z) (append-nil (child_nodes m p (get_or names i []))) in
       subst (λ nodes. IsFedNodes holds level name nodes a c) (sym e) (fed_both holds level name _ _ a b c f g)
 
-  -- at the end it is what is reached
+  -- after the last child it is what is reached
   pub fed_all : (a b : S) → length names ≤ i → IsInOrder m p names → IsFedNodes holds level name (flat_map (child_nodes m p) (take i names)) a b → IsFedNodes holds level name (reached m p) a b
   fed_all a b all order f =
       let e : flat_map (child_nodes m p) (take i names) ≡ reached m p =
       ap (flat_map (child_nodes m p)) (take_all i names all) ∙ sym (reached_children m p names (subst T (sym order.up) tt) order.all) in
       subst (λ nodes. IsFedNodes holds level name nodes a b) e f
 
--- ---- what a child is refused for
+-- ---- the errors of a child
 
 any_child : (test : Path × FileNode → Bool) (m : Nodes) (p : Path) (names : List (List ℕ)) (i : ℕ) → i < length names
     → list_any test (child_nodes m p (get_or names i [])) ≡ true → list_any test (flat_map (child_nodes m p) names) ≡ true

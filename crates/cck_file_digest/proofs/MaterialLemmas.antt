@@ -1,4 +1,4 @@
--- What the material is where its cause is plain.
+-- What is hashed for a regular file and for a directory.
 use Rattle.std.proofs.Common.{◌≡◌, ◌≢◌, ℕ, List, [], ◌∷◌, ◌++◌, Bool, true, false, ◌||◌, cond, Option, Some, None, Ok, refl, ◌∙◌, ap, append-nil}
 use Rattle.std.specs.Prelude.{flat_map, is_some}
 use Rattle.std.specs.List.{cons_option, list_any}

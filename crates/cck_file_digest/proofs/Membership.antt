@@ -1,4 +1,4 @@
--- What is reached, by membership.
+-- What is reached, as membership in a list.
 use Rattle.std.proofs.Common.{◌≡◌, ◌≢◌, ℕ, zero, suc, ◌<◌, List, [], ◌∷◌, ◌++◌, length, get_or, Bool, true, false, ◌&&◌, cond, Option, Some, None, refl, sym, ◌∙◌, ap, subst, append_assoc, arith}
 use Rattle.std.specs.Prelude.{◌↔◌, T, Contains}
 use Rattle.std.specs.declared.cmp.Ordering.{Ordering}
@@ -14,7 +14,7 @@ use Rattle.cck_file_digest.specs.FolderText.{is_folder, is_name, is_reached, rea
 use Rattle.cck_file_digest.specs.Laws.{LeadsThrough}
 use Rattle.cck_file_digest.proofs.ReachedLemmas.{find-reached, reached_sorted}
 
--- ---- membership in a list that is sorted
+-- ---- membership in a sorted list
 
 -- a key below all others is below each of them
 below_each : (x : Path) (es : List (Path × FileNode)) (k : ℕ) (d : Path × FileNode) → T (below_all x es) → k < length es → T (is_lt (path_cmp x (get_or es k d).0))
@@ -47,7 +47,7 @@ contained (x ∷ es) q n e = by (eq_by_cmp path_cmp q x.0) refl e (contained es 
     by true t e later = let same : q ≡ x.0 = tied q x.0 t in let value : x.1 ≡ n = cc in (0, omega arith, λ i. (sym same i, value i))
     by false t e later = let (k, l, is) = later e in (suc k, omega (arith, l), is)
 
--- ---- through folders
+-- ---- through directories
 
 not_nil : (c : Component) (q : Path) → c ∷ q ≢ []
 not_nil c q e = cc

@@ -1,4 +1,4 @@
--- The names of a listing that was sorted.
+-- The names of a sorted listing.
 use Rattle.std.proofs.Common.{◌≡◌, ℕ, ◌+◌, ◌≤◌, ◌<◌, List, [], ◌∷◌, ◌++◌, length, Bool, true, false, ◌||◌, cond, refl, ◌∙◌, ap, arith, get_or, map, zero, suc, add-one}
 use Rattle.std.specs.Prelude.{T, count_by, is_some}
 use Rattle.std.specs.List.Sorted.{IsSortedBy, IsPermutation}
@@ -22,7 +22,7 @@ count_first n xs = sum_by-cons (λ x. cond (is_same_name n x) 1 0) n xs ∙ ap (
 pub count_cons : (n x : List ℕ) (xs : List (List ℕ)) → count_by (is_same_name n) (x ∷ xs) ≡ cond (is_same_name n x) 1 0 + count_by (is_same_name n) xs
 count_cons n x xs = sum_by-cons (λ x. cond (is_same_name n x) 1 0) x xs
 
--- a name that is counted is among them
+-- a name that is counted is in the list
 among : (n : List ℕ) (xs : List (List ℕ)) → 1 ≤ count_by (is_same_name n) xs → any_name (Name n) xs ≡ true
 among n [] h = absurd (omega arith)
 among n (x ∷ xs) h = elim (is_same_name n x) as (λ b. count_by (is_same_name n) (x ∷ xs) ≡ cond b 1 0 + count_by (is_same_name n) xs → (b || any_name (Name n) xs) ≡ true) [
@@ -63,7 +63,7 @@ module _ {X : Type 0} (f : X → List ℕ) where
       ] refl in
       T_and (is_lt (component_cmp (Name (f x)) (Name (f y)))) (rises (map f (y ∷ xs))) (not_less_nor_same (f x) (f y) (h 0 x (omega arith) (omega arith)) apart) rest
 
-  -- a listing that was sorted
+  -- a sorted listing
   pub in_order : (m : FileMap) (p : Path) (xs ys : List X) → IsListing m p (map f xs) → IsPermutation xs ys → Sorted ys → IsInOrder m.nodes p (map f ys)
   in_order m p xs ys l perm h =
       let moved = IsPermutation-map f xs ys perm in

@@ -24,7 +24,7 @@ use Rattle.cck_file_digest.specs.FolderText.{is_folder_kind, is_other, is_other_
 use Rattle.cck_file_digest.specs.Refusals.{IsRefusalAt}
 use Rattle.cck_file_digest.proofs.FolderSteps.{other_reached, deep_reached}
 
--- a node of this kind stands at a path
+-- there is a node of this kind at a path
 pub record IsAt (fm : FileMap) (p : Path) (kind : FileKind) : Type 0 where
   pub node : FileNode
   pub here : get fm.nodes p ≡ Some node
@@ -82,7 +82,7 @@ module _ (fm : FileMap) (p : Path) where
           fed = λ before h. subst (λ z. holds y (before ++ z)) (sym (ap (λ k. piece_of k (name_below name []) a.node.contents ++ material name (reached fm.nodes p)) a.same)) (f.fed before h);
         }
 
-  -- ---- why it is refused
+  -- ---- its errors
 
   pub too_deep : (level : ℕ) → IsAt fm p Folder → 100 < level → list_any (is_too_deep level) (whole fm.nodes p) ≡ true
   too_deep level a high =
@@ -111,7 +111,7 @@ module _ (fm : FileMap) (p : Path) where
   metadata_refused level HasFault Fault r = r
   metadata_refused level HasFault Memory r = absurd r
 
-  -- where the map has an answer, only faults and lack of memory refuse
+  -- where the map has a result, the only errors are faults and lack of memory
   only_faults : {X : Type 0} (found : Result X FileError) (v : X) (level : ℕ) (P Q : Type 0) (e : FileError) → found ≡ Ok v → (P → Q) → IsRefusalOrMemory found P e → IsRefusalAt level fm p Q (util_error e)
   only_faults found v level P Q NotFound is f r = cc
   only_faults found v level P Q OtherKind is f r = cc
@@ -124,7 +124,7 @@ module _ (fm : FileMap) (p : Path) where
   pub listing_refused : (later : FileMap) (level : ℕ) (P Q : Type 0) (e : FileError) → later ≡ fm → IsAt fm p Folder → (P → Q) → IsRefusalOrMemory (folder_at later p) P e → IsRefusalAt level fm p Q (util_error e)
   listing_refused later level P Q e same a f r = only_faults (folder_at later p) tt level P Q e (ap (λ m. folder_at m p) same ∙ folder_of a) f r
 
-  -- what a child is refused for, its folder is
+  -- an error of a child is an error of its directory
   by_child : (q : Path) (names : List (List ℕ)) (i : ℕ) (level : ℕ) (P Q : Type 0) (e : UtilError) → i < length names → IsInOrder fm.nodes p names → q ≡ p ++ Name (get_or names i []) ∷ []
       → IsAt fm p Folder → stands_at fm q ≡ true → (P → Q) → IsRefusalAt (level + 1) fm q P e → IsRefusalAt level fm p Q e
   by_child q names i level P Q util.Memory here order at a stands f r = tt
@@ -146,7 +146,7 @@ module _ (fm : FileMap) (p : Path) where
   child_refused later q names i level P Q e same here order at a stands f r =
       by_child q names i level P Q e here order at a stands f (subst (λ m. IsRefusalAt (level + 1) m q P e) same r)
 
--- ---- where a child stands
+-- ---- the path of a child
 
 components-name : (n : List ℕ) → IsName n → components n ≡ Name n ∷ []
 unfolding components
@@ -166,7 +166,7 @@ name_among [] i h a = absurd (omega arith)
 name_among (n ∷ names) zero h a = a.0
 name_among (n ∷ names) (suc i) h a = name_among names i (omega arith) a.1
 
--- the path of a child, where its name is the listing's
+-- the path of a child whose name is from the listing
 pub child_at : (fm : FileMap) (p q : Path) (name : List ℕ) (names : List (List ℕ)) (i : ℕ) → i < length names → IsInOrder fm.nodes p names
     → name ≡ get_or names i [] → q ≡ joined p (components name) → q ≡ p ++ Name (get_or names i []) ∷ []
 child_at fm p q name names i here order is e =

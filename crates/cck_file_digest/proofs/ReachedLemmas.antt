@@ -1,4 +1,4 @@
--- What is reached from a folder, as the map finds it.
+-- What is reached from a directory, by look-ups in the map.
 use Rattle.std.proofs.Common.{◌≡◌, List, [], ◌∷◌, ◌++◌, Bool, true, false, ◌&&◌, cond, Option, Some, None, refl, sym, ◌∙◌, ap, subst}
 use Rattle.std.specs.Prelude.{filter_map, T}
 use Rattle.std.specs.List.{cons_option}
@@ -38,7 +38,7 @@ sorted_tail e es h = (T_parts (below_all e.0 es) (is_sorted path_cmp es) h).1
 pub component_itself : (c : Component) → component_cmp c c ≡ Equal
 component_itself c = tied_itself component_cmp_total c
 
--- a common beginning does not matter
+-- a common beginning does not change the order
 pub path_cmp-append : (f a b : Path) → path_cmp (f ++ a) (f ++ b) ≡ path_cmp a b
 path_cmp-append [] a b = refl
 path_cmp-append (c ∷ f) a b = ap (λ o. ordering_then o (path_cmp (f ++ a) (f ++ b))) (component_itself c) ∙ path_cmp-append f a b
@@ -58,7 +58,7 @@ behind_some (c ∷ f) (d ∷ q) r e = elim (eq_by_cmp component_cmp c d) as (λ 
   | false ↦ λ p e. cc
 ] refl e
 
--- a path that is not behind f ties with none that is
+-- a path that does not begin with f is not equal to one that does
 behind_none : (f a q : Path) → behind f q ≡ None → eq_by_cmp path_cmp (f ++ a) q ≡ false
 behind_none f a q e = elim (path_cmp (f ++ a) q) as (λ o. path_cmp (f ++ a) q ≡ o → is_eq o ≡ false) [
   | Less ↦ λ p. refl
@@ -66,7 +66,7 @@ behind_none f a q e = elim (path_cmp (f ++ a) q) as (λ o. path_cmp (f ++ a) q �
   | Greater ↦ λ p. refl
 ] refl
 
--- two sorted lists that answer alike are one
+-- two sorted lists with the same look-ups are equal
 pub same_sorted : (es fs : List (Path × FileNode)) → T (is_sorted path_cmp es) → T (is_sorted path_cmp fs)
     → ((q : Path) → find path_cmp q es ≡ find path_cmp q fs) → es ≡ fs
 same_sorted es fs h k is =
@@ -104,7 +104,7 @@ module _ (m : Nodes) (f : Path) where
       ∙ picked (is_reached m f a) (is_reached m f r) (eq_by_cmp path_cmp a r) _ (find path_cmp (f ++ a) es) n (λ t. ap (is_reached m f) (tied a r t)) h
       ∙ ap (λ t. cond (is_reached m f a) (cond t (Some n) (find path_cmp (f ++ a) es)) None) (sym same)
 
-  -- what is reached, as the map finds it
+  -- a look-up in what is reached, by a look-up in the map
   pub find-below : (es : List (Path × FileNode)) (a : Path)
       → find path_cmp a (below es) ≡ cond (is_reached m f a) (find path_cmp (f ++ a) es) None
   find-below [] a = none_either_way (is_reached m f a)
@@ -146,7 +146,7 @@ module _ (m : Nodes) (f : Path) where
   sorted-front v [] h = tt
   sorted-front v (e ∷ es) h = front-step v e.0 e.1 es (behind f e.0) refl h (sorted-front v es (sorted_tail e es h))
 
--- at what is reached, what the map has there
+-- the node of the map at a path that is reached
 abbrev pub found : Nodes → Path → Path → Option FileNode
 found m f a = cond (is_reached m f a) (get m (f ++ a)) None
 

@@ -21,17 +21,17 @@ take_in_two xs a b =
     ∙ ap (λ p. p ++ drop a (take (a + b) xs)) (take-take a (a + b) xs (omega arith))
     ∙ ap (λ p. take a xs ++ p) (drop-take a b xs)
 
--- what was read into a buffer is no longer than it
+-- what was read into a buffer is not longer than the buffer
 beginning_is_piece : (count : ℕ) (buffer : List ℕ) → 0 < count → count ≤ length buffer → IsPiece buffer → IsPiece (take count buffer)
 beginning_is_piece count buffer some within room =
     let long = length-take-le count buffer within in
     (omega (arith, long), omega (arith, long, room.1))
 
--- at first nothing was
+-- at first nothing was taken
 pub IsFed-nothing : {S : Type 0} (takes : S → List ℕ → S → Type 0) (sink : S) (contents : List ℕ) → IsFed takes sink sink 0 contents
 IsFed-nothing takes sink contents = record { within = omega arith; taken = ([], refl, All-nil IsPiece, refl) }
 
--- what one read gives is a part of the contents
+-- the bytes of one read are a part of the contents
 read_part : (offset n : ℕ) (buffer : List ℕ) (found : Result (List ℕ) FileError) → IsOkAnd found (λ contents. IsRead contents offset n buffer) → IsRead (result_unwrap_or found []) offset n buffer
 read_part offset n buffer (Ok contents) read = read
 read_part offset n buffer (Err e) read = absurd read
@@ -57,7 +57,7 @@ module _ {S : Type 0} (takes : S → List ℕ → S → Type 0) where
         );
       }
 
-  -- at the end it took all
+  -- at the end the sink has taken all contents
   pub fed_all : (first now : S) (offset n : ℕ) (buffer : List ℕ) (found : Result (List ℕ) FileError)
       → IsFed takes first now offset (result_unwrap_or found []) → IsOkAnd found (λ contents. IsRead contents offset n buffer) → n ≡ 0 → 0 < length buffer
       → IsOkAnd found (λ contents. TakesAll takes first contents now)
@@ -65,13 +65,13 @@ module _ {S : Type 0} (takes : S → List ℕ → S → Type 0) where
       subst (λ bytes. TakesAll takes first bytes now) (take_all offset contents (read.at_end none room)) fed.taken
   fed_all first now offset n buffer (Err e) fed read none room = absurd read
 
-  -- before it took a beginning,
+  -- before the end it has taken a beginning,
   pub fed_begun : (first now : S) (offset : ℕ) (contents : List ℕ) → IsFed takes first now offset contents → TakesBeginning takes first contents now
   fed_begun first now offset contents fed =
       let (pieces, folds, small, whole) = fed.taken in
       (pieces, drop offset contents, folds, sym (take-append-drop offset contents) ∙ ap (λ b. b ++ drop offset contents) whole)
 
-  -- and so with a beginning of one more piece
+  -- and still has with a beginning of another piece
   pub fed_begun_more : (first now next : S) (offset n : ℕ) (buffer : List ℕ) (found : Result (List ℕ) FileError)
       → IsFed takes first now offset (result_unwrap_or found []) → IsOkAnd found (λ contents. IsRead contents offset n buffer)
       → TakesBeginning takes now (take n buffer) next → TakesBeginning takes first (result_unwrap_or found []) next
@@ -85,14 +85,14 @@ module _ {S : Type 0} (takes : S → List ℕ → S → Type 0) where
       subst (λ b. TakesBeginning takes first b next) (take-append-drop offset contents)
       (begun_behind takes first now next pieces (take offset contents) (drop offset contents) folds whole rest)
 
-  -- what holds piece by piece, holds of the whole contents
+  -- what each piece preserves holds of the whole contents
   pub holds_of_contents : (holds : S → List ℕ → Type 0)
       → ((before : S) (piece : List ℕ) (after : S) → takes before piece after → (fed : List ℕ) → holds before fed → holds after (fed ++ piece))
       → (first now : S) (contents : List ℕ) → TakesAll takes first contents now → (fed : List ℕ) → holds first fed → holds now (fed ++ contents)
   holds_of_contents holds keeps first now contents (pieces, folds, small, whole) fed h =
       subst (λ c. holds now (fed ++ c)) (sym whole) (holds_after takes holds keeps pieces first now folds fed h)
 
-  -- the contents behind what was fed before them
+  -- the contents after what was fed before them
   pub contents_behind : (holds : S → List ℕ → Type 0)
       → ((before : S) (piece : List ℕ) (after : S) → takes before piece after → (fed : List ℕ) → holds before fed → holds after (fed ++ piece))
       → (start first now : S) (front : List ℕ) (found : Result (List ℕ) FileError) → ((fed : List ℕ) → holds start fed → holds first (fed ++ front))
@@ -101,7 +101,7 @@ module _ {S : Type 0} (takes : S → List ℕ → S → Type 0) where
       subst (holds now) (append_assoc fed front contents) (holds_of_contents holds keeps first now contents all (fed ++ front) (before fed h))
   contents_behind holds keeps start first now front (Err e) before all = absurd all
 
--- what a vector took into nothing are its items
+-- the items of an empty vector that took the contents are the contents
 pub contents_read : (found : Result (List ℕ) FileError) (empty full : Vec ℕ Global) → empty.items ≡ []
     → IsOkAnd found (λ contents. TakesAll (λ before piece after. after.items ≡ before.items ++ piece) empty contents full) → found ≡ Ok full.items
 contents_read (Ok contents) empty full none all =

@@ -1,4 +1,4 @@
--- Digest texts of paths.
+-- Hex digests of paths.
 use Rattle.std.proofs.Common.{◌≡◌, ℕ, ◌+◌, ◌<◌, List, [], ◌∷◌, ◌++◌, length, map, take, get_or, Bool, true, false, ◌||◌, cond, Option, Some, None, refl, sym, ap, ◌∙◌, arith, zero, suc, subst, Vec, Global, Result, Ok, Err, IfOk, MatchResult}
 use Rattle.std.specs.Prelude.{is_some, IsOkUnless}
 use Rattle.std.specs.Option.{option_map}
@@ -44,18 +44,18 @@ module _ (hash : List ℕ → List ℕ) (fm : FileMap) where
           let same : u ∷ us ≡ ts = cc in
           ap (option_map (λ l. u ∷ l)) (more us refl) ∙ ap (λ l. Some (l ++ t ∷ [])) same
 
-  -- one more text
+  -- one more hex digest
   pub texts_more : (ps : List Path) (i : ℕ) (ts : List (List ℕ)) (t : List ℕ) → i < length ps → texts hash fm (take i ps) ≡ Some ts → text_at hash fm (get_or ps i []) ≡ Some t
       → texts hash fm (take (i + 1) ps) ≡ Some (ts ++ t ∷ [])
   texts_more ps i ts t here e f = ap (texts hash fm) (take_more ps i [] here) ∙ texts-push (take i ps) (get_or ps i []) ts t e f
 
--- the path that is written so
+-- the path of this text
 pub path_at : (xs : List (Vec ℕ Global)) (i : ℕ) (v : Vec ℕ Global) → i < length xs → v ≡ get_or xs i v → components v.items ≡ get_or (map (λ path. components path.items) xs) i []
 path_at [] i v h e = absurd (omega arith)
 path_at (x ∷ xs) zero v h e = ap (λ path. components path.items) e
 path_at (x ∷ xs) (suc i) v h e = path_at xs i v (omega arith) e
 
--- what is finished is refused only for lack of memory
+-- finishing fails only for lack of memory
 pub finished : {T : Type 0} (r : Result T UtilError) (P P' : T → Type 0) (Q : UtilError → Type 0) → ((x : T) → P x → P' x) → Q UtilError.Memory → IfOk r P → IsOkUnless r UtilError.Memory → MatchResult r P' Q
 finished (Ok x) P P' Q f q h unless = f x h
 finished (Err e) P P' Q f q h unless = subst Q (sym unless) q

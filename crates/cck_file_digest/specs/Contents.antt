@@ -1,4 +1,4 @@
--- the contents of files, handed on in pieces
+-- the contents of files, passed in pieces
 use Rattle.std.specs.Prelude.{◌≡◌, ℕ, List, All}
 use Rattle.std.specs.List.{FoldsTo}
 use Rattle.cck_digest.specs.Stream.{IsPiece, concatenation}

@@ -1,4 +1,4 @@
--- digest texts of what stands at paths
+-- hex digests of the nodes at paths
 use Rattle.std.specs.Prelude.{ℕ, ◌<◌, List, [], ◌∷◌, length, map, take, Option, Some, None, IsSome, Vec, slice_index_or}
 use Rattle.std.specs.Global.{Global}
 use Rattle.std.specs.Option.{option_map}
@@ -9,7 +9,7 @@ use Rattle.cck_files.specs.FileMap.{FileMap}
 use Rattle.cck_file_digest.specs.FolderText.{digest_material}
 use Rattle.cck_file_digest.specs.Refusals.{IsDigestRefusal}
 
--- the digest text of what stands at a path, by this hash, if it has one
+-- the hex digest of the node at a path, by this hash function, if it has one
 unfoldable pub text_at : (List ℕ → List ℕ) → FileMap → Path → Option (List ℕ)
 text_at hash fm p = option_map (digest_text hash) (digest_material fm p)
 
@@ -17,16 +17,16 @@ abbrev pub text_and : Option (List ℕ) → Option (List (List ℕ)) → Option 
 text_and None others = None
 text_and (Some t) others = option_map (λ ts. t ∷ ts) others
 
--- the digest texts of what stands at these paths, in their order, if each has one
+-- the hex digests of the nodes at these paths, in their order, if each has one
 abbrev pub texts : (List ℕ → List ℕ) → FileMap → List Path → Option (List (List ℕ))
 texts hash fm [] = Some []
 texts hash fm (p ∷ ps) = text_and (text_at hash fm p) (texts hash fm ps)
 
--- the paths that are written so
+-- the paths of these texts
 abbrev pub paths_of : List (Vec ℕ Global) → List Path
 paths_of written = map (λ path. components path.items) written
 
--- the first of these paths whose digest is refused, and why: each one before it has a text
+-- an error for one of these paths, where each path before it has a digest
 pub record IsFirstRefusal (hash : List ℕ → List ℕ) (fm : FileMap) (paths : List Path) (HasFault : Type 0) (e : UtilError) : Type 0 where
   pub at : ℕ
   pub within : at < length paths

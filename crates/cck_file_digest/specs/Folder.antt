@@ -1,4 +1,4 @@
--- the walk through a folder
+-- what is fed for a directory
 use Rattle.std.specs.Prelude.{◌≡◌, ℕ, ◌<◌, List, [], ◌∷◌, ◌++◌, length, Bool, true, false, ◌&&◌, ◌||◌, Option, Some, None, IsSome, filter_map, is_some, slice_index_or}
 use Rattle.std.specs.List.{AllByRecursion, list_any}
 use Rattle.std.specs.Ordering.{eq_by_cmp, is_lt}
@@ -8,7 +8,7 @@ use Rattle.cck_path.specs.Path.{Path, Component, Name, component_cmp, IsName}
 use Rattle.cck_files.specs.FileMap.{FileNode, Nodes}
 use Rattle.cck_file_digest.specs.FolderText.{is_other, is_too_deep, material, reached}
 
--- names that strictly rise
+-- whether names are in strictly ascending order
 abbrev pub rises : List (List ℕ) → Bool
 rises [] = true
 rises (n ∷ []) = true
@@ -25,23 +25,23 @@ pub record IsInOrder (m : Nodes) (p : Path) (names : List (List ℕ)) : Type 0 w
   pub names_only : AllByRecursion IsName names
   pub stand : (i : ℕ) → i < length names → is_some (get m (p ++ Name (slice_index_or names i []) ∷ [])) ≡ true
 
--- the name of a child, below something of this name
+-- the name of a child, below a node of this name
 abbrev pub child_name : Option (List ℕ) → List ℕ → List ℕ
 child_name None n = n
 child_name (Some name) n = name ++ 47 ∷ n
 
--- what these nodes add was fed, and none of them is refused
+-- what these nodes add was fed, and none of them is of another kind or too deep
 pub record IsFedNodes {S : Type 0} (holds : S → List ℕ → Type 0) (level : ℕ) (name : Option (List ℕ)) (nodes : List (Path × FileNode)) (before after : S) : Type 0 where
   pub none_other : list_any is_other nodes ≡ false
   pub none_too_deep : list_any (is_too_deep level) nodes ≡ false
   pub fed : (fed : List ℕ) → holds before fed → holds after (fed ++ material name nodes)
 
--- the name that a relative path is, if it is one alone
+-- the name that a relative path consists of, if it is a single name
 abbrev pub only_name : Path → Option (List ℕ)
 only_name [] = None
 only_name (c ∷ []) = name_of c
 only_name (c ∷ d ∷ q) = None
 
--- the last names of a folder's direct children, in order
+-- the last names of a directory's direct children, in order
 unfoldable pub child_names : Nodes → Path → List (List ℕ)
 child_names m f = filter_map (λ e. only_name e.0) (reached m f)

@@ -1,4 +1,4 @@
--- the bytes whose digest stands for a file or a folder, from the map alone
+-- the bytes that are hashed for a file or a directory, by the file map alone
 use Rattle.std.specs.Prelude.{ℕ, ◌+◌, List, [], ◌∷◌, ◌++◌, length, Bool, true, false, ◌&&◌, ◌||◌, if◌then◌else◌, Option, Some, None, flat_map, filter_map, map, nat_lt}
 use Rattle.std.specs.Str.{encode_utf8_all}
 use Rattle.std.specs.List.{join_with_byte, list_any}
@@ -12,7 +12,7 @@ use Rattle.cck_path.specs.declared.metadata.FileKind.{FileKind}
 use Rattle.cck_path.specs.declared.metadata.FileKind.TheVariants.{File, Folder, Other}
 use Rattle.cck_files.specs.FileMap.{FileMap, FileNode, Nodes}
 
--- what is left of a path behind another, if it begins with that one
+-- the rest of a path after another, if it begins with that one
 abbrev pub behind : Path → Path → Option Path
 behind [] q = Some q
 behind (c ∷ p) [] = None
@@ -42,7 +42,7 @@ abbrev pub is_nil : Path → Bool
 is_nil [] = true
 is_nil (c ∷ p) = false
 
--- a relative path is made of names, and each of its beginnings leads to a folder
+-- whether a relative path consists of names, and each of its proper beginnings leads to a directory
 abbrev pub is_reached : Nodes → Path → Path → Bool
 is_reached m f [] = false
 is_reached m f (c ∷ rest) = is_name c && (is_nil rest || (is_folder (get m (f ++ c ∷ [])) && is_reached m (f ++ c ∷ []) rest))
@@ -51,7 +51,7 @@ abbrev pub if_reached : Nodes → Path → FileNode → Option Path → Option (
 if_reached m f n None = None
 if_reached m f n (Some rest) = if is_reached m f rest then Some (rest, n) else None
 
--- what is reached from a folder through folders, by relative paths in path order
+-- what is reached from a directory through directories, by relative paths in path order
 unfoldable pub reached : Nodes → Path → List (Path × FileNode)
 reached m f = filter_map (λ e. if_reached m f e.1 (behind f e.0)) (entries m)
 
@@ -59,30 +59,30 @@ abbrev pub whole_part : Nodes → Path → Option FileNode → List (Path × Fil
 whole_part m p None = []
 whole_part m p (Some node) = ([], node) ∷ (if is_folder_kind node.kind then reached m p else [])
 
--- what stands at a path, and what is reached from it where it is a folder
+-- the node at a path, and what is reached from it where it is a directory
 unfoldable pub whole : Nodes → Path → List (Path × FileNode)
 whole m p = whole_part m p (get m p)
 
--- neither a file nor a folder
+-- neither a file nor a directory
 abbrev pub is_other : Path × FileNode → Bool
 is_other e = is_other_kind e.1.kind
 
--- a folder of a level above 100, below something of this level
+-- a directory of a level above 100, below a node of this level
 abbrev pub is_too_deep : ℕ → Path × FileNode → Bool
 is_too_deep level e = is_folder_kind e.1.kind && nat_lt 100 (level + length e.0)
 
--- a relative path as it is written: its names with a `/` between each two
+-- the text of a relative path: its names, separated by `/`
 abbrev pub relative_text : Path → List ℕ
 relative_text q = join_with_byte 47 (map component_text q)
 
--- the name of what stands at a relative path below something of this name. What was handed in has none
+-- the name of the node at a relative path below a node of this name. The node for which the digest is called has none
 abbrev pub name_below : Option (List ℕ) → Path → Option (List ℕ)
 name_below None [] = None
 name_below None (c ∷ q) = Some (relative_text (c ∷ q))
 name_below (Some name) [] = Some name
 name_below (Some name) (c ∷ q) = Some (name ++ 47 ∷ relative_text (c ∷ q))
 
--- a name as text: U+FFFD stands for what is no UTF-8
+-- a name as text, with U+FFFD in place of what is not UTF-8
 unfoldable pub lossy : List ℕ → List ℕ
 lossy name = encode_utf8_all (lossy_chars name)
 
@@ -107,9 +107,8 @@ abbrev pub material_of : List (Path × FileNode) → Option (List ℕ)
 material_of [] = None
 material_of (e ∷ es) = if list_any is_other (e ∷ es) || list_any (is_too_deep 1) (e ∷ es) then None else Some (material None (e ∷ es))
 
--- the bytes whose digest stands for what stands at a path. Of a file they are its contents, and of a
--- folder the delimiter of the name and the contents of each file that is reached from it, in path
--- order. There are none where nothing stands, where something else than files and folders is
--- reached, or a folder of a level above 100. What was handed in has level 1
+-- the bytes that are hashed for the node at a path. For a file they are its contents. For a directory they are the delimiter of the name and the
+-- contents of each file that is reached from it, in path order. There are none where there is no node, or where a node of another kind or a directory
+-- of a level above 100 is reached. The node at the path has level 1
 unfoldable pub digest_material : FileMap → Path → Option (List ℕ)
 digest_material fm p = material_of (whole fm.nodes p)

@@ -1,4 +1,4 @@
--- what the definitions say beyond what they compute
+-- properties of the definitions
 use Rattle.std.specs.Prelude.{◌≡◌, ◌≢◌, ◌↔◌, ◌||◌, ℕ, List, [], ◌++◌, true, if◌then◌else◌, Some, None, Ok, Contains, flat_map}
 use Rattle.std.specs.List.{AllByRecursion, list_any}
 use Rattle.std.specs.FinMap.{get, is_sorted}
@@ -11,18 +11,18 @@ use Rattle.cck_files.specs.FileMap.{FileMap, FileNode, Nodes, contents_at, folde
 use Rattle.cck_file_digest.specs.FolderText.{digest_material, is_folder, is_name, is_other, is_too_deep, lossy, reached, relative_text}
 use Rattle.cck_file_digest.specs.Refusals.{IsDigestRefusal}
 
--- a relative path of names leads from a folder through folders
+-- a relative path of names leads from a directory through directories
 pub record LeadsThrough (m : Nodes) (f q : Path) : Type 0 where
   pub some : q ≢ []
   pub names : AllByRecursion (λ c. is_name c ≡ true) q
   pub folders : (a b : Path) → a ≢ [] → b ≢ [] → q ≡ a ++ b → is_folder (get m (f ++ a)) ≡ true
 
--- reached are exactly the nodes to which such a path leads, in strictly rising path order
+-- the nodes that are reached are exactly those to which such a path leads, in strictly ascending path order
 abbrev pub ReachedTells : Type 0
 ReachedTells = (m : Nodes) (f : Path) → (is_sorted path_cmp (reached m f) ≡ true)
     × ((q : Path) (node : FileNode) → Contains (reached m f) (q, node) ↔ ((get m (f ++ q) ≡ Some node) × LeadsThrough m f q))
 
--- the material of a regular file is its contents
+-- what is hashed for a regular file is its contents
 abbrev pub FileMaterial : Type 0
 FileMaterial = (fm : FileMap) (p : Path) (contents : List ℕ) → contents_at fm p ≡ Ok contents → digest_material fm p ≡ Some contents
 
@@ -35,12 +35,11 @@ named_piece_of Other name contents = []
 abbrev pub named_piece : Path × FileNode → List ℕ
 named_piece e = named_piece_of e.1.kind (relative_text e.0) e.1.contents
 
--- the material of a folder is that of all files that are reached, if no other kind is, and no level
--- above 100
+-- what is hashed for a directory is what is hashed for all files that are reached, if no other kind is reached, and no level above 100
 abbrev pub FolderMaterial : Type 0
 FolderMaterial = (fm : FileMap) (p : Path) → folder_at fm p ≡ Ok tt
     → digest_material fm p ≡ (if list_any is_other (reached fm.nodes p) || list_any (is_too_deep 1) (reached fm.nodes p) then None else Some (flat_map named_piece (reached fm.nodes p)))
 
--- what is refused for another cause than a fault and lack of memory has no text
+-- where the error is neither a fault nor lack of memory, there is no digest
 abbrev pub RefusalsTell : Type 0
 RefusalsTell = (fm : FileMap) (p : Path) (e : UtilError) → e ≢ UtilError.Memory → IsDigestRefusal fm p ⊥ e → digest_material fm p ≡ None

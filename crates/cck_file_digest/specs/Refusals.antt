@@ -1,4 +1,4 @@
--- why a digest is refused
+-- the errors of a digest
 use Rattle.std.specs.Prelude.{◌≡◌, ℕ, true, false}
 use Rattle.std.specs.List.{list_any}
 use Rattle.cck_digest.specs.declared.error.FileError.{FileError}
@@ -15,8 +15,8 @@ IsFileRefusalAt fm p HasFault OtherKind = list_any is_other (whole fm.nodes p) �
 IsFileRefusalAt fm p HasFault Fault = HasFault
 IsFileRefusalAt fm p HasFault Memory = ⊥
 
--- what stands at a path of this level is refused: nothing stands there, something else than files
--- and folders is reached, or a folder of a level above 100; or a fault came, or lack of memory
+-- the errors for the node at a path, which has this level: there is no node; a node of another kind or a directory of a level above 100 is reached;
+-- there was a fault; memory is lacking
 abbrev pub IsRefusalAt : ℕ → FileMap → Path → Type 0 → UtilError → Type 0
 IsRefusalAt level fm p HasFault util.Memory = Unit {0}
 IsRefusalAt level fm p HasFault util.Read = ⊥
@@ -29,6 +29,6 @@ IsRefusalAt level fm p HasFault util.InvalidEscape = ⊥
 IsRefusalAt level fm p HasFault util.IncompleteHex = ⊥
 IsRefusalAt level fm p HasFault util.InvalidHex = ⊥
 
--- the digest of what stands at a path is refused
+-- the errors of the digest of the node at a path
 abbrev pub IsDigestRefusal : FileMap → Path → Type 0 → UtilError → Type 0
 IsDigestRefusal = IsRefusalAt 1

@@ -11,11 +11,11 @@ use cck_digest::{FileError, HASH_BUFFER_SIZE, Sink};
 use cck_files::Files;
 use std::alloc::Global;
 
-/// Hands the contents of a regular file to a sink, read through this buffer. It has a byte at least,
-/// and [`HASH_BUFFER_SIZE`](cck_digest::HASH_BUFFER_SIZE) bytes at most.
+/// Passes the contents of a regular file to a sink, read through this buffer. The buffer has at
+/// least one byte and at most [`HASH_BUFFER_SIZE`](cck_digest::HASH_BUFFER_SIZE) bytes.
 ///
-/// It is refused as [`Files::read_at`] is, and as [`FileError::Memory`] where the sink is refused
-/// memory. After a refusal the sink has taken a beginning of the contents.
+/// The errors are those of [`Files::read_at`], and [`FileError::Memory`] where the sink lacks
+/// memory. After an error the sink has taken a beginning of the contents.
 pub(crate) fn feed_contents<F: Files, S: Sink>(
     files: &mut F,
     path: &[u8],
@@ -42,18 +42,18 @@ pub(crate) fn feed_contents<F: Files, S: Sink>(
     }
 }
 
-/// Hands the contents of a regular file to a sink, in pieces of a byte at least, and
-/// [`HASH_BUFFER_SIZE`](cck_digest::HASH_BUFFER_SIZE) bytes at most.
+/// Passes the contents of a regular file to a sink, in pieces of at least one byte and at most
+/// [`HASH_BUFFER_SIZE`](cck_digest::HASH_BUFFER_SIZE) bytes.
 ///
-/// It is refused as
+/// The error is
 ///
-/// - [`FileError::NotFound`] where nothing stands at the path,
-/// - [`FileError::OtherKind`] where what stands there is no regular file,
+/// - [`FileError::NotFound`] where there is no node at the path,
+/// - [`FileError::OtherKind`] where the node there is not a regular file,
 /// - [`FileError::Fault`] only where the count of faults rose,
-/// - [`FileError::Memory`].
+/// - [`FileError::Memory`] where memory is lacking.
 ///
-/// After a refusal the sink has taken a beginning of the contents, and nothing where there are none.
-/// No call on files is made but at this path.
+/// After an error the sink has taken a beginning of the contents, and nothing where there are none.
+/// Every call on files is at this path.
 pub fn feed_file<F: Files, S: Sink>(
     alloc: Global,
     files: &mut F,
@@ -71,9 +71,9 @@ pub fn feed_file<F: Files, S: Sink>(
     feed_file_of_size(alloc, files, path, HASH_BUFFER_SIZE as u64, sink)
 }
 
-/// The same as [`feed_file`], for a file that has this size by its metadata: the contents are read
-/// through a buffer with room for them and one byte more, so that a small file takes little memory.
-/// Contents of any other length are handed over too.
+/// The same as [`feed_file`], for a file that has this size by its metadata. The contents are read
+/// through a buffer with room for them and one more byte, so that a small file takes little memory.
+/// Contents of any other length are passed as well.
 pub fn feed_file_of_size<F: Files, S: Sink>(
     alloc: Global,
     files: &mut F,
@@ -93,7 +93,7 @@ pub fn feed_file_of_size<F: Files, S: Sink>(
     feed_contents(files, path, &mut buffer, sink)
 }
 
-// How many bytes a buffer has for contents of this size.
+// The number of bytes of the buffer for contents of this size.
 fn room_for(size: u64) -> usize
     ensures some { 0 < result }
     ensures most { result ≤ buffer_size }
@@ -105,7 +105,7 @@ fn room_for(size: u64) -> usize
     }
 }
 
-/// The contents of a regular file. It is refused as [`feed_file`] is.
+/// The contents of a regular file. The errors are those of [`feed_file`].
 pub fn read_contents<F: Files>(
     alloc: Global,
     files: &mut F,
@@ -119,8 +119,8 @@ pub fn read_contents<F: Files>(
     read_contents_of_size(alloc, files, path, HASH_BUFFER_SIZE as u64)
 }
 
-/// The same as [`read_contents`], for a file that has this size by its metadata, as
-/// [`feed_file_of_size`] reads it.
+/// The same as [`read_contents`], for a file that has this size by its metadata. It reads as
+/// [`feed_file_of_size`] does.
 pub fn read_contents_of_size<F: Files>(
     alloc: Global,
     files: &mut F,

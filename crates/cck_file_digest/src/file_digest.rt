@@ -1,4 +1,4 @@
-//! Digests of what stands at paths.
+//! Digests of the nodes at paths.
 ghost use Rattle.std.specs.Prelude.{◌≡◌, Some, map, MatchResult, string_bytes};
 ghost use Rattle.cck_path.specs.Path.{components};
 ghost use Rattle.cck_files.specs.Calls.{Keeps, Rose};
@@ -10,29 +10,30 @@ use cck_digest::{Digest, HashState, UtilError, new_hash_buffer};
 use cck_files::Files;
 use std::alloc::Global;
 
-/// Digests of files and folders, as calls of [`Digest`].
+/// Digests of files and directories, as calls of [`Digest`].
 pub trait DigestFiles {
     ghost use Rattle.std.specs.Prelude.{ℕ, List};
 
     // The hash function.
     ghost hash: { List ℕ → List ℕ };
 
-    /// The digest text of what stands at a path.
+    /// The hex digest of the node at a path.
     ///
-    /// That of a regular file is of its contents. That of a folder is of the delimiter of the name
-    /// and the contents of each regular file that is reached from it through folders, in path
-    /// order; a name is the path from the folder on, with U+FFFD for what is no UTF-8. Upstream's
-    /// `Digest::file`. It is refused as
+    /// The digest of a regular file is that of its contents. The digest of a directory is that of
+    /// the regular files that are reached from it through directories, in path order. For each file
+    /// it is fed the delimiter of the file's name, and the contents. The name is the path relative
+    /// to the directory, with U+FFFD in place of what is not UTF-8. Upstream's `Digest::file`. The
+    /// error is
     ///
-    /// - [`UtilError::File`] of `NotFound` where nothing stands at the path,
-    /// - [`UtilError::File`] of `OtherKind` where what stands there, or is reached, is neither file
-    ///   nor folder,
+    /// - [`UtilError::File`] of `NotFound` where there is no node at the path,
+    /// - [`UtilError::File`] of `OtherKind` where the node there, or one that is reached, is
+    ///   neither a file nor a directory,
     /// - [`UtilError::File`] of `Fault` only where the count of faults rose,
-    /// - [`UtilError::TooDeep`] where a folder of a level above 100 is reached; the one at the path
-    ///   has level 1,
-    /// - [`UtilError::Memory`].
+    /// - [`UtilError::TooDeep`] where a directory of a level above 100 is reached; the one at the
+    ///   path has level 1,
+    /// - [`UtilError::Memory`] where memory is lacking.
     ///
-    /// Where several of these come together, any of them is answered.
+    /// Where several of these causes apply, any of their errors is returned.
     fn file<F: Files>(alloc: Global, files: &mut F, path: &[u8]) -> Result<String, UtilError>
         ensures keeps { Keeps F.file_map F.faults F.is_quiet files.old files.new }
         ensures answer { let fm = F.file_map files.old in MatchResult result
@@ -59,7 +60,7 @@ impl<H: HashState> DigestFiles for Digest<H> {
     }
 }
 
-// The digest text of what stands at a path.
+// The hex digest of the node at a path.
 fn digest_path<H: HashState, F: Files>(
     alloc: Global,
     files: &mut F,
@@ -76,10 +77,10 @@ fn digest_path<H: HashState, F: Files>(
     digest.finish(alloc)
 }
 
-/// The digest texts of what stands at these paths, in their order.
+/// The hex digests of the nodes at these paths, in their order.
 ///
-/// Upstream's `util::hash_all`. It is refused as [`DigestFiles::file`] is for the first path, in
-/// their order, that has no text or meets a fault or lack of memory.
+/// Upstream's `util::hash_all`. The error is that of [`DigestFiles::file`] for the first path, in
+/// their order, that has no digest or meets a fault or lack of memory.
 pub fn hash_all<H: HashState, F: Files>(
     alloc: Global,
     files: &mut F,

@@ -1,4 +1,4 @@
-//! What is fed for a file or a folder.
+//! What is fed for a file or a directory.
 ghost use Rattle.std.specs.Prelude.{◌≡◌, ℕ, List, ◌++◌, ◌≤◌, length, map, vec_items, true, Ok, IfOk, OnOk, IsOkUnless, MatchResult, IsOkAnd};
 ghost use Rattle.std.specs.Option.{option_copied};
 ghost use Rattle.cck_digest.specs.Stream.{IsPiece};
@@ -16,7 +16,7 @@ use cck_files::Files;
 use cck_path::{FileKind, join_path};
 use std::alloc::{AllocError, Global};
 
-// How many levels of folders a digest has at most.
+// The greatest level that a directory in a digest may have.
 const FOLDER_LEVELS: u32 = 100;
 
 // Feeds the delimiter of a name, if there is one.
@@ -56,15 +56,15 @@ fn feed_named<H: HashState, F: Files>(
     feed_contents(files, path, buffer, digest)
 }
 
-/// The last names of a folder's direct children, in the order of their bytes. A child whose last
-/// component is no name has none.
+/// The last names of a directory's direct children, in the order of their bytes. A child whose last
+/// component is not a name is left out.
 ///
-/// It is refused as
+/// The error is
 ///
-/// - [`FileError::NotFound`] where nothing stands at the path,
-/// - [`FileError::OtherKind`] where what stands there is no folder,
+/// - [`FileError::NotFound`] where there is no node at the path,
+/// - [`FileError::OtherKind`] where the node there is not a directory,
 /// - [`FileError::Fault`] only where the count of faults rose,
-/// - [`FileError::Memory`].
+/// - [`FileError::Memory`] where memory is lacking.
 pub fn sorted_names<F: Files>(
     alloc: Global,
     files: &mut F,
@@ -84,7 +84,8 @@ pub fn sorted_names<F: Files>(
     Ok(names)
 }
 
-// The name of a child, below a folder of this name, if it has one.
+// The name under which a child is fed: that of its directory and a `/`, if the directory has one,
+// and its own.
 fn name_child(alloc: Global, folder: Option<&[u8]>, child: &[u8]) -> Result<Vec<u8>, AllocError>
     ensures { IfOk result (λ name. name.items ≡ child_name (option_copied folder.entry) child.now) }
 {
@@ -97,8 +98,8 @@ fn name_child(alloc: Global, folder: Option<&[u8]>, child: &[u8]) -> Result<Vec<
     Ok(name)
 }
 
-/// Feeds what stands at a path, which is of this level: a file behind its name, if it has one, or
-/// all that is reached from a folder, in path order.
+/// Feeds the node at a path, which has this level. A file is fed after the delimiter of its name,
+/// if it has one. Of a directory, all that is reached from it is fed, in path order.
 pub(crate) fn feed_node<H: HashState, F: Files>(
     alloc: Global,
     files: &mut F,

@@ -1,23 +1,23 @@
-//! Laws about the definitions, each the contract of a function that does nothing.
+//! Laws about the definitions. Each is the contract of a function with an empty body.
 ghost use Rattle.cck_file_digest.specs.Laws.{FileMaterial, FolderMaterial, ReachedTells, RefusalsTell};
 
-/// What is reached from a folder is exactly what a relative path of names leads to through folders,
-/// in strictly rising path order, and so each once.
+/// The nodes that are reached from a directory are exactly those to which a relative path of names
+/// leads through directories. They are in strictly ascending path order, and so each is there once.
 pub fn reached_tells()
     ensures { ReachedTells }
 {}
 
-/// The digest of a regular file is of its contents alone.
+/// The digest of a regular file is that of its contents alone.
 pub fn file_material()
     ensures { FileMaterial }
 {}
 
-/// The digest of a folder is of the name and the contents of each file that is reached.
+/// The digest of a directory is that of the name and the contents of each file that is reached.
 pub fn folder_material()
     ensures { FolderMaterial }
 {}
 
-/// Where neither a fault nor lack of memory refused a digest, there is none.
+/// Where the error is neither a fault nor lack of memory, there is no digest.
 pub fn refusals_tell()
     ensures { RefusalsTell }
 {}

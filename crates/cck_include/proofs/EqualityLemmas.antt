@@ -1,4 +1,4 @@
--- The test of equality of includes tells whether two are one.
+-- The equality test of includes decides whether two are equal.
 use Rattle.std.proofs.Common.{◌≡◌, ap}
 use Rattle.std.specs.Cmp.Lexicographic.{bytes_decides}
 use Rattle.std.specs.Prelude.{Decides}

@@ -1,4 +1,4 @@
--- Gathering what is recorded of one file after the other.
+-- Recording one file after another.
 use Rattle.std.proofs.Common.{◌≡◌, ℕ, suc, ◌<◌, ◌+◌, List, [], ◌∷◌, ◌++◌, Option, Some, None, Err, length, map, take, drop, get_or, refl, sym, ap, subst, ◌∙◌, drop-cons}
 use Rattle.std.proofs.lemmas.List.{map_push, map-append, take_more, take-append-drop}
 use Rattle.std.specs.Prelude.{String}
@@ -72,7 +72,7 @@ missing_one files moment d P OtherKind r = absurd (no_other_at files (components
 missing_one files moment d P Fault r = r
 missing_one files moment d P Memory r = absurd r
 
--- one more file after those so far
+-- another file after those so far
 pub gathered-push : (files : FileMap) (moment : Moment) (ps : List (String Global × Vec ℕ)) (i : ℕ) (p : String Global × Vec ℕ) (xs : List Include) (x : Include)
     → i < length ps → p ≡ get_or ps i p → gathered files moment (digested_in (take i ps)) ≡ Some xs
     → include_at files moment (string_bytes p.0, p.1.items) ≡ Some x → gathered files moment (digested_in (take (i + 1) ps)) ≡ Some (xs ++ x ∷ [])

@@ -1,4 +1,4 @@
--- What a look-up found of files.
+-- What a look-up has found of files.
 use Rattle.std.proofs.Common.{◌≡◌, ◌⊎◌, ◌<◌, ◌≤◌, ◌∙◌, ℕ, inl, inr, arith, List, [], ◌∷◌, ◌++◌, length, get_or, set, All, Bool, true, false, Option, Some, None, Result, Ok, Err, IfOk, cond, refl, sym, ap, subst}
 use Rattle.std.specs.FinMap.{FinMap, get, get-insert, insert}
 use Rattle.std.specs.Ordering.{is_eq}
@@ -25,7 +25,7 @@ none_known s files ks places none = (
   λ p i at. absurd (omega (arith, at.in_range, ap length none)),
 )
 
--- what was found is found after another path got a place,
+-- what was found is still found after another path got a place,
 pub kept_found : (ks : List KnownFile) (old new : FinMap path_cmp ℕ) (p : Path) (n : ℕ) → new ≡ insert old p n → ((i : ℕ) → IsPlaceOf p ks i → ⊥) → AreFound ks old → AreFound ks new
 kept_found ks old new p n set none found q i at = ap (λ (m : FinMap path_cmp ℕ). get m q) set ∙ get-insert path_cmp_total old p n q ∙ go (path_cmp q p) refl
   where
@@ -34,7 +34,7 @@ kept_found ks old new p n set none found q i at = ap (λ (m : FinMap path_cmp �
     go Greater is = found q i at
     go Equal is = absurd (none i (subst (λ x. IsPlaceOf x ks i) (path_cmp-IsAntisymmetric q p is) at))
 
--- a path finds the place that it got
+-- a path is found at the place that it got
 got : (old new : FinMap path_cmp ℕ) (p : Path) (n : ℕ) → new ≡ insert old p n → get new p ≡ Some n
 got old new p n set = ap (λ (m : FinMap path_cmp ℕ). get m p) set ∙ get-insert path_cmp_total old p n p ∙ ap (λ o. cond (is_eq o) (Some n) (get old p)) (tied_itself path_cmp_total p)
 
@@ -45,7 +45,7 @@ last_place ks k = record {
   has_path = λ d. ap path_of (get_or_push ks k d (length ks) refl);
 }
 
--- and with the file of that path behind the others
+-- and also with the file of that path added after the others
 pub more_found : (ks : List KnownFile) (k : KnownFile) (old new : FinMap path_cmp ℕ) → new ≡ insert old (path_of k) (length ks) → ((i : ℕ) → IsPlaceOf (path_of k) ks i → ⊥)
     → AreFound ks old → AreFound (ks ++ k ∷ []) new
 more_found ks k old new set none found q i at = go (cases_lt i (length ks))
@@ -59,7 +59,7 @@ more_found ks k old new set none found q i at = go (cases_lt i (length ks))
         let same : path_of k ≡ q = ap path_of (sym (get_or_push ks k k i (sym last))) ∙ at.has_path k in
         ap (get new) (sym same) ∙ got old new (path_of k) (length ks) set ∙ ap (λ (n : ℕ). Some n) (sym last)
 
--- so one more file is known
+-- so another file is known
 pub known_more : (s : Setting) (files : FileMap) (ks more : List KnownFile) (k : KnownFile) (old new : FinMap path_cmp ℕ) (p : Path) (n : ℕ)
     → more ≡ ks ++ k ∷ [] → path_of k ≡ p → k.digest ≡ None → n ≡ length ks → new ≡ insert old p n → metadata_at files p ≡ Ok k.metadata → ((i : ℕ) → IsPlaceOf p ks i → ⊥)
     → All (IsRight s files) ks × AreFound ks old → All (IsRight s files) more × AreFound more new
@@ -74,14 +74,14 @@ at_found p ks a i e at =
     let same : i ≡ a = cc in
     subst (IsPlaceOf p ks) same at
 
--- and where none is found, none is there
+-- and where none is found, there is none
 pub never : {P : Type 0} → ◌≡◌ {A = Bool} false true → P
 never e = absurd cc
 
 pub none_found : {P : Type 0} (i : ℕ) → ◌≡◌ {A = Option ℕ} None (Some i) → P
 none_found i e = absurd cc
 
--- what is known of a place is right, and is of its path,
+-- what is known at a place is right, and is of its path,
 pub right_there : (s : Setting) (files : FileMap) (ks : List KnownFile) (p : Path) (i : ℕ) (k : KnownFile) → k ≡ get_or ks i k → IsPlaceOf p ks i → All (IsRight s files) ks → IsRight s files k
 right_there s files ks p i k is at right = subst (IsRight s files) (sym is) (All-get_or (IsRight s files) ks i k at.in_range right)
 
@@ -94,7 +94,7 @@ metadata_there s files ks p i k is at right =
     let own = right_there s files ks p i k is at right in
     ap (metadata_at files) (sym (path_there ks p i k is at)) ∙ own.metadata
 
--- and stays so where more is known of one file
+-- and stays so where more becomes known of one file
 place_before : (ks : List KnownFile) (i : ℕ) (k now : KnownFile) (q : Path) (j : ℕ) → k ≡ get_or ks i k → path_of now ≡ path_of k → IsPlaceOf q (set ks i now) j → IsPlaceOf q ks j
 place_before ks i k now q j is path at =
     let within : j < length ks = omega (arith, at.in_range, length-set ks i now) in
@@ -113,7 +113,7 @@ known_set s files ks places i k now is path own right = (
   λ q j at. right.1 q j (place_before ks i k now q j is (ap (λ x. components x.items) path) at),
 )
 
--- where metadata were refused, a fault came if there are any
+-- where a call for metadata failed although there is a node, there was a fault
 pub refused : (r : Result Metadata FileError) (P : Type 0) (e : FileError) → IsRefusal r P e → IfOk r (λ _. P)
 refused (Ok m) P NotFound h = absurd cc
 refused (Ok m) P OtherKind h = absurd cc

@@ -1,4 +1,4 @@
--- What recorded digests tell.
+-- What recorded digests imply.
 use Rattle.std.proofs.Common.{◌≡◌, ℕ, Bool, true, false, not, ◌&&◌, ◌||◌, List, [], ◌++◌, length, if◌then◌else◌, Option, Some, None, refl, sym, ap, ◌∙◌, arith}
 use Rattle.std.specs.Option.{unwrap_or}
 use Rattle.std.proofs.lemmas.List.{append-nil, length-append}
@@ -15,7 +15,7 @@ use Rattle.cck_include.specs.Laws.{AreTold, ShowTheSame, at_moment}
 use Rattle.cck_include.specs.Recorded.{counts_part, file_time_part, has_date, has_time, has_timestamp, is_timed, recorded, recorded_by}
 use Rattle.cck_include.specs.Setting.{Setting}
 
--- what a digest was made of
+-- the parts of a recorded digest
 made_of : (hash : List ℕ → List ℕ) (time timed : Bool) (text : List ℕ) (part : Option (List ℕ)) (digest : List ℕ) → recorded_by hash time timed text part ≡ Some digest
     → (time ≡ false) × (rest : List ℕ) × (digest ≡ text ++ rest) × (timed ≡ false → rest ≡ []) × (timed ≡ true → (p : List ℕ) × (part ≡ Some p) × (rest ≡ digest_text hash p))
 made_of hash true timed text part digest e = absurd cc
@@ -40,7 +40,7 @@ recorded_has_length s n digest long e =
     let (clear, rest, is, bare, more) = made_of s.hash (not s.config.ignore_time_macros && has_time n.contents) (counts_part s n) (digest_text s.hash n.contents) (file_time_part s n) digest e in
     has_length s.hash (counts_part s n) (digest_text s.hash n.contents) rest digest (file_time_part s n) long (text_length s.hash n.contents (long n.contents)) is bare more
 
--- what counts
+-- what counts where time macros are not ignored
 counted : (ignores has : Bool) → ignores ≡ false → (not ignores && has) ≡ has
 counted false has e = refl
 counted true has e = absurd cc

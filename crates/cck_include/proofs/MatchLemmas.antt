@@ -1,4 +1,4 @@
--- When an included file is what it was.
+-- When an included file matches.
 use Rattle.std.proofs.Common.{◌≡◌, ◌≢◌, ℕ, suc, ◌+◌, ◌<◌, arith, get_or, drop, drop-cons, ◌∷◌, ◌⊎◌, inl, inr, Bool, true, false, ◌&&◌, ◌||◌, nat_eq, List, Option, Result, Ok, Err, IfOk, IsOkAnd, length, refl, sym, ap, ◌∙◌}
 use Rattle.std.specs.Prelude.{String}
 use Rattle.std.specs.List.{list_all}
@@ -19,12 +19,12 @@ use Rattle.cck_include.specs.Matching.{MayMiss, digest_found, file_matches, is_d
 use Rattle.cck_include.specs.Recorded.{recorded}
 use Rattle.cck_include.specs.Setting.{Setting}
 
--- an answer without a fault
+-- an exact result misses no match
 pub exact : (answer right : Bool) (P : Type 0) → answer ≡ right → MayMiss P answer right
 exact true right P e = sym e
 exact false right P e = inl (sym e)
 
--- the digest that is known is the file's
+-- the known digest is that of the file
 found_known : (s : Setting) (found : Result FileNode FileError) (digest : Option (String Global)) (expected : List ℕ)
     → IsOkAnd found (λ n. option_map string_bytes digest ≡ recorded s n) → is_digest (option_map string_bytes digest) expected ≡ digest_found s expected found
 found_known s (Ok n) digest expected h = ap (λ d. is_digest d expected) h
@@ -34,19 +34,19 @@ pub by_known : (s : Setting) (files : FileMap) (p : Path) (digest : Option (Stri
     → IsOkAnd (file_at files p) (λ n. option_map string_bytes digest ≡ recorded s n) → is_digest (option_map string_bytes digest) expected ≡ digest_found s expected (file_at files p)
 by_known s files p digest expected h = found_known s (file_at files p) digest expected h
 
--- with a fault it may be missed, and the later fault is one of the whole
+-- with a fault a match may be missed, and the later fault is one of the whole call
 pub by_recorded : (s : Setting) (files : FileMap) (i : Include) (m : Metadata) (P Q : Type 0) (answer : Bool) → (P → Q) → digest_found s i.digest (file_at files (components i.path)) ≡ matches s files i
     → MayMiss P answer (digest_found s i.digest (file_at files (components i.path))) → MayMiss Q answer (matches s files i)
 by_recorded s files i m P Q true f e h = sym e ∙ h
 by_recorded s files i m P Q false f e (inl h) = inl (sym e ∙ h)
 by_recorded s files i m P Q false f e (inr h) = inr (f h)
 
--- what is not there matches nothing,
+-- where there is no file, there is no match,
 without_file : (s : Setting) (files : FileMap) (i : Include) (e : FileError) → file_at files (components i.path) ≡ Err e → matches s files i ≡ false
 unfolding matches
 without_file s files i e is = ap (file_matches s i) is
 
--- or a fault came where it couldn't be asked for its metadata;
+-- or there was a fault where its metadata was not found;
 pub unreadable : (s : Setting) (files : FileMap) (i : Include) (P : Type 0) → IfOk (metadata_at files (components i.path)) (λ _. P) → (matches s files i ≡ false) ⊎ P
 unreadable s files i P h = go (metadata_at files (components i.path)) refl h
   where
@@ -54,11 +54,11 @@ unreadable s files i P h = go (metadata_at files (components i.path)) refl h
     go (Ok m) is h = inr h
     go (Err e) is h = inl (without_file s files i e (no_file_without_metadata files (components i.path) e is))
 
--- nor what is of another kind,
+-- a node of another kind does not match,
 pub other_kind : (s : Setting) (files : FileMap) (i : Include) (m : Metadata) → metadata_at files (components i.path) ≡ Ok m → (m.kind ≡ File → ⊥) → matches s files i ≡ false
 other_kind s files i m is h = without_file s files i OtherKind (no_file_of_kind files (components i.path) m is h)
 
--- or of another size;
+-- nor does a file of another size;
 sizes : (a b : ℕ) → a ≢ b → nat_eq a b ≡ false
 sizes a b h = elim (nat_eq a b) as (λ t. nat_eq a b ≡ t → t ≡ false) [ true ↦ λ e. absurd (h ((Decides-eqb a b).0 e)) | false ↦ λ e. refl ] refl
 
@@ -68,7 +68,7 @@ other_size s files i m is kind h =
     let (n, found, len, modified, changed) = file_of_kind files (components i.path) m is kind in
     ap (file_matches s i) found ∙ ap (λ t. t && (times_accept s.config i n || is_digest (recorded s n) i.digest)) (sizes (length n.contents) i.size (λ e. h (sym len ∙ e)))
 
--- else its times may be enough,
+-- otherwise its times may suffice,
 pub by_times : (s : Setting) (files : FileMap) (i : Include) (m : Metadata) → metadata_at files (components i.path) ≡ Ok m → m.kind ≡ File → m.len ≡ i.size
     → (s.config.file_stat_matches && times_agree s.config.use_ctime_for_stat i.modified i.changed m.modified m.changed) ≡ true → matches s files i ≡ true
 unfolding matches
@@ -79,7 +79,7 @@ by_times s files i m is kind size accept =
     ∙ (ap (λ t. t && (times_accept s.config i n || is_digest (recorded s n) i.digest)) ((Decides-eqb (length n.contents) i.size).1 (len ∙ size))
     ∙ ap (λ t. t || is_digest (recorded s n) i.digest) times)
 
--- and else its recorded digest decides
+-- and otherwise its recorded digest decides
 pub by_digest : (s : Setting) (files : FileMap) (i : Include) (m : Metadata) → metadata_at files (components i.path) ≡ Ok m → m.kind ≡ File → m.len ≡ i.size
     → (s.config.file_stat_matches && times_agree s.config.use_ctime_for_stat i.modified i.changed m.modified m.changed) ≡ false
     → digest_found s i.digest (file_at files (components i.path)) ≡ matches s files i
@@ -98,6 +98,6 @@ rest_here xs i x within is =
     let next : suc i ≡ i + 1 = omega arith in
     ap includes_in (drop-cons xs i x within) ∙ (ap (λ z. include_in z ∷ includes_in (drop (suc i) xs)) (sym is) ∙ ap (λ k. include_in x ∷ includes_in (drop k xs)) next)
 
--- whether all match, once the first of those that are left does
+-- where the first of those that are left matches, the others decide whether all match
 pub all_more : (m : Include → Bool) (i : Include) (rest behind all : List Include) → rest ≡ i ∷ behind → m i ≡ true → list_all m rest ≡ list_all m all → list_all m behind ≡ list_all m all
 all_more m i rest behind all is fits e = sym (ap (list_all m) is ∙ ap (λ b. b && list_all m behind) fits) ∙ e

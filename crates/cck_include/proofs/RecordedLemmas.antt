@@ -1,4 +1,4 @@
--- What one reading of a file tells is the file's.
+-- The result of one reading of a file is right for the file.
 use Rattle.std.proofs.Common.{◌≡◌, ◌↔◌, ℕ, Bool, true, false, ◌||◌, List, Option, Some, Result, Ok, Err, IfOk, IsOkAnd, IsTrue, MatchResult, refl, sym, ap, subst}
 use Rattle.std.specs.Prelude.{IsOkUnless, String}
 use Rattle.std.specs.Option.{option_map}
@@ -23,7 +23,7 @@ use Rattle.cck_include.specs.Refusal.{IsIoRefusal, io_error}
 use Rattle.cck_include.specs.Scan.{IsScanOf}
 use Rattle.cck_include.specs.declared.recorded.Scan.{Scan}
 
--- two tests of one thing agree
+-- two tests of the same statement agree
 pub same_test : (a b : Bool) (P : Type 0) → IsTrue a ↔ P → IsTrue b ↔ P → a ≡ b
 same_test true true P h k = refl
 same_test true false P h k = sym (k.1 (h.0 refl))
@@ -34,7 +34,7 @@ pub ok_by : {X E : Type 0} (r : Result X E) (P Q : X → Type 0) → ((x : X) �
 ok_by (Ok x) P Q f h = f x h
 ok_by (Err e) P Q f h = h
 
--- refusals
+-- errors
 pub without_metadata : (files : FileMap) (p : Path) (P : Type 0) (e : FileError) → IsRefusal (metadata_at files p) P e → IsIoRefusal (file_at files p) P (io_error e)
 without_metadata files p P NotFound r = no_file_without_metadata files p NotFound r
 without_metadata files p P OtherKind r = no_file_without_metadata files p OtherKind r
@@ -47,7 +47,7 @@ without_contents files p P Q OtherKind f r = no_file_without_contents files p Ot
 without_contents files p P Q Fault f r = f r
 without_contents files p P Q Memory f r = tt
 
--- a fault of a part is one of the whole
+-- a fault of a part is a fault of the whole
 refused_by : {X : Type 0} (found : Result X FileError) (P Q : Type 0) (e : Error) → (P → Q) → IsIoRefusal found P e → IsIoRefusal found Q e
 refused_by found P Q error.Memory f h = tt
 refused_by found P Q (error.Io (util.File e)) f h = refusal_by found P Q e f h
@@ -74,7 +74,7 @@ with_contents : (files : FileMap) (p : Path) (r : Result (List ℕ) FileError) (
 with_contents files p (Ok c) P e h = let found = file_with_contents files p c e in (found.0, found.1, subst P (sym found.2) h)
 with_contents files p (Err x) P e h = absurd h
 
--- the digest where the macros are ignored,
+-- the digest where time macros are ignored,
 ignoring : (s : Setting) (n : FileNode) (text : List ℕ) → s.config.ignore_time_macros ≡ true → text ≡ digest_text s.hash n.contents → Some text ≡ recorded s n
 unfolding recorded
 ignoring s n text ignores is = rw ignores (ap Some is)

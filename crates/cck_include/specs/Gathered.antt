@@ -12,26 +12,26 @@ use Rattle.cck_path.specs.Path.{components}
 use Rattle.cck_path.specs.Timestamp.{Moment}
 use Rattle.cck_path.specs.declared.metadata.Metadata.{Metadata}
 
--- a file and the digest that is recorded of it: the digest, and the path
+-- a file with its recorded digest: the digest, and the path
 abbrev pub Digested : Type 0
 Digested = List ℕ × List ℕ
 
--- the time lies before the moment: by its seconds, and within one second by its nanoseconds
+-- whether the time is before `moment`: by its seconds, and within one second by its nanoseconds
 abbrev pub is_before : Moment → Moment → Bool
 is_before time moment = is_lt (ordering_then (int_cmp time.seconds moment.seconds) (nat_cmp time.nanoseconds moment.nanoseconds))
 
--- both times are known and lie before the moment
+-- whether both times are known and before `moment`
 abbrev pub are_before : Option Moment → Option Moment → Moment → Bool
 are_before (Some m) (Some c) moment = is_before m moment && is_before c moment
 are_before (Some m) None moment = false
 are_before None changed moment = false
 
--- the time, where it is kept
+-- the time, if it is kept
 abbrev pub kept : Bool → Option Moment → Option Moment
 kept true time = time
 kept false time = None
 
--- what is recorded of what a path leads to: both times, or none
+-- what is recorded of the node at a path: both times, or none
 abbrev pub include_of : Moment → Digested → Metadata → Include
 include_of moment (digest, path) m =
     let keeps = are_before m.modified m.changed moment in
@@ -41,7 +41,7 @@ abbrev pub include_said : Moment → Digested → Result Metadata FileError → 
 include_said moment d (Ok m) = Some (include_of moment d m)
 include_said moment d (Err e) = None
 
--- the same, if something stands there
+-- the same, if there is a node
 abbrev pub include_at : FileMap → Moment → Digested → Option Include
 include_at files moment d = include_said moment d (metadata_at files (components (d.1)))
 
@@ -51,10 +51,10 @@ all_of [] = Some []
 all_of (None ∷ os) = None
 all_of (Some x ∷ os) = option_map (λ xs. x ∷ xs) (all_of os)
 
--- what is recorded of all the files, if something stands at each path
+-- what is recorded of all the files, if there is a node at each path
 unfoldable pub gathered : FileMap → Moment → List Digested → Option (List Include)
 gathered files moment ds = all_of (map (include_at files moment) ds)
 
--- the digests and the paths that a list of pairs holds
+-- the digests and the paths in a list of pairs
 abbrev pub digested_in : List (String Global × Vec ℕ) → List Digested
 digested_in ps = map (λ p. (string_bytes (p.0), p.1.items)) ps

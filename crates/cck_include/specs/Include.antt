@@ -15,18 +15,18 @@ pub record Include : Type 0 where
   pub modified : Option Moment
   pub changed : Option Moment
 
--- what is recorded in one value, and in several
+-- the value of an include entry, and of several
 abbrev pub include_in : IncludeEntry → Include
 include_in i = record { path = i.path.items; digest = string_bytes i.digest; size = i.file_size; modified = i.mtime; changed = i.ctime }
 
 abbrev pub includes_in : List IncludeEntry → List Include
 includes_in is = map include_in is
 
--- what is recorded in one value whose path and digest stand elsewhere
+-- the value of an include entry that is borrowed
 abbrev pub include_lent : IncludeRef → Include
 include_lent i = record { path = i.path.now; digest = i.digest.now; size = i.file_size; modified = i.mtime; changed = i.ctime }
 
--- when two are equal, as a test
+-- the equality of two includes, as a Boolean function
 abbrev pub same_include : Include → Include → Bool
 same_include a b =
     pointwise nat_eq a.path b.path && (pointwise nat_eq a.digest b.digest && (nat_eq a.size b.size

@@ -1,4 +1,4 @@
--- what a look-up found of files
+-- what a look-up has found of files
 use Rattle.std.specs.Prelude.{◌≡◌, ℕ, ◌<◌, List, length, All, Some, Ok, IfSome, IsOkAnd, slice_index_or}
 use Rattle.std.specs.FinMap.{FinMap, get}
 use Rattle.std.specs.Option.{option_map}
@@ -10,16 +10,16 @@ use Rattle.cck_include.specs.Setting.{Setting}
 use Rattle.cck_include.specs.declared.known.KnownFiles.{KnownFiles}
 use Rattle.cck_include.specs.declared.known.KnownFile.{KnownFile}
 
--- where the file is
+-- the path of a file
 abbrev pub path_of : KnownFile → Path
 path_of k = components k.path.items
 
--- these are its metadata, and what is known of its recorded digest is so: it is this one, or there is none
+-- the metadata of a file is right, and so is its recorded digest, if that is known: it is this one, or there is none
 pub record IsRight (s : Setting) (files : FileMap) (k : KnownFile) : Type 0 where
   pub metadata : metadata_at files (path_of k) ≡ Ok k.metadata
   pub digest : IfSome k.digest (λ d. IsOkAnd (file_at files (path_of k)) (λ n. option_map string_bytes d ≡ recorded s n))
 
--- the file at place i is there, and at this path
+-- there is a file at place i, with this path
 pub record IsPlaceOf (p : Path) (ks : List KnownFile) (i : ℕ) : Type 0 where
   pub in_range : i < length ks
   pub has_path : (d : KnownFile) → path_of (slice_index_or ks i d) ≡ p

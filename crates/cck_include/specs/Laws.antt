@@ -1,4 +1,4 @@
--- what recorded digests tell
+-- what recorded digests imply
 use Rattle.std.specs.Prelude.{◌≡◌, ℕ, true, false, List, length, if◌then◌else◌, Some}
 use Rattle.cck_digest.specs.Digest.{digest_text}
 use Rattle.cck_files.specs.FileMap.{FileNode}
@@ -8,27 +8,27 @@ use Rattle.cck_time.specs.TimePart.{AreOfOneSecond, local_day, source_date_epoch
 use Rattle.cck_include.specs.Recorded.{counts_part, file_time_part, has_date, has_time, has_timestamp, recorded}
 use Rattle.cck_include.specs.Setting.{Setting}
 
--- with a hash of 32 bytes it has 64 characters, and 128 where a time part counts
+-- if the output of the hash function has 32 bytes, a recorded digest has 64 characters, and 128 where a time part counts
 abbrev pub RecordedHasLength : Type 0
 RecordedHasLength =
     (s : Setting) (n : FileNode) (digest : List ℕ) → ((fed : List ℕ) → length (s.hash fed) ≡ 32) → recorded s n ≡ Some digest
     → length digest ≡ (if counts_part s n then 128 else 64)
 
--- the setting at another moment, with other variables
+-- the setting at another call time, with other variables
 abbrev pub at_moment : Moment → List Variable → Setting → Setting
 at_moment moment variables s = record { hash = s.hash; config = s.config; moment = moment; zone = s.zone; variables = variables }
 
--- the digest text tells these two apart
+-- these two have different hex digests if they are different
 abbrev pub IsTold : (List ℕ → List ℕ) → List ℕ → List ℕ → Type 0
 IsTold hash a b = digest_text hash a ≡ digest_text hash b → a ≡ b
 
--- it tells apart what these two files are digested from: their contents, and their time parts where both count
+-- the hash function has no collision between the contents of these two files, nor between their time parts where both count
 pub record AreTold (s t : Setting) (n o : FileNode) : Type 0 where
   pub contents : IsTold s.hash n.contents o.contents
   pub parts : (p q : List ℕ) → counts_part s n ≡ true → counts_part t o ≡ true → file_time_part s n ≡ Some p → file_time_part t o ≡ Some q → IsTold s.hash p q
 
--- Two files show the same: they have one text, and where macros of time count no `__TIME__`, one local day and one
--- `SOURCE_DATE_EPOCH` with a `__DATE__`, and one local second of modification with a `__TIMESTAMP__`.
+-- Two files show the same text: their contents are the same, and where time macros count, there is no `__TIME__` in them. With a `__DATE__`, the
+-- local day and `SOURCE_DATE_EPOCH` are the same, and with a `__TIMESTAMP__` the local second of modification.
 pub record ShowTheSame (s t : Setting) (n o : FileNode) : Type 0 where
   pub contents : n.contents ≡ o.contents
   pub time : s.config.ignore_time_macros ≡ false → has_time n.contents ≡ false
@@ -37,7 +37,7 @@ pub record ShowTheSame (s t : Setting) (n o : FileNode) : Type 0 where
   pub second : s.config.ignore_time_macros ≡ false → has_timestamp n.contents ≡ true
       → AreOfOneSecond s.zone n.modified o.modified
 
--- equal recorded digests, even of other moments and variables, are of files that show the same
+-- files with equal recorded digests, even of other call times and variables, show the same text
 abbrev pub EqualDigestsTell : Type 0
 EqualDigestsTell =
     (s : Setting) (moment : Moment) (variables : List Variable) (n o : FileNode) (digest : List ℕ) → ((fed : List ℕ) → length (s.hash fed) ≡ 32)

@@ -6,7 +6,7 @@ use Rattle.cck_files.specs.FileMap.{FileNode}
 use Rattle.cck_time.specs.TimePart.{time_part}
 use Rattle.cck_include.specs.Setting.{Setting}
 
--- the contents hold this macro of time
+-- whether the contents have this time macro
 unfoldable pub has_time : List ℕ → Bool
 has_time contents = has contents time_macro
 
@@ -16,23 +16,23 @@ has_date contents = has contents date_macro
 unfoldable pub has_timestamp : List ℕ → Bool
 has_timestamp contents = has contents timestamp_macro
 
--- the contents hold a date or a timestamp
+-- whether the contents have a `__DATE__` or a `__TIMESTAMP__`
 abbrev pub is_timed : List ℕ → Bool
 is_timed contents = has_date contents || has_timestamp contents
 
--- the time part of a file: what its dates and timestamps show, if they can be told
+-- the time part of a file: what its dates and timestamps show, if that can be computed
 abbrev pub file_time_part : Setting → FileNode → Option (List ℕ)
 file_time_part s n = time_part (has_date n.contents) (has_timestamp n.contents) n.modified s.moment s.zone s.variables
 
--- a digest text, with that of the time part where one counts; none where a `__TIME__` counts, or where the time part can't
--- be told
+-- a hex digest, followed by that of the time part where one counts. There is none where a `__TIME__` counts, or where the time part cannot be
+-- computed
 abbrev pub recorded_by : (List ℕ → List ℕ) → Bool → Bool → List ℕ → Option (List ℕ) → Option (List ℕ)
 recorded_by hash true timed text part = None
 recorded_by hash false false text part = Some text
 recorded_by hash false true text None = None
 recorded_by hash false true text (Some p) = Some (text ++ digest_text hash p)
 
--- macros of time count, and the file's time part with them
+-- time macros count, and the file's time part with them
 abbrev pub counts_part : Setting → FileNode → Bool
 counts_part s n = not s.config.ignore_time_macros && is_timed n.contents
 

@@ -1,4 +1,4 @@
--- why what stands at a path can't be had
+-- the errors for the node at a path
 use Rattle.std.specs.Prelude.{Result}
 use Rattle.cck_digest.specs.declared.error.FileError.TheVariants.{NotFound, OtherKind, Fault}
 use Rattle.cck_digest.specs.declared.error.FileError.TheVariants as file
@@ -8,7 +8,7 @@ use Rattle.cck_files.specs.Calls.{IsRefusal}
 use Rattle.cck_time.specs.declared.error.Error.{Error}
 use Rattle.cck_time.specs.declared.error.Error.TheVariants.{Io, Deserialization, UnknownFormat, Memory}
 
--- the map's own answer, a fault where one came, or lack of memory
+-- the error of the map itself, a fault where there was one, or lack of memory
 abbrev pub IsIoRefusal : {X : Type 0} → Result X FileError → Type 0 → Error → Type 0
 IsIoRefusal answer HasFault Memory = Unit {0}
 IsIoRefusal answer HasFault (Io (util.File e)) = IsRefusal answer HasFault e
@@ -24,14 +24,14 @@ IsIoRefusal answer HasFault (Io util.InvalidHex) = ⊥
 IsIoRefusal answer HasFault Deserialization = ⊥
 IsIoRefusal answer HasFault (UnknownFormat byte) = ⊥
 
--- a lack of memory stays one, and all else is a refusal of files
+-- lack of memory stays lack of memory, and any other error is an error of files
 abbrev pub io_error : FileError → Error
 io_error NotFound = Io (util.File NotFound)
 io_error OtherKind = Io (util.File OtherKind)
 io_error Fault = Io (util.File Fault)
 io_error file.Memory = Memory
 
--- something is missing, a fault came, or memory ran out
+-- something is missing, there was a fault, or memory is lacking
 abbrev pub IsMissing : Type 0 → Type 0 → Error → Type 0
 IsMissing Missing HasFault Memory = Unit {0}
 IsMissing Missing HasFault (Io (util.File NotFound)) = Missing

@@ -1,4 +1,4 @@
--- how files are judged
+-- settings of recorded digests and matches
 use Rattle.std.specs.Prelude.{ℕ, List}
 use Rattle.std.specs.Global.{Vec}
 use Rattle.cck_path.specs.Bytes.{variables_of}
@@ -7,7 +7,7 @@ use Rattle.cck_path.specs.Variables.{Variable}
 use Rattle.cck_time.specs.declared.config.PreprocessorCacheModeConfig.{PreprocessorCacheModeConfig}
 use Rattle.jiff.specs.Types.{TimeZone}
 
--- how files are judged: by which hash and options, at which moment, in which zone, with which variables
+-- what recorded digests and matches depend on, besides the files: the hash function, the options, the call time, the zone and the variables
 pub record Setting : Type 0 where
   pub hash : List ℕ → List ℕ
   pub config : PreprocessorCacheModeConfig
@@ -15,7 +15,7 @@ pub record Setting : Type 0 where
   pub zone : TimeZone
   pub variables : List Variable
 
--- the setting that a caller hands in
+-- the setting of a caller's arguments
 abbrev pub setting_in : (List ℕ → List ℕ) → PreprocessorCacheModeConfig → Moment → TimeZone → List (Vec ℕ × Vec ℕ) → Setting
 setting_in hash config moment zone variables = record {
   hash = hash;

@@ -12,14 +12,14 @@ use cck_path::Timestamp;
 use cck_time::Error;
 use std::alloc::Global;
 
-// Whether the time lies before the moment.
+// Whether the time is before `moment`.
 fn is_before(time: Timestamp, moment: Timestamp) -> bool
     ensures { result ≡ is_before time moment }
 {
     time < moment
 }
 
-// Whether both times are known and lie before the moment.
+// Whether both times are known and before `moment`.
 fn are_before(modified: Option<Timestamp>, changed: Option<Timestamp>, moment: Timestamp) -> bool
     ensures { result ≡ are_before modified changed moment }
 {
@@ -31,14 +31,14 @@ fn are_before(modified: Option<Timestamp>, changed: Option<Timestamp>, moment: T
     }
 }
 
-// The time, where it is kept.
+// The time, if it is kept.
 fn kept(keeps: bool, time: Option<Timestamp>) -> Option<Timestamp>
     ensures { result ≡ kept keeps time }
 {
     if keeps { time } else { None }
 }
 
-// What is recorded of what stands at a path, with this digest.
+// What is recorded of the node at a path, with this digest.
 fn include_at<F: Files>(
     alloc: Global,
     files: &mut F,
@@ -65,13 +65,17 @@ fn include_at<F: Files>(
     })
 }
 
-/// What is recorded of each of these files, in their order, with the digest that stands before its
-/// path: its size, and both its times where both are known and lie before the moment, so that a
-/// file that may still be written in that same instant is not known by its times.
+/// What is recorded of each of these files, in their order: the digest that is paired with its
+/// path, its size, and its times. Both times are recorded where both are known and before `moment`,
+/// the call time; otherwise neither is. So a file that may still be written at that time is not
+/// identified by its times.
 ///
-/// It is refused as [`Error::Io`] with [`NotFound`](cck_digest::FileError::NotFound) only where
-/// nothing stands at one of the paths, or with [`Fault`](cck_digest::FileError::Fault) only where a
-/// fault came, and as [`Error::Memory`].
+/// The error is
+///
+/// - [`Error::Io`] with [`NotFound`](cck_digest::FileError::NotFound) only where there is no node at
+///   one of the paths,
+/// - [`Error::Io`] with [`Fault`](cck_digest::FileError::Fault) only where there was a fault,
+/// - [`Error::Memory`] where memory is lacking.
 pub fn gather<F: Files>(
     alloc: Global,
     files: &mut F,

@@ -15,7 +15,7 @@ pub struct IncludeEntry {
     pub path: Vec<u8>,
     /// The digest that was recorded of the file.
     pub digest: String,
-    /// How many bytes the file had.
+    /// The number of bytes that the file had.
     pub file_size: u64,
     /// When its contents were last modified, if that is to be compared.
     pub mtime: Option<Timestamp>,
@@ -24,7 +24,7 @@ pub struct IncludeEntry {
 }
 
 impl IncludeEntry {
-    /// The same values, where they are. It takes no memory.
+    /// The same values by reference. It allocates no memory.
     pub fn lend(&self) -> IncludeRef<'_>
         ensures { include_lent result ≡ include_in self.now }
     {
@@ -37,9 +37,9 @@ impl IncludeEntry {
         }
     }
 
-    /// The same values, in memory of their own.
+    /// A copy of the values.
     ///
-    /// [`Error::Memory`] is the only refusal.
+    /// The only error is [`Error::Memory`].
     pub fn copy(&self, alloc: Global) -> Result<IncludeEntry, Error>
         ensures value { IfOk result (λ copy. include_in copy ≡ include_in self.now) }
         ensures err { IfErr result (λ e. e ≡ Error.Memory) }
@@ -48,15 +48,15 @@ impl IncludeEntry {
     }
 }
 
-/// A file that was included, with its path and its digest where they stand: in an
-/// [`IncludeEntry`], or in the bytes of an entry. The fields are those of an [`IncludeEntry`].
+/// A file that was included, whose path and digest are borrowed from an [`IncludeEntry`] or from
+/// the bytes of an entry. The fields are those of an [`IncludeEntry`].
 #[derive(Clone, Copy, Debug)]
 pub struct IncludeRef<'a> {
     /// The path of the file, any bytes.
     pub path: &'a [u8],
     /// The digest that was recorded of the file.
     pub digest: &'a str,
-    /// How many bytes the file had.
+    /// The number of bytes that the file had.
     pub file_size: u64,
     /// When its contents were last modified, if that is to be compared.
     pub mtime: Option<Timestamp>,
@@ -65,9 +65,9 @@ pub struct IncludeRef<'a> {
 }
 
 impl IncludeRef<'_> {
-    /// The same values, in memory of their own.
+    /// A copy of the values.
     ///
-    /// [`Error::Memory`] is the only refusal.
+    /// The only error is [`Error::Memory`].
     pub fn copy(&self, alloc: Global) -> Result<IncludeEntry, Error>
         ensures value { IfOk result (λ copy. include_in copy ≡ include_lent self.now) }
         ensures err { IfErr result (λ e. e ≡ Error.Memory) }

@@ -1,4 +1,4 @@
-//! What a look-up found of files.
+//! What a look-up has found of files.
 ghost use Rattle.std.specs.Prelude.{◌≡◌, ℕ, IfOk, IfSome, IsSome, MatchBool, MatchOption, Ok};
 ghost use Rattle.cck_files.specs.Calls.{Keeps, Rose};
 ghost use Rattle.cck_files.specs.FileMap.{FileMap, metadata_at};
@@ -11,18 +11,18 @@ use cck_path::{Metadata, same_path};
 use cck_path_map::PathMap;
 use std::alloc::{AllocError, Global};
 
-/// What one look-up found of files, by path: their metadata and recorded digests, so that no file is
-/// asked or read twice.
+/// What one look-up has found of files, by path: their metadata and recorded digests. With it no
+/// file's metadata is asked for twice, and no file is read twice.
 ///
-/// It is known of the files, the moment, the zone, the variables and the options of the calls that
-/// found it. For others a new value is needed.
+/// It is valid for the files, the call time, the zone, the variables and the options of the calls
+/// that found it. For others a new value is needed.
 #[derive(Debug, Drop)]
 pub struct KnownFiles {
     // In the order in which they were found.
     pub(crate) files: Vec<KnownFile>,
-    // Where the file of a path stands among them.
+    // The place of each path's file in `files`.
     places: PathMap<usize>,
-    // The place that is looked at first.
+    // The place that is tried first.
     next: usize,
 }
 
@@ -36,8 +36,8 @@ pub(crate) struct KnownFile {
 }
 
 impl KnownFiles {
-    /// Nothing is known: whatever the files and all else are, none of it is wrong. It takes no
-    /// memory.
+    /// Nothing is known yet, which is right whatever the files, the call time, the zone, the
+    /// variables and the options are. It allocates no memory.
     pub fn new(alloc: Global) -> KnownFiles
         ensures { (s : Setting) (files : FileMap) → AreKnown s files result }
     {
@@ -48,8 +48,8 @@ impl KnownFiles {
         }
     }
 
-    // The place of the file at a path, if it is known. Lists of includes have mostly the same files
-    // in the same order, so the file after the last one is looked at before a search.
+    // The place of the file at a path, if it is known. Lists of includes mostly have the same files
+    // in the same order, so the file after the last one is tried before a search.
     fn place_of(&self, path: &[u8]) -> Option<usize>
         ensures place { IfSome result (IsPlaceOf (components path.now) self.now.files.items) }
         ensures all { AreFound self.now.files.items self.now.places
@@ -68,7 +68,7 @@ impl KnownFiles {
         }
     }
 
-    // Keeps what was found at a path at which no file is known, and answers its place.
+    // Adds the metadata of a path that is not known yet, and returns its place.
     fn add(&mut self, alloc: Global, path: &[u8], metadata: Metadata) -> Result<usize, AllocError>
         ensures known { (s : Setting) (files : FileMap) → metadata_at files (components path.now) ≡ Ok metadata
             → ((i : ℕ) → IsPlaceOf (components path.now) self.old.files.items i → ⊥)
@@ -92,7 +92,7 @@ impl KnownFiles {
     }
 }
 
-// Whether the file at a place is there, and is the one at a path.
+// Whether there is a file at a place, with this path.
 fn is_at(files: &[KnownFile], place: usize, path: &[u8]) -> bool
     ensures { MatchBool result (IsPlaceOf (components path.now) files.now place)
         (IsPlaceOf (components path.now) files.now place → ⊥) }
@@ -103,8 +103,9 @@ fn is_at(files: &[KnownFile], place: usize, path: &[u8]) -> bool
     }
 }
 
-/// The place of what stands at a path, among what is known, if something stands there. What is known
-/// isn't asked again, and what was found becomes known. With a fault there may be none.
+/// The place of the node at a path among what is known, or `None` where there is no node. What is
+/// known is not asked for again, and what was found becomes known. With a fault the result may be
+/// `None`.
 pub(crate) fn place_for<F: Files>(
     alloc: Global,
     files: &mut F,

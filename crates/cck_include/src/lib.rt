@@ -1,19 +1,20 @@
-//! Files that were included: what is recorded of them, and whether they still are what they were.
+//! Included files: what is recorded of them, and whether they still match it.
 //!
-//! A digest of its contents doesn't tell what a file shows to a preprocessor: `__DATE__` in it
-//! shows another text tomorrow, and `__TIMESTAMP__` once the file was modified. So, unless
-//! the options ignore these macros, the *recorded digest* of a file goes on, where its contents hold
-//! one of these macros, with the digest of its time part, and a file with `__TIME__` has none. Then
-//! equal recorded digests are of files that show the same text, if no two digests collide.
+//! The digest of a file's contents does not determine the text that the file shows to a
+//! preprocessor. A `__DATE__` in it shows another text tomorrow, and a `__TIMESTAMP__` once the
+//! file was modified. So, unless the options ignore these macros, the *recorded digest* of a file
+//! with one of the two continues with the digest of its time part. A file with `__TIME__` has no
+//! recorded digest then, and files with equal recorded digests show the same text, if no two
+//! digests collide.
 //!
-//! - [`recorded_digest`] is that digest of one file.
+//! - [`recorded_digest`] returns that digest of one file.
 //! - [`gather`] records each file that a result included as an [`IncludeEntry`]: its path, recorded
-//!   digest and size, and its times where both lie before the moment of the recording.
-//! - [`includes_match`] says whether such files still are what they were. A file of another size is
-//!   not; where the options let its times decide, it need not be read. [`include_matches`] says it
-//!   of one file, an [`IncludeRef`], whose path and digest may stand in other bytes.
+//!   digest and size, and its times where both are before the call time.
+//! - [`includes_match`] returns whether such files still match. A file of another size does not;
+//!   where the options let its times decide, it need not be read. [`include_matches`] does so for
+//!   one file, an [`IncludeRef`], whose path and digest may be borrowed from other bytes.
 //!   [`KnownFiles`] keeps what one look-up finds, so that it reads no file twice.
-//! - [`laws`] has what equal recorded digests tell.
+//! - [`laws`] states what equal recorded digests imply.
 //!
 //! ```rust
 //! // `digest` is the recorded digest of `/w/h.h` at `moment`.
@@ -21,7 +22,7 @@
 //! let mut known = KnownFiles::new(alloc);
 //! includes_match::<Sha256State, MapFiles>(
 //!     alloc, &mut files, &mut known, &includes, later, &zone, &[], config,
-//! )?; // `true`, until another text stands at `/w/h.h`, or one of its macros of time shows another
+//! )?; // `true`, until `/w/h.h` has other contents, or one of its time macros shows another text
 //! ```
 #![tactic(auto)]
 

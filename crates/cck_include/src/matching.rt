@@ -1,4 +1,4 @@
-//! Whether included files still are what they were.
+//! Whether included files still match what was recorded of them.
 ghost use Rattle.std.specs.Prelude.{◌≡◌, ◌≢◌, ◌⊎◌, ◌&&◌, IfOk, IsSome, OnOk, MatchBool, IsOkUnless, string_bytes};
 ghost use Rattle.std.specs.List.{list_all};
 ghost use Rattle.std.specs.Option.{option_map};
@@ -20,7 +20,7 @@ use cck_time::{Error, PreprocessorCacheModeConfig};
 use jiff::tz::TimeZone;
 use std::alloc::Global;
 
-// Whether this is a regular file's.
+// Whether this is the metadata of a regular file.
 fn is_file(metadata: &Metadata) -> bool
     ensures { MatchBool result (metadata.now.kind ≡ FileKind.File) (metadata.now.kind ≢ FileKind.File) }
 {
@@ -40,7 +40,7 @@ fn is_moment(time: Option<Timestamp>, expected: Timestamp) -> bool
     }
 }
 
-// Whether the times that were recorded are the file's.
+// Whether the recorded times are those of the file.
 fn times_agree(include: &IncludeRef<'_>, metadata: &Metadata, uses_changed: bool) -> bool
     ensures { result ≡ times_agree uses_changed include.now.mtime include.now.ctime
         metadata.now.modified metadata.now.changed }
@@ -56,7 +56,7 @@ fn times_agree(include: &IncludeRef<'_>, metadata: &Metadata, uses_changed: bool
     }
 }
 
-// Whether the times alone are enough, by these options.
+// Whether the times alone suffice, by these options.
 fn times_accept(
     include: &IncludeRef<'_>,
     metadata: &Metadata,
@@ -78,8 +78,8 @@ fn is_digest(digest: &Option<String>, expected: &str) -> bool
     }
 }
 
-// Whether a file that is known has this recorded digest. With a fault it may be answered that it
-// hasn't. A digest that is known isn't made again, and one that was made becomes known.
+// Whether a known file has this recorded digest. With a fault the result may be `false` although it
+// has. A known digest is not computed again, and a computed one becomes known.
 fn is_recorded<H: HashState, F: Files>(
     alloc: Global,
     files: &mut F,
@@ -127,10 +127,10 @@ fn is_recorded<H: HashState, F: Files>(
     Ok(answer)
 }
 
-/// Whether this included file still is what it was, as [`includes_match`] has it of several. Where
-/// a fault came, it may be answered that it isn't. `known` is that of [`includes_match`].
+/// Whether this included file still matches, as [`includes_match`] says of several. Where there was
+/// a fault, the result may be `false` although it does. `known` is that of [`includes_match`].
 ///
-/// It is refused only as [`Error::Memory`].
+/// The only error is [`Error::Memory`].
 pub fn include_matches<H: HashState, F: Files>(
     alloc: Global,
     files: &mut F,
@@ -175,17 +175,19 @@ pub fn include_matches<H: HashState, F: Files>(
     )
 }
 
-/// Whether all of these included files still are what they were. Each is a regular file of the
-/// recorded size, and its times or its recorded digest say that it is the same; the times do so
-/// only with [`file_stat_matches`](PreprocessorCacheModeConfig::file_stat_matches). A file that
-/// can't be read, for whatever cause, is none. Where a fault came, it may be answered that they are
-/// not.
+/// Whether all of these included files still match what was recorded of them. A file matches if it
+/// is a regular file of the recorded size, and its times or its recorded digest show that it is the
+/// same. The times do so only with
+/// [`file_stat_matches`](PreprocessorCacheModeConfig::file_stat_matches). A file that cannot be
+/// read, for any cause, does not match. Where there was a fault, the result may be `false` although
+/// all match.
 ///
-/// `known` keeps the metadata and the recorded digests that were found, so that no file is asked or
-/// read twice. The answer is right if what was known before is: if nothing was, or calls with the
-/// same files, moment, zone, variables and options found it.
+/// `known` keeps the metadata and the recorded digests that were found, so that no file's metadata
+/// is asked for twice and no file is read twice. The result is right if what was known before is:
+/// if nothing was, or if calls with the same files, call time, zone, variables and options found
+/// it.
 ///
-/// It is refused only as [`Error::Memory`].
+/// The only error is [`Error::Memory`].
 pub fn includes_match<H: HashState, F: Files>(
     alloc: Global,
     files: &mut F,

@@ -22,7 +22,7 @@ use cck_time::{Error, PreprocessorCacheModeConfig, local_time_part};
 use jiff::tz::TimeZone;
 use std::alloc::Global;
 
-// The digest text of a file's contents, and which macros of time they hold.
+// The hex digest of a file's contents, and which time macros they have.
 #[derive(Drop)]
 struct Scan {
     text: String,
@@ -31,7 +31,7 @@ struct Scan {
     has_timestamp: bool,
 }
 
-// Reads a regular file of this size once, for its digest and its macros of time.
+// Reads a regular file of this size once, for its digest and its time macros.
 fn read_once<H: HashState, F: Files>(
     alloc: Global,
     files: &mut F,
@@ -58,7 +58,7 @@ fn read_once<H: HashState, F: Files>(
     })
 }
 
-// The digest text of the contents of a regular file of this size. No macros are searched for.
+// The hex digest of the contents of a regular file of this size. Time macros are not searched for.
 fn contents_text<H: HashState, F: Files>(
     alloc: Global,
     files: &mut F,
@@ -79,7 +79,7 @@ fn contents_text<H: HashState, F: Files>(
     }
 }
 
-// The digest text of some bytes.
+// The hex digest of some bytes.
 fn text_of<H: HashState>(alloc: Global, bytes: &[u8]) -> Result<String, Error>
     ensures text { IfOk result (λ text. string_bytes text ≡ digest_text H.hash bytes.now) }
     ensures refused { IsOkUnless result Error.Memory }
@@ -92,7 +92,7 @@ fn text_of<H: HashState>(alloc: Global, bytes: &[u8]) -> Result<String, Error>
     }
 }
 
-// The recorded digest, from what one reading of the file told and the time of its modification.
+// The recorded digest, from one reading of the file and the time of its modification.
 fn digest_of<H: HashState>(
     alloc: Global,
     scan: Scan,
@@ -127,22 +127,23 @@ fn digest_of<H: HashState>(
     Ok(Some(text))
 }
 
-/// The recorded digest of the file at a path: the digest text of its contents, and behind it, where
-/// they hold `__DATE__` or `__TIMESTAMP__`, that of its [time part](local_time_part). With
-/// [`ignore_time_macros`](PreprocessorCacheModeConfig::ignore_time_macros) it is the text of the
-/// contents alone. So two files of one recorded digest show the same text to a preprocessor.
+/// The recorded digest of the file at a path: the hex digest of its contents, and after it, where
+/// they have `__DATE__` or `__TIMESTAMP__`, that of its [time part](local_time_part). With
+/// [`ignore_time_macros`](PreprocessorCacheModeConfig::ignore_time_macros) it is the hex digest of
+/// the contents alone. What two files with the same recorded digest have in common is stated by
+/// [`equal_digests_tell`](crate::laws::equal_digests_tell).
 ///
-/// There is none (`None`) exactly where macros of time count and the contents hold `__TIME__`, or
-/// the time part can't be told: a time that it needs is missing or out of range. The file is read
-/// once.
+/// There is none (`None`) exactly where time macros count and the contents have `__TIME__`, or the
+/// time part cannot be computed. That is so where a time that it needs is missing or out of range.
+/// The file is read once.
 ///
-/// It is refused as [`Error::Io`] with
+/// The error is [`Error::Io`] with
 ///
-/// - [`NotFound`](FileError::NotFound) where nothing stands at the path,
-/// - [`OtherKind`](FileError::OtherKind) where what stands there is no regular file,
-/// - [`Fault`](FileError::Fault) only where a fault came,
+/// - [`NotFound`](FileError::NotFound) where there is no node at the path,
+/// - [`OtherKind`](FileError::OtherKind) where the node there is not a regular file,
+/// - [`Fault`](FileError::Fault) only where there was a fault,
 ///
-/// and as [`Error::Memory`]. No call on files is made but at this path.
+/// or [`Error::Memory`] where memory is lacking. Every call on files is at this path.
 pub fn recorded_digest<H: HashState, F: Files>(
     alloc: Global,
     files: &mut F,
@@ -166,7 +167,8 @@ pub fn recorded_digest<H: HashState, F: Files>(
     digest_with_metadata::<H, F>(alloc, files, path, metadata, moment, zone, vars, config)
 }
 
-/// The recorded digest of the file at a path that has these metadata, as [`recorded_digest`] has it.
+/// The recorded digest of the file at a path that has this metadata, as [`recorded_digest`] returns
+/// it.
 pub(crate) fn digest_with_metadata<H: HashState, F: Files>(
     alloc: Global,
     files: &mut F,

@@ -1,11 +1,11 @@
-//! Refusals of calls on files, as those of entries.
+//! The errors of calls on files as the errors of entries.
 ghost use Rattle.std.specs.Prelude.{◌≡◌};
 ghost use Rattle.cck_include.specs.Refusal.{io_error};
 
 use cck_digest::{FileError, UtilError};
 use cck_time::Error;
 
-// A lack of memory stays one, and all else is `Error::Io`.
+// Lack of memory stays lack of memory, and any other error becomes `Error::Io`.
 pub(crate) fn io_error(error: FileError) -> Error
     ensures { result ≡ io_error error }
 {

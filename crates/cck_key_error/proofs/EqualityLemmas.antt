@@ -1,4 +1,4 @@
--- The tests of equality tell whether two errors are one.
+-- The equality tests decide whether two errors are equal.
 use Rattle.std.proofs.Common.{◌≡◌, refl, ap}
 use Rattle.std.proofs.lemmas.Bool.Decides.{Decides-like}
 use Rattle.std.specs.Prelude.{Decides}

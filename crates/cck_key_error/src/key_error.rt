@@ -1,4 +1,4 @@
-//! Why a call for a key is refused.
+//! The error of the calls that compute keys.
 ghost use Rattle.std.specs.Prelude.{◌≡◌};
 ghost use Rattle.cck_key_error.specs.KeyError.{number_of};
 ghost use Rattle.cck_key_error.specs.declared.key_error.KeyError.TheVariants.{Memory};
@@ -9,26 +9,26 @@ use cck_time::Error;
 use std::alloc::{AllocError, AllocFailed};
 use thiserror::Error as ThisError;
 
-/// Why a call for a key gave no answer.
+/// The error of a call that computes a key.
 #[derive(Debug, Copy, Clone, PartialEq, Eq, ThisError)]
 pub enum KeyError {
-    /// A growth of memory was refused.
+    /// An allocation failed.
     #[error("out of memory")]
     Memory,
-    /// A further file has no digest, for this reason. Lack of memory is [`KeyError::Memory`]
+    /// The digest of an extra file failed with this error. Lack of memory is [`KeyError::Memory`]
     /// instead.
     #[error("a further file has no digest: {0}")]
     Extra(UtilError),
-    /// The input can't be read, for this reason. Lack of memory is [`KeyError::Memory`] instead.
+    /// The input cannot be read, with this error. Lack of memory is [`KeyError::Memory`] instead.
     #[error("the input can't be read: {0}")]
     Input(UtilError),
     /// The store failed.
     #[error("the store failed")]
     Store,
-    /// What the store handed out is no entry.
+    /// What the store returned is not an entry.
     #[error("what the store handed out is no entry: {0}")]
     Entry(Error),
-    /// There is no preprocessed text, for this reason. Lack of memory is [`KeyError::Memory`]
+    /// There is no preprocessed text, for this cause. Lack of memory is [`KeyError::Memory`]
     /// instead.
     #[error("there is no preprocessed text: {0}")]
     Preprocess(PreprocessError),
@@ -38,8 +38,8 @@ pub enum KeyError {
 }
 
 impl KeyError {
-    /// The number of the reason, from 1 for lack of memory to 7 for a malformed line marker, in the
-    /// order in which the variants stand. It takes no memory.
+    /// The number of the variant, in order: from 1 for lack of memory to 7 for a malformed line
+    /// marker. It allocates no memory.
     pub fn number(&self) -> u8
         ensures { result ≡ number_of self.now }
     {

@@ -1,12 +1,12 @@
-//! Why a call for a key is refused.
+//! The error of the calls that compute keys.
 //!
-//! [`KeyError`] is the one error of all calls that make a key or a part of one: of parsed command
-//! lines, of further files, of walks over preprocessed text and of the calls themselves. So it stands
-//! below all of these. [`PreprocessError`] is why a compiler gave no preprocessed text, which is one
-//! of its reasons.
+//! [`KeyError`] is the error of all calls that compute a key or a part of one. These are the calls
+//! on parsed command lines, on extra files and for whole keys, and the walks over preprocessed
+//! text. So this crate is below the crates of all these calls. [`PreprocessError`] is why a
+//! compiler returned no preprocessed text, which is one of the causes.
 //!
-//! - [`KeyError::number`] has the number of each reason.
-//! - [`laws`] has what `==` says of the two.
+//! - [`KeyError::number`] is the number of each variant.
+//! - [`laws`] states what `==` means for the two types.
 //!
 //! ```rust
 //! let error = KeyError::Preprocess(PreprocessError::Failed);

@@ -1,16 +1,16 @@
 //! Why there is no preprocessed text.
 use thiserror::Error;
 
-/// Why a compiler gave no preprocessed text.
+/// Why a compiler returned no preprocessed text.
 #[derive(Debug, Copy, Clone, PartialEq, Eq, Error)]
 pub enum PreprocessError {
-    /// A call on files met a fault.
+    /// A call on files had a fault.
     #[error("a call on a file failed")]
     Fault,
     /// There is no preprocessed text.
     #[error("the preprocessor failed")]
     Failed,
-    /// A growth of memory was refused.
+    /// An allocation failed.
     #[error("out of memory")]
     Memory,
 }

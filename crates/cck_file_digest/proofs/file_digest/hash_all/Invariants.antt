@@ -4,7 +4,7 @@ use Rattle.cck_files.specs.Calls.{Keeps}
 use Rattle.cck_file_digest.specs.FileDigest.{paths_of, texts}
 use Rattle.cck_file_digest.proofs.file_digest.hash_all.Given as goal
 
--- the texts so far
+-- the hex digests so far
 abbrev pub invariant-loop-path : goal.invariant-loop-path
 invariant-loop-path g l = let F = g.F.Files in record {
   keeps : Keeps F.file_map F.faults F.is_quiet l.fn.files l.files;

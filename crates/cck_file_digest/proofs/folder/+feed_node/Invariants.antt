@@ -8,7 +8,7 @@ use Rattle.cck_file_digest.specs.Folder.{IsFedNodes}
 use Rattle.cck_file_digest.proofs.ChildLemmas.{child_nodes}
 use Rattle.cck_file_digest.proofs.folder.+feed_node.Given as goal
 
--- a folder of the last level has no folder below it
+-- a directory of the last level has no directory below it
 abbrev pub decreases-feed_node : goal.decreases-feed_node
 decreases-feed_node g l = 101 - l.level
 
