@@ -44,7 +44,7 @@ pub(crate) const CALLS: [(&str, DigestCall); 15] = [
     ("hash_variables_named", DigestCall::Variables),
 ];
 
-// Where a call feeds a digest, the digest was fed `base` before it.
+// If a call feeds a digest, the digest was fed `base` before.
 pub(crate) fn call<'a>(
     call: DigestCall,
     given: &'a Given,
@@ -93,13 +93,13 @@ fn feed_arguments(given: &Given, digest: &mut Digest<Sha256State>) -> Result<(),
     Ok(())
 }
 
-// The variables whose names are the arguments.
+// Feeds the variables whose names are the arguments.
 fn feed_variables(given: &Given, digest: &mut Digest<Sha256State>) -> Result<(), CaseError> {
     hash_variables_named(digest, &given.variables, &names_of(given)?);
     Ok(())
 }
 
-// The same as a list.
+// Feeds these variables as one list.
 fn feed_variable_list(given: &Given, digest: &mut Digest<Sha256State>) -> Result<(), CaseError> {
     hash_variable_list(digest, &given.variables, &names_of(given)?);
     Ok(())
