@@ -8,8 +8,8 @@
 //!   as the reason why there is none.
 //! - [`Given`] has what lines give for calls on bytes, and [`World`] what they give for calls on
 //!   files.
-//! - [`find`] finds a word in a table. [`number`], [`bytes_of`], [`words_of`] and [`moment_of`] read
-//!   the parts of a line.
+//! - [`find`] looks a word up in a table. [`number`], [`bytes_of`], [`words_of`] and [`moment_of`]
+//!   read the parts of a line.
 //! - [`FailingReader`] and [`FailingWriter`] fail after a given number of calls.
 //!
 //! These functions have no contracts. Only tests use them, and a fault in them shows as a
