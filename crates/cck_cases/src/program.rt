@@ -32,8 +32,8 @@ fn run_all<S: Subject + Drop>(rt: &HostRuntime) -> io::Result<bool> {
 /// Runs the cases of the files that the command line names. Prints each difference, and the number
 /// of results of each file.
 ///
-/// The status is 0 if all results are the expected ones, 1 if one differs or a line can't be read,
-/// and 2 if a file can't be read or memory is lacking.
+/// The status is 0 if all results are the expected ones, and 1 if one differs or a line can't be
+/// read. It is 2 if a file can't be read or memory is lacking.
 pub fn run_files<S: Subject + Drop>(rt: &HostRuntime) -> ExitCode {
     match run_all::<S>(rt) {
         Ok(true) => ExitCode::from(0),

@@ -54,8 +54,8 @@ fn judge_unread(error: Error) -> Result<Judged, KeyError>
 }
 
 /// Returns how a path is judged: as a directory, or as a regular file that has a recorded digest
-/// and no time at `moment` or later, since such a file may still be written at that time. Anything
-/// else is bad. After a fault anything may be judged bad.
+/// and no time at `moment` or later. With such a time the file may still be written. Anything else
+/// is bad. After a fault anything may be judged bad.
 ///
 /// The only error is [`KeyError::Memory`].
 pub(crate) fn judge<H: HashState, F: Files>(

@@ -10,10 +10,10 @@
 //! - any other name is joined to the working directory and then normalised. The input and
 //!   directories are passed over, and a regular file is recorded with its
 //!   [recorded digest](cck_include::recorded_digest);
-//! - the text is refused if the path is none of these: there is no file or directory, the file has
-//!   no recorded digest, or it may still be written, as one of its times is the call time or later.
-//!   The text is also refused for `.incbin` followed by a quote, since no marker names the file
-//!   that it includes.
+//! - the text is refused if the path is none of these. Then there is no file or directory, the file
+//!   has no recorded digest, or it may still be written, as one of its times is the call time or
+//!   later. The text is also refused for `.incbin` followed by a quote, since no marker names the
+//!   file that it includes.
 //!
 //! The first such name, inclusion or malformed marker decides. No file that is named after it is
 //! looked at.

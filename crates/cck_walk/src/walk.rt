@@ -28,9 +28,10 @@ pub enum Walk {
 
 /// Looks at each file that a preprocessed text names.
 ///
-/// The text is refused at the first inclusion by the assembler, or at the first name that is
-/// neither a directory nor a regular file with a recorded digest and with no time at `moment` or
-/// later. A malformed marker before these is an error. If there is neither, the text is accepted.
+/// The text is refused at the first inclusion by the assembler, or at the first name that stops the
+/// walk. Such a name is neither that of a directory nor of a regular file with a recorded digest
+/// and with no time at `moment` or later. A malformed marker before these is an error. If there is
+/// neither, the text is accepted.
 ///
 /// Names are joined to the working directory and normalised. Empty names, names in angle brackets
 /// and the input are passed over, and so are the names of system headers if the options skip these.
