@@ -12,19 +12,19 @@ pub enum CaseError {
     Entry(Error),
     /// An error of a call on files.
     File(FileError),
-    /// A text is no name of a language.
+    /// A text that is no name of a language.
     Language,
-    /// The line of the case, or one before it, can't be read.
+    /// A line of the case that can't be read: that of the call or one before it.
     Line,
 }
 
 impl CaseError {
-    /// Whether it is no result of the call.
+    /// Returns whether it is no result of the call.
     pub fn stops(&self) -> bool {
         self.is_memory() || matches!(self, CaseError::Line)
     }
 
-    /// Whether memory ran out: then the run stops.
+    /// Returns whether it is lack of memory, which stops the run.
     pub fn is_memory(&self) -> bool {
         matches!(
             self,

@@ -43,24 +43,24 @@ pub struct Given {
     pub arguments: Vec<Vec<u8>>,
     /// `variables NAME=VALUE ..`: the variables of the environment. None at first.
     pub variables: Vec<(Vec<u8>, Vec<u8>)>,
-    /// `extra_hashes DIGEST ..`: the digest texts of extra files, as they are. None at first.
+    /// `extra_hashes DIGEST ..`: the hex digests of extra files, unchanged. None at first.
     pub extra_hashes: Vec<String>,
-    /// `compiler DIGEST`: the digest text of the compiler, as it is. `abcd` at first.
+    /// `compiler DIGEST`: the hex digest of the compiler, unchanged. `abcd` at first.
     pub compiler: Option<String>,
     /// `language NAME`: the language of an input. C at first.
     pub language: Language,
-    /// `plusplus`: whether the compiler takes its input for C++. It doesn't at first.
+    /// `plusplus`: whether the compiler reads its input as C++. It doesn't at first.
     pub plusplus: bool,
     /// `multiarch`: whether there are several architectures. There aren't at first.
     pub multiarch: bool,
-    /// `assembler DIGEST`: the digest text of the assembler, as it is. None at first.
+    /// `assembler DIGEST`: the hex digest of the assembler, unchanged. None at first.
     pub assembler: Option<String>,
     /// `base TEXT`: the first of two texts or paths that a call takes. Empty at first.
     pub base: Vec<u8>,
 }
 
 impl Given {
-    /// Nothing is given.
+    /// Returns the state in which nothing is given.
     pub fn new(alloc: Global) -> Given {
         Given {
             alloc,
@@ -77,7 +77,7 @@ impl Given {
         }
     }
 
-    /// Forgets all that was given.
+    /// Removes all that was given.
     pub fn begin(&mut self) {
         self.basedirs.clear();
         self.arguments.clear();
@@ -91,7 +91,7 @@ impl Given {
         self.base.clear();
     }
 
-    /// The digest text of the compiler.
+    /// Returns the hex digest of the compiler.
     pub fn compiler(&self) -> &str {
         match &self.compiler {
             Some(text) => text.as_str(),
@@ -99,7 +99,7 @@ impl Given {
         }
     }
 
-    /// The digest text of the assembler, if one is given.
+    /// Returns the hex digest of the assembler, if one is given.
     pub fn assembler(&self) -> Option<&str> {
         match &self.assembler {
             Some(text) => Some(text.as_str()),
@@ -107,7 +107,7 @@ impl Given {
         }
     }
 
-    /// Takes what a line gives, and returns whether it knows the line's word.
+    /// Applies a line, and returns whether its word is known here.
     pub fn give(&mut self, name: &str, rest: &str) -> Result<bool, CaseError> {
         let Some(word) = find(&WORDS, name) else {
             return Ok(false);

@@ -1,18 +1,19 @@
-//! Test vectors: cases read from files, the calls that they ask for, and what is reported of them.
+//! Test vectors: reads cases from files, makes their calls, and reports the results.
 //!
 //! A vector file has one line for each thing that a case says. `docs/VECTORS.md` has the grammar. A
 //! program of cases implements [`Subject`] for the calls that it knows, and its `main` is
 //! [`run_files`]. A case that is added to a file needs no proof.
 //!
-//! - [`Subject`] and [`run_files`] are what a program uses. [`Value`] is what a call returns, and
-//!   [`CaseError`] why it returned none.
-//! - [`Given`] has what lines give to calls on bytes, and [`World`] what they give to calls on files.
-//! - [`find`] finds a word in a table. [`number`], [`bytes_of`], [`words_of`] and [`moment_of`] read
-//!   the parts of a line.
-//! - [`FailReader`] and [`FailWriter`] fail at the calls that [`Failures`] says.
+//! - A program uses [`Subject`] and [`run_files`]. A call returns a [`Value`], or a [`CaseError`]
+//!   as the reason why there is none.
+//! - [`Given`] has what lines give for calls on bytes, and [`World`] what they give for calls on
+//!   files.
+//! - [`find`] looks a word up in a table. [`number`], [`bytes_of`], [`words_of`] and [`moment_of`]
+//!   read the parts of a line.
+//! - [`FailReader`] and [`FailWriter`] fail at the calls that [`Failures`] gives.
 //!
-//! Nothing is claimed of these calls beyond their types: they are what tests are made of, and a
-//! fault in them shows as a difference or a wrong count.
+//! These functions have no contracts. Only tests use them, and a fault in them shows as a
+//! difference or a wrong count.
 #![tactic(auto)]
 
 mod case_error;

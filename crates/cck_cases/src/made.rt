@@ -34,7 +34,7 @@ pub(crate) struct Made {
 }
 
 impl Made {
-    /// No bytes.
+    /// Returns the state in which no bytes are made or saved.
     pub(crate) fn new(alloc: Global) -> Made {
         Made {
             alloc,
@@ -43,13 +43,13 @@ impl Made {
         }
     }
 
-    /// Forgets what was made, and keeps what was saved.
+    /// Removes the bytes that were made, and keeps those that were saved.
     pub(crate) fn begin(&mut self) {
         self.bytes.clear();
     }
 
-    /// Writes the bytes of a call into `out`: those that were made, and those of the line's rest
-    /// unless it is raw.
+    /// Writes the bytes of a call into `out`: those that were made, and then those of the line's
+    /// rest unless it is raw.
     pub(crate) fn write(
         &self,
         rest: &str,
@@ -63,7 +63,7 @@ impl Made {
         Ok(())
     }
 
-    /// Does what a line says, and returns whether it knows the line's word.
+    /// Applies a line, and returns whether its word is known here.
     pub(crate) fn give(&mut self, name: &str, rest: &str) -> Result<bool, CaseError> {
         let Some(word) = find(&WORDS, name) else {
             return Ok(false);

@@ -29,11 +29,11 @@ fn run_all<S: Subject + Drop>(rt: &HostRuntime) -> io::Result<bool> {
     Ok(agree)
 }
 
-/// Runs the cases of the files that the command line names, and prints each difference and how many
-/// results each file has.
+/// Runs the cases of the files that the command line names. Prints each difference, and the number
+/// of results of each file.
 ///
-/// The status is 0 where all results are the expected ones, 1 where one differs or a line can't be
-/// read, and 2 where a file can't be read or memory runs out.
+/// The status is 0 if all results are the expected ones, and 1 if one differs or a line can't be
+/// read. It is 2 if a file can't be read or memory is lacking.
 pub fn run_files<S: Subject + Drop>(rt: &HostRuntime) -> ExitCode {
     match run_all::<S>(rt) {
         Ok(true) => ExitCode::from(0),

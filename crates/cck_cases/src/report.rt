@@ -32,7 +32,7 @@ fn escaped(alloc: Global, bytes: &[u8]) -> Result<String, AllocError> {
 }
 
 impl<'a> Report<'a> {
-    /// No line of this file was read.
+    /// Returns the report on a file of which no line was read.
     pub(crate) fn new(alloc: Global, file: &'a str) -> Report<'a> {
         Report {
             alloc,
@@ -50,7 +50,7 @@ impl<'a> Report<'a> {
         self.case.push_str(case)
     }
 
-    /// Reports a line, and why it is reported.
+    /// Reports a line, with the reason.
     pub(crate) fn reject(&mut self, line: usize, why: &str) -> Result<(), AllocError> {
         let (file, case) = (self.file, self.case.as_str());
         let text = format!(in self.alloc; "{file}:{line}: {case}: {why}\n")?;
@@ -58,7 +58,7 @@ impl<'a> Report<'a> {
         self.text.push_str(&text)
     }
 
-    /// Counts the result of the call of this line, and reports where it isn't the expected one.
+    /// Counts the result of the call of this line, and reports it if it isn't the expected one.
     pub(crate) fn compare(
         &mut self,
         line: usize,
@@ -89,12 +89,12 @@ impl<'a> Report<'a> {
         self.text.push_str(&text)
     }
 
-    /// What is printed so far.
+    /// Returns what is printed so far.
     pub(crate) fn text(&self) -> &str {
         &self.text
     }
 
-    /// Whether nothing differs.
+    /// Returns whether nothing differs.
     pub(crate) fn agrees(&self) -> bool {
         self.differences == 0
     }

@@ -23,7 +23,7 @@ struct Session<S: Drop> {
     last: Option<Returned>,
 }
 
-/// Runs the cases of a text. The error is want of memory alone.
+/// Runs the cases of a text. The only error is lack of memory.
 pub(crate) fn run_lines<S: Subject + Drop>(
     alloc: Global,
     text: &str,
@@ -75,7 +75,7 @@ impl<S: Subject + Drop> Session<S> {
         self.call(number, name, rest)
     }
 
-    // Makes a call, and keeps its result. An error is a result too, but for want of memory and a
+    // Makes a call, and keeps its result. An error is a result too, except lack of memory and a
     // line that can't be read.
     fn call(&mut self, line: usize, name: &str, rest: &str) -> Result<(), CaseError> {
         let mut bytes = Vec::new(self.alloc);

@@ -1,4 +1,4 @@
-//! What the cases of a program are about.
+//! The calls of a program of cases.
 use crate::case_error::CaseError;
 use crate::value::Value;
 use std::alloc::Global;
@@ -8,25 +8,25 @@ use std::alloc::Global;
 pub struct Line<'a> {
     /// The text after the name of the call.
     pub rest: &'a str,
-    /// The bytes that the lines before made, and after them those that `rest` stands for.
+    /// The bytes that the lines before made, and after them those of `rest`.
     pub bytes: &'a [u8],
 }
 
-/// The calls that a program knows, and what lines give to them.
+/// The calls that a program knows, and what lines give for them.
 pub trait Subject {
-    /// Nothing is given.
+    /// Returns the state in which nothing is given.
     fn new(alloc: Global) -> Self;
 
-    /// Forgets all that was given: a case begins.
+    /// Removes all that was given, since a case begins.
     fn begin(&mut self);
 
-    /// Takes what a line gives, and returns whether it knows the line's word.
+    /// Applies a line, and returns whether its word is known here.
     fn give(&mut self, word: &str, rest: &str) -> Result<bool, CaseError>;
 
-    /// Whether the rest of a line of this call is no escaped text, so that no bytes are made of it.
+    /// Returns whether the rest of a line of this call is no escaped text, so that no bytes are
+    /// made of it.
     fn is_raw(name: &str) -> bool;
 
-    /// Makes the call of this name. The error is [`CaseError::Line`] where there is none of that
-    /// name.
+    /// Makes the call of this name. The error is [`CaseError::Line`] if there is none.
     fn call<'a>(&'a mut self, name: &str, line: Line<'a>) -> Result<Value<'a>, CaseError>;
 }

@@ -1,6 +1,6 @@
-//! Words and what they stand for.
+//! Tables of words and their values.
 
-/// What a word stands for in a table, if it is there.
+/// Returns the value of a word in a table, if the table has the word.
 pub fn find<T: Copy>(table: &[(&str, T)], word: &str) -> Option<T> {
     for (name, meaning) in table {
         if *name == word {

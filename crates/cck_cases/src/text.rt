@@ -4,7 +4,7 @@ use cck_util::{Timestamp, UtilError, ascii_unescape_default};
 use std::alloc::Global;
 use std::str::FromStr;
 
-/// The bytes that an escaped text stands for.
+/// Returns the bytes of an escaped text.
 pub fn bytes_of(alloc: Global, text: &str) -> Result<Vec<u8>, CaseError> {
     match ascii_unescape_default(alloc, text.as_bytes()) {
         Ok(bytes) => Ok(bytes),
@@ -13,7 +13,7 @@ pub fn bytes_of(alloc: Global, text: &str) -> Result<Vec<u8>, CaseError> {
     }
 }
 
-/// The words of a text, with spaces between them. `""` is the empty word.
+/// Returns the words of a text, which spaces separate. `""` is the empty word.
 pub fn words_of(alloc: Global, text: &str) -> Result<Vec<Vec<u8>>, CaseError> {
     let mut words = Vec::new(alloc);
     for word in text.split_whitespace() {
@@ -23,7 +23,7 @@ pub fn words_of(alloc: Global, text: &str) -> Result<Vec<Vec<u8>>, CaseError> {
     Ok(words)
 }
 
-/// The variables of a text, each as `NAME=VALUE`, with spaces between them.
+/// Returns the variables of a text, each as `NAME=VALUE`, which spaces separate.
 pub fn variables_of(alloc: Global, text: &str) -> Result<Vec<(Vec<u8>, Vec<u8>)>, CaseError> {
     let mut variables = Vec::new(alloc);
     for word in text.split_whitespace() {
@@ -34,7 +34,7 @@ pub fn variables_of(alloc: Global, text: &str) -> Result<Vec<(Vec<u8>, Vec<u8>)>
     Ok(variables)
 }
 
-/// The number that a text writes.
+/// Returns the number in a text.
 pub fn number<T: FromStr>(text: &str) -> Result<T, CaseError>
 where
     T::Err: Drop,
@@ -45,7 +45,7 @@ where
     }
 }
 
-/// The byte of two hexadecimal digits.
+/// Returns the byte of two hexadecimal digits.
 pub fn byte_of(digits: &str) -> Result<u8, CaseError> {
     match u8::from_str_radix(digits, 16) {
         Ok(byte) => Ok(byte),
@@ -53,7 +53,7 @@ pub fn byte_of(digits: &str) -> Result<u8, CaseError> {
     }
 }
 
-/// The time that is this number of nanoseconds after the start of 1970.
+/// Returns the time that is this number of nanoseconds after the start of 1970.
 pub fn moment_of(text: &str) -> Result<Timestamp, CaseError> {
     let nanoseconds = number::<i128>(text)?;
     if Timestamp::fits_nanos(nanoseconds) {
@@ -63,7 +63,7 @@ pub fn moment_of(text: &str) -> Result<Timestamp, CaseError> {
     }
 }
 
-/// The time that is this number of nanoseconds after the start of 1970, or none for `-`.
+/// Returns the time that is this number of nanoseconds after the start of 1970, or none for `-`.
 pub fn optional_moment_of(text: &str) -> Result<Option<Timestamp>, CaseError> {
     if text == "-" {
         return Ok(None);

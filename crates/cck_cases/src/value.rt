@@ -24,7 +24,7 @@ pub enum Value<'a> {
     Part(Option<&'a [u8]>),
     /// `none`, or `some` and bytes.
     Found(Option<Vec<u8>>),
-    /// `kept` where nothing was cut, or `cut` and what remains.
+    /// `kept` if nothing was cut, or `cut` and what remains.
     Cut(CowSlice<'a, u8>),
     /// Numbers, with a space between them.
     Numbers(Vec<usize>),
@@ -35,7 +35,7 @@ pub enum Value<'a> {
 }
 
 impl Value<'_> {
-    /// The value as a vector file writes it, before its escapes.
+    /// Returns the value as a vector file writes it, before it is escaped.
     pub(crate) fn write(&self, alloc: Global, out: &mut Vec<u8>) -> Result<(), AllocError> {
         match self {
             Value::Bytes(bytes) => out.extend_from_slice(bytes),
@@ -68,7 +68,7 @@ fn write_part(out: &mut Vec<u8>, part: Option<&[u8]>) -> Result<(), AllocError> 
     out.extend_from_slice(part)
 }
 
-/// Writes `kept` where nothing was cut, or `cut` and what remains.
+/// Writes `kept` if nothing was cut, or `cut` and what remains.
 pub fn write_cut(out: &mut Vec<u8>, kept: &CowSlice<'_, u8>) -> Result<(), AllocError> {
     match kept {
         CowSlice::Borrowed(_) => out.extend_from_slice(b"kept"),
@@ -79,7 +79,7 @@ pub fn write_cut(out: &mut Vec<u8>, kept: &CowSlice<'_, u8>) -> Result<(), Alloc
     }
 }
 
-/// Writes each number, with a space before it where `out` has bytes already.
+/// Writes each number, with a space before it if `out` has bytes already.
 pub fn write_numbers(
     alloc: Global,
     out: &mut Vec<u8>,

@@ -1,4 +1,4 @@
-//! What lines give to calls on files: the files, the time of the call, the zone and the options.
+//! What lines give for calls on files: the files, the call time, the zone and the options.
 use crate::case_error::CaseError;
 use crate::table::find;
 use crate::text::{bytes_of, moment_of, number, optional_moment_of};
@@ -33,18 +33,18 @@ const WORDS: [(&str, Word); 10] = [
     ("option", Word::Option),
 ];
 
-/// What lines give to calls on files.
+/// What lines give for calls on files.
 #[derive(Drop)]
 pub struct World {
     /// The allocator of all that is given.
     pub alloc: Global,
     /// `file PATH MODIFIED CHANGED TEXT`, `dir PATH`, `other PATH`, `link PATH TARGET`, `gone PATH`,
-    /// `fail_at N` and `fail_after N`: the files, which lie in memory. None at first. Times are
+    /// `fail_at N` and `fail_after N`: the files, which are in memory. None at first. Times are
     /// nanoseconds since 1970, or `-` for none; directories and others have none.
     pub files: MapFiles,
-    /// `moment NANOSECONDS`: the time of the call. 100 seconds after the start of 1970 at first.
+    /// `moment NANOSECONDS`: the call time. 100 seconds after the start of 1970 at first.
     pub moment: Timestamp,
-    /// `zone SECONDS`: how far east of Greenwich local time is taken. 0 at first.
+    /// `zone SECONDS`: the offset of local time, in seconds east of UTC. 0 at first.
     pub zone: i32,
     /// `option NAME on` and `option NAME off`: the options. Those of
     /// [`activated`](PreprocessorCacheModeConfig::activated) at first.
@@ -52,7 +52,7 @@ pub struct World {
 }
 
 impl World {
-    /// Nothing is given.
+    /// Returns the state in which nothing is given.
     pub fn new(alloc: Global) -> World {
         World {
             alloc,
@@ -63,7 +63,7 @@ impl World {
         }
     }
 
-    /// Forgets all that was given.
+    /// Removes all that was given.
     pub fn begin(&mut self) {
         self.files = MapFiles::new(self.alloc);
         self.moment = Timestamp::new(100, 0);
@@ -71,7 +71,7 @@ impl World {
         self.config = PreprocessorCacheModeConfig::activated();
     }
 
-    /// Takes what a line gives, and returns whether it knows the line's word.
+    /// Applies a line, and returns whether its word is known here.
     pub fn give(&mut self, name: &str, rest: &str) -> Result<bool, CaseError> {
         let Some(word) = find(&WORDS, name) else {
             return Ok(false);

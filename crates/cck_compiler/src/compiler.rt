@@ -55,7 +55,7 @@ pub enum CompilerArguments<T> {
 /// call returns, except for lack of memory, and what the preprocessor prints.
 ///
 /// An implementation chooses the type of that value, `Value`. It must not be the implementing type
-/// itself where that holds a pointer, as a `String`, a `Vec` or a `Box` does: requests are compared
+/// itself where that holds a pointer, as a `String`, a `Vec` or a `Box` does. Requests are compared
 /// by the value, and equal compilers at two places in memory would be two values. Take what
 /// identifies the compiler: lists of bytes, numbers and flags.
 ///

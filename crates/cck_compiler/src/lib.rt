@@ -1,8 +1,8 @@
 //! C compilers: what a cache needs of one, and the parsed form of a command line.
 //!
-//! A compiler is whatever implements [`CCompilerImpl`]: it says its family and its version, parses
-//! a command line into [`ParsedArguments`], and prints preprocessed text. Contracts describe it by
-//! a value that decides all of these, and proofs about keys know no more of it.
+//! A compiler is a type that implements [`CCompilerImpl`]. It says its family and its version,
+//! parses a command line into [`ParsedArguments`], and prints preprocessed text. Contracts describe
+//! it by a value that decides all of these, and proofs about keys know no more of it.
 //!
 //! [`add_extra_files`] adds to the arguments the files that no command line names but whose digests
 //! are part of the keys. [`KeyError`] is the error of a call for a key, parsing included. It and

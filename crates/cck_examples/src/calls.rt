@@ -51,7 +51,7 @@ fn arguments(alloc: Global) -> Result<ParsedArguments, KeyError> {
     })
 }
 
-// `cck_compiler`: what a command line was parsed into, and the files that variables add.
+// `cck_compiler`: a parsed command line, and the files that variables add.
 #[test]
 fn a_parsed_command_line(rt: HostRuntime) -> Result<(), Fail> {
     let alloc = rt.alloc();
@@ -104,8 +104,8 @@ fn put(alloc: Global, files: &mut MapFiles, path: &[u8], text: &[u8]) -> Result<
     Ok(())
 }
 
-// `c_cache_keys`: from a compiler of the test's own, over a command line, to a key. Its
-// material begins with the frame of `14`, and that of the digest text of `cc`.
+// `c_cache_keys`: from a compiler of the test's own, over a command line, to a key. Its key
+// material begins with the frame of `14`, and that of the hex digest of `cc`.
 #[test]
 fn a_key(rt: HostRuntime) -> Result<(), Fail> {
     let alloc = rt.alloc();

@@ -67,7 +67,7 @@ fn includes_that_match(rt: HostRuntime) -> Result<(), Fail> {
     Ok(())
 }
 
-// A folder at `/h`, modified and changed at the start of 1970.
+// A directory at `/h`, modified and changed at the start of 1970.
 fn dated_folder(alloc: Global) -> Result<MapFiles, Error> {
     let node = Node {
         kind: FileKind::Folder,
@@ -82,7 +82,8 @@ fn dated_folder(alloc: Global) -> Result<MapFiles, Error> {
     }
 }
 
-// It never is what was included, though its size and its times are those that were recorded.
+// A directory never matches an include, even if its size and its times are those that were
+// recorded.
 #[test]
 fn a_folder_of_equal_times(rt: HostRuntime) -> Result<(), Fail> {
     let alloc = rt.alloc();
@@ -135,8 +136,8 @@ fn the_key_of_a_request(rt: HostRuntime) -> Result<(), Fail> {
     Ok(())
 }
 
-// An entry with two results of the same two headers. The second header of the greater key was
-// another one.
+// An entry with two results of the same two headers. For the greater key the second header had
+// other contents.
 fn two_results(alloc: Global, files: &mut MapFiles) -> Result<PreprocessorCacheEntry, Fail> {
     let mut entry = PreprocessorCacheEntry::new(alloc);
     let first = recorded(alloc, files, b"/1")?;
@@ -175,7 +176,7 @@ fn each_header_is_read_once(rt: HostRuntime) -> Result<(), Fail> {
     Ok(())
 }
 
-// The same in the entry's bytes, as a call finds a stored key.
+// The same look-up in the entry's bytes, as a call makes it.
 #[test]
 fn a_stored_entry_is_looked_up_in_its_bytes(rt: HostRuntime) -> Result<(), Fail> {
     let alloc = rt.alloc();

@@ -1,4 +1,4 @@
-//! Maps of paths, files in memory, and digests of files and folders.
+//! Maps of paths, files in memory, and digests of files and directories.
 ghost use Rattle.std.specs.Prelude.{◌≡◌};
 
 use cck_path_map::PathMap;
@@ -70,7 +70,7 @@ fn the_digest_of_a_folder(rt: HostRuntime) -> Result<(), UtilError> {
     Ok(())
 }
 
-/// Files that count the calls on one path, and how often any file is read from its start.
+/// Files that count the calls on one path, and the times that any file is read from its start.
 #[derive(Drop)]
 pub(crate) struct CountedFiles<F> {
     pub(crate) inner: F,
@@ -137,7 +137,7 @@ impl<F: Files> Files for CountedFiles<F> {
     ghost quiet_is_low = { λ files quiet. F.quiet_is_low files.inner quiet };
 }
 
-// How many of these paths exist.
+// The number of these paths that exist.
 fn count_standing<F: Files>(files: &mut F, paths: &[&[u8]]) -> usize {
     let mut count: usize = 0;
     for path in paths {

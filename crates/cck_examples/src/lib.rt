@@ -1,5 +1,5 @@
-//! Examples of use, a module for each layer, and tests of what no vector file can show: `==` and
-//! `copy` of types, generic calls at a type of the test's own, and want of memory.
+//! Examples of use, a module for each layer. Here are also tests of what no vector file can show:
+//! `==` and `copy` of types, generic calls at a type of the test's own, and lack of memory.
 #![tactic(auto)]
 
 #[cfg(test)]

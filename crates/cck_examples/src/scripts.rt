@@ -6,8 +6,8 @@ use cck_util::{FileKind, MapFiles, Node, Sha256State, Timestamp};
 use std::alloc::AllocError;
 use std::test::Fail;
 
-// A script is read once, and files and variables follow it line by line. Lines are compared by what
-// they say.
+// A script is parsed once, and then its lines change files and variables in turn. Lines are
+// compared by their contents.
 #[test]
 fn a_script(rt: HostRuntime) -> Result<(), Fail> {
     let alloc = rt.alloc();
@@ -50,7 +50,7 @@ fn a_printed_text(rt: HostRuntime) -> Result<(), Fail> {
     Ok(())
 }
 
-// The program reads from a slice, and writes after what a vector holds.
+// The program reads from a slice, and appends to a vector.
 #[test]
 fn the_program(rt: HostRuntime) -> Result<(), Fail> {
     let alloc = rt.alloc();

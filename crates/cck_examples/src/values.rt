@@ -42,7 +42,7 @@ fn a_path_seen_from_a_folder(rt: HostRuntime) -> Result<(), UtilError> {
     Ok(())
 }
 
-// The key with plusplus is made of a copy, and the first parts stay as they are.
+// The key with plusplus is computed from a copy, and the first parts are unchanged.
 #[test]
 fn a_key_of_copied_parts(rt: HostRuntime) -> Result<(), UtilError> {
     let alloc = rt.alloc();
@@ -87,7 +87,7 @@ fn a_sink_of_another_type(rt: HostRuntime) -> Result<(), UtilError> {
     Ok(())
 }
 
-// Takes each write, and fails where it is flushed.
+// Accepts each write, and fails when it is flushed.
 #[derive(Drop)]
 struct FailingFlush;
 

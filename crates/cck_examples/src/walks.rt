@@ -9,7 +9,7 @@ use jiff::tz::TimeZone;
 use std::alloc::Global;
 use std::test::Fail;
 
-// Of `contents`.
+// The hex digest of `contents`.
 const DIGEST: &str = "1d2b5af9eb7a2e0077faf9192be7598e5660b172b00ef35f93bab3378587288e";
 
 // The files `/w/a.c` and `/inc/h.h`.
@@ -28,7 +28,7 @@ fn two_files(alloc: Global) -> Result<MapFiles, UtilError> {
     Ok(files)
 }
 
-// The marks of a text come one after another, and none after the last one.
+// The marks of a text are yielded in order, and there are none after the last one.
 #[test]
 fn marks_of_a_text(rt: HostRuntime) {
     let mut marks = Markers::new(b"# 1 \"a.c\"\n# 1 \"stdio.h\" 3\n.incbin \"f\"\n# 2 \"b.c\"\n");
@@ -54,7 +54,7 @@ fn marks_of_a_text(rt: HostRuntime) {
     assert_eq!(rt; read_line(b"# 1 \"a.c\"\n"), line);
 }
 
-// The header is recorded. The input and the name in angles are passed over.
+// The header is recorded. The input and the name in angle brackets are passed over.
 #[test]
 fn walk_over_a_text(rt: HostRuntime) -> Result<(), Fail> {
     let alloc = rt.alloc();

@@ -1,9 +1,9 @@
 //! Reads the line markers of a preprocessed text, which name the files that it was made of.
 //!
-//! A C preprocessor leaves *line markers* in the text that it prints: `# 33 "stdio.h" 3 4` says
-//! that the next line is the 33rd of `stdio.h`, which is a system header by the `3`. A text was
-//! made of the files that its markers name, unless it makes the assembler include one more. So a
-//! text is read as a list of marks:
+//! A C preprocessor leaves *line markers* in the text that it prints. `# 33 "stdio.h" 3 4` says
+//! that the next line is the 33rd of `stdio.h`, and the `3` says that this is a system header. A
+//! text was made of the files that its markers name, unless it makes the assembler include one
+//! more. So a text is read as a list of marks:
 //!
 //! - a *name* that a line marker gives;
 //! - a *refusal*: `.incbin` and a quote, with nothing, a space, or a space and a backslash between

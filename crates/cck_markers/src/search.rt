@@ -18,8 +18,8 @@ const HIDDEN: &[u8] = b"\n__________";
 const INCLUSION: &[u8] = b".incbin";
 
 // A search for a word in the rest of a text. `left` is the number of bytes from the place where the
-// word was found last to the end: 0 if there was no such place, and more than a text has before the
-// first search.
+// word was found last to the end. It is 0 if there was no such place, and more than a text has
+// before the first search.
 #[derive(Debug, Drop)]
 struct WordSearch {
     finder: Finder<'static>,

@@ -39,7 +39,7 @@ pub(crate) const CALLS: [(&str, DigestCall); 13] = [
     ("hash_arguments", DigestCall::Arguments),
 ];
 
-// Where a call feeds a digest, the digest was fed `base` before it.
+// If a call feeds a digest, the digest was fed `base` before.
 pub(crate) fn call<'a>(
     call: DigestCall,
     given: &'a Given,
@@ -86,7 +86,7 @@ fn feed_arguments(given: &Given, digest: &mut Digest<Sha256State>) -> Result<(),
     Ok(())
 }
 
-// The variables whose names are the arguments.
+// Feeds the variables whose names are the arguments as one list.
 fn feed_variable_list(given: &Given, digest: &mut Digest<Sha256State>) -> Result<(), CaseError> {
     hash_variable_list(digest, &given.variables, &names_of(given)?);
     Ok(())

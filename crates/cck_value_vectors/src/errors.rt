@@ -1,4 +1,4 @@
-//! The errors of the libraries, and the texts of them.
+//! The errors of the libraries, and their texts.
 use cck_cases::{CaseError, Value, find};
 use cck_util::{FileError, UnknownLanguage, UtilError};
 use std::alloc::Global;

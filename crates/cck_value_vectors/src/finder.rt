@@ -71,7 +71,7 @@ fn in_three(first: &[u8], second: &[u8], third: &[u8]) -> &'static str {
     macros(&finder)
 }
 
-// What is found in the text, where it is the same wherever the text is cut into three pieces.
+// The macros that are found in the text, if they are the same for each cut of it into three pieces.
 fn at_each_cut(text: &[u8]) -> &'static str {
     let whole = in_three(text, b"", b"");
     for first in 0..=text.len() {

@@ -4,12 +4,12 @@
 //! The words after its name are vector files. `docs/VECTORS.md` has their grammar, and the words
 //! that every program knows. This program knows these words too:
 //!
-//! | word | what it gives |
+//! | word | meaning |
 //! |---|---|
-//! | `basedirs_with N FIRST LETTER` | N base directories: the text FIRST, and behind it no LETTER, one, and so on |
+//! | `basedirs_with N FIRST LETTER` | N base directories: the text FIRST, followed by no LETTER, by one, and so on |
 //! | `pieces LIST` | the pieces that a digest or a finder is given in turn; none at first |
-//! | `reader STEP PASSING KIND` | what a reader of the call's bytes does: the bytes of one read, the reads that pass, and the kind of the error of the reads after them, `interrupted` or `other`; at first it doesn't fail, and gives as much as it is asked for |
-//! | `writer PASSING` | the writes that pass before a writer fails; all at first |
+//! | `reader STEP PASSING KIND` | how the call's bytes are read: the number of bytes of one read, the number of reads that pass, and the error kind of the reads after them, `interrupted` or `other`; at first no read fails, and each gives as much as is asked for |
+//! | `writer PASSING` | the number of writes that pass before a writer fails; all at first |
 #![tactic(auto)]
 
 mod digests;

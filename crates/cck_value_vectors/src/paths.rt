@@ -66,7 +66,7 @@ fn text_of(component: Component<'_>) -> &[u8] {
     }
 }
 
-// The components, with a space between each two. The root is written `/`.
+// The components, with a space between them. The root is written `/`.
 fn components<'a>(given: &Given, path: &[u8]) -> Result<Value<'a>, CaseError> {
     let mut text = Vec::new(given.alloc);
     for component in Components::new(path) {

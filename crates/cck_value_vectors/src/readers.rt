@@ -66,7 +66,7 @@ fn digest<'a>(alloc: Global, reader: &mut FailReader<'_>) -> Result<Value<'a>, C
     Ok(Value::Text(text))
 }
 
-// Each piece that was shown and a `|`, and then the digest text.
+// Each piece that was shown and a `|`, and then the hex digest.
 fn with<'a>(alloc: Global, reader: &mut FailReader<'_>) -> Result<Value<'a>, CaseError> {
     let mut shown = Vec::new(alloc);
     let mut is_kept = true;
@@ -80,7 +80,7 @@ fn with<'a>(alloc: Global, reader: &mut FailReader<'_>) -> Result<Value<'a>, Cas
     Ok(Value::Bytes(shown))
 }
 
-// How long the pieces are that were shown.
+// The lengths of the pieces that were shown.
 fn lengths<'a>(alloc: Global, reader: &mut FailReader<'_>) -> Result<Value<'a>, CaseError> {
     let mut lengths = Vec::new(alloc);
     let mut is_kept = true;

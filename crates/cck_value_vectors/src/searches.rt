@@ -1,5 +1,5 @@
-//! Base directories cut out of a text by a search for each of them: what `strip_basedirs`, which
-//! takes them all in one pass, is compared with.
+//! Cuts base directories out of a text by one search for each of them. `strip_basedirs`, which
+//! takes all in one pass, is compared with this.
 use cck_util::UtilError;
 use memchr::memmem::Finder;
 use std::alloc::Global;
@@ -9,7 +9,7 @@ fn is_separator(byte: u8) -> bool {
     matches!(byte, b' ' | b'\t' | b'\n' | b'\x0c' | b'\r' | b'"' | b'<')
 }
 
-// Whether the place is the start of the text, or directly behind a separator.
+// Whether the place is the start of the text, or directly after a separator.
 fn is_boundary(text: &[u8], at: usize) -> bool {
     match at.checked_sub(1) {
         Some(before) => is_separator(text.get(before).copied().unwrap_or_default()),
@@ -17,11 +17,11 @@ fn is_boundary(text: &[u8], at: usize) -> bool {
     }
 }
 
-// Adds the boundaries of the text at which this base directory stands.
+// Adds the boundaries of the text at which this base directory occurs.
 fn add_places(text: &[u8], basedir: &[u8], places: &mut Vec<usize>) -> Result<(), UtilError> {
     let finder = Finder::new(basedir);
     let mut from = 0usize;
-    // Two of its occurrences may overlap.
+    // The next search starts one byte later, since two occurrences may overlap.
     for _ in 0..text.len() {
         match finder.find(text.get(from..).unwrap_or_default()) {
             Some(distance) => {
@@ -49,7 +49,7 @@ fn longest_prefix(text: &[u8], basedirs: &[Vec<u8>]) -> usize {
     longest
 }
 
-/// What `strip_basedirs` returns.
+/// Returns what `strip_basedirs` has to return.
 pub(crate) fn strip_by_searches<'a>(
     alloc: Global,
     text: &'a [u8],
@@ -68,7 +68,7 @@ pub(crate) fn strip_by_searches<'a>(
     let mut kept = Vec::new(alloc);
     let mut copied = 0;
     for place in &places {
-        // A place that lies in the last cut is passed over.
+        // A place inside the last cut is skipped.
         if *place >= copied {
             kept.extend_from_slice(text.get(copied..*place).unwrap_or_default())?;
             let rest = text.get(*place..).unwrap_or_default();

@@ -1,4 +1,4 @@
-//! What lines say of a reader and a writer.
+//! The lines that configure a reader and a writer.
 use cck_cases::{CaseError, FailReader, FailWriter, Failures, number};
 use std::alloc::Global;
 use std::io;
@@ -31,7 +31,7 @@ impl Streams {
         }
     }
 
-    /// Takes what a line gives, and returns whether it knows the line's word.
+    /// Applies a line, and returns whether its word is known here.
     pub(crate) fn give(&mut self, word: &str, rest: &str) -> Result<bool, CaseError> {
         match word {
             "reader" => self.set_reader(rest)?,
@@ -50,7 +50,7 @@ impl Streams {
         Ok(())
     }
 
-    /// A reader of these bytes.
+    /// Returns a reader of these bytes.
     pub(crate) fn reader<'a>(&self, bytes: &'a [u8]) -> FailReader<'a> {
         FailReader {
             bytes,
@@ -60,8 +60,8 @@ impl Streams {
         }
     }
 
-    /// A writer to which nothing was written, with room for so many bytes: it needs no memory for
-    /// these, so that it fails for no want of memory.
+    /// Returns an empty writer with room for `room` bytes, so that writing these can't fail for
+    /// lack of memory.
     pub(crate) fn writer(&self, alloc: Global, room: usize) -> Result<FailWriter, CaseError> {
         let mut writer = FailWriter::new(alloc, self.passing_writes);
         writer.written.reserve(room)?;

@@ -28,7 +28,7 @@ pub(crate) const CALLS: [(&str, StripCall); 7] = [
     ("strip_all_arguments_of", StripCall::AllArguments),
 ];
 
-/// Base directories: a text, and behind it no bytes, one letter, and so on.
+/// Base directories: a text, followed by no letter, by one letter, and so on.
 pub(crate) fn basedirs_with(alloc: Global, rest: &str) -> Result<Vec<Vec<u8>>, CaseError> {
     let (count, rest) = rest.split_once(' ').ok_or(CaseError::Line)?;
     let (first, letter) = rest.split_once(' ').ok_or(CaseError::Line)?;
@@ -62,7 +62,7 @@ pub(crate) fn call<'a>(
     }
 }
 
-// What is written where `strip_basedirs` and `strip_by_searches` return different results.
+// The result if `strip_basedirs` and `strip_by_searches` return different results.
 const DIFFERS: &str = "differs";
 
 // Whether both are kept, or both are cut and the same remains.
@@ -82,8 +82,8 @@ fn twice(given: &Given) -> Result<Vec<Vec<u8>>, CaseError> {
     Ok(basedirs)
 }
 
-// What `strip_basedirs` returns, if `strip_by_searches` returns the same, and so does it itself
-// where each base directory is given twice.
+// What `strip_basedirs` returns, if `strip_by_searches` returns the same, and if `strip_basedirs`
+// also does when each base directory is given twice.
 fn strip_text<'a>(given: &Given, text: &'a [u8]) -> Result<Option<CowSlice<'a, u8>>, CaseError> {
     let kept = strip_basedirs(given.alloc, text, &given.basedirs)?;
     let searched = strip_by_searches(given.alloc, text, &given.basedirs)?;
@@ -106,7 +106,7 @@ fn longest_at_each<'a>(given: &Given, text: &[u8]) -> Result<Value<'a>, CaseErro
     Ok(Value::Numbers(lengths))
 }
 
-// Replaces the text by that of this length and number over some letters.
+// Replaces the text by the one of this length and number over some letters.
 fn put_text(
     text: &mut Vec<u8>,
     letters: &[u8],
@@ -123,7 +123,7 @@ fn put_text(
     Ok(())
 }
 
-// How many of the texts of up to seven of these letters are stripped as `strip_by_searches` does.
+// The number of texts of up to seven of these letters that are stripped as by `strip_by_searches`.
 fn count_texts<'a>(given: &Given, letters: &[u8]) -> Result<Value<'a>, CaseError> {
     let mut text = Vec::new(given.alloc);
     let mut count = 0u64;
@@ -155,8 +155,8 @@ fn write_argument(given: &Given, text: &[u8], line: &mut Vec<u8>) -> Result<(), 
     Ok(())
 }
 
-// The digest text of the results on each text of up to six of four letters, with a line feed after
-// each; or on each argument, with its positions.
+// The hex digest of the results for each text of up to six of four letters, with a line feed after
+// each; or for each argument, with its positions.
 fn all<'a>(given: &Given, letters: &[u8], is_argument: bool) -> Result<Value<'a>, CaseError> {
     let mut digest = Digest::<Sha256State>::new();
     let mut text = Vec::new(given.alloc);

@@ -51,7 +51,7 @@ pub(crate) fn call<'a>(
     }
 }
 
-/// The text that these bytes are.
+/// These bytes as text.
 pub(crate) fn text_of(bytes: &[u8]) -> Result<&str, CaseError> {
     match str::from_utf8(bytes) {
         Ok(text) => Ok(text),
@@ -72,7 +72,7 @@ fn unescape<'a>(alloc: Global, text: &str) -> Result<Value<'a>, CaseError> {
     Ok(Value::Text(digits))
 }
 
-// Of a number of seconds and nanoseconds.
+// The duration of a number of seconds and nanoseconds.
 fn duration<'a>(alloc: Global, rest: &str) -> Result<Value<'a>, CaseError> {
     let (seconds, nanoseconds) = rest.split_once(' ').ok_or(CaseError::Line)?;
     let (seconds, nanoseconds) = (number::<u64>(seconds)?, number::<u32>(nanoseconds)?);

@@ -43,7 +43,7 @@ fn compare<'a>(rest: &str) -> Result<Value<'a>, CaseError> {
     Ok(Value::Order(moment_of(a)?.cmp(&moment_of(b)?)))
 }
 
-// Of a file that was last changed at a time, or at none that is known.
+// The time of a file whose last change is at a given time or unknown.
 fn changed<'a>(rest: &str) -> Result<Value<'a>, CaseError> {
     let metadata = Metadata {
         kind: FileKind::File,

@@ -1,4 +1,4 @@
--- The test of equality tells whether two walks decided the same.
+-- The test of equality is true exactly if two walks have the same result.
 use Rattle.std.proofs.Common.{◌≡◌, ◌&&◌, ℕ, List, Bool, map, nat_eq, Some, refl, ap}
 use Rattle.std.proofs.lemmas.Bool.Decides.{Decides-and, Decides-like}
 use Rattle.std.specs.Cmp.Lexicographic.{bytes_decides, pointwise}

@@ -1,4 +1,4 @@
--- What a path stands for, by its metadata and its recorded digest.
+-- How a path is judged, by its metadata and its recorded digest.
 use Rattle.std.proofs.Common.{◌≡◌, ◌||◌, ◌⊎◌, inl, inr, ℕ, List, Bool, true, false, if◌then◌else◌, Option, Some, None, Result, Ok, Err, IsOkAnd, refl, sym, ap, subst, ◌∙◌}
 use Rattle.std.specs.FinMap.{get}
 use Rattle.cck_digest.specs.declared.error.FileError.{FileError}
@@ -16,7 +16,7 @@ use Rattle.cck_time.specs.declared.error.Error.{Error}
 use Rattle.cck_time.specs.declared.error.Error.TheVariants as error
 use Rattle.cck_walk.specs.Standing.{Folder, Bad, IsJudged, digest_standing, file_standing, is_late, judged_unread, kind_standing, node_standing, standing_at}
 
--- nothing stands for nothing good
+-- a path with no node is bad
 bad_in : (s : Setting) (o : Option FileNode) (e : FileError) → metadata_in o ≡ Err e → node_standing s o ≡ Bad
 bad_in s None e is = refl
 bad_in s (Some n) e is = cc
@@ -31,7 +31,7 @@ no_metadata s files p P OtherKind r = inl (bad_at s files p OtherKind r)
 no_metadata s files p P Fault r = inr r
 no_metadata s files p P Memory r = absurd r
 
--- what metadata are of
+-- the node that metadata are of
 node_in : (o : Option FileNode) (m : Metadata) → metadata_in o ≡ Ok m → (n : FileNode) × (o ≡ Some n) × (metadata_of n ≡ m)
 node_in None m e = cc
 node_in (Some n) m e = (n, refl, cc)
@@ -72,7 +72,7 @@ module _ (s : Setting) (files : FileMap) (p : Path) (m : Metadata) (is : metadat
     readable : (e : FileError) → file_at files p ≡ Err e → ⊥
     readable e h = let bad : ◌≡◌ {A = Result FileNode FileError} (Ok node_at.0) (Err e) = sym found ∙ h in cc
 
-    -- a regular file can't be read only for a fault or lack of memory
+    -- reading a regular file fails only for a fault or lack of memory
     pub unread_at : (P Q : Type 0) (e : Error) → (P → Q) → IsIoRefusal (file_at files p) P e → IsJudged (standing_at s files p) Q (judged_unread e)
     unread_at P Q error.Memory f r = tt
     unread_at P Q (error.Io (util.File NotFound)) f r = absurd (readable NotFound r)

@@ -1,4 +1,4 @@
--- At which paths calls are made for a name.
+-- The paths at which calls are made for a name.
 use Rattle.std.proofs.Common.{◌≡◌, ◌||◌, ℕ, List, Bool, true, false, not, is_some, refl, sym, ap, ◌∙◌}
 use Rattle.std.specs.FinMap.{contains_key, get}
 use Rattle.std.specs.Ordering.{eq_by_cmp}

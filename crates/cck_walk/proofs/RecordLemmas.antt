@@ -17,7 +17,7 @@ use Rattle.cck_path_map.specs.Values.{map_values}
 use Rattle.cck_path_map.specs.declared.path_map.Entry.{Entry}
 use Rattle.cck_walk.specs.Digests.{AreNormal, listed, written}
 
--- a normal path is normal once more
+-- a normal path is its own normal form
 normal_names : (b : Bool) (ns : List (List ℕ)) → normal ((if b then Root ∷ [] else []) ++ map Name ns) ≡ (if b then Root ∷ [] else []) ++ map Name ns
 normal_names true ns = ap (λ l. Root ∷ map Name l) (leading_names-names ns)
 normal_names false [] = refl
@@ -54,7 +54,7 @@ pub none_normal : (V : Type 0) → AreNormal {V = V} empty
 none_normal V p h = absurd (false≢true (sym (ap is_some (get-empty path_cmp p)) ∙ h))
 
 module _ {V : Type 0} where
-  -- one more normal path
+  -- the paths are normal after another normal path is added
   pub more_normal : (m : FinMap path_cmp V) (p : Path) (v : V) → AreNormal m → normal p ≡ p → AreNormal (insert m p v)
   more_normal m p v all one q h = go (eq_by_cmp path_cmp q p) refl (sym (ap is_some (get-insert path_cmp_total m p v q)) ∙ h)
     where

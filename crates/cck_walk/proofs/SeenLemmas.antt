@@ -1,4 +1,4 @@
--- Names that a walk took before, and what comes of them later.
+-- The names that a walk has taken, and their outcomes later.
 use Rattle.std.proofs.Common.{◌≡◌, ◌⊎◌, ◌||◌, inl, inr, if◌then◌else◌, ℕ, ◌<◌, Bool, true, false, List, Option, Some, None, is_some, get_or, length, map, set, replicate, refl, sym, ap, ◌∙◌, arith, subst}
 use Rattle.std.proofs.lemmas.Bool.{cases_lt}
 use Rattle.std.proofs.lemmas.Bool.Decides.{eqb_tells}
@@ -21,7 +21,7 @@ Slots = List (Option SeenName)
 abbrev Names : Slots → List (Option (List ℕ × Bool))
 Names slots = map (option_map name_in) slots
 
--- what stands in a slot is remembered
+-- the name in a slot is remembered
 pub found : (slots : Slots) (i : ℕ) (seen : SeenName) → get_or slots i None ≡ Some seen → Contains (Names slots) (Some (name_in seen))
 found slots i seen at =
     elim (cases_lt i (length slots)) [
@@ -32,7 +32,7 @@ found slots i seen at =
     apart : None ≡ Some seen → ⊥
     apart e = cc
 
--- what is remembered after a slot was filled
+-- the names that are remembered after a slot was filled
 set_slot : {X : Type 0} (xs : List X) (i : ℕ) (y x : X) → Contains (set xs i y) x → Contains xs x ⊎ (x ≡ y)
 set_slot xs i y x (k, low, at) =
     let within : k < length xs = omega (arith, low, length-set xs i y) in
@@ -51,7 +51,7 @@ filled slots i seen name has =
 abbrev empty_slots : ℕ → Slots
 empty_slots n = replicate n None
 
--- nothing is remembered in empty slots
+-- empty slots remember no name
 pub no_names : (n : ℕ) (name : List ℕ × Bool) → Contains (Names (empty_slots n)) (Some name) → ⊥
 no_names n name (k, low, at) =
     let nothing : Option SeenName = None in
@@ -64,7 +64,7 @@ no_names n name (k, low, at) =
     apart : Some name ≡ None → ⊥
     apart e = cc
 
--- ---- what comes of a name, where more paths have a digest
+-- ---- the outcome of a name, where more paths have a digest
 
 more_known : (c : Context) (held : Digests) (p q : Path) (digest : List ℕ) → is_known c held q ≡ true → is_known c (insert held p digest) q ≡ true
 unfolding is_known
@@ -93,7 +93,7 @@ passes_still false true false o more e = absurd (false_true (more refl))
     false_true h = cc
 passes_still false false false o more e = e
 
--- nothing comes of a name of which nothing came
+-- a name that is passed over is passed over with one more digest
 pub passes_on : (c : Context) (held : Digests) (p : Path) (digest name : List ℕ) (is_system : Bool) → outcome c held name is_system ≡ Passes → outcome c (insert held p digest) name is_system ≡ Passes
 unfolding outcome
 passes_on c held p digest name is_system e =
@@ -123,7 +123,7 @@ passes_known : (passed known : Bool) (o : Outcome) → known ≡ true → (if pa
 passes_known true known o e = refl
 passes_known false known o e = rw e refl
 
--- nothing comes of a name again whose file was recorded
+-- a name whose file was recorded is passed over after that
 passes_recorded : (c : Context) (held : Digests) (p : Path) (digest name : List ℕ) (is_system : Bool) → outcome c held name is_system ≡ Records p digest → outcome c (insert held p digest) name is_system ≡ Passes
 unfolding outcome is_known
 passes_recorded c held p digest name is_system e =
@@ -134,12 +134,12 @@ passes_recorded c held p digest name is_system e =
     let there : is_some (get (insert held p digest) q) ≡ true = ap is_some (get-insert path_cmp_total held p digest q) ∙ rw tie refl in
     passes_known (is_passed c.setting.config.skip_system_headers name is_system) (is_known c (insert held p digest) q) (standing_outcome q s) (rw there refl)
 
--- nothing comes, where these digests are held, of the name nor of those of which nothing came before
+-- with these digests, the name is passed over, and so are those that were passed over before
 abbrev pub Still : Context → Digests → List ℕ → Bool → Digests → Type 0
 Still c held name is_system more =
     ((other : List ℕ) (its_system : Bool) → outcome c held other its_system ≡ Passes → outcome c more other its_system ≡ Passes) × (outcome c more name is_system ≡ Passes)
 
--- so it is once the name was taken
+-- this holds after the name was taken
 pub taken : (c : Context) (held more : Digests) (name : List ℕ) (is_system : Bool) → after held (outcome c held name is_system) ≡ Some more → Still c held name is_system more
 taken c held more name is_system e = go (outcome c held name is_system) refl e
   where
@@ -150,7 +150,7 @@ taken c held more name is_system e = go (outcome c held name is_system) refl e
         subst (Still c held name is_system) same (λ other its_system h. passes_on c held p digest other its_system h, passes_recorded c held p digest name is_system is)
     go Refuses is e = absurd cc
 
--- nothing comes of the names that are remembered, once one more was taken and is remembered
+-- the names that are remembered are passed over, after one more was taken and is remembered
 pub all_pass : (c : Context) (held more : Digests) (old new : SeenNames) (name : List ℕ) (is_system : Bool) → AllPass c held old → after held (outcome c held name is_system) ≡ Some more
     → ((other : List ℕ) (its_system : Bool) → Contains (names_in new) (Some (other, its_system)) → Contains (names_in old) (Some (other, its_system)) ⊎ ((other ≡ name) × (its_system ≡ is_system)))
     → AllPass c more new

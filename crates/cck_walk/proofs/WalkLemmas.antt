@@ -1,4 +1,4 @@
--- What the marks decide that were read.
+-- What the marks decide that have been read.
 use Rattle.std.proofs.Common.{◌≡◌, ◌⊎◌, ◌||◌, ◌++◌, inl, inr, not, if◌then◌else◌, ℕ, Bool, true, false, List, [], ◌∷◌, Option, Some, None, refl, sym, ap, subst, ◌∙◌}
 use Rattle.std.proofs.lemmas.Bool.{false≢true}
 use Rattle.std.proofs.lemmas.List.{append_assoc}
@@ -18,7 +18,7 @@ passed_by true known o e = refl
 passed_by false true o e = refl
 passed_by false false o e = absurd cc
 
--- a name that no file is looked for is passed over
+-- a name by which no file is looked for is passed over
 passed_over : (c : Context) (held : Digests) (name : List ℕ) (is_system : Bool) → is_looked_for c held name is_system ≡ false → outcome c held name is_system ≡ Passes
 unfolding is_looked_for outcome
 passed_over c held name is_system e =
@@ -110,12 +110,12 @@ module _ (c : Context) (text : List ℕ) where
               looked_for = looked_for;
             }
 
-        -- what is called for the name is called for the text
+        -- the calls for the name are calls for the text
         pub calls_on : {F : Type 0} {is_call : F → Path → F → Type 0} (first between last : F) → AreCalls is_call (Asked c text) first between → AreCalls is_call (IsLookedFor c held name is_system) between last
             → AreCalls is_call (Asked c text) first last
         calls_on first between last before here = calls_all (Asked c text) first between last before (calls_among (IsLookedFor c held name is_system) (Asked c text) between last asked here)
 
-        -- the name refuses
+        -- the text is refused for the name
         refused_name : outcome c held name is_system ≡ Refuses → TextDecides c text IsRefused
         unfolding decided
         refused_name why =

@@ -17,14 +17,14 @@ use Rattle.cck_walk.specs.Standing.{Standing, standing_at}
 abbrev pub Digests : Type 0
 Digests = FinMap path_cmp (List ℕ)
 
--- how files are judged, which files there are, which of them the text was made from, and where names begin
+-- how files are judged, which files there are, which of them the text was made from, and the directory that names are joined to
 pub record Context : Type 0 where
   pub setting : Setting
   pub files : FileMap
   pub input : Path
   pub cwd : Path
 
--- the context that a caller hands in
+-- the context of a caller's parameters
 abbrev pub context_in : (List ℕ → List ℕ) → PreprocessorCacheModeConfig → Moment → TimeZone → List (Vec ℕ × Vec ℕ) → FileMap → List ℕ → List ℕ → Context
 context_in hash config moment zone variables files input cwd = record {
   setting = setting_in hash config moment zone variables;
@@ -33,16 +33,16 @@ context_in hash config moment zone variables files input cwd = record {
   cwd = components cwd;
 }
 
--- `<` and `>` round it
+-- it is enclosed in `<` and `>`
 unfoldable pub is_angled : List ℕ → Bool
 is_angled name = nat_le 2 (length name) && (slice_index name 0 == 60) && (slice_index name (length name - 1) == 62)
 
--- a name that no file is looked for: an empty one, one in angles, and that of a system header where these are skipped
+-- a name by which no file is looked for: an empty one, one in angle brackets, and that of a system header where these are skipped
 unfoldable pub is_passed : Bool → List ℕ → Bool → Bool
 is_passed skips [] is_system = true
 is_passed skips (byte ∷ name) is_system = is_angled (byte ∷ name) || (skips && is_system)
 
--- the path that a name means, as seen from the working directory
+-- the path that a name means, joined to the working directory and normalised
 abbrev pub path_named : Context → List ℕ → Path
 path_named c name = normal (joined c.cwd (components name))
 
@@ -58,7 +58,7 @@ is_looked_for c held name is_system = not (is_passed c.setting.config.skip_syste
 abbrev pub IsLookedFor : Context → Digests → List ℕ → Bool → Path → Type 0
 IsLookedFor c held name is_system p = (is_looked_for c held name is_system ≡ true) × (p ≡ path_named c name)
 
--- what comes of a name: nothing, the digest of a path, or that the text is refused
+-- the outcome of a name: none, the digest of a path, or that the text is refused
 pub data Outcome : Type 0 where
   Passes : Outcome
   Records : Path → List ℕ → Outcome
@@ -87,7 +87,7 @@ pub data Decided : Type 0 where
   IsRefused : Decided
   Errs : Decided
 
--- the first mark decides that is a refusal, malformed, or a name that refuses
+-- the first mark decides that is `Refusal`, `Malformed`, or a name for which the text is refused
 unfoldable pub decided : Context → Option Digests → List Mark → Decided
 decided c None marks = IsRefused
 decided c (Some held) [] = Accepts held

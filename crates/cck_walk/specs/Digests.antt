@@ -16,7 +16,7 @@ coded_digests = coded_path_map (coded_list coded_ℕ)
 abbrev pub AreNormal : {V : Type 0} → FinMap path_cmp V → Type 0
 AreNormal m = (p : Path) → contains_key m p ≡ true → normal p ≡ p
 
--- a path as it is written, and its digest
+-- the text of a path, and its digest
 abbrev pub written : Path × List ℕ → List ℕ × List ℕ
 written e = (path_text (e.0), e.1)
 

@@ -1,4 +1,4 @@
--- what a line marker does
+-- the results for a line marker
 use Rattle.std.specs.Prelude.{◌≡◌, ◌≢◌, ◌⊎◌, ◌+◌, ℕ, Bool, true, false, List, [], Some, Result, Ok, Err}
 use Rattle.cck_key_error.specs.declared.key_error.KeyError.{KeyError}
 use Rattle.cck_key_error.specs.declared.key_error.KeyError.TheVariants.{Memory, Marker}
@@ -9,14 +9,14 @@ use Rattle.cck_walk.specs.Decided.{Context, Digests, IsLookedFor, Refuses, after
 use Rattle.cck_walk.specs.declared.line.LineAction.{LineAction}
 use Rattle.cck_walk.specs.declared.line.LineAction.TheVariants.{Continue, Break}
 
--- a name was taken, or it refuses the text, or a fault came where a file is looked for, and it counts as one that does
+-- a name was taken; or the text is refused for it; or a fault came where a file is looked for, and the text counts as refused
 abbrev pub IsNameAnswer : Context → Type 0 → Digests → Digests → List ℕ → Bool → Result Bool KeyError → Type 0
 IsNameAnswer c HasFault old new name is_system_in (Ok true) = after old (outcome c old name is_system_in) ≡ Some new
 IsNameAnswer c HasFault old new name is_system_in (Ok false) = (new ≡ old) × ((outcome c old name is_system_in ≡ Refuses) ⊎ (HasFault × (is_looked_for c old name is_system_in ≡ true)))
 IsNameAnswer c HasFault old new name is_system_in (Err Memory) = new ≡ old
 IsNameAnswer c HasFault old new name is_system_in (Err other) = ⊥
 
--- a marker with a name that has bytes, and where they stand
+-- a marker with a name that has bytes, and the places of these
 abbrev pub IsLongNamed : List ℕ → ℕ → ℕ → (List ℕ → Bool → Type 0) → Type 0
 IsLongNamed text begin end Does = (marker : Named text) × IsNamedAt text begin end marker × (marker.name ≢ []) × Does marker.name (is_system marker.rest)
 
@@ -24,7 +24,7 @@ IsLongNamed text begin end Does = (marker : Named text) × IsNamedAt text begin 
 abbrev pub IsLineLookedFor : Context → Digests → List ℕ → Path → Type 0
 IsLineLookedFor c held text p = (marker : Named text) × IsLookedFor c held marker.name (is_system marker.rest) p
 
--- the answer for the marker with which this text begins, where the text begins at a place of a longer one
+-- the result for the marker with which this text begins, where the text begins at a place of a longer one
 abbrev pub IsLineAnswer : Context → Type 0 → List ℕ → ℕ → ℕ → Digests → Digests → Result LineAction KeyError → Type 0
 IsLineAnswer c HasFault text start hash_start old new (Ok (Continue (next, also))) =
     (begin : ℕ) × (end : ℕ) × (next ≡ start + end) × (also ≡ start + end)

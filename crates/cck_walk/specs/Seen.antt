@@ -1,11 +1,11 @@
--- names that a walk took before
+-- the names that a walk has taken
 use Rattle.std.specs.Prelude.{◌≡◌, ℕ, List, Bool, Option, Some, map, Contains}
 use Rattle.std.specs.Option.{option_map}
 use Rattle.cck_walk.specs.Decided.{Context, Digests, Passes, outcome}
 use Rattle.cck_walk.specs.declared.seen.SeenName.{SeenName}
 use Rattle.cck_walk.specs.declared.seen.SeenNames.{SeenNames}
 
--- what a name says, without where it lies in memory
+-- a name and its flag, without its place in memory
 abbrev pub name_in : SeenName → List ℕ × Bool
 name_in seen = (seen.name.now, seen.is_system)
 
@@ -13,6 +13,6 @@ name_in seen = (seen.name.now, seen.is_system)
 abbrev pub names_in : SeenNames → List (Option (List ℕ × Bool))
 names_in seen = map (option_map name_in) seen.slots
 
--- nothing comes of a name that is remembered, while these digests are held
+-- a name that is remembered is passed over, with these digests
 abbrev pub AllPass : Context → Digests → SeenNames → Type 0
 AllPass c held seen = (name : List ℕ) (is_system : Bool) → Contains (names_in seen) (Some (name, is_system)) → outcome c held name is_system ≡ Passes

@@ -1,4 +1,4 @@
--- what a path stands for
+-- how a walk judges a path
 use Rattle.std.specs.Prelude.{◌≡◌, ◌⊎◌, ◌||◌, if◌then◌else◌, not, ℕ, Bool, false, List, Option, Some, None, Result, Ok, Err, string_bytes}
 use Rattle.std.specs.FinMap.{get}
 use Rattle.cck_files.specs.FileMap.{FileMap, FileNode}
@@ -16,13 +16,13 @@ use Rattle.cck_time.specs.declared.error.Error.TheVariants as error
 use Rattle.cck_walk.specs.declared.judge.Judged.{Judged}
 use Rattle.cck_walk.specs.declared.judge.Judged.TheVariants as judged
 
--- a folder, a regular file with its recorded digest, or what can't be recorded
+-- a directory, a regular file with its recorded digest, or what can't be recorded
 pub data Standing : Type 0 where
   Folder : Standing
   Regular : List ℕ → Standing
   Bad : Standing
 
--- the time is known, and doesn't lie before the moment
+-- the time is known, and is not before the call time
 abbrev pub is_late : Moment → Option Moment → Bool
 is_late moment None = false
 is_late moment (Some time) = not (is_before time moment)
@@ -31,7 +31,7 @@ abbrev pub digest_standing : Option (List ℕ) → Standing
 digest_standing None = Bad
 digest_standing (Some digest) = Regular digest
 
--- a regular file is recorded if no time of it is late and it has a recorded digest
+-- a regular file is recorded if none of its times is late and it has a recorded digest
 abbrev pub file_standing : Setting → FileNode → Standing
 file_standing s n = if is_late s.moment n.modified || is_late s.moment n.changed then Bad else digest_standing (recorded s n)
 
@@ -44,11 +44,11 @@ abbrev pub node_standing : Setting → Option FileNode → Standing
 node_standing s None = Bad
 node_standing s (Some n) = kind_standing s n n.kind
 
--- what a path stands for in these files
+-- how a path is judged in these files
 unfoldable pub standing_at : Setting → FileMap → Path → Standing
 standing_at s files p = node_standing s (get files.nodes p)
 
--- the path was judged by what it stands for, or a fault came and it counts as bad
+-- the path was judged exactly, or a fault came and it counts as bad
 abbrev pub IsJudged : Standing → Type 0 → Result Judged KeyError → Type 0
 IsJudged standing HasFault (Ok judged.Folder) = standing ≡ Folder
 IsJudged standing HasFault (Ok (judged.Regular digest)) = standing ≡ Regular (string_bytes digest)
@@ -56,7 +56,7 @@ IsJudged standing HasFault (Ok judged.Bad) = (standing ≡ Bad) ⊎ HasFault
 IsJudged standing HasFault (Err Memory) = Unit {0}
 IsJudged standing HasFault (Err other) = ⊥
 
--- a file that can't be read is bad, unless it was memory that ran out
+-- a file that can't be read is bad, unless the cause is lack of memory
 abbrev pub judged_unread : Error → Result Judged KeyError
 judged_unread error.Memory = Err Memory
 judged_unread (error.Io e) = Ok judged.Bad

@@ -1,4 +1,4 @@
--- what a walk over a text answers
+-- the results of a walk over a text
 use Rattle.std.specs.Prelude.{◌≡◌, ◌⊎◌, ℕ, List, map, Option, Some, None, Result, Ok, Err}
 use Rattle.std.specs.FinMap.{entries}
 use Rattle.cck_key_error.specs.declared.key_error.KeyError.{KeyError}
@@ -9,7 +9,7 @@ use Rattle.cck_walk.specs.Digests.{listed, written}
 use Rattle.cck_walk.specs.declared.walk.Walk.{Walk}
 use Rattle.cck_walk.specs.declared.walk.Walk.TheVariants.{Accepted, Refused}
 
--- the text decides it; with a fault, where a path is looked for, it may be refused whatever it decides
+-- the marks of the text decide it; after a fault, if a path is looked for, the text may be refused whatever they decide
 abbrev pub IsWalk : Context → Type 0 → List ℕ → Result Walk KeyError → Type 0
 IsWalk c HasFault text (Ok (Accepted files)) = (digests : Digests) × TextDecides c text (Accepts digests) × (map listed files.items ≡ map written (entries digests))
 IsWalk c HasFault text (Ok Refused) = TextDecides c text IsRefused ⊎ (HasFault × (p : Path) × Asked c text p)

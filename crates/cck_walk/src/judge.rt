@@ -1,4 +1,4 @@
-//! What a path stands for.
+//! Judges the node at a path.
 ghost use Rattle.std.specs.Prelude.{◌≡◌, ◌||◌};
 ghost use Rattle.cck_files.specs.Calls.{AreCalls, Keeps, Rose};
 ghost use Rattle.cck_include.specs.Setting.{setting_in};
@@ -15,18 +15,18 @@ use cck_time::{Error, PreprocessorCacheModeConfig};
 use jiff::tz::TimeZone;
 use std::alloc::Global;
 
-/// What a path stands for in a walk.
+/// How a walk judges a path.
 #[derive(Debug, Drop)]
 pub(crate) enum Judged {
-    /// A folder.
+    /// A directory.
     Folder,
     /// A regular file that can be recorded, with its digest.
     Regular(String),
-    /// Nothing, or what can't be recorded.
+    /// No node, or one that can't be recorded.
     Bad,
 }
 
-// Whether a time is known and doesn't lie before the moment.
+// Whether a time is known and is not before `moment`.
 fn is_late(time: Option<Timestamp>, moment: Timestamp) -> bool
     ensures { result ≡ is_late moment time }
 {
@@ -36,14 +36,14 @@ fn is_late(time: Option<Timestamp>, moment: Timestamp) -> bool
     }
 }
 
-// Whether one of the times that are known doesn't lie before the moment.
+// Whether one of the known times is not before `moment`.
 fn has_late_time(metadata: &Metadata, moment: Timestamp) -> bool
     ensures { result ≡ (is_late moment metadata.now.modified || is_late moment metadata.now.changed) }
 {
     is_late(metadata.modified, moment) || is_late(metadata.changed, moment)
 }
 
-// A file that can't be read is bad, unless it was memory that ran out.
+// A file that can't be read is bad, unless the cause is lack of memory.
 fn judge_unread(error: Error) -> Result<Judged, KeyError>
     ensures { result ≡ judged_unread error }
 {
@@ -53,11 +53,11 @@ fn judge_unread(error: Error) -> Result<Judged, KeyError>
     }
 }
 
-/// What a path stands for: a folder, or a regular file with a recorded digest of which no time is
-/// the moment or later, since it may still be written in that same instant. All else is bad, and
-/// where a fault came anything may be.
+/// Returns how a path is judged: as a directory, or as a regular file that has a recorded digest
+/// and no time at `moment` or later. With such a time the file may still be written. Anything else
+/// is bad. After a fault anything may be judged bad.
 ///
-/// It is refused only as [`KeyError::Memory`].
+/// The only error is [`KeyError::Memory`].
 pub(crate) fn judge<H: HashState, F: Files>(
     alloc: Global,
     files: &mut F,

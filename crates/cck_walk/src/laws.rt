@@ -8,16 +8,17 @@ ghost use Rattle.cck_walk.specs.Walk.{accepted_of};
 use crate::{LineAction, Walk};
 use cck_files::Files;
 
-/// What walks decide is equal exactly if it is the same, paths and digests byte for byte and in one
-/// order; and what to do behind a line marker is equal exactly if all of its fields are.
+/// Two walks are equal exactly if both accept with the same paths and digests, byte for byte and in
+/// the same order, or both refuse. Two actions after a line marker are equal exactly if all of
+/// their fields are.
 pub fn equality_is_exact()
     ensures walks { (a b : Walk) →
         IsTrue (⟦<Walk as PartialEq>⟧.eq a b) ↔ (accepted_of a ≡ accepted_of b) }
     ensures actions { (a b : LineAction) → IsTrue (⟦<LineAction as PartialEq>⟧.eq a b) ↔ (a ≡ b) }
 {}
 
-/// Where no file is looked for by a name of a text, no path is, and a walk over the text leaves the
-/// files as they were.
+/// If no file is looked for by a name of a text, then no path is, and a walk over the text leaves
+/// the files unchanged.
 pub fn nothing_is_asked<F: Files>()
     ensures path { (c : Context) (text : List ℕ) → LooksForNone c text →
         (p : Path) → Asked c text p → ⊥ }

@@ -1,19 +1,19 @@
-//! The walk over the line markers of preprocessed text: which files a text was made of, and whether
-//! all of them are known.
+//! The walk over the line markers of a preprocessed text. It finds which files the text was made
+//! of, and whether all of them are known.
 //!
-//! A preprocessor prints the name of each file that it read. Where each named file can be digested,
-//! their digests say whether the same text would be printed again, so that nothing needs to be
+//! A preprocessor prints the name of each file that it read. If each named file can be digested,
+//! the digests show whether the same text would be printed again, and nothing needs to be
 //! preprocessed. [`process_preprocessed_file`] looks at each name:
 //!
-//! - names that are empty or stand in `<` and `>`, and those of system headers where the options
+//! - names that are empty or enclosed in `<` and `>`, and those of system headers if the options
 //!   say so, are passed over;
-//! - any other is joined to the working directory and then normalised. The input and folders are
-//!   passed over, and a regular file is recorded with its
+//! - any other name is joined to the working directory and then normalised. The input and
+//!   directories are passed over, and a regular file is recorded with its
 //!   [recorded digest](cck_include::recorded_digest);
-//! - a name that means anything else refuses the text: nothing stands there, the file may still be
-//!   written in this instant, as a time of it is the moment of the walk or later, or it has no
-//!   recorded digest. So does `.incbin` with a quote behind it, since no marker names the file
-//!   that it includes.
+//! - the text is refused if the path is none of these. Then there is no file or directory, the file
+//!   has no recorded digest, or it may still be written, as one of its times is the call time or
+//!   later. The text is also refused for `.incbin` followed by a quote, since no marker names the
+//!   file that it includes.
 //!
 //! The first such name, inclusion or malformed marker decides. No file that is named after it is
 //! looked at.
@@ -26,12 +26,11 @@
 //! walk // accepted, with `/inc/h.h` and its digest
 //! ```
 //!
-//! Files are handed in as [`Files`](cck_files::Files). Where a call on them meets a fault the text
-//! may be refused; an accepted text and a malformed marker are what they are without one.
-//! [`process_preprocessor_line`] does the same for one marker, and fills [`Records`]. What is
-//! decided is a [`Walk`], or a [`LineAction`] for one marker, and a refusal is a [`KeyError`], which
-//! is passed on from `cck_key_error`. [`laws`] has what `==` says of walks, and when no
-//! file is looked at.
+//! Files are passed as [`Files`](cck_files::Files). After a fault of a call on them the text may be
+//! refused; an accepted text and a malformed marker are exact even then.
+//! [`process_preprocessor_line`] does the same for one marker, and adds to [`Records`]. The result
+//! is a [`Walk`], or a [`LineAction`] for one marker. An error is a [`KeyError`] of
+//! `cck_key_error`. [`laws`] states when walks are equal, and when no file is looked at.
 #![tactic(auto)]
 
 mod judge;

@@ -16,37 +16,37 @@ use cck_time::PreprocessorCacheModeConfig;
 use jiff::tz::TimeZone;
 use std::alloc::Global;
 
-/// What to do behind a line marker. Places are counted in bytes from the text's start.
+/// What to do after a line marker. Places are byte offsets from the text's start.
 #[derive(Debug, Clone, Copy, PartialEq, Eq)]
 pub enum LineAction {
-    /// Its name was recorded or passed over. Go on at the first place, which is that behind the
-    /// name, as the second is.
+    /// Its name was recorded or passed over. Go on at the first place. Both places are that after
+    /// the name.
     Continue((usize, usize)),
-    /// With `true` no name was looked at: go on at the first place. With `false` the name refuses
-    /// the text. The second place is that of the name's first byte, or, where the marker has no
-    /// name, the `#` that was handed in.
+    /// With `true` no name was looked at: go on at the first place. With `false` the text is
+    /// refused for the name. The second place is that of the name's first byte, or the passed
+    /// `hash_start` if the marker has no name.
     Break((usize, usize, bool)),
 }
 
 /// Reads the line marker that begins at `start`, and records the file that it names. `hash_start`
-/// is the place of its `#`, which an answer for a marker without a name hands back; nothing before
-/// `start` is read. It asks that `hash_start <= start < text.len()`.
+/// is the place of its `#`, which is returned for a marker without a name. Nothing before `start`
+/// is read. The caller ensures that `hash_start <= start < text.len()`.
 ///
-/// - The line ends before a quote comes: `Break` with the place of the line feed, `hash_start` and
+/// - The line ends before any quote: `Break` with the place of the line feed, `hash_start` and
 ///   `true`.
-/// - The name is empty: `Break` with the places behind it and of it, and `true`.
-/// - The name is in angles, or is that of a system header where the options skip these, or means a
-///   folder, the input, or a path that was recorded: `Continue`.
-/// - The name means a regular file with a recorded digest and with no time at the moment or later:
+/// - The name is empty: `Break` with the places after it and of it, and `true`.
+/// - The name is in angle brackets, or is that of a system header and the options skip these, or
+///   means a directory, the input, or a path that was recorded: `Continue`.
+/// - The name means a regular file with a recorded digest and with no time at `moment` or later:
 ///   `Continue`, and the file is recorded.
-/// - The name means anything else, or a fault came: `Break` with the places behind it and of it,
-///   and `false`.
+/// - The name means anything else, or a fault came: `Break` with the places after it and of it, and
+///   `false`.
 ///
-/// It is refused as [`KeyError::Marker`] exactly where neither a quote nor a line feed comes, or a
-/// quote first, as the text's last byte; and as [`KeyError::Memory`]. Records change by a
-/// `Continue` alone. Calls on files are made only at the path that the name means, and none for a
-/// marker without a name, for a name that is passed over by itself, nor for the path of the input or
-/// of a record.
+/// The error is [`KeyError::Marker`] exactly if there is neither a quote nor a line feed, or if the
+/// first of them is a quote and the text's last byte. The only other error is [`KeyError::Memory`].
+/// Records change only with `Continue`. Calls on files are made only at the path that the name
+/// means. There are none for a marker without a name, for a name that is passed over by itself, or
+/// for the path of the input or of a record.
 ///
 /// Upstream's `compiler::c::process_preprocessor_line`.
 pub fn process_preprocessor_line<H: HashState, F: Files>(

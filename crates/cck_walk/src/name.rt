@@ -1,4 +1,4 @@
-//! What a line marker's name does.
+//! Takes the name of a line marker.
 ghost use Rattle.std.specs.Prelude.{◌≡◌, IfOk, IsOkUnless, false};
 ghost use Rattle.std.specs.Ordering.{eq_by_cmp};
 ghost use Rattle.cck_files.specs.Calls.{AreCalls, Keeps, Rose};
@@ -17,7 +17,7 @@ use cck_time::PreprocessorCacheModeConfig;
 use jiff::tz::TimeZone;
 use std::alloc::Global;
 
-// Whether `<` and `>` stand round a name.
+// Whether a name is enclosed in `<` and `>`.
 #[tactic(auto, unfolding(crate::specs::Decided::is_angled))]
 fn is_angled(name: &[u8]) -> bool
     ensures { result ≡ is_angled name.now }
@@ -40,8 +40,8 @@ fn is_same(a: &[u8], b: &[u8]) -> bool
     compare_paths(a, b).is_eq()
 }
 
-// The path that a name means, as seen from the working directory. It is joined first, so that a
-// leading `..` leads out of that directory.
+// The path that a name means, relative to the working directory. It is joined before it is
+// normalised, so that a leading `..` leads out of that directory.
 fn path_named(alloc: Global, cwd: &[u8], name: &[u8]) -> Result<Vec<u8>, KeyError>
     ensures path { IfOk result (λ path.
         components path.items ≡ normal (joined (components cwd.now) (components name.now))) }
@@ -56,11 +56,12 @@ fn path_named(alloc: Global, cwd: &[u8], name: &[u8]) -> Result<Vec<u8>, KeyErro
     }
 }
 
-/// Records the file that a name means, or passes it over. `false` says that the text is refused.
+/// Records the file that a name means, or passes it over. It returns `false` if the text is refused
+/// for the name.
 ///
-/// It is refused only as [`KeyError::Memory`], and changes no record then, nor where it answers
-/// `false`. Calls on files are made only at the path that the name means, and none for a name that is
-/// passed over, nor for the path of the input or of a record.
+/// The only error is [`KeyError::Memory`]. After it, and with `false`, the records are unchanged.
+/// Calls on files are made only at the path that the name means. There are none for a name that is
+/// passed over, or for the path of the input or of a record.
 #[tactic(auto, unfolding(crate::specs::Decided::outcome, crate::specs::Decided::is_known, crate::specs::Decided::is_looked_for))]
 pub(crate) fn take_name<H: HashState, F: Files>(
     alloc: Global,

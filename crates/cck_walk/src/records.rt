@@ -14,7 +14,7 @@ use std::marker::Model;
 
 /// Files that were found, each with its recorded digest.
 ///
-/// It is seen as a finite map from paths to digests, and paths are told apart by their components.
+/// Contracts describe it as a finite map from paths to digests. Paths are compared by components.
 /// Only [`process_preprocessor_line`](crate::process_preprocessor_line) adds to it.
 #[derive(Debug, Drop)]
 pub struct Records {
@@ -37,7 +37,7 @@ impl Model for Records {
 }
 
 impl Records {
-    /// No files. It keeps the allocator, and takes no memory.
+    /// Returns records of no files. It keeps the allocator, and allocates no memory.
     pub fn new(alloc: Global) -> Records
         ensures { result ≡ finite.empty }
     {
@@ -46,14 +46,14 @@ impl Records {
         }
     }
 
-    /// How many files there are. It takes no memory.
+    /// Returns the number of files. It allocates no memory.
     pub fn len(&self) -> usize
         ensures { result ≡ finite.len self.now }
     {
         self.digests.len()
     }
 
-    /// The digest of the file at a path, if it was found. It takes no memory.
+    /// Returns the recorded digest of the file at a path, if it was found. It allocates no memory.
     pub fn get(&self, path: &[u8]) -> Option<&str>
         ensures { option_copied result ≡ finite.get self.now (components path.now) }
     {
@@ -68,7 +68,7 @@ impl Records {
         self.digests.contains(path)
     }
 
-    // Adds a file at a path without `.` and `..`, or gives it another digest.
+    // Adds a file at a path without `.` and `..`, or replaces its digest.
     pub(crate) fn insert(&mut self, path: &[u8], digest: String) -> Result<(), KeyError>
         requires { normal (components path.now) ≡ components path.now }
         ensures set { OnOk result
@@ -92,8 +92,8 @@ impl Records {
     }
 }
 
-// All entries of a map in the order of their paths. A path stands there as it was written first:
-// without `.` and `..` it is written in one way as a normal one.
+// All entries of a map in the order of their paths. The map keeps a path as it was written first,
+// so each is normalised: its normal form is written in one way only.
 fn list_of(alloc: Global, digests: &PathMap<String>) -> Result<Vec<(Vec<u8>, String)>, KeyError>
     requires { AreNormal digests.now }
     ensures all { IfOk result (λ files. map listed files.items

@@ -1,14 +1,14 @@
-//! Names that a walk took before.
+//! The names that a walk has taken.
 ghost use Rattle.std.specs.Prelude.{◌≡◌, ◌⊎◌, ◌<◌, ℕ, List, Bool, Contains, Some, true};
 ghost use Rattle.cck_walk.specs.Seen.{names_in};
 
-// How many names are remembered at most.
+// The greatest number of names that are remembered.
 const SLOTS: usize = 2048;
 
 // The prime by which FNV-1 multiplies.
 const FNV_PRIME: usize = 0x0100_0193;
 
-// How many of a name's last bytes tell its slot.
+// The number of a name's last bytes that are hashed for its slot.
 const TOLD_BY: usize = 8;
 
 /// A name, and whether a system header has it.
@@ -19,14 +19,14 @@ pub(crate) struct SeenName<'t> {
 }
 
 /// Names that a walk took and that need not be looked at again. Each is remembered until another
-/// one takes its slot. It takes no memory.
+/// one takes its slot. No memory is allocated.
 #[derive(Drop)]
 pub(crate) struct SeenNames<'t> {
     slots: [Option<SeenName<'t>>; SLOTS],
 }
 
 impl<'t> SeenNames<'t> {
-    /// No names.
+    /// Returns the empty set of names.
     pub(crate) fn new() -> SeenNames<'t>
         ensures { (name : List ℕ) (is_system : Bool) → Contains (names_in result) (Some (name, is_system)) → ⊥ }
     {
@@ -35,7 +35,7 @@ impl<'t> SeenNames<'t> {
         }
     }
 
-    /// Whether this name is remembered. It may be answered that it isn't.
+    /// Returns `true` only if this name is remembered. It may return `false` for any name.
     pub(crate) fn contains(&self, name: &[u8], is_system: bool) -> bool
         ensures { result ≡ true → Contains (names_in self.now) (Some (name.now, is_system)) }
     {
@@ -54,8 +54,8 @@ impl<'t> SeenNames<'t> {
     }
 }
 
-// The slot of a name: the hash function FNV-1 over its last bytes, since names of one folder begin
-// alike, from its length and its flag on.
+// The slot of a name: the hash function FNV-1 over its last bytes, started with its length and its
+// flag. The last bytes are taken since names of one directory begin alike.
 fn slot_of(name: &[u8], is_system: bool) -> usize
     ensures { result < SLOTS }
 {

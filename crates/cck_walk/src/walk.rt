@@ -16,32 +16,33 @@ use cck_time::PreprocessorCacheModeConfig;
 use jiff::tz::TimeZone;
 use std::alloc::Global;
 
-/// What a walk over a text decides.
+/// The result of a walk over a text.
 #[derive(Debug, PartialEq, Eq, Drop)]
 pub enum Walk {
-    /// Each file that the text names is known: their paths, normalised, in the order of paths and
-    /// each once, with their recorded digests. Folders and the input are left out.
+    /// Each file that the text names is known: their normalised paths, in path order and each once,
+    /// with their recorded digests. Directories and the input are left out.
     Accepted(Vec<(Vec<u8>, String)>),
-    /// The text can't be known by the files that it names.
+    /// The text can't be identified by the files that it names.
     Refused,
 }
 
 /// Looks at each file that a preprocessed text names.
 ///
-/// The text is refused at the first inclusion by the assembler, or name that is neither a folder
-/// nor a regular file with a recorded digest and with no time at the moment or later. A malformed
-/// marker before these is an error. Where there is neither, the text is accepted.
+/// The text is refused at the first inclusion by the assembler, or at the first name that stops the
+/// walk. Such a name is neither that of a directory nor of a regular file with a recorded digest
+/// and with no time at `moment` or later. A malformed marker before these is an error. If there is
+/// neither, the text is accepted.
 ///
-/// Names are joined to the working directory and normalised. Passed over are empty names, names in
-/// angles, the input, and the names of system headers where the options skip these. `input_file` is
-/// compared as it is handed in, so it has to be joined and normalised where the input is to be
-/// passed over. Calls on files are made only at the paths of names up to the deciding mark, and none
-/// for a name that is passed over, nor for a path that has a digest already.
+/// Names are joined to the working directory and normalised. Empty names, names in angle brackets
+/// and the input are passed over, and so are the names of system headers if the options skip these.
+/// `input_file` is compared as it is, so the caller has to join and normalise it for the input to
+/// be passed over. Calls on files are made only at the paths of names up to the deciding mark.
+/// There are none for a name that is passed over, or for a path that has a digest already.
 ///
-/// Where a fault came, and a path was looked for, the text may be refused. What is accepted, and that
-/// a marker is malformed, is exact then too. It is refused as
+/// After a fault, if a path was looked for, the text may be refused. An accepted text and a
+/// malformed marker are exact even then. The errors are
 ///
-/// - [`KeyError::Marker`] exactly where a malformed marker decides,
+/// - [`KeyError::Marker`], exactly if a malformed marker decides,
 /// - [`KeyError::Memory`].
 ///
 /// Upstream's `compiler::c::process_preprocessed_file`.

@@ -21,7 +21,8 @@ pub(crate) const CALLS: [(&str, MarkerCall); 5] = [
     ("lines_of_texts", MarkerCall::LinesOfTexts),
 ];
 
-/// Makes a call. Of the texts it returns one digest: that of all results, each with an LF after it.
+/// Makes a call. For generated texts it returns one digest: that of all results, each with an LF
+/// after it.
 pub(crate) fn call<'a>(
     call: MarkerCall,
     alloc: Global,
@@ -86,7 +87,7 @@ fn write_marks(out: &mut Vec<u8>, text: &[u8]) -> Result<(), AllocError> {
     Ok(())
 }
 
-// Writes what a line marker says, with its places.
+// Writes what a line marker says, and its places.
 fn write_line(alloc: Global, out: &mut Vec<u8>, text: &[u8]) -> Result<(), AllocError> {
     match read_line(text) {
         Line::Unnamed { end } => {

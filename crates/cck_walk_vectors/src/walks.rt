@@ -53,7 +53,8 @@ pub(crate) struct Walks {
     records: Records,
 }
 
-/// Makes a call. Of the texts it returns one digest: that of all results, each with an LF after it.
+/// Makes a call. For generated texts it returns one digest: that of all results, each with an LF
+/// after it.
 pub(crate) fn call<'a>(
     call: WalkCall,
     walks: &'a mut Walks,
@@ -86,7 +87,7 @@ fn zone_of(seconds: i32) -> Result<TimeZone<'static>, CaseError> {
 }
 
 impl Walks {
-    /// Nothing is given, and nothing is recorded.
+    /// Returns the state in which nothing is given or recorded.
     pub(crate) fn new(alloc: Global) -> Walks {
         Walks {
             alloc,
@@ -98,7 +99,7 @@ impl Walks {
         }
     }
 
-    /// Forgets all that was given and recorded.
+    /// Removes all that was given and recorded.
     pub(crate) fn begin(&mut self) {
         self.given.begin();
         self.world.begin();
@@ -107,7 +108,7 @@ impl Walks {
         self.records = Records::new(self.alloc);
     }
 
-    /// Takes what a line gives, and returns whether it knows the line's word.
+    /// Applies a line, and returns whether its word is known here.
     pub(crate) fn give(&mut self, name: &str, rest: &str) -> Result<bool, CaseError> {
         let Some(word) = find(&WORDS, name) else {
             return Ok(self.world.give(name, rest)? || self.given.give(name, rest)?);
@@ -154,7 +155,7 @@ impl Walks {
         write_result(out, walk)
     }
 
-    // `line START HASH_START TEXT`: what the line marker at a place of a text does.
+    // `line START HASH_START TEXT`: the result for the line marker at a place of a text.
     fn process_line<'a>(&mut self, rest: &str) -> Result<Value<'a>, CaseError> {
         let (start, rest) = rest.split_once(' ').ok_or(CaseError::Line)?;
         let (hash_start, text) = rest.split_once(' ').ok_or(CaseError::Line)?;
@@ -199,7 +200,7 @@ impl Walks {
     }
 }
 
-// An error that is a result: a walk returns no other.
+// The text of an error that is a result. A walk returns no other errors than these two.
 fn error_word(error: KeyError) -> Result<&'static str, CaseError> {
     match error {
         KeyError::Memory => Err(CaseError::Util(UtilError::Memory)),
