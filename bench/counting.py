@@ -4,8 +4,8 @@ import re
 import subprocess
 
 
-def cost(words, path):
-    """The processor time in seconds and the greatest memory in MiB of these words on a file."""
+def seconds(words, path):
+    """The processor time of these words on a file, in seconds. What they print goes to a file beside it."""
     actions = [
         (os.POSIX_SPAWN_OPEN, 0, path, os.O_RDONLY, 0),
         (os.POSIX_SPAWN_OPEN, 1, path + ".out", os.O_WRONLY | os.O_CREAT | os.O_TRUNC, 0o644),
@@ -14,7 +14,17 @@ def cost(words, path):
     _, status, usage = os.wait4(child, 0)
     if status != 0:
         raise ChildProcessError(f"{words[0]} ended with status {status}")
-    return usage.ru_utime + usage.ru_stime, usage.ru_maxrss / 1024
+    return usage.ru_utime + usage.ru_stime
+
+
+def memory(words, path):
+    """The greatest resident set of these words on a file, in MiB, by GNU time."""
+    said = path + ".said"
+    with open(path, "rb") as text:
+        timed = ["/usr/bin/time", "-f", "%M", "-o", said, *words]
+        subprocess.run(timed, stdin=text, stdout=subprocess.DEVNULL, check=True)
+    with open(said, encoding="ascii") as file:
+        return int(file.read()) / 1024
 
 
 def instructions(words, path):

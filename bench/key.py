@@ -2,26 +2,24 @@
 import os
 import sys
 
-from counting import cost, instructions, written
+from counting import instructions, memory, seconds, written
 
 MIB = 2**20
 
 
 def table(what, runs, rounds, timed, counted):
     """Prints the least times of some interleaved rounds on a file, and the instructions on another."""
-    costs = {name: [] for name in runs}
+    least = dict.fromkeys(runs, 1e9)
     for _ in range(rounds):
         for name, words in runs.items():
-            costs[name].append(cost(words, timed))
+            least[name] = min(least[name], seconds(words, timed))
     counts = {name: instructions(words, counted) for name, words in runs.items()}
     first = next(iter(runs))
-    unit = min(costs[first])[0]
     print(f"{what:24} processor ms  ratio  million instructions  ratio    MiB   (best of {rounds})")
-    for name in runs:
-        least, memory = min(costs[name])
+    for name, words in runs.items():
         print(
-            f"{name:24} {least * 1000:12.3f} {least / unit:6.2f} {counts[name] / 1e6:21.3f}"
-            f" {counts[name] / counts[first]:6.2f} {memory:6.1f}",
+            f"{name:24} {least[name] * 1000:12.3f} {least[name] / least[first]:6.2f} {counts[name] / 1e6:21.3f}"
+            f" {counts[name] / counts[first]:6.2f} {memory(words, timed):6.1f}",
             flush=True,
         )
 

@@ -6,7 +6,7 @@
 #     bench/key.sh [FOLDER]
 #
 # All is made in FOLDER, by default a new one below /tmp. Compare times within one run. Needs Python 3,
-# openssl and valgrind.
+# openssl, valgrind and GNU time as /usr/bin/time.
 set -e
 here=$(cd "$(dirname "$0")" && pwd)
 top=$(cd "$here/.." && pwd)

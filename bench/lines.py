@@ -2,7 +2,7 @@
 import random
 import sys
 
-from counting import cost, instructions, written
+from counting import instructions, memory, seconds, written
 
 COUNTS = [10000, 100000]
 ROUNDS = 5
@@ -33,12 +33,12 @@ def main(program, folder):
         unit = None
         for count in COUNTS:
             path = written(folder, "lines", script(ordered(order, count)))
-            least, memory = min(cost(run, path) for _ in range(ROUNDS))
+            least = min(seconds(run, path) for _ in range(ROUNDS))
             each = least / count, instructions(run, path) / count
             unit = unit or each
             print(
                 f"{count:<7} {order:8} {each[0] * 1e9:18.0f} {each[0] / unit[0]:6.2f} {each[1]:20.0f}"
-                f" {each[1] / unit[1]:6.2f} {memory:6.1f}",
+                f" {each[1] / unit[1]:6.2f} {memory(run, path):6.1f}",
                 flush=True,
             )
 

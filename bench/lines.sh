@@ -4,8 +4,8 @@
 #
 #     bench/lines.sh [FOLDER]
 #
-# All is made in FOLDER, by default a new one below /tmp. Compare times within one run. Needs Python 3
-# and valgrind.
+# All is made in FOLDER, by default a new one below /tmp. Compare times within one run. Needs Python 3,
+# valgrind and GNU time as /usr/bin/time.
 set -e
 here=$(cd "$(dirname "$0")" && pwd)
 top=$(cd "$here/.." && pwd)

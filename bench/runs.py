@@ -1,7 +1,7 @@
 """Makes scripts of many calls and prints what hits and misses cost: see bench/runs.sh."""
 import sys
 
-from counting import cost, instructions, written
+from counting import instructions, memory, seconds, written
 
 SIZE = 4096
 HEADERS = [(b"int value_%03d(int first, int second);\n" % i).ljust(SIZE - 1, b"x") + b"y" for i in range(100)]
@@ -20,7 +20,7 @@ def script(calls, word):
 
 def answered(run, path):
     """The first words of the answers to a script that was run."""
-    cost(run, path)
+    seconds(run, path)
     with open(path + ".out", "rb") as printed:
         return [line.split()[0] for line in printed]
 
@@ -38,14 +38,14 @@ def main(program, hashing, folder):
             path = written(folder, "many", script(calls, word))
             assert answered(run, path) == [b"miss"] + [name] * calls
             rounds = [
-                [cost(*words) for words in ((run, path), (run, none), ([hashing, str(calls)], texts))]
+                [seconds(*words) for words in ((run, path), (run, none), ([hashing, str(calls)], texts))]
                 for _ in range(ROUNDS)
             ]
             many, beginning, beside = map(min, zip(*rounds))
-            taken = many[0] - beginning[0]
+            taken = many - beginning
             print(
-                f"{calls:4} {name.decode():6} {calls / taken:15.0f} {taken / beside[0]:10.2f}"
-                f" {count / 1e7:14.2f} {count / unit:10.3f} {many[1]:6.1f}",
+                f"{calls:4} {name.decode():6} {calls / taken:15.0f} {taken / beside:10.2f}"
+                f" {count / 1e7:14.2f} {count / unit:10.3f} {memory(run, path):6.1f}",
                 flush=True,
             )
 
