@@ -17,4 +17,4 @@ folder=${1:-$(mktemp -d)}
 build_program entry 'cck_digest cck_path cck_strip cck_path_map cck_files cck_file_digest cck_util
     cck_time cck_include cck_preprocessor_key cck_entry' \
     'cck_digest cck_path cck_files cck_file_digest cck_entry jiff anyhow'
-print_measures /dev/null
+print_measures /dev/null /dev/null

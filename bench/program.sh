@@ -33,13 +33,14 @@ allocations() {
     sed -n 's/.*total heap usage: \([0-9,]*\) allocs.*/\1/p' "$folder/said" | tr -d ,
 }
 
-# Prints what the measures of $program take on the text $1, beside the first one. Without words it
-# prints the name and the nanoseconds of each; with the name of one it makes this one once, and with
-# `nothing` only what comes before each. This is taken off from the instructions and allocations.
+# Prints what the measures of $program take, beside the first one: their times on the text $1, their
+# instructions and allocations on the text $2. Without words the program prints the name and the
+# nanoseconds of each; with the name of one it makes this one once, and with `nothing` only what comes
+# before each, which is taken off from the instructions and allocations.
 print_measures() {
     "$program" < "$1" > "$folder/times"
     for name in nothing $(cut -d ' ' -f 1 "$folder/times"); do
-        echo "$name $(instructions "$program" "$name" < "$1") $(allocations "$program" "$name" < "$1")"
+        echo "$name $(instructions "$program" "$name" < "$2") $(allocations "$program" "$name" < "$2")"
     done > "$folder/counts"
     printf '%-40s %12s %6s %20s %6s %11s\n' what milliseconds ratio 'million instructions' ratio allocations
     awk '

@@ -14,4 +14,4 @@ folder=${1:-$(mktemp -d)}
 
 build_program recorded 'cck_digest cck_path cck_path_map cck_files cck_file_digest cck_time
     cck_include' 'cck_digest cck_path cck_files cck_time cck_include jiff anyhow'
-print_measures /dev/null
+print_measures /dev/null /dev/null

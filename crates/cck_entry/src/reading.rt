@@ -76,6 +76,7 @@ fn read_text(bytes: &[u8]) -> Result<(&str, &[u8]), Error>
 }
 
 /// Seconds, and nanoseconds below a second.
+#[inline(always)]
 #[tactic(auto, unfolding(crate::specs::Reading::moment_at))]
 fn read_moment(bytes: &[u8]) -> Result<(Timestamp, &[u8]), Error>
     ensures { Gives (λ x. (x.0, x.1.now)) result (moment_at bytes.now) }
@@ -89,6 +90,7 @@ fn read_moment(bytes: &[u8]) -> Result<(Timestamp, &[u8]), Error>
 }
 
 /// A time or none, as the first byte says.
+#[inline(always)]
 #[tactic(auto, unfolding(crate::specs::Reading::time_at))]
 fn read_time(bytes: &[u8]) -> Result<(Option<Timestamp>, &[u8]), Error>
     ensures { Gives (λ x. (x.0, x.1.now)) result (time_at bytes.now) }
@@ -105,6 +107,7 @@ fn read_time(bytes: &[u8]) -> Result<(Option<Timestamp>, &[u8]), Error>
 }
 
 /// An include, with its path and its digest where they stand.
+#[inline(always)]
 #[tactic(auto, unfolding(crate::specs::Reading::include_at))]
 pub(crate) fn read_include(bytes: &[u8]) -> Result<(IncludeRef<'_>, &[u8]), Error>
     ensures { Gives (λ x. (include_lent x.0, x.1.now)) result (include_at bytes.now) }
