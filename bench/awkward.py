@@ -118,27 +118,32 @@ def cost(words, path):
     return best, most, done.stdout
 
 
+def answer_of(printed):
+    """The column for what the last printed line says without keys, which is left out where it is nothing."""
+    last = printed.split(b"\n")[-2:-1] or [b""]
+    answer = b" ".join(word for word in last[0].split() if len(word) < 20).decode("ascii", "replace")
+    return f" {answer} |" if answer else ""
+
+
 def row(name, size, measured, beside):
     """Prints a row: the cost, beside that of the harmless text, and the memory beside the input."""
     seconds, memory, printed = measured
-    last = printed.split(b"\n")[-2:-1] or [b""]
-    answer = b" ".join(word for word in last[0].split() if len(word) < 20).decode("ascii", "replace")
     print(
         f"| {name} | {size / MIB:.2f} | {seconds * 1000:.0f} | {seconds / beside:.1f} | {memory / MIB:.1f} "
-        f"| {memory / size:.1f} | {answer} |",
+        f"| {memory / size:.1f} |{answer_of(printed)}",
         flush=True,
     )
 
 
-def head(what):
-    """Prints the head of a table."""
-    print(f"\n{what}\n\n| text | MiB | milliseconds | beside harmless | memory, MiB | beside the input | answer |")
-    print("|---|---|---|---|---|---|---|")
+def head(what, columns=()):
+    """Prints the head of a table, with further columns."""
+    names = ["text", "MiB", "milliseconds", "beside harmless", "memory, MiB", "beside the input", *columns]
+    print(f"\n{what}\n\n| {' | '.join(names)} |\n{'|---' * len(names)}|")
 
 
-def texts_table(what, words, path, make):
+def texts_table(what, words, path, make, columns=()):
     """The cost of each text at each size."""
-    head(what)
+    head(what, columns)
     for size in SIZES:
         beside = 0
         for name in TEXTS:
@@ -151,7 +156,7 @@ def texts_table(what, words, path, make):
 
 def scripts_table(what, words, path):
     """The cost of scripts of many lines, of long lines and of many includes."""
-    head(what)
+    head(what, ["answer"])
     cases = [("%d variables" % n, lines_of(n, b"var V%06d 1\n")) for n in COUNTS]
     cases += [("%d files" % n, lines_of(n, b"file /w/f%06d.h 1 1 x\n")) for n in COUNTS]
     cases += [("%d folders" % n, lines_of(n, b"dir /w/d%06d\n")) for n in COUNTS]
@@ -223,7 +228,7 @@ def marks_table(what, program, path):
             with open(path, "rb") as text:
                 done = subprocess.run([program], stdin=text, stdout=subprocess.PIPE, check=True)
             length, marks, ends, names, others, _ = map(int, done.stdout.split())
-            beside = beside or marks
+            beside = beside or max(marks, 1)
             print(
                 f"| {name} | {length / MIB:.2f} | {marks / 1000:.1f} | {marks / beside:.2f} "
                 f"| {marks / max(ends, 1):.2f} | {names + others} |",
@@ -235,8 +240,9 @@ def main(program, markers, entries, folder):
     """Prints all tables."""
     path = os.path.join(folder, "text")
     texts_table("`cck key abcd c` on the text:", [program, "key", "abcd", "c"], path, raw_text)
-    texts_table("`cck run` on a script whose input is the text:", [program, "run"], path, text_script)
-    scripts_table("`cck run` on other scripts:", [program, "run"], path)
+    run = [program, "run"]
+    texts_table("`cck run` on a script whose input is the text:", run, path, text_script, ["answer"])
+    scripts_table("`cck run` on other scripts:", run, path)
     entries_table("The readers of entries:", [entries], path)
     marks_table("The marks of the text:", markers, path)
 

@@ -100,7 +100,7 @@ entry_at bytes = do
   n ← number_at w64 bytes
   if nat_lt (length n.1 / 16) n.0 then None else (results_from [] n.0 n.1 >>= λ rs. if length rs.1 == 0 then Some rs.0 else None)
 
--- These bytes begin with a count of results that the bytes behind it can't hold.
+-- These bytes begin with a count of results that the bytes after it can't hold.
 pub record IsOvercounted (bytes : List ℕ) : Type 0 where
   pub count : ℕ
   pub left : List ℕ

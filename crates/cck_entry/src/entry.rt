@@ -72,9 +72,9 @@ impl PreprocessorCacheEntry {
     /// The entry whose text these bytes are; for no bytes it is the one without results.
     ///
     /// [`Error::UnknownFormat`] names a first byte other than 2. [`Error::Deserialization`] says
-    /// that the bytes begin with 2 and are the text of no entry. A count is judged by the bytes
-    /// left before memory is taken for it, so a count of results that they can't hold is never
-    /// refused as [`Error::Memory`], which says that memory was refused.
+    /// that the bytes begin with 2 and are the text of no entry. A count is compared with the bytes
+    /// left before memory is taken for it: for a number of results that they can't hold the error is
+    /// never [`Error::Memory`], which says that memory is lacking.
     pub fn read(alloc: Global, bytes: &[u8]) -> Result<PreprocessorCacheEntry, Error>
         ensures reads { Reads result bytes.now }
         ensures only { (e : Entry) → EntryText e bytes.now → IsEntryOrMemory e result }

@@ -173,7 +173,7 @@ fn read_result(bytes: &[u8]) -> Result<(ResultRef<'_>, &[u8]), Error>
 }
 
 /// So many results, whose keys ascend. The memory for all of them is taken at once, and for no more
-/// of them than the bytes can hold.
+/// results than the bytes can hold.
 fn read_results(
     alloc: Global,
     count: u64,
@@ -203,8 +203,8 @@ fn read_results(
 
 /// The results that make up the whole of the bytes, which stand behind the format.
 ///
-/// A count of results that the bytes left can't hold is refused as damaged, and never for lack of
-/// memory: none is taken for it.
+/// If the bytes left can't hold the number of results that they name, the error is
+/// [`Error::Deserialization`]: no memory is taken for such a number.
 #[tactic(auto, unfolding(crate::specs::Reading::entry_at))]
 pub(crate) fn read_entry(alloc: Global, bytes: &[u8]) -> Result<Vec<ResultRef<'_>>, Error>
     ensures read { Gives (λ x. map result_lent x.items) result (entry_at bytes.now) }

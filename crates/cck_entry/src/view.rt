@@ -56,8 +56,8 @@ impl<'a> EntryView<'a> {
     /// [`PreprocessorCacheEntry::read`](crate::PreprocessorCacheEntry::read):
     /// [`Error::UnknownFormat`] names a first byte other than 2, [`Error::Deserialization`] says that
     /// the bytes begin with 2 and are the text of no entry, and [`Error::Memory`] that memory was
-    /// refused. Memory is taken once, for as many results as the bytes name, after this count was
-    /// judged by the bytes left: where they can't hold so many, the refusal is never
+    /// refused. Memory is taken once, for the number of results that the bytes name, after this
+    /// number was compared with the bytes left. If they can't hold it, the error is never
     /// [`Error::Memory`].
     pub fn read(alloc: Global, bytes: &'a [u8]) -> Result<EntryView<'a>, Error>
         ensures reads { Reads result bytes.now }
