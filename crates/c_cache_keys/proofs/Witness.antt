@@ -1,5 +1,5 @@
 -- The calls of the witness: what is hashed for them, their keys, what is recorded of them, and their steps.
-use Rattle.std.proofs.Common.{◌≡◌, ◌⊎◌, inl, inr, ℕ, ◌<◌, ◌^◌, lit<, nat_lt, pos, w64, Bool, true, false, cond, List, [], ◌∷◌, length, refl, sym, ap, ap₂, ◌∙◌, ◌&&◌, subst, arith, option_map, Some, None, Ok, codes}
+use Rattle.std.proofs.Common.{◌≡◌, ◌≢◌, ◌⊎◌, inl, inr, ◌<◌, ◌^◌, lit<, nat_lt, pos, w64, Bool, true, false, cond, List, [], ◌∷◌, length, refl, sym, ap, ap₂, ◌∙◌, ◌&&◌, subst, arith, ℕ, map, option_map, Some, None, Ok, codes}
 use Rattle.std.specs.Prelude.{All, Contains}
 use Rattle.std.specs.FinMap.{empty, entries, get, get-from_sorted}
 use Rattle.std.specs.FinMap.Entries.{find}
@@ -33,7 +33,7 @@ use Rattle.cck_path.specs.Bytes.{Bytes}
 use Rattle.cck_path.specs.Path.{Path, components, path_cmp}
 use Rattle.cck_path.specs.Text.{join_path, path_text}
 use Rattle.cck_path.specs.TextOrder.{text_cmp}
-use Rattle.cck_preprocessor_key.specs.PreprocessorKey.{compiler_material, preprocessor_material}
+use Rattle.cck_preprocessor_key.specs.PreprocessorKey.{RequestParts, compiler_material, preprocessor_material}
 use Rattle.cck_store.specs.MapStore.{State, map_store, new_state}
 use Rattle.cck_strip.specs.Cuts.{stripped}
 use Rattle.cck_strip.specs.Text.{longest_prefix, text_site}
@@ -47,7 +47,7 @@ use Rattle.c_cache_keys.specs.Keys.{extra_texts, input_file, input_recorded, is_
 use Rattle.c_cache_keys.specs.Premises.{IsHashed, NoSharedDigest, Premises, PrintsAgain, of_file, of_folder, of_key, of_time}
 use Rattle.c_cache_keys.specs.Step.{AreOwnIncludes, Hit, Miss, Opened, OwnPair, Step, asked, gives, matching}
 use Rattle.c_cache_keys.specs.Walk.{Accepted, AreRecorded, Errs, IsRecorded, MarksDecide, Walk, input_path}
-use Rattle.c_cache_keys.specs.Witness.{PremisesCanHold, file_of, included_text, input_text, path_in_w, printed_text, second, sized, witness_call, witness_done, witness_files, witness_hash, witness_nodes, witness_run, witness_world}
+use Rattle.c_cache_keys.specs.Witness.{PremisesCanHold, file_of, first_call, included_text, input_text, path_in_w, printed_text, second, second_call, sized, witness_call, witness_done, witness_files, witness_hash, witness_nodes, witness_run, witness_world}
 use Rattle.c_cache_keys.specs.World.{HasSize, setting}
 
 abbrev pub input_node : FileNode
@@ -94,62 +94,72 @@ no_folder p e = by (eq_by_cmp path_cmp p input_in_w) (eq_by_cmp path_cmp p inclu
     by false true is = cc
     by false false is = cc
 
-pub input_read : file_at witness_files (components (input_path witness_call)) ≡ Ok input_node
-input_read = ap (file_at witness_files) (input_meant witness_world witness_call refl refl) ∙ input_at
+pub input_read : (object : Bytes) → file_at witness_files (components (input_path (witness_call object))) ≡ Ok input_node
+input_read object = ap (file_at witness_files) (input_meant witness_world (witness_call object) refl refl) ∙ input_at
 
-input_digest : recorded (setting witness_world witness_call) input_node ≡ Some (digest_text witness_hash input_text)
+input_digest : recorded (setting witness_world first_call) input_node ≡ Some (digest_text witness_hash input_text)
 unfolding recorded has_time has_date has_timestamp
 input_digest = refl
 
-included_digest : recorded (setting witness_world witness_call) included_node ≡ Some (digest_text witness_hash included_text)
+included_digest : recorded (setting witness_world first_call) included_node ≡ Some (digest_text witness_hash included_text)
 unfolding recorded has_time has_date has_timestamp
 included_digest = refl
 
 -- ---- the keys
 
+abbrev witness_parts : RequestParts
+witness_parts = request_parts witness_world first_call.request (input_path first_call)
+
 abbrev witness_material : Bytes
-witness_material = preprocessor_material (request_parts witness_world witness_call.request (input_path witness_call)) [] (digest_text witness_hash input_text)
+witness_material = preprocessor_material witness_parts [] (digest_text witness_hash input_text)
 
-pub extra_is : extra_texts witness_world witness_call ≡ Some []
+-- where an object is written is no part
+pub same_parts : (object : Bytes) → request_parts witness_world (witness_call object).request (input_path (witness_call object)) ≡ witness_parts
+unfolding request_parts is_multiarch archs
+same_parts object = refl
+
+pub extra_is : (object : Bytes) → extra_texts witness_world (witness_call object) ≡ Some []
 unfolding extra_texts
-extra_is = refl
+extra_is object = refl
 
-used : uses_cache witness_world witness_call.request ≡ true
+used : (object : Bytes) → uses_cache witness_world (witness_call object).request ≡ true
 unfolding uses_cache is_direct
-used = refl
+used object = refl
 
-input_is : input_file witness_world witness_call ≡ Some input_node
+input_is : (object : Bytes) → input_file witness_world (witness_call object) ≡ Some input_node
 unfolding input_file
-input_is = ap told input_read
+input_is object = ap told (input_read object)
 
-recorded_is : input_recorded witness_world witness_call ≡ Some (digest_text witness_hash input_text)
+recorded_is : (object : Bytes) → input_recorded witness_world (witness_call object) ≡ Some (digest_text witness_hash input_text)
 unfolding input_recorded
-recorded_is = ap (option_and_then (recorded (setting witness_world witness_call))) input_is ∙ input_digest
+recorded_is object = ap (option_and_then (recorded (setting witness_world first_call))) (input_is object) ∙ input_digest
 
-material_is : key_material witness_world witness_call ≡ Some witness_material
+material_is : (object : Bytes) → key_material witness_world (witness_call object) ≡ Some witness_material
 unfolding key_material
-material_is =
-    let made : List Bytes → Bytes → Bytes = preprocessor_material (request_parts witness_world witness_call.request (input_path witness_call)) in
-    ap (λ b. cond b (of_both made (extra_texts witness_world witness_call) (input_recorded witness_world witness_call)) None) used
-    ∙ ap₂ (of_both made) extra_is recorded_is
+material_is object =
+    let c = witness_call object in
+    let made : List Bytes → Bytes → Bytes = preprocessor_material (request_parts witness_world c.request (input_path c)) in
+    ap (λ b. cond b (of_both made (extra_texts witness_world c) (input_recorded witness_world c)) None) (used object)
+    ∙ ap₂ (of_both made) (extra_is object) (recorded_is object)
+    ∙ ap (λ parts. Some (preprocessor_material parts [] (digest_text witness_hash input_text))) (same_parts object)
 
 abbrev pub witness_key : Bytes
 witness_key = digest_text witness_hash witness_material
 
-pub key_is : preprocessor_key_of witness_world witness_call ≡ Some witness_key
+pub key_is : (object : Bytes) → preprocessor_key_of witness_world (witness_call object) ≡ Some witness_key
 unfolding preprocessor_key_of
-key_is = ap (option_map (digest_text witness_hash)) material_is
+key_is object = ap (option_map (digest_text witness_hash)) (material_is object)
 
-prints : printed witness_world witness_call ≡ Some printed_text
+prints : printed witness_world first_call ≡ Some printed_text
 unfolding printed
 prints = refl
 
 abbrev pub witness_answer : Bytes
-witness_answer = object_key witness_hash (params witness_world witness_call.request [] printed_text)
+witness_answer = object_key witness_hash (params witness_world first_call.request [] printed_text)
 
-plain_is : plain_key witness_world witness_call ≡ Some witness_answer
+plain_is : plain_key witness_world first_call ≡ Some witness_answer
 unfolding plain_key text_of
-plain_is = ap₂ (of_both (λ extra text. object_key witness_hash (params witness_world witness_call.request extra text))) extra_is prints
+plain_is = ap₂ (of_both (λ extra text. object_key witness_hash (params witness_world first_call.request extra text))) (extra_is (codes "a.o")) prints
 
 -- ---- what is hashed
 
@@ -182,16 +192,16 @@ of_contents n (inr is) = subst (λ (v : FileNode). hashed_of (digest_text witnes
 of_material : hashed_of witness_key ≡ witness_material
 of_material = ap (λ n. hashed_of (hex_text (sized n))) material_size
 
-told_apart : (x : Bytes) → IsHashed witness_world witness_call x → hashed_of (digest_text witness_hash x) ≡ x
-told_apart x (of_file p n file is) =
+told_apart : (object x : Bytes) → IsHashed witness_world (witness_call object) x → hashed_of (digest_text witness_hash x) ≡ x
+told_apart object x (of_file p n file is) =
     ap (λ v. hashed_of (digest_text witness_hash v)) is ∙ of_contents n (each_file p n file) ∙ sym is
-told_apart x (of_folder p folder is) = absurd (no_folder p folder)
-told_apart x (of_time p n file timed is) =
+told_apart object x (of_folder p folder is) = absurd (no_folder p folder)
+told_apart object x (of_time p n file timed is) =
     let not_timed : is_timed n.contents ≡ false = untimed n (each_file p n file) in
     let both : true ≡ false = sym timed ∙ not_timed in
     absurd cc
-told_apart x (of_key is) =
-    let same : witness_material ≡ x = same_Some witness_material x (sym material_is ∙ is) in
+told_apart object x (of_key is) =
+    let same : witness_material ≡ x = same_Some witness_material x (sym (material_is object) ∙ is) in
     ap (λ v. hashed_of (digest_text witness_hash v)) (sym same) ∙ of_material ∙ same
 
 -- ---- the premises
@@ -199,13 +209,18 @@ told_apart x (of_key is) =
 abbrev both_calls : List (Call (Unit {0}))
 both_calls = calls_of witness_run
 
-one_call : (c : Call (Unit {0})) → Contains both_calls c → witness_call ≡ c
-one_call c at = elim (one_of witness_call c (witness_call ∷ []) at) [ inl is ↦ is | inr last ↦ only_one witness_call c last ]
+one_call : (c : Call (Unit {0})) → Contains both_calls c → (object : Bytes) × (witness_call object ≡ c)
+one_call c at = elim (one_of first_call c (second_call ∷ []) at) [
+  | inl is ↦ (codes "a.o", is)
+  | inr last ↦ (codes "b.o", only_one second_call c last)
+]
 
 no_shared_digest : NoSharedDigest witness_world both_calls
 no_shared_digest c d x y at-c at-d of-c of-d same =
-    sym (told_apart x (subst (λ v. IsHashed witness_world v x) (sym (one_call c at-c)) of-c))
-    ∙ ap hashed_of same ∙ told_apart y (subst (λ v. IsHashed witness_world v y) (sym (one_call d at-d)) of-d)
+    let (first, is-c) = one_call c at-c in
+    let (second, is-d) = one_call d at-d in
+    sym (told_apart first x (subst (λ v. IsHashed witness_world v x) (sym is-c) of-c))
+    ∙ ap hashed_of same ∙ told_apart second y (subst (λ v. IsHashed witness_world v y) (sym is-d) of-d)
 
 prints_again : PrintsAgain witness_world both_calls
 unfolding printed
@@ -238,29 +253,29 @@ gathered_is : gathered witness_files (second 5) (witness_digested ∷ []) ≡ So
 unfolding gathered
 gathered_is = ap (λ o. all_of (o ∷ [])) (include_here witness_files (second 5) witness_digested included_in_w included_node include_path included_at).0
 
-accepted : Walk witness_world witness_call printed_text Accepted
-accepted = header_accepted witness_world witness_call refl refl included_node included_at (refl, refl) (λ none. (none-some _ (sym none ∙ included_digest)))
+accepted : Walk witness_world first_call printed_text Accepted
+accepted = header_accepted witness_world first_call refl refl included_node included_at (refl, refl) (λ none. (none-some _ (sym none ∙ included_digest)))
 
-are_recorded : AreRecorded witness_world witness_call printed_text (witness_digested ∷ [])
+are_recorded : AreRecorded witness_world first_call printed_text (witness_digested ∷ [])
 unfolding path_text
 are_recorded = record {
   ordered = λ i j d less within. absurd (omega (arith, less, within));
   each = λ d at.
       let is : witness_digested ≡ d = only_one witness_digested d at in
-      subst (IsRecorded witness_world witness_call printed_text) is (record {
+      subst (IsRecorded witness_world first_call printed_text) is (record {
         path = included_in_w;
         written = refl;
-        named = header_named witness_world witness_call refl refl;
+        named = header_named witness_world first_call refl refl;
         node = included_node;
         file = included_at;
         digest = included_digest;
       });
   all = λ p n named file.
-      let is : p ≡ included_in_w = header_alone witness_world witness_call refl refl p named in
+      let is : p ≡ included_in_w = header_alone witness_world first_call refl refl p named in
       subst (λ q. (digest : Bytes) × Contains (witness_digested ∷ []) (digest, path_text q)) (sym is) (digest_text witness_hash included_text, first_in witness_digested []);
 }
 
-pub own_includes : AreOwnIncludes witness_world witness_call (witness_include ∷ [])
+pub own_includes : AreOwnIncludes witness_world first_call (witness_include ∷ [])
 own_includes = record {
   text = printed_text;
   is_text = prints;
@@ -307,7 +322,7 @@ fits_include = record {
   changed = fits_second;
 }
 
-answer_size : length (material (key_parts (params witness_world witness_call.request [] printed_text))) ≡ 121
+answer_size : length (material (key_parts (params witness_world first_call.request [] printed_text))) ≡ 121
 unfolding params stripped text_site longest_prefix material length_bytes
 answer_size = refl
 
@@ -329,11 +344,11 @@ entry_text = record {
   text = ap entry_bytes (sym entry_is);
 }
 
-pub own_pair : OwnPair witness_world witness_call witness_answer witness_key witness_bytes
-own_pair = record { is_key = key_is; is_plain = plain_is; includes = witness_include ∷ []; keeps = own_includes; is_text = entry_text }
+pub own_pair : OwnPair witness_world first_call witness_answer witness_key witness_bytes
+own_pair = record { is_key = key_is (codes "a.o"); is_plain = plain_is; includes = witness_include ∷ []; keeps = own_includes; is_text = entry_text }
 
-matched : matching witness_world witness_call witness_include ≡ true
-matched = match_by_digest (setting witness_world witness_call) witness_files witness_include included_in_w included_node include_path included_at refl included_digest
+matched : (object : Bytes) → matching witness_world (witness_call object) witness_include ≡ true
+matched object = match_by_digest (setting witness_world first_call) witness_files witness_include included_in_w included_node include_path included_at refl included_digest
 
 -- ---- the steps
 
@@ -347,24 +362,24 @@ holds_entry = after_calls 2 ((witness_key, witness_bytes) ∷ [])
 abbrev asked_again : State
 asked_again = after_calls 3 holds_entry.pairs
 
-opened : Opened witness_world witness_call
-opened = record {
-  extra = λ none. (none-some _ (sym none ∙ extra_is));
-  input = λ _ none. (none-some _ (sym none ∙ input_is));
+opened : (object : Bytes) → Opened witness_world (witness_call object)
+opened object = record {
+  extra = λ none. (none-some _ (sym none ∙ extra_is object));
+  input = λ _ none. (none-some _ (sym none ∙ input_is object));
 }
 
-not_erring : (text : Bytes) → printed witness_world witness_call ≡ Some text → Walk witness_world witness_call text Errs → ⊥
+not_erring : (text : Bytes) → printed witness_world first_call ≡ Some text → Walk witness_world first_call text Errs → ⊥
 not_erring text is (marks, are, decide) =
     let (own, own-are, own-decide) = accepted in
     let same_text : printed_text ≡ text = same_Some printed_text text (sym prints ∙ is) in
     let same_marks : marks ≡ own = one_list true text marks own are (subst (λ t. Marks true t own) same_text own-are) in
-    let one : Accepted ≡ Errs = one_decision witness_world witness_call own Accepted Errs own-decide (subst (λ ms. MarksDecide witness_world witness_call ms Errs) same_marks decide) in
+    let one : Accepted ≡ Errs = one_decision witness_world first_call own Accepted Errs own-decide (subst (λ ms. MarksDecide witness_world first_call ms Errs) same_marks decide) in
     cc
 
 module _ (F : Type 0) where
-  pub first_step : Step witness_world map_store witness_call F new_state (Keyed witness_answer true) holds_entry
+  pub first_step : Step witness_world map_store first_call F new_state (Keyed witness_answer true) holds_entry
   first_step =
-      asked opened witness_key key_is refl Miss (after_calls 1 []) (record { answer = Ok None; got = (refl, refl, refl); gives = refl })
+      asked (opened (codes "a.o")) witness_key (key_is (codes "a.o")) refl Miss (after_calls 1 []) (record { answer = Ok None; got = (refl, refl, refl); gives = refl })
       (gives witness_answer plain_is (λ text asks is errs. absurd (not_erring text is errs)) refl (inl (record {
         k = witness_key;
         bytes = witness_bytes;
@@ -376,10 +391,10 @@ module _ (F : Type 0) where
   found_again : Some witness_bytes ≡ find text_cmp witness_key holds_entry.pairs
   found_again = sym (ap (λ o. cond (is_eq o) (Some witness_bytes) None) (tied_itself nat_list_cmp_total witness_key))
 
-  pub second_step : Step witness_world map_store witness_call F holds_entry (Keyed witness_answer false) asked_again
+  pub second_step : Step witness_world map_store second_call F holds_entry (Keyed witness_answer false) asked_again
   second_step =
-      let all : list_all (matching witness_world witness_call) (witness_include ∷ []) ≡ true = ap (λ b. b && true) matched in
-      asked opened witness_key key_is refl (Hit witness_answer) asked_again (record {
+      let all : list_all (matching witness_world second_call) (witness_include ∷ []) ≡ true = ap (λ b. b && true) (matched (codes "b.o")) in
+      asked (opened (codes "b.o")) witness_key (key_is (codes "b.o")) refl (Hit witness_answer) asked_again (record {
         answer = Ok (Some witness_bytes);
         got = (refl, found_again, refl);
         gives = (
@@ -389,23 +404,30 @@ module _ (F : Type 0) where
             witness_include ∷ [],
             subst (λ (rs : List KeyResult). Contains rs only_result) (sym entry_is) (first_in only_result []),
             all,
-            inl (ap (found_in (matching witness_world witness_call)) entry_is ∙ ap (λ b. cond b (Some only_result) None) all),
+            inl (ap (found_in (matching witness_world second_call)) entry_is ∙ ap (λ b. cond b (Some only_result) None) all),
           ),
         );
       }) (refl, refl)
 
-pub no_fault : Fault witness_done → ⊥
-no_fault (inl less) = omega (arith, less)
-no_fault (inr top) = omega (arith, top)
+pub no_fault : (c : Call (Unit {0})) → Fault (witness_done c) → ⊥
+no_fault c (inl less) = omega (arith, less)
+no_fault c (inr top) = omega (arith, top)
+
+two_requests : first_call.request ≢ second_call.request
+two_requests same =
+    let both : codes "a.o" ∷ [] ≡ codes "b.o" ∷ [] = ap (λ request. map (λ output. output.path) request.arguments.outputs) same in
+    let initial : ◌≡◌ {A = ℕ} 97 98 = cc in
+    omega (arith, initial)
 
 pub premises_can_hold : PremisesCanHold
 premises_can_hold = record {
+  two_requests = two_requests;
   size = witness_size;
   is_empty = λ k bytes held. (none-some _ held);
   premises = premises;
   no_fault = no_fault;
   key = witness_answer;
   end = asked_again;
-  run = (holds_entry, first_step (Fault witness_done), (asked_again, second_step (Fault witness_done), refl));
-  no_setback = no_fault;
+  run = (holds_entry, first_step (Fault (witness_done first_call)), (asked_again, second_step (Fault (witness_done second_call)), refl));
+  no_setback = no_fault first_call;
 }

@@ -1,5 +1,5 @@
--- two calls that meet all that is asked of a run, of which the second one is answered from the store
-use Rattle.std.specs.Prelude.{◌%◌, ℕ, List, [], ◌∷◌, length, pos, true, false, Some, None, codes}
+-- two calls that meet all that is asked of a run, of which the second one is of another request and is answered from the store
+use Rattle.std.specs.Prelude.{◌≢◌, ◌%◌, ℕ, List, [], ◌∷◌, length, pos, true, false, Some, None, codes}
 use Rattle.std.specs.FinMap.{empty, from_sorted}
 use Rattle.cck_compiler.specs.Arguments.{Arguments}
 use Rattle.cck_compiler.specs.Compiler.{Compilation, Compiler}
@@ -57,14 +57,15 @@ witness_nodes = (path_in_w (codes "a.c"), file_of input_text) ∷ (path_in_w (co
 abbrev pub witness_files : FileMap
 witness_files = record { nodes = from_sorted {R = path_cmp} witness_nodes; canonicals = empty }
 
-abbrev pub witness_arguments : Arguments
-witness_arguments = record {
+-- the arguments of a compilation that writes its object there
+abbrev pub witness_arguments : Bytes → Arguments
+witness_arguments object = record {
   input = codes "a.c";
   double_dash_input = false;
   language = C;
   compilation_flag = codes "-c";
   depfile = None;
-  outputs = [];
+  outputs = record { name = codes "obj"; path = object; optional = false } ∷ [];
   dependency_args = [];
   preprocessor_args = [];
   common_args = [];
@@ -88,20 +89,20 @@ witness_compiler = record {
   plusplus = λ v. false;
   version = λ v. None;
   assembler_digest = λ v. None;
-  parsed = λ v words cwd env_vars. Compilation witness_arguments;
+  parsed = λ v words cwd env_vars. Compilation (witness_arguments (codes "a.o"));
   prints = λ v executable arguments cwd env_vars files moment. Some printed_text;
 }
 
 abbrev pub witness_world : World (Unit {0})
 witness_world = world_of witness_hash witness_compiler UTC activated []
 
-abbrev pub witness_call : Call (Unit {0})
-witness_call = record {
+abbrev pub witness_call : Bytes → Call (Unit {0})
+witness_call object = record {
   request = record {
     compiler = tt;
     executable = codes "/bin/cc";
     executable_digest = codes "cc";
-    arguments = witness_arguments;
+    arguments = witness_arguments object;
     cwd = codes "/w";
     env_vars = [];
   };
@@ -110,20 +111,28 @@ witness_call = record {
   control = Default;
 }
 
--- the call, made without a fault
-abbrev pub witness_done : Done (Unit {0})
-witness_done = record { call = witness_call; faults_before = 0; faults_after = 0 }
+-- two calls, which write their objects to two places
+abbrev pub first_call : Call (Unit {0})
+first_call = witness_call (codes "a.o")
+
+abbrev pub second_call : Call (Unit {0})
+second_call = witness_call (codes "b.o")
+
+-- a call, made without a fault
+abbrev pub witness_done : Call (Unit {0}) → Done (Unit {0})
+witness_done c = record { call = c; faults_before = 0; faults_after = 0 }
 
 abbrev pub witness_run : List (Done (Unit {0}))
-witness_run = witness_done ∷ witness_done ∷ []
+witness_run = witness_done first_call ∷ witness_done second_call ∷ []
 
--- All that the promise takes holds of this run at once, with no fault and no setback, on a store in memory that is new: of its two equal calls the first one makes a key,
--- and the second one answers it from the store.
+-- All that the promise takes holds of this run at once, with no fault and no setback, on a store in memory that is new: of its two calls,
+-- which are of two requests, the first one makes a key, and the second one answers it from the store.
 pub record PremisesCanHold : Type 0 where
+  pub two_requests : first_call.request ≢ second_call.request
   pub size : HasSize witness_hash
   pub is_empty : IsEmpty witness_world map_store new_state
   pub premises : Premises witness_world (calls_of witness_run)
-  pub no_fault : Fault witness_done → ⊥
+  pub no_fault : (c : Call (Unit {0})) → Fault (witness_done c) → ⊥
   pub key : Bytes
   pub end : State
   pub run : Run witness_world map_store new_state witness_run (Keyed key true ∷ Keyed key false ∷ []) end

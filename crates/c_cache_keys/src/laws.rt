@@ -119,9 +119,10 @@ pub fn verdict_is_decided<H: HashState, I: CCompilerImpl>()
         VerdictIsDecided (world_of H.hash I.compiler zone config basedirs) }
 {}
 
-/// The premises can hold, and a stored key can be answered: two equal calls on a store in memory
-/// that holds nothing at first meet all that [`headline`] takes, with no fault and no setback.
-/// The first makes a key, and the second answers it from the store.
+/// The premises can hold, and a stored key can be answered: two calls of two requests, which write
+/// their objects to two places, meet all that [`headline`] takes, on a store in memory that holds
+/// nothing at first, with no fault and no setback. The first makes a key, and the second answers it
+/// from the store.
 pub fn premises_can_hold()
     ensures { PremisesCanHold }
 {}

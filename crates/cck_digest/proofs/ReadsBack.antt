@@ -1,5 +1,5 @@
 -- When a text, with whatever follows it, determines the value that it was written for.
-use Rattle.std.proofs.Common.{◌≡◌, ℕ, List, [], ◌∷◌, ◌++◌, length, map, refl, sym, ◌∙◌, arith, append_assoc}
+use Rattle.std.proofs.Common.{◌≡◌, ℕ, List, [], ◌∷◌, ◌++◌, length, refl, sym, ◌∙◌, arith, append_assoc}
 use Rattle.std.specs.List.{flat_map}
 
 -- if two texts are equal together with what follows them, their values are equal, and what follows is equal
@@ -28,20 +28,5 @@ items_read_back item one (x ∷ xs) (y ∷ ys) c s t e =
     sym (append_assoc (item x) (flat_map item xs) s) ∙ (e ∙ append_assoc (item y) (flat_map item ys) t) in
     let first = one x y (flat_map item xs ++ s) (flat_map item ys ++ t) split in
     let rest = items_read_back item one xs ys (omega arith) s t first.1 in
-    let head = first.0 in let tail = rest.0 in
-    (cc, rest.1)
-
--- two lists of pieces of which each pair has equal lengths
-pub pieces_read_back : (xs ys : List (List ℕ)) → map length xs ≡ map length ys → ReadsBack (flat_map (λ piece. piece)) xs ys
-pieces_read_back [] [] c s t e = (refl, e)
-pieces_read_back [] (y ∷ ys) c s t e = cc
-pieces_read_back (x ∷ xs) [] c s t e = cc
-pieces_read_back (x ∷ xs) (y ∷ ys) c s t e =
-    let split : x ++ (flat_map (λ z. z) xs ++ s) ≡ y ++ (flat_map (λ z. z) ys ++ t) =
-    sym (append_assoc x (flat_map (λ z. z) xs) s) ∙ (e ∙ append_assoc y (flat_map (λ z. z) ys) t) in
-    let long : length x ≡ length y = cc in
-    let first = bytes_read_back x y _ _ long split in
-    let others : map length xs ≡ map length ys = cc in
-    let rest = pieces_read_back xs ys others s t first.1 in
     let head = first.0 in let tail = rest.0 in
     (cc, rest.1)

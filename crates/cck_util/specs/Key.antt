@@ -1,5 +1,5 @@
 -- the key of an object
-use Rattle.std.specs.Prelude.{ℕ, List, [], ◌∷◌, ◌++◌, Bool, true, false, Option, Some, None, codes, map}
+use Rattle.std.specs.Prelude.{ℕ, List, [], ◌∷◌, ◌++◌, Bool, true, false, Option, None, codes, map}
 use Rattle.cck_digest.specs.Digest.{digest_text}
 use Rattle.cck_digest.specs.Frames.{frame, framed_list, framed_option}
 use Rattle.cck_path.specs.Variables.{Variable}
