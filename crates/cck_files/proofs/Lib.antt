@@ -1,3 +1,4 @@
+pub mod BelowLemmas
 pub mod CallsLemmas
 mod ChildLemmas
 pub mod FileLemmas

@@ -1,5 +1,5 @@
 -- The names of children, gathered from entries in order.
-use Rattle.std.proofs.Common.{Global, ◌≡◌, ◌≢◌, ◌||◌, ℕ, ◌+◌, ◌<◌, List, [], ◌∷◌, ◌++◌, length, map, take, get_or, Bool, true, false, cond, Some, None, is_some, refl, sym, ap, subst, ◌∙◌, arith, zero-add}
+use Rattle.std.proofs.Common.{Global, ◌≡◌, ◌≢◌, ◌||◌, ℕ, zero, suc, ◌+◌, ◌<◌, ◌≤◌, List, [], ◌∷◌, ◌++◌, length, map, take, get_or, Bool, true, false, cond, Some, None, is_some, refl, sym, ap, subst, ◌∙◌, arith, zero-add}
 use Rattle.std.proofs.lemmas.Bool.{false≢true, true≢false}
 use Rattle.std.proofs.lemmas.Cmp.{tied_itself}
 use Rattle.std.proofs.lemmas.List.{map-append, take_all, take_more}
@@ -59,10 +59,29 @@ module _ {V : Type 0} where
   abbrev found : List (Entry V) → ℕ → Path → Bool
   found es i q = is_some (find path_cmp q (map pair_of (take i es)))
 
+  -- a path that no entry from a place on has is found before it
+  found_stops : (q : Path) (es : List (Entry V)) (i : ℕ) → ((k : ℕ) (d : Entry V) → i ≤ k → k < length es → path_of (get_or es k d) ≢ q) → found es i q ≡ found es (length es) q
+  found_stops q [] zero none = refl
+  found_stops q [] (suc i) none = refl
+  found_stops q (e ∷ es) zero none =
+      found_stops q es zero (λ k d low high. none (suc k) d (omega arith) (omega arith))
+      ∙ ap (λ b. is_some (cond b (Some e.value) (find path_cmp q (map pair_of (take (length es) es))))) (sym (apart q (path_of e) (λ same. none 0 e (omega arith) (omega arith) (sym same))))
+  found_stops q (e ∷ es) (suc i) none =
+      let rest = found_stops q es i (λ k d low high. none (suc k) d (omega arith) (omega arith)) in
+      elim (eq_by_cmp path_cmp q (path_of e)) as (λ b. is_some (cond b (Some e.value) (find path_cmp q (map pair_of (take i es)))) ≡ is_some (cond b (Some e.value) (find path_cmp q (map pair_of (take (length es) es))))) [
+        | true ↦ refl
+        | false ↦ rest
+      ]
+
   -- the last names of a path's direct children among the first i entries, each once
   pub record IsListed (p : Path) (es : List (Entry V)) (i : ℕ) (names : List (List ℕ)) : Type 0 where
     pub names_only : AllByRecursion IsName names
     pub each_once : (n : List ℕ) → count_by (is_same_name n) names ≡ one_if (found es i (p ++ Name n ∷ []))
+
+  -- where no entry from a place on is of a child, all names stand before it
+  pub listed_stop : (p : Path) (es : List (Entry V)) (i : ℕ) (names : List (List ℕ)) → ((n : List ℕ) (k : ℕ) (d : Entry V) → i ≤ k → k < length es → path_of (get_or es k d) ≢ p ++ Name n ∷ [])
+      → IsListed p es i names → IsListed p es (length es) names
+  listed_stop p es i names none l = record { names_only = l.names_only; each_once = λ n. l.each_once n ∙ ap one_if (found_stops (p ++ Name n ∷ []) es i (none n)) }
 
   pub listed_all : (p : Path) (es : List (Entry V)) (m : FinMap path_cmp V) → map pair_of es ≡ entries m → (names : List (List ℕ)) → IsListed p es (length es) names → HasChildNames m p names
   listed_all p es m is names l = record {

@@ -1,5 +1,5 @@
 //! The last names of a folder's children.
-ghost use Rattle.std.specs.Prelude.{◌≡◌, ◌≢◌, ℕ, List, [], ◌∷◌, ◌++◌, IfOk, IsOkUnless, MatchOption, map, vec_items};
+ghost use Rattle.std.specs.Prelude.{◌≡◌, ◌≢◌, ℕ, List, [], ◌∷◌, ◌++◌, IfOk, IsOkUnless, MatchOption, length, map, take, vec_items};
 ghost use Rattle.std.specs.Ordering.{is_eq};
 ghost use Rattle.cck_path.specs.Path.{IsName, Name, components, path_cmp};
 ghost use Rattle.cck_files.specs.Children.{HasChildNames};
@@ -37,13 +37,33 @@ pub(crate) fn child_names<V>(
         HasChildNames paths.now (components folder.now) (map vec_items names.items)) }
     ensures refused { IsOkUnless result FileError.Memory }
 {
+    let size = component_count(folder);
     let mut names = Vec::new(alloc);
-    for entry in paths.entries() {
+    for entry in paths.entries_from(folder) {
+        // The paths below the folder stand together.
+        if !is_within(folder, size, &entry.path) {
+            return Ok(names);
+        }
         if let Some(name) = child_name(folder, &entry.path) {
             names.push(name.to_vec(alloc)?)?;
         }
     }
     Ok(names)
+}
+
+// How many components a path has.
+fn component_count(path: &[u8]) -> usize
+    ensures { result ≡ length (components path.now) }
+{
+    Components::new(path).count()
+}
+
+// Whether a path begins with that of the folder, which has so many components.
+fn is_within(folder: &[u8], size: usize, path: &[u8]) -> bool
+    ensures { result ≡ is_eq (path_cmp (take size (components path.now)) (components folder.now)) }
+{
+    let front = Components::new(path).take(size);
+    front.cmp(Components::new(folder)).is_eq()
 }
 
 // Whether a path is the folder's and then the name.

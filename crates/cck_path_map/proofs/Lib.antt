@@ -1,4 +1,5 @@
 pub mod BlockLemmas
 pub mod EntriesLemmas
+pub mod FromLemmas
 pub mod PlaceLemmas
 pub mod ValueLemmas

@@ -1,7 +1,8 @@
 -- maps from paths
-use Rattle.std.specs.Prelude.{◌≡◌, ℕ, ◌<◌, ◌≤◌, List, T, map, length, slice_index_or}
+use Rattle.std.specs.Prelude.{◌≡◌, ℕ, ◌<◌, ◌≤◌, List, T, Bool, map, not, length, slice_index_or}
 use Rattle.std.specs.Coded.{Coded, code_by, coded_ℕ, coded_list}
-use Rattle.std.specs.FinMap.{FinMap, code, is_sorted}
+use Rattle.std.specs.FinMap.{FinMap, code, is_sorted, retain_keys}
+use Rattle.std.specs.Ordering.{is_lt}
 use Rattle.std.specs.List.{AllWithin}
 use Rattle.std.specs.declared.cmp.Ordering.TheVariants.{Less, Greater}
 use Rattle.cck_path.specs.Path.{Path, Component, components, path_cmp, rank, unrank, unrank-rank}
@@ -37,3 +38,11 @@ pub record IsGapFor {V : Type 0} (p : Path) (es : List (Entry V)) (i : ℕ) : Ty
   pub in_range : i ≤ length es
   pub lower_before : AllWithin (λ e. path_cmp (path_of e) p ≡ Less) es 0 i
   pub higher_after : AllWithin (λ e. path_cmp (path_of e) p ≡ Greater) es i (length es)
+
+-- whether a path is not lower than a given one
+abbrev pub is_from : Path → Path → Bool
+is_from p q = not (is_lt (path_cmp q p))
+
+-- the part of a map whose paths are not lower than a given one
+abbrev pub part_from : {V : Type 0} → Path → FinMap path_cmp V → FinMap path_cmp V
+part_from p m = retain_keys m (is_from p)

@@ -1,7 +1,8 @@
 //! The entries of a map, one after another.
-ghost use Rattle.std.specs.Prelude.{◌≡◌, ◌++◌, ◌∷◌, MatchOption, [], length};
+ghost use Rattle.std.specs.Prelude.{◌≡◌, ◌+◌, ◌<◌, ◌≤◌, ◌++◌, ◌∷◌, MatchOption, Vec, [], drop, length, slice_index_or};
+ghost use Rattle.std.specs.Global.{Global};
 ghost use Rattle.std.specs.Iterator.{YieldsFirstBy, at_most};
-ghost use Rattle.cck_path_map.specs.Blocks.{entries_of};
+ghost use Rattle.cck_path_map.specs.Blocks.{entries_of, start_of};
 ghost use Rattle.cck_path_map.specs.Entries.{entries_left, now_of};
 
 use crate::path_map::Entry;
@@ -25,6 +26,22 @@ impl<'a, V> Iterator for Entries<'a, V> {
         self.block = block;
         self.blocks = blocks;
         Some(first)
+    }
+}
+
+/// The entries from a place of a block on.
+pub(crate) fn entries_at<'a, V>(
+    blocks: &'a [Vec<Entry<V>>],
+    block: usize,
+    at: usize,
+) -> Entries<'a, V>
+    requires block { block < length blocks.now }
+    requires place { (d : Vec (Entry V) Global) → at ≤ length (slice_index_or blocks.now block d).items }
+    ensures { entries_left result ≡ drop (start_of blocks.now block + at) (entries_of blocks.now) }
+{
+    Entries {
+        block: &blocks[block][at..],
+        blocks: &blocks[block + 1..],
     }
 }
 

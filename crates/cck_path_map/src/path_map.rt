@@ -4,10 +4,10 @@ ghost use Rattle.std.specs.FinMap as finite;
 ghost use Rattle.std.specs.Option.{option_copied};
 ghost use Rattle.cck_path.specs.Path.{components};
 ghost use Rattle.cck_path_map.specs.Entries.{entries_left};
-ghost use Rattle.cck_path_map.specs.PathMap.{pair_of};
+ghost use Rattle.cck_path_map.specs.PathMap.{pair_of, part_from};
 
 use crate::blocks::{insert_at, remove_at, search};
-use crate::entries::Entries;
+use crate::entries::{Entries, entries_at};
 use cck_digest::UtilError;
 use std::alloc::Global;
 use std::marker::Model;
@@ -85,6 +85,18 @@ impl<V> PathMap<V> {
         Entries {
             block: &[],
             blocks: &self.blocks,
+        }
+    }
+
+    /// The entries of the paths that are not lower than a path, in their order. It takes no memory.
+    pub fn entries_from(&self, path: &[u8]) -> Entries<'_, V>
+        ensures { map pair_of (entries_left result)
+            ≡ finite.entries (part_from (components path.now) self.now) }
+    {
+        match search(&self.blocks, path) {
+            Ok((block, at)) => entries_at(&self.blocks, block, at),
+            Err(Some((block, at))) => entries_at(&self.blocks, block, at),
+            Err(None) => self.entries(),
         }
     }
 
