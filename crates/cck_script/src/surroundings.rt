@@ -112,6 +112,36 @@ impl Surroundings {
             _ => Ok(()),
         }
     }
+
+    /// The same files and variables once more.
+    ///
+    /// It is refused only for lack of memory, as [`UtilError::Memory`].
+    pub fn copy(&self, alloc: Global) -> Result<Surroundings, UtilError>
+        ensures files { IfOk result (λ copy. copy.files ≡ self.now.files) }
+        ensures variables { IfOk result (λ copy.
+            variables_of copy.variables.items ≡ variables_of self.now.variables.items) }
+        ensures refused { IsOkUnless result UtilError.Memory }
+    {
+        Ok(Surroundings {
+            files: self.files.copy(alloc)?,
+            variables: copy_variables(alloc, &self.variables)?,
+        })
+    }
+}
+
+// The same variables once more.
+fn copy_variables(
+    alloc: Global,
+    variables: &[(Vec<u8>, Vec<u8>)],
+) -> Result<Vec<(Vec<u8>, Vec<u8>)>, UtilError>
+    ensures same { IfOk result (λ copy. variables_of copy.items ≡ variables_of variables.now) }
+    ensures refused { IsOkUnless result UtilError.Memory }
+{
+    let mut copy = Vec::new(alloc);
+    for (name, value) in variables {
+        copy.push((name.to_vec(alloc)?, value.to_vec(alloc)?))?;
+    }
+    Ok(copy)
 }
 
 // Sets the regular file at a path, in place of what stands there.
