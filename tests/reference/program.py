@@ -52,33 +52,47 @@ def answer_line(answer):
     return (b"miss " if answer.is_fresh else b"hit ") + answer.key + b"\n"
 
 
-def make_call(line, surroundings, compiler, digest, conditions, store):
-    """The answer or the error of the call that a line asks for (`asked_calls`)."""
+def call_of(line, files, variables, compiler, digest):
+    """The call that a line asks for (`asked_calls`), over these files and variables."""
     moment, source, words = line.values
-    files, variables = surroundings.files, surroundings.variables
     arguments = with_extra_files(arguments_of([source] + words), files, variables)
     hasher = Hasher(compiler, EXECUTABLE, digest, arguments)
     recache = line.word == b"recache"
-    call = Call(hasher, files, WORKING_DIRECTORY, variables, moment, recache)
-    return run_calls([call], conditions, store)[0]
+    return Call(hasher, files, WORKING_DIRECTORY, variables, moment, recache)
+
+
+def conditions_of(lines):
+    """What all calls of a script are made under."""
+    return Conditions(zone_of(lines), activated(), basedirs_of(lines))
+
+
+def armed_by(lines):
+    """`armed_by`: a new store, armed as the lines say."""
+    store = MapStore()
+    store.forget_at(armed_of(lines, b"forget"))
+    store.fail_at(armed_of(lines, b"fail"))
+    return store
+
+
+def each_call(lines):
+    """The calls of a script in order (`asked_calls`), each over the files as they are at its line.
+
+    The files are the same object in all of them, which changes as the lines are followed.
+    """
+    compiler = MiniCompiler(zone_of(lines))
+    digest = executable_text(first_files(), EXECUTABLE, compiler.version)
+    surroundings = Surroundings()
+    for line in lines:
+        surroundings.follow(line)
+        if line.word in {b"compile", b"recache"}:
+            yield call_of(line, surroundings.files, surroundings.variables, compiler, digest)
 
 
 def run_lines(lines):
     """`Ran`: the lines of the answers of a script's calls."""
-    conditions = Conditions(zone_of(lines), activated(), basedirs_of(lines))
-    compiler = MiniCompiler(conditions.zone)
-    digest = executable_text(first_files(), EXECUTABLE, compiler.version)
-    store = MapStore()
-    store.forget_at(armed_of(lines, b"forget"))
-    store.fail_at(armed_of(lines, b"fail"))
-    surroundings = Surroundings()
-    printed = b""
-    for line in lines:
-        surroundings.follow(line)
-        if line.word in {b"compile", b"recache"}:
-            answer = make_call(line, surroundings, compiler, digest, conditions, store)
-            printed += answer_line(answer)
-    return printed
+    conditions, store = conditions_of(lines), armed_by(lines)
+    answers = (run_calls([call], conditions, store)[0] for call in each_call(lines))
+    return b"".join(map(answer_line, answers))
 
 
 def run_script(text):

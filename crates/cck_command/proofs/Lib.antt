@@ -1,2 +1,3 @@
 pub mod ExecutableLemmas
+pub mod FollowedLemmas
 pub mod MadeLemmas

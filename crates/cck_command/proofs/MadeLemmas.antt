@@ -1,7 +1,6 @@
 -- Calls of a script, made line by line.
 use Rattle.std.proofs.Common.{◌≡◌, ◌+◌, ◌<◌, ◌^◌, ℤ, List, [], ◌∷◌, ◌++◌, append_assoc, refl, ap, subst, sym, ◌∙◌, arith, ℕ, zero, suc, take, drop, length}
 use Rattle.std.specs.List.{AllZip, flat_map}
-use Rattle.std.specs.Option.{option_to_list}
 use Rattle.std.proofs.Math.Seq.{take-nil}
 use Rattle.std.proofs.lemmas.Grind.{flat_map-append}
 use Rattle.std.proofs.lemmas.List.{append-nil, length_push}
@@ -11,7 +10,7 @@ use Rattle.cck_store.specs.MapStore.{State, map_store}
 use Rattle.jiff.specs.Types.{Offset, TimeZone}
 use Rattle.jiff.specs.Words.{fixed_zone}
 use Rattle.cck_files.specs.FileState.{FileState, IsQuiet, fault_count}
-use Rattle.cck_script.specs.Calls.{call_said, asked_behind, asked_calls}
+use Rattle.cck_script.specs.Calls.{asked_calls}
 use Rattle.cck_script.specs.Calls as script
 use Rattle.cck_script.specs.Lines.{Line}
 use Rattle.cck_script.specs.Script.{basedirs_of, zone_of}
@@ -27,6 +26,7 @@ use Rattle.c_cache_keys.specs.Step.{IsEmpty, Run}
 use Rattle.c_cache_keys.specs.World.{HasSize, World, world_of}
 use Rattle.c_cache_keys.specs.declared.c_compiler.CCompiler.{CCompiler}
 use Rattle.c_cache_keys.specs.declared.calls.Call.{Call}
+use Rattle.cck_command.proofs.FollowedLemmas.{zip_joined}
 use Rattle.cck_command.specs.MiniCompiler.{mini_compiler}
 use Rattle.cck_command.specs.Made.{AreMade, IsReady, IsRunCompiler}
 use Rattle.cck_command.specs.Run.{IsDone, Ran, answer_line, armed_by, run_world}
@@ -113,17 +113,11 @@ after_call c asked old new s ready named after =
 
 -- ---- calls one after another
 
-zip_joined : {A B : Type 0} (R : A → B → Type 0) (xs more : List A) (ys others : List B) → AllZip R xs ys → AllZip R more others → AllZip R (xs ++ more) (ys ++ others)
-zip_joined R [] more [] others p q = q
-zip_joined R [] more (y ∷ ys) others p q = absurd p
-zip_joined R (x ∷ xs) more [] others p q = absurd p
-zip_joined R (x ∷ xs) more (y ∷ ys) others p q = (p.0, zip_joined R xs more ys others p.1 q)
-
 module _ (hash : Bytes → Bytes) (zone : ℤ) (w : World ℤ) where
   pub none_made : (s : State) (printed : Bytes) → AreMade hash zone w [] s s printed printed
   none_made s printed = record { done = []; answers = []; calls = tt; run = refl; printed_are = sym (append-nil printed) }
 
-  made_joined : (xs ys : List script.AskedCall) (s m t : State) (a b c : Bytes) → AreMade hash zone w xs s m a b → AreMade hash zone w ys m t b c → AreMade hash zone w (xs ++ ys) s t a c
+  pub made_joined : (xs ys : List script.AskedCall) (s m t : State) (a b c : Bytes) → AreMade hash zone w xs s m a b → AreMade hash zone w ys m t b c → AreMade hash zone w (xs ++ ys) s t a c
   made_joined xs ys s m t a b c front back = record {
     done = front.done ++ back.done;
     answers = front.answers ++ back.answers;
@@ -134,49 +128,26 @@ module _ (hash : Bytes → Bytes) (zone : ℤ) (w : World ℤ) where
         ∙ ap (λ l. a ++ l) (sym (flat_map-append answer_line front.answers back.answers));
   }
 
-  -- the lines so far were followed and their calls made, and the lines that are left ask for the others
-  pub record AreSoFar (lines left : List Line) (now : Surroundings) (start store : State) (printed : Bytes) : Type 0 where
-    pub earlier : List Line
-    pub asked : List script.AskedCall
-    pub after : AreAfter earlier now
-    pub split : asked_calls lines ≡ asked ++ asked_behind earlier left
-    pub made : AreMade hash zone w asked start store [] printed
-
-  -- one line more
-  pub one_line_more : (lines left behind : List Line) (line : Line) (now then : Surroundings) (start store next : State) (printed more : Bytes)
-      → AreSoFar lines left now start store printed → left ≡ line ∷ behind
-      → ((earlier : List Line) → AreAfter earlier now → AreAfter (line ∷ earlier) then)
-      → ((earlier : List Line) → AreAfter earlier now → AreMade hash zone w (option_to_list (call_said earlier line)) store next printed more)
-      → AreSoFar lines behind then start next more
-  one_line_more lines left behind line now then start store next printed more so is follow make = record {
-    earlier = line ∷ so.earlier;
-    asked = so.asked ++ option_to_list (call_said so.earlier line);
-    after = follow so.earlier so.after;
-    split = so.split ∙ ap (λ l. so.asked ++ asked_behind so.earlier l) is
-        ∙ sym (append_assoc so.asked (option_to_list (call_said so.earlier line)) (asked_behind (line ∷ so.earlier) behind));
-    made = made_joined so.asked (option_to_list (call_said so.earlier line)) start store next [] printed more so.made (make so.earlier so.after);
-  }
-
 -- the store of a script holds nothing at first
 none_held : (hash : Bytes → Bytes) (zone : Offset) (lines : List Line) → IsEmpty (run_world hash zone lines) map_store (armed_by lines)
 none_held hash zone lines k bytes held = cc
 
 -- what is printed of a run, where no line is left
-pub ran : (hash : Bytes → Bytes) (lines : List Line) (now : Surroundings) (printed : Bytes) (zone : Offset) (plain : TimeZone) (basedirs : List Bytes) (end : State)
+pub ran : (hash : Bytes → Bytes) (lines : List Line) (printed : Bytes) (zone : Offset) (plain : TimeZone) (basedirs : List Bytes) (end : State)
     → HasSize hash → zone.seconds ≡ zone_of lines → plain ≡ fixed_zone zone → basedirs ≡ basedirs_of lines
-    → AreSoFar hash (zone_of lines) (world_of hash mini_compiler plain activated basedirs) lines [] now (armed_by lines) end printed → Ran hash lines printed
-ran hash lines now printed zone plain basedirs end size is p q so =
+    → AreMade hash (zone_of lines) (world_of hash mini_compiler plain activated basedirs) (asked_calls lines) (armed_by lines) end [] printed → Ran hash lines printed
+ran hash lines printed zone plain basedirs end size is p q made =
     let world = run_world hash zone lines in
-    let run : Run world map_store (armed_by lines) so.made.done so.made.answers end = rw (p, q) at so.made.run in
+    let run : Run world map_store (armed_by lines) made.done made.answers end = rw (p, q) at made.run in
     record {
       zone = zone;
       zone_is = is;
-      done = so.made.done;
-      answers = so.made.answers;
+      done = made.done;
+      answers = made.answers;
       end = end;
-      calls = rw (so.split ∙ append-nil so.asked) so.made.calls;
+      calls = made.calls;
       run = run;
-      headline = transparent world map_store size map_store_laws (armed_by lines) end so.made.done so.made.answers (none_held hash zone lines) run;
-      handed = run_answers_handed world map_store (armed_by lines) end so.made.done so.made.answers run;
-      printed_are = so.made.printed_are;
+      headline = transparent world map_store size map_store_laws (armed_by lines) end made.done made.answers (none_held hash zone lines) run;
+      handed = run_answers_handed world map_store (armed_by lines) end made.done made.answers run;
+      printed_are = made.printed_are;
     }

@@ -5,7 +5,7 @@ use std::alloc::{AllocError, AllocFailed};
 use std::io;
 
 /// Input, output or memory failed.
-#[derive(Drop)]
+#[derive(Debug, Drop)]
 pub struct Failed;
 
 impl From<UtilError> for Failed {

@@ -16,6 +16,10 @@
 //! that follow the script line by line, on one store in memory that holds nothing at first. Their
 //! compiler is [`MiniCompiler`], whose preprocessor is [`cck_mini::print_input`].
 //!
+//! The calls of a script can be had as values too, by [`ready_calls`], each with files of its own:
+//! then calls on the files can be armed to fail before [`run_calls`](c_cache_keys::run_calls) makes
+//! them.
+//!
 //! The promise of [`engine`] is about each byte: on a reader and a writer that tell their bytes,
 //! what is written is exactly the key of all that was read, by its definition, or the lines of the
 //! answers of a run over the calls that the script's lines ask for. The headline of
@@ -36,6 +40,7 @@
 #![tactic(auto)]
 
 mod answers;
+mod calls;
 mod failed;
 pub mod laws;
 mod mini_compiler;
@@ -45,6 +50,9 @@ mod request;
 mod run;
 mod status;
 
+pub use calls::{compiler_of, ready_calls};
+pub use failed::Failed;
 pub use mini_compiler::MiniCompiler;
 pub use program::{engine, refuse};
+pub use run::zone_at;
 pub use status::Status;

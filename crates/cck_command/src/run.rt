@@ -13,20 +13,18 @@ ghost use Rattle.cck_script.specs.Surroundings.{AreAfter, AreNamesOf};
 ghost use Rattle.cck_time.specs.Config.{activated};
 ghost use Rattle.c_cache_keys.specs.World.{world_of};
 ghost use Rattle.cck_command.specs.MiniCompiler.{mini_compiler};
-ghost use Rattle.cck_command.specs.Run.{Ran, control_of};
+ghost use Rattle.cck_command.specs.Run.{Ran};
 ghost use Rattle.cck_command.specs.Made.{AreMade, IsReady, IsRunCompiler};
 
 use crate::answers::add_answer_lines;
+use crate::calls::{compiler_of, ready_call};
 use crate::failed::Failed;
 use crate::mini_compiler::MiniCompiler;
-use c_cache_keys::{CCompiler, CacheControl, Call, CompilerArguments, MapStore, run_calls};
+use c_cache_keys::{CCompiler, Call, MapStore, run_calls};
 use cck_files::MapFiles;
-use cck_script::{
-    Command, EXECUTABLE, Script, ScriptCall, Surroundings, WORKING_DIRECTORY, first_files,
-};
+use cck_script::{Command, Script, ScriptCall, Surroundings};
 use cck_time::PreprocessorCacheModeConfig;
 use cck_util::HashState;
-use indexmap::IndexSet;
 use jiff::tz::{Offset, TimeZone};
 use std::alloc::Global;
 
@@ -113,7 +111,12 @@ fn make_call<H: HashState>(
         → AreMade H.hash zone (world_of H.hash mini_compiler (plain_zone setting.now.zone) activated (lists_of setting.now.basedirs.items))
         (call_behind earlier asked.now ∷ []) store.old store.new printed.old.items printed.new.items) }
 {
-    let (ready, names) = ready_call(alloc, &setting.compiler, surroundings, asked)?;
+    let Surroundings {
+        files,
+        variables,
+        names,
+    } = surroundings;
+    let ready = ready_call(alloc, &setting.compiler, files, variables, asked)?;
     let mut calls = Vec::new(alloc);
     calls.push(ready)?;
     let config = PreprocessorCacheModeConfig::activated();
@@ -138,48 +141,8 @@ fn make_call<H: HashState>(
     })
 }
 
-// The call that a script asks for, over these files and variables, ready to be made, and the names
-// of the variables.
-fn ready_call(
-    alloc: Global,
-    compiler: &CCompiler<MiniCompiler>,
-    surroundings: Surroundings,
-    asked: &ScriptCall<'_>,
-) -> Result<(Call<MiniCompiler, MapFiles>, IndexSet<Vec<u8>>), Failed>
-    ensures call { IfOk result (λ ready. (earlier : List Line) → AreAfter earlier surroundings
-        → IsReady compiler.now (call_behind earlier asked.now) ready.0) }
-    ensures names { IfOk result (λ ready. (earlier : List Line) → AreAfter earlier surroundings
-        → AreNamesOf ready.0.vars.items ready.1.keys) }
-{
-    let Surroundings {
-        mut files,
-        variables,
-        names,
-    } = surroundings;
-    let parsed = compiler.parse_arguments(
-        alloc,
-        &mut files,
-        asked.arguments,
-        WORKING_DIRECTORY,
-        &variables,
-    )?;
-    // The first argument is the input, so it is a compilation.
-    let CompilerArguments::Ok(hasher) = parsed else {
-        return Err(Failed);
-    };
-    let ready = Call {
-        hasher,
-        files,
-        cwd: WORKING_DIRECTORY.to_vec(alloc)?,
-        vars: variables,
-        moment: asked.moment,
-        control: control_of(asked.is_recache),
-    };
-    Ok((ready, names))
-}
-
-// The zone of an offset of so many seconds.
-fn zone_at(seconds: i32) -> Result<TimeZone<'static>, Failed>
+/// The zone of an offset of so many seconds east of UTC, less than a day.
+pub fn zone_at(seconds: i32) -> Result<TimeZone<'static>, Failed>
     ensures { IfOk result (λ zone. (offset : PlainOffset) × (offset.seconds ≡ seconds)
         × (plain_zone zone ≡ fixed_zone offset)) }
 {
@@ -204,28 +167,4 @@ fn store_of(alloc: Global, forget_at: Option<u64>, fail_at: Option<u64>) -> MapS
         store.fail_at(n);
     }
     store
-}
-
-// The compiler, with the digest of its executable as it is before any line.
-fn compiler_of<H: HashState>(
-    alloc: Global,
-    zone_offset: i32,
-) -> Result<CCompiler<MiniCompiler>, Failed>
-    ensures { IfOk result (IsRunCompiler H.hash zone_offset) }
-{
-    let mut files = first_files(alloc)?;
-    let executable = EXECUTABLE.to_vec(alloc)?;
-    let compiler = MiniCompiler { zone_offset };
-    Ok(CCompiler::new::<H, MapFiles>(alloc, compiler, executable, &mut files)?)
-}
-
-// Whether a stored result may be answered.
-fn control_of(is_recache: bool) -> CacheControl
-    ensures { result ≡ control_of is_recache }
-{
-    if is_recache {
-        CacheControl::ForceRecache
-    } else {
-        CacheControl::Default
-    }
 }

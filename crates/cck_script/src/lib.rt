@@ -52,4 +52,4 @@ pub use call::ScriptCall;
 pub use command::Command;
 pub use error::ScriptError;
 pub use script::{RunOptions, Script};
-pub use surroundings::{EXECUTABLE, Surroundings, WORKING_DIRECTORY, first_files};
+pub use surroundings::{EXECUTABLE, Surroundings, WORKING_DIRECTORY, copy_variables, first_files};

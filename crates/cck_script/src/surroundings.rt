@@ -120,6 +120,23 @@ impl Surroundings {
     }
 }
 
+/// A copy of these variables, in the same order.
+///
+/// The only error is [`UtilError::Memory`].
+pub fn copy_variables(
+    alloc: Global,
+    variables: &[(Vec<u8>, Vec<u8>)],
+) -> Result<Vec<(Vec<u8>, Vec<u8>)>, UtilError>
+    ensures same { IfOk result (λ copy. variables_of copy.items ≡ variables_of variables.now) }
+    ensures refused { IsOkUnless result UtilError.Memory }
+{
+    let mut copy = Vec::new(alloc);
+    for (name, value) in variables {
+        copy.push((name.to_vec(alloc)?, value.to_vec(alloc)?))?;
+    }
+    Ok(copy)
+}
+
 // Sets the regular file at a path, in place of what stands there.
 fn put_file(
     alloc: Global,

@@ -1,7 +1,8 @@
 //! The calls of this program.
+use crate::failing_calls::{self, ListGiven};
 use crate::streams::Streams;
 use crate::{compiler, engine, mini, scripts};
-use cck_cases::{CaseError, Line, Subject, Value, World, bytes_of, find};
+use cck_cases::{CaseError, Line, Subject, Value, World, bytes_of, find, number};
 use cck_util::{Digest, Sha256State};
 use std::alloc::Global;
 
@@ -10,12 +11,14 @@ enum Word {
     Line,
     WorkingDirectory,
     Digested,
+    StoreFailAfter,
 }
 
-const WORDS: [(&str, Word); 3] = [
+const WORDS: [(&str, Word); 4] = [
     ("line", Word::Line),
     ("cwd", Word::WorkingDirectory),
     ("digested", Word::Digested),
+    ("store_fail_after", Word::StoreFailAfter),
 ];
 
 /// What lines give to the calls.
@@ -30,6 +33,8 @@ pub(crate) struct Scripts {
     cwd: Vec<u8>,
     // `digested`: the results of calls are written as their digest texts.
     is_digested: bool,
+    // `store_fail_after N`: from which get or put of the store on all fail. 0, for none, at first.
+    store_fail_after: u64,
     text: Vec<u8>,
     result: Vec<u8>,
 }
@@ -51,6 +56,7 @@ impl Subject for Scripts {
             lines: Vec::new(alloc),
             cwd: Vec::new(alloc),
             is_digested: false,
+            store_fail_after: 0,
             text: Vec::new(alloc),
             result: Vec::new(alloc),
         }
@@ -62,6 +68,7 @@ impl Subject for Scripts {
         self.lines.clear();
         self.cwd.clear();
         self.is_digested = false;
+        self.store_fail_after = 0;
     }
 
     fn give(&mut self, name: &str, rest: &str) -> Result<bool, CaseError> {
@@ -75,6 +82,7 @@ impl Subject for Scripts {
             }
             Word::WorkingDirectory => self.cwd = bytes_of(self.alloc, rest)?,
             Word::Digested => self.is_digested = true,
+            Word::StoreFailAfter => self.store_fail_after = number(rest)?,
         }
         Ok(true)
     }
@@ -82,7 +90,7 @@ impl Subject for Scripts {
     fn is_raw(name: &str) -> bool {
         matches!(
             name,
-            "surroundings" | "program" | "command_line" | "preprocess"
+            "surroundings" | "program" | "command_line" | "preprocess" | "fail_each"
         )
     }
 
@@ -109,6 +117,13 @@ impl Scripts {
         }
         if let Some(call) = find(&engine::CALLS, name) {
             return engine::write(call, self.alloc, out, &self.streams, &self.text, line.rest);
+        }
+        if let Some(call) = find(&failing_calls::CALLS, name) {
+            let given = ListGiven {
+                streams: &self.streams,
+                store_fail_after: self.store_fail_after,
+            };
+            return failing_calls::write(call, self.alloc, out, given, &self.text, line.rest);
         }
         let cwd = directory(&self.cwd);
         if let Some(call) = find(&mini::CALLS, name) {

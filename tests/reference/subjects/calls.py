@@ -527,9 +527,13 @@ def call_holds(subject, rest, made):
 
 def call_store_shown(subject, rest, made):
     """`store_shown`: what `Debug` prints of the store."""
-    store = subject.store
-    if isinstance(store, EmptyStore):
-        return f"EmptyStore {{ setbacks: {store.setbacks} }}".encode()
+    if isinstance(subject.store, EmptyStore):
+        return f"EmptyStore {{ setbacks: {subject.store.setbacks} }}".encode()
+    return store_text(subject.store)
+
+
+def store_text(store):
+    """What `Debug` prints of a store in memory."""
     pairs = ", ".join(
         f"{debug_text(key.decode())}: {debug_bytes(data)}"
         for key, data in sorted(store.pairs.items())

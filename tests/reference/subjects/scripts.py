@@ -1,15 +1,22 @@
 """The calls of `cck_script_vectors`: scripts, the small preprocessor, the program as a function."""
+import copy
+import os.path
+
 from ..cases import BaseSubject, WrongLine, cut_words, flag, list_of, moment, number_of, undo
+from ..calls import run_calls
 from ..digests import digest_text
 from ..errors import Refused
+from ..failures import own_calls, runs_of
 from ..files import FILE, FOLDER
 from ..given import World
 from ..mini import MiniCompiler, print_input
 from ..paths import join_path
-from ..program import answer_words, arguments_of
+from ..program import answer_line, answer_words, arguments_of, armed_by, conditions_of
 from ..script import Surroundings, WrongLine as WrongScript
 from ..script import armed_of, basedirs_of, parse, zone_of
+from ..store import MapStore
 from ..texts import is_utf8
+from .calls import store_text
 
 REFUSED = b"cck: refused\n"
 KINDS = ("Interrupted", "BrokenPipe", "UnexpectedEof", "OutOfMemory")
@@ -19,6 +26,24 @@ CALL_WORDS = {b"compile": b"cached", b"recache": b"recache"}
 
 class Failed(Exception):
     """A read or a write failed."""
+
+
+class Failures:
+    """Which calls of one kind fail: some pass, so many after them fail, and all others pass."""
+
+    def __init__(self, passing=0, failing=0):
+        self.passing = passing
+        self.failing = failing
+        self.has_failed = False
+
+    def call(self):
+        """Counts one call; an error where it fails."""
+        if self.passing > 0:
+            self.passing -= 1
+        elif self.failing > 0:
+            self.failing -= 1
+            self.has_failed = True
+            raise Failed
 
 
 class Streams:
@@ -31,8 +56,8 @@ class Streams:
 
     def begin(self):
         """All reads and writes pass."""
-        self.read_step, self.reads = MANY, MANY
-        self.write_step, self.writes, self.failing, self.flushes = MANY, MANY, 0, 0
+        self.read_step = self.write_step = MANY
+        self.reads, self.writes, self.flushes = Failures(), Failures(), Failures()
         self.before = b""
 
     def give(self, word, rest):
@@ -47,17 +72,17 @@ class Streams:
         step, passing, kind = cut_words(rest, 2)
         if kind not in KINDS:
             raise WrongLine
-        self.read_step, self.reads = number_of(step), number_of(passing)
+        self.read_step, self.reads = number_of(step), Failures(number_of(passing), MANY)
 
     def writer(self, rest):
         """`writer STEP PASSING FAILING`."""
         step, passing, failing = cut_words(rest, 2)
-        self.write_step, self.writes = number_of(step), number_of(passing)
-        self.failing = number_of(failing)
+        self.write_step = number_of(step)
+        self.writes = Failures(number_of(passing), number_of(failing))
 
     def flush(self, rest):
         """`flush FAILING`."""
-        self.flushes = number_of(rest)
+        self.flushes = Failures(0, number_of(rest))
 
     def written(self, rest):
         """`written TEXT`: what the writer holds before the run."""
@@ -70,18 +95,16 @@ class Run:
     def __init__(self, streams, text):
         self.streams = streams
         self.left = text
-        self.reads = streams.reads
         self.written = streams.before
-        self.writes, self.failing, self.flushes = streams.writes, streams.failing, streams.flushes
+        self.reads, self.writes = copy.copy(streams.reads), copy.copy(streams.writes)
+        self.flushes = copy.copy(streams.flushes)
         self.is_flushed = True
 
     def read(self):
         """All that the reader has, up to a read of no bytes."""
         text = b""
         while True:
-            if self.reads == 0:
-                raise Failed
-            self.reads -= 1
+            self.reads.call()
             piece, self.left = self.left[: self.streams.read_step], self.left[self.streams.read_step :]
             if piece == b"":
                 return text
@@ -89,11 +112,7 @@ class Run:
 
     def write(self, data):
         """One write, of which the number of bytes is returned."""
-        if self.writes > 0:
-            self.writes -= 1
-        elif self.failing > 0:
-            self.failing -= 1
-            raise Failed
+        self.writes.call()
         piece = data[: self.streams.write_step]
         if piece == b"":
             raise Failed
@@ -105,9 +124,7 @@ class Run:
         """Writes all, and flushes."""
         while data != b"":
             data = data[self.write(data) :]
-        if self.flushes > 0:
-            self.flushes -= 1
-            raise Failed
+        self.flushes.call()
         self.is_flushed = True
 
     def refuse(self):
@@ -120,12 +137,16 @@ class Run:
 
     def run(self, words):
         """What is written for these words, and the status."""
+        return self.result(self.end(words))
+
+    def end(self, words):
+        """Writes what there is to write for these words, and returns the status."""
         try:
             printed, status = answer_words(words, self.read)
             self.print(printed)
         except Failed:
-            status = self.refuse()
-        return self.result(status)
+            return self.refuse()
+        return status
 
     def result(self, status):
         """What was written, the status, the bytes that weren't read, and whether a flush is missing."""
@@ -190,6 +211,44 @@ def surroundings_at(lines, before):
     return surroundings
 
 
+def runs_text(runs):
+    """What is told of runs under failures."""
+    text = f"{runs.count} failures: {runs.seen['hits']} hits, {runs.seen['misses']} misses"
+    for number in range(1, 8):
+        if runs.seen[number]:
+            text += f", {runs.seen[number]} of error {number}"
+    return f"{text}\nwrong: {runs.wrong}\n".encode() + digest_text(runs.told)
+
+
+def run_under(streams, text, cause, failures):
+    """A run of a script in which calls of one kind fail, and its status."""
+    run = Run(streams, text)
+    setattr(run, cause, failures)
+    return run, run.end([b"run"])
+
+
+def is_cut(written, whole):
+    """Whether a text is a beginning of another one, and after it a beginning of the refusal."""
+    common = len(os.path.commonprefix([written, whole]))
+    return REFUSED.startswith(written[common:])
+
+
+def fail_streams(streams, text, cause, failing):
+    """Each call of the reader or the writer fails in turn, until a run meets no failure."""
+    whole, status = run_under(streams, text, cause, Failures())
+    count, wrong, told = 0, 0, b""
+    while True:
+        failures = Failures(count, failing)
+        run, ended = run_under(streams, text, cause, failures)
+        if not failures.has_failed:
+            wrong += (run.written, ended) != (whole.written, status)
+            break
+        wrong += ended != 1 or not is_cut(run.written, whole.written)
+        told += run.written
+        count += 1
+    return b"%d failures\nwrong: %d\n" % (count, wrong) + digest_text(told)
+
+
 class Subject(BaseSubject):
     """The calls, and what lines give to them."""
 
@@ -205,6 +264,7 @@ class Subject(BaseSubject):
         self.lines = b""
         self.cwd = b"/w"
         self.is_digested = False
+        self.store_fail_after = 0
 
     def give(self, word, rest):
         """Takes what a line gives, and returns whether it knows the line's word."""
@@ -214,6 +274,8 @@ class Subject(BaseSubject):
             self.cwd = undo(rest) or b"/w"
         elif word == "digested":
             self.is_digested = True
+        elif word == "store_fail_after":
+            self.store_fail_after = number_of(rest)
         else:
             return self.streams.give(word, rest) or self.world.give(word, rest)
         return True
@@ -331,7 +393,42 @@ class Subject(BaseSubject):
         compiler = MiniCompiler(world.offset)
         return compiler.prints(world.files, b"/cc", arguments_of(words), self.cwd, [], world.now)
 
+    def plain_keys(self, rest, made):
+        """`plain_keys TEXT`: the answer of each call, made alone on an empty store."""
+        lines = self.said(self.text(rest, made))
+        conditions = conditions_of(lines)
+        answers = (run_calls([call], conditions, MapStore())[0] for call in own_calls(lines))
+        return b"".join(map(answer_line, answers)).removesuffix(b"\n")
+
+    def answers(self, rest, made):
+        """`answers TEXT`: the answers of all calls as a list."""
+        lines = self.said(self.text(rest, made))
+        store = armed_by(lines)
+        store.fail_after(self.store_fail_after)
+        answers = run_calls(own_calls(lines), conditions_of(lines), store)
+        return b"".join(map(answer_line, answers)).removesuffix(b"\n")
+
+    def checked_answers(self, rest, made):
+        """`checked_answers TEXT`: how many answers there are. With all memory none is wrong."""
+        return b"%d results, 0 wrong" % len(own_calls(self.said(self.text(rest, made))))
+
+    def fail_each(self, rest, made):
+        """`fail_each CAUSE once` and `fail_each CAUSE on`: each call of a cause fails in turn."""
+        cause, how = cut_words(rest, 1)
+        if how not in ("once", "on"):
+            raise WrongLine
+        text = self.text("", made)
+        if cause in ("reads", "writes", "flushes"):
+            return fail_streams(self.streams, text, cause, 1 if how == "once" else MANY)
+        if cause not in ("files", "store", "forget"):
+            raise WrongLine
+        return runs_text(runs_of(self.said(text), cause, how == "once", store_text))
+
     CALLS = {
+        "plain_keys": plain_keys,
+        "answers": answers,
+        "checked_answers": checked_answers,
+        "fail_each": fail_each,
         "parse": parse,
         "calls": calls,
         "options": options,

@@ -5,7 +5,8 @@ use Rattle.cck_script.specs.Script.{zone_of}
 use Rattle.cck_script.specs.Seen.{line_of, lines_of}
 use Rattle.cck_script.proofs.OptionLemmas.{left_more}
 use Rattle.cck_command.specs.Run.{armed_by}
-use Rattle.cck_command.proofs.MadeLemmas.{compiler_in, none_made, one_line_more, ran}
+use Rattle.cck_command.proofs.FollowedLemmas.{all_followed, one_line_more}
+use Rattle.cck_command.proofs.MadeLemmas.{compiler_in, made_joined, none_made, ran}
 use Rattle.cck_command.proofs.run.run_script.Goals as goal
 
 pub loop-command-init : goal.loop-command-init
@@ -17,20 +18,22 @@ loop-command-init g c =
       asked = [];
       after = c.in_ok-surroundings.ensures.first;
       split = ap (asked_behind []) (sym c.commands-command-items.ensures);
-      made = rw (start, c.new-printed.ensures.items) (none_made g.H.HashState.hash (zone_of lines) _ (armed_by lines) []);
+      of_asked = rw (start, c.new-printed.ensures.items) (none_made g.H.HashState.hash (zone_of lines) _ (armed_by lines) []);
     }
 
 pub loop-command-preserved : goal.loop-command-preserved
 loop-command-preserved g c =
     let hash = g.H.HashState.hash in
     let lines = lines_of c.args.script.now in
-    one_line_more hash (zone_of lines) _ lines _ _ _ _ _ _ _ _ _ _ c.loop-command.invariant
+    one_line_more _ _ lines _ _ _ _ _ c.loop-command.invariant
     (left_more _ _ c.command-item.result c.loop-command-test.true c.command-item.is)
     c.in_ok-surroundings-2.ensures.after
-    (λ earlier are. c.in_ok-surroundings-2.ensures.made (zone_of lines) earlier (compiler_in hash (zone_of lines) _ _ (search rules) c.in_ok-compiler.ensures) are)
+    (λ earlier asked are made.
+    made_joined hash (zone_of lines) _ asked _ _ _ _ [] _ _ made
+    (c.in_ok-surroundings-2.ensures.made (zone_of lines) earlier (compiler_in hash (zone_of lines) _ _ (search rules) c.in_ok-compiler.ensures) are))
 
 pub returns : goal.returns
 returns g c =
     let lines = lines_of c.args.script.now in
-    ran g.H.HashState.hash lines _ _ c.in_ok-zone.ensures.0 _ _ _ g.met.H.HashState.length_hash (c.in_ok-zone.ensures.1 ∙ (search rules)) c.in_ok-zone.ensures.2 c.in_ok-options.ensures.basedirs
-    (rw (ap (map line_of) (drop_all c.loop-command.command-index _ c.loop-command-test.false)) at c.loop-command.invariant)
+    ran g.H.HashState.hash lines _ c.in_ok-zone.ensures.0 _ _ _ g.met.H.HashState.length_hash (c.in_ok-zone.ensures.1 ∙ (search rules)) c.in_ok-zone.ensures.2 c.in_ok-options.ensures.basedirs
+    (all_followed _ lines _ (rw (ap (map line_of) (drop_all c.loop-command.command-index _ c.loop-command-test.false)) at c.loop-command.invariant))

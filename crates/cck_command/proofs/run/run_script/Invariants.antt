@@ -1,18 +1,20 @@
-use Rattle.std.proofs.Common.{drop, map}
+use Rattle.std.proofs.Common.{[], drop, map}
 use Rattle.cck_path.specs.Bytes.{lists_of}
 use Rattle.jiff.specs.Words.{plain_zone}
 use Rattle.cck_script.specs.Script.{zone_of}
 use Rattle.cck_script.specs.Seen.{line_of, lines_of}
 use Rattle.c_cache_keys.specs.World.{world_of}
 use Rattle.cck_time.specs.Config.{activated}
+use Rattle.cck_command.specs.Made.{AreMade}
 use Rattle.cck_command.specs.MiniCompiler.{mini_compiler}
 use Rattle.cck_command.specs.Run.{armed_by}
-use Rattle.cck_command.proofs.MadeLemmas.{AreSoFar}
+use Rattle.cck_command.proofs.FollowedLemmas.{AreFollowed}
 use Rattle.cck_command.proofs.run.run_script.Given as goal
 
 -- the calls of the lines so far are made
 abbrev pub invariant-loop-command : goal.invariant-loop-command
 invariant-loop-command g l =
     let lines = lines_of l.fn.script in
-    AreSoFar g.H.HashState.hash (zone_of lines) (world_of g.H.HashState.hash mini_compiler (plain_zone l.setting.zone) activated (lists_of l.setting.basedirs.items)) lines
-    (map line_of (drop l.command-index l.command-items)) l.surroundings (armed_by lines) l.store l.printed.items
+    let world = world_of g.H.HashState.hash mini_compiler (plain_zone l.setting.zone) activated (lists_of l.setting.basedirs.items) in
+    AreFollowed (λ asked. AreMade g.H.HashState.hash (zone_of lines) world asked (armed_by lines) l.store [] l.printed.items) lines
+    (map line_of (drop l.command-index l.command-items)) l.surroundings

@@ -1,7 +1,7 @@
 use Rattle.std.proofs.Common.{◌≡◌, ◌∙◌, ap, rules}
 use Rattle.cck_script.specs.Surroundings.{executable_path}
 use Rattle.cck_command.proofs.ExecutableLemmas.{first_digest}
-use Rattle.cck_command.proofs.run.compiler_of.Goals as goal
+use Rattle.cck_command.proofs.calls.compiler_of.Goals as goal
 
 pub returns : goal.returns
 returns g c =

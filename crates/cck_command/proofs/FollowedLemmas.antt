@@ -1,0 +1,44 @@
+-- The lines of a script, followed one after another.
+use Rattle.std.proofs.Common.{◌≡◌, List, [], ◌∷◌, ◌++◌, Option, Some, append_assoc, ap, sym, ◌∙◌}
+use Rattle.std.specs.List.{AllZip}
+use Rattle.std.specs.Option.{option_to_list}
+use Rattle.std.proofs.lemmas.List.{append-nil}
+use Rattle.cck_script.specs.Calls.{AskedCall, asked_behind, asked_calls, call_said}
+use Rattle.cck_script.specs.Lines.{Line}
+use Rattle.cck_script.specs.Surroundings.{AreAfter}
+use Rattle.cck_script.specs.declared.surroundings.Surroundings.{Surroundings}
+
+-- the lines so far were followed, this holds of the calls that they ask for, and the lines that are left ask for the others
+pub record AreFollowed (OfAsked : List AskedCall → Type 0) (lines left : List Line) (now : Surroundings) : Type 0 where
+  pub earlier : List Line
+  pub asked : List AskedCall
+  pub after : AreAfter earlier now
+  pub split : asked_calls lines ≡ asked ++ asked_behind earlier left
+  pub of_asked : OfAsked asked
+
+-- one line more
+pub one_line_more : (OfAsked OfMore : List AskedCall → Type 0) (lines left behind : List Line) (line : Line) (now then : Surroundings) → AreFollowed OfAsked lines left now → left ≡ line ∷ behind
+    → ((earlier : List Line) → AreAfter earlier now → AreAfter (line ∷ earlier) then)
+    → ((earlier : List Line) (asked : List AskedCall) → AreAfter earlier now → OfAsked asked → OfMore (asked ++ option_to_list (call_said earlier line))) → AreFollowed OfMore lines behind then
+one_line_more OfAsked OfMore lines left behind line now then so is follow more = record {
+  earlier = line ∷ so.earlier;
+  asked = so.asked ++ option_to_list (call_said so.earlier line);
+  after = follow so.earlier so.after;
+  split = so.split ∙ ap (λ l. so.asked ++ asked_behind so.earlier l) is
+      ∙ sym (append_assoc so.asked (option_to_list (call_said so.earlier line)) (asked_behind (line ∷ so.earlier) behind));
+  of_asked = more so.earlier so.asked so.after so.of_asked;
+}
+
+-- no line is left: it holds of all calls
+pub all_followed : (OfAsked : List AskedCall → Type 0) (lines : List Line) (now : Surroundings) → AreFollowed OfAsked lines [] now → OfAsked (asked_calls lines)
+all_followed OfAsked lines now so = rw (so.split ∙ append-nil so.asked) so.of_asked
+
+pub zip_joined : {A B : Type 0} (R : A → B → Type 0) (xs more : List A) (ys others : List B) → AllZip R xs ys → AllZip R more others → AllZip R (xs ++ more) (ys ++ others)
+zip_joined R [] more [] others p q = q
+zip_joined R [] more (y ∷ ys) others p q = absurd p
+zip_joined R (x ∷ xs) more [] others p q = absurd p
+zip_joined R (x ∷ xs) more (y ∷ ys) others p q = (p.0, zip_joined R xs more ys others p.1 q)
+
+-- what was pushed stands behind the others
+pub zip_pushed : {A B : Type 0} (R : A → B → Type 0) (xs : List A) (ys news : List B) (o : Option A) (x : A) (y : B) → Some x ≡ o → news ≡ ys ++ y ∷ [] → AllZip R xs ys → R x y → AllZip R (xs ++ option_to_list o) news
+zip_pushed R xs ys news o x y is new all one = rw (← is, new) (zip_joined R xs (x ∷ []) ys (y ∷ []) all (one, tt))

@@ -1,0 +1,127 @@
+//! The calls of a script, ready to be made.
+ghost use Rattle.std.specs.Prelude.{◌≡◌, ◌++◌, List, IfOk, OnOk};
+ghost use Rattle.std.specs.List.{AllZip};
+ghost use Rattle.std.specs.Option.{option_to_list};
+ghost use Rattle.cck_files.specs.ArmedCalls.{IsUnarmed};
+ghost use Rattle.cck_path.specs.Bytes.{variables_of};
+ghost use Rattle.cck_script.specs.Calls.{AskedCall, asked_calls, call_behind, call_said};
+ghost use Rattle.cck_script.specs.Lines.{Line};
+ghost use Rattle.cck_script.specs.Seen.{line_of, lines_of};
+ghost use Rattle.cck_script.specs.Surroundings.{AreAfter, AreFiles, variables};
+ghost use Rattle.cck_command.specs.Run.{control_of};
+ghost use Rattle.cck_command.specs.Made.{IsReady, IsRunCompiler};
+
+use crate::failed::Failed;
+use crate::mini_compiler::MiniCompiler;
+use c_cache_keys::{CCompiler, CacheControl, Call, CompilerArguments};
+use cck_files::MapFiles;
+use cck_script::{
+    Command, EXECUTABLE, Script, ScriptCall, Surroundings, WORKING_DIRECTORY, copy_variables,
+    first_files,
+};
+use cck_util::HashState;
+use std::alloc::Global;
+
+/// The compiler of a script whose zone has this offset, in seconds east of UTC, with the digest of
+/// its executable as it is before any line.
+///
+/// It is refused for lack of memory.
+pub fn compiler_of<H: HashState>(
+    alloc: Global,
+    zone_offset: i32,
+) -> Result<CCompiler<MiniCompiler>, Failed>
+    ensures { IfOk result (IsRunCompiler H.hash zone_offset) }
+{
+    let mut files = first_files(alloc)?;
+    let executable = EXECUTABLE.to_vec(alloc)?;
+    let compiler = MiniCompiler { zone_offset };
+    Ok(CCompiler::new::<H, MapFiles>(alloc, compiler, executable, &mut files)?)
+}
+
+/// The calls that a script asks for, in their order, each over files and variables of its own, as
+/// they are at its line, and ready for [`run_calls`](c_cache_keys::run_calls). No call on the files
+/// is armed to fail.
+///
+/// It is refused for lack of memory.
+pub fn ready_calls(
+    alloc: Global,
+    compiler: &CCompiler<MiniCompiler>,
+    script: &Script,
+) -> Result<Vec<Call<MiniCompiler, MapFiles>>, Failed>
+    ensures { IfOk result (λ calls. AllZip (IsReady compiler.now) (asked_calls (lines_of script.now)) calls.items) }
+{
+    let mut surroundings = Surroundings::new(alloc)?;
+    let mut calls = Vec::new(alloc);
+    for command in script.commands() {
+        push_call(alloc, compiler, &surroundings, command, &mut calls)?;
+        surroundings.follow(alloc, command)?;
+    }
+    Ok(calls)
+}
+
+// Puts the call that a line asks for behind the others, if it asks for one.
+fn push_call(
+    alloc: Global,
+    compiler: &CCompiler<MiniCompiler>,
+    surroundings: &Surroundings,
+    command: &Command,
+    calls: &mut Vec<Call<MiniCompiler, MapFiles>>,
+) -> Result<(), Failed>
+    ensures { OnOk result ((earlier : List Line) (asked : List AskedCall) → AreAfter earlier surroundings.now
+        → AllZip (IsReady compiler.now) asked calls.old.items
+        → AllZip (IsReady compiler.now) (asked ++ option_to_list (call_said earlier (line_of command.now))) calls.new.items) }
+{
+    let Some(asked) = command.call() else {
+        return Ok(());
+    };
+    let files = surroundings.files.copy(alloc)?;
+    let vars = copy_variables(alloc, &surroundings.variables)?;
+    calls.push(ready_call(alloc, compiler, files, vars, &asked)?)?;
+    Ok(())
+}
+
+// The call that a script asks for, over these files and variables, ready to be made.
+pub(crate) fn ready_call(
+    alloc: Global,
+    compiler: &CCompiler<MiniCompiler>,
+    files: MapFiles,
+    vars: Vec<(Vec<u8>, Vec<u8>)>,
+    asked: &ScriptCall<'_>,
+) -> Result<Call<MiniCompiler, MapFiles>, Failed>
+    ensures call { IfOk result (λ ready. (earlier : List Line) → AreFiles earlier files.files
+        → files.faults ≡ 0 → IsUnarmed files.armed → variables_of vars.items ≡ variables earlier
+        → IsReady compiler.now (call_behind earlier asked.now) ready) }
+    ensures vars { IfOk result (λ ready. ready.vars ≡ vars) }
+{
+    let mut files = files;
+    let parsed = compiler.parse_arguments(
+        alloc,
+        &mut files,
+        asked.arguments,
+        WORKING_DIRECTORY,
+        &vars,
+    )?;
+    // The first argument is the input, so it is a compilation.
+    let CompilerArguments::Ok(hasher) = parsed else {
+        return Err(Failed);
+    };
+    Ok(Call {
+        hasher,
+        files,
+        cwd: WORKING_DIRECTORY.to_vec(alloc)?,
+        vars,
+        moment: asked.moment,
+        control: control_of(asked.is_recache),
+    })
+}
+
+// Whether a stored result may be answered.
+fn control_of(is_recache: bool) -> CacheControl
+    ensures { result ≡ control_of is_recache }
+{
+    if is_recache {
+        CacheControl::ForceRecache
+    } else {
+        CacheControl::Default
+    }
+}

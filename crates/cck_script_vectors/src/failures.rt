@@ -1,0 +1,407 @@
+//! Each failure of one cause in turn, over the calls of a script.
+use crate::lists::{Alone, Answer, List, Request, is_held_alike, keys_of, write_answer};
+use c_cache_keys::{HashResult, KeyError, MapStore, PreprocessError, PreprocessorStore};
+use cck_cases::CaseError;
+use cck_util::{Digest, FileError, Sha256State, UtilError};
+use std::alloc::Global;
+
+/// What fails: calls on files, or gets and puts, of which each may forget too.
+#[derive(Debug, Clone, Copy, PartialEq, Eq)]
+pub(crate) enum Cause {
+    Files,
+    Store,
+    Forgetting,
+}
+
+/// One failure: the nth call on the files of the call at a place, or the nth get or put, once or
+/// with all later ones.
+#[derive(Debug, Clone, Copy)]
+struct Failure {
+    cause: Cause,
+    is_once: bool,
+    place: usize,
+    n: u64,
+}
+
+// How many calls on its own files a call made, and how many gets and puts came before it and with it.
+#[derive(Debug, Clone, Copy)]
+struct Counts {
+    files: u64,
+    store_before: u64,
+    store_after: u64,
+}
+
+impl Failure {
+    // Arms the calls on files of the call at a place.
+    fn arm_files(&self, call: &mut Request, place: usize) {
+        if self.cause != Cause::Files {
+            return;
+        }
+        if place == self.place && self.is_once {
+            call.files.fail_at(self.n);
+        } else if place == self.place {
+            call.files.fail_after(self.n);
+        } else if place > self.place && !self.is_once {
+            call.files.fail_after(1);
+        }
+    }
+
+    // Arms the gets and puts.
+    fn arm_store(&self, store: &mut MapStore) {
+        match (self.cause, self.is_once) {
+            (Cause::Files, _) => {}
+            (Cause::Store, true) => store.fail_at(self.n),
+            (Cause::Store, false) => store.fail_after(self.n),
+            (Cause::Forgetting, _) => store.forget_at(self.n),
+        }
+    }
+
+    // Whether the call at a place met a failure.
+    fn is_met(&self, place: usize, counts: Counts) -> bool {
+        let (n, is_later) = (self.n, !self.is_once);
+        match self.cause {
+            Cause::Files if place == self.place => n <= counts.files,
+            Cause::Files => is_later && place > self.place && counts.files > 0,
+            _ if n > counts.store_after => false,
+            _ => n > counts.store_before || (is_later && counts.store_after > counts.store_before),
+        }
+    }
+
+    // Whether a call that met a failure may have this result, where it has that one without.
+    fn allows(&self, plain: &Answer, answer: &Answer) -> bool {
+        let Err(error) = answer else {
+            return same_key(plain, answer);
+        };
+        match self.cause {
+            Cause::Files => is_fault(*error) || same_answer(plain, answer),
+            Cause::Store => *error == KeyError::Store || same_answer(plain, answer),
+            Cause::Forgetting => same_answer(plain, answer),
+        }
+    }
+}
+
+// Whether an error tells a fault of the files.
+fn is_fault(error: KeyError) -> bool {
+    matches!(
+        error,
+        KeyError::Extra(UtilError::File(FileError::Fault))
+            | KeyError::Input(UtilError::File(FileError::Fault))
+            | KeyError::Preprocess(PreprocessError::Fault)
+    )
+}
+
+// Whether both results have a key, and the same one.
+fn same_key(one: &Answer, other: &Answer) -> bool {
+    match (one, other) {
+        (Ok(found), Ok(again)) => found.key == again.key,
+        _ => false,
+    }
+}
+
+// Whether both results are the same.
+fn same_answer(one: &Answer, other: &Answer) -> bool {
+    match (one, other) {
+        (Ok(found), Ok(again)) => is_same(found, again),
+        (Err(error), Err(again)) => error == again,
+        _ => false,
+    }
+}
+
+fn is_same(one: &HashResult, other: &HashResult) -> bool {
+    one.key == other.key && one.is_locally_preprocessed == other.is_locally_preprocessed
+}
+
+/// What was seen over all runs.
+#[derive(Drop)]
+struct Seen {
+    runs: u64,
+    hits: u64,
+    misses: u64,
+    errors: [u64; 8],
+    wrong: u64,
+    digest: Digest<Sha256State>,
+}
+
+fn one_more(count: &mut u64) {
+    *count = count.saturating_add(1);
+}
+
+impl Seen {
+    fn new() -> Seen {
+        Seen {
+            runs: 0,
+            hits: 0,
+            misses: 0,
+            errors: [0; 8],
+            wrong: 0,
+            digest: Digest::new(),
+        }
+    }
+
+    fn note(&mut self, answer: &Answer, is_right: bool) {
+        match answer {
+            Ok(found) if found.is_locally_preprocessed => one_more(&mut self.misses),
+            Ok(_) => one_more(&mut self.hits),
+            Err(error) => {
+                let number = error.number() as usize;
+                if number < self.errors.len() {
+                    one_more(&mut self.errors[number]);
+                }
+            }
+        }
+        if !is_right {
+            one_more(&mut self.wrong);
+        }
+    }
+
+    fn write(self, alloc: Global, out: &mut Vec<u8>) -> Result<(), CaseError> {
+        let (runs, hits, misses) = (self.runs, self.hits, self.misses);
+        let text = format!(in alloc; "{runs} failures: {hits} hits, {misses} misses")?;
+        out.extend_from_slice(text.as_bytes())?;
+        for (number, count) in self.errors.iter().enumerate() {
+            if *count > 0 {
+                let text = format!(in alloc; ", {count} of error {number}")?;
+                out.extend_from_slice(text.as_bytes())?;
+            }
+        }
+        let wrong = self.wrong;
+        out.extend_from_slice(format!(in alloc; "\nwrong: {wrong}\n")?.as_bytes())?;
+        Ok(out.extend_from_slice(self.digest.finish(alloc)?.as_bytes())?)
+    }
+}
+
+// One run of a list of calls: what it is compared with, and what is seen.
+#[derive(Drop)]
+struct Run<'a> {
+    list: &'a List,
+    alone: &'a [Alone],
+    failure: Failure,
+    store: MapStore,
+    // A line for each call.
+    text: Vec<u8>,
+    // Whether the first call that is to fail came.
+    has_met: bool,
+}
+
+impl Run<'_> {
+    // Makes the call at a place, and says whether its result and what is held afterwards are right.
+    fn make(&mut self, place: usize, mut call: Request) -> Result<(Answer, bool), CaseError> {
+        let alloc = self.list.alloc;
+        let mut before = disarmed(alloc, self.alone, &self.store)?;
+        let store_before = self.store.calls();
+        self.failure.arm_files(&mut call, place);
+        let (answer, files) = self.list.make(&mut self.store, call)?;
+        let counts = Counts {
+            files,
+            store_before,
+            store_after: self.store.calls(),
+        };
+        write_answer(alloc, &mut self.text, &answer)?;
+        self.text.push(b'\n')?;
+        if !self.failure.is_met(place, counts) {
+            let (expected, _) = self.list.make(&mut before, self.list.call(place)?)?;
+            let is_right = same_answer(&expected, &answer)
+                && hold_alike(self.alone, &before, &self.store);
+            return Ok((answer, is_right));
+        }
+        self.has_met = self.has_met
+            || self.failure.cause != Cause::Files
+            || place == self.failure.place;
+        let Some(alone) = self.alone.get(place) else {
+            return Err(CaseError::Line);
+        };
+        let made = place.saturating_add(1).min(self.alone.len());
+        let is_right = self.failure.allows(&alone.answer, &answer)
+            && holds_own(&self.store, self.alone, &self.alone[..made]);
+        Ok((answer, is_right))
+    }
+}
+
+// A store with nothing armed that holds what this one holds under the keys of these calls.
+fn disarmed(alloc: Global, each: &[Alone], store: &MapStore) -> Result<MapStore, CaseError> {
+    let mut copy = MapStore::new(alloc);
+    for alone in each {
+        for key in &alone.keys {
+            hold(alloc, &mut copy, key, store.held(key))?;
+        }
+    }
+    Ok(copy)
+}
+
+// Puts bytes under a key, if there are any.
+fn hold(
+    alloc: Global,
+    store: &mut MapStore,
+    key: &str,
+    bytes: Option<&[u8]>,
+) -> Result<(), CaseError> {
+    let Some(bytes) = bytes else {
+        return Ok(());
+    };
+    match store.put_preprocessor_cache_entry(alloc, key, bytes) {
+        Ok(()) => Ok(()),
+        Err(_) => Err(CaseError::Util(UtilError::Memory)),
+    }
+}
+
+// Whether two stores hold the same under the keys of these calls.
+fn hold_alike(each: &[Alone], one: &MapStore, other: &MapStore) -> bool {
+    for alone in each {
+        for key in &alone.keys {
+            if !is_held_alike(one, other, key) {
+                return false;
+            }
+        }
+    }
+    true
+}
+
+// Whether each pair that is held under the keys of all calls is the own pair of one that was made.
+fn holds_own(store: &MapStore, each: &[Alone], made: &[Alone]) -> bool {
+    for alone in each {
+        for key in &alone.keys {
+            if store.held(key).is_some() && !is_own(store, made, key) {
+                return false;
+            }
+        }
+    }
+    true
+}
+
+fn is_own(store: &MapStore, made: &[Alone], key: &str) -> bool {
+    for alone in made {
+        if is_held_alike(store, &alone.store, key) {
+            return true;
+        }
+    }
+    false
+}
+
+// Whether each pair that is held is the own pair of one of these calls.
+fn holds_own_alone(alloc: Global, store: &MapStore, each: &[Alone]) -> Result<bool, CaseError> {
+    for key in &keys_of(alloc, store)? {
+        if !is_own(store, each, key) {
+            return Ok(false);
+        }
+    }
+    Ok(true)
+}
+
+// Makes all calls under one failure, and says whether it was met. What is seen of a run that met none
+// is not counted.
+fn run_under(
+    list: &List,
+    alone: &[Alone],
+    failure: Failure,
+    seen: &mut Seen,
+) -> Result<bool, CaseError> {
+    let alloc = list.alloc;
+    let mut store = MapStore::new(alloc);
+    failure.arm_store(&mut store);
+    let mut run = Run {
+        list,
+        alone,
+        failure,
+        store,
+        text: Vec::new(alloc),
+        has_met: false,
+    };
+    let mut results = Vec::new(alloc);
+    for (place, call) in list.calls()?.into_iter().enumerate() {
+        results.push(run.make(place, call)?)?;
+    }
+    if !run.has_met {
+        return Ok(false);
+    }
+    for (answer, is_right) in &results {
+        seen.note(answer, *is_right);
+    }
+    one_more(&mut seen.runs);
+    let store = &run.store;
+    if !holds_own_alone(alloc, store, alone)? {
+        one_more(&mut seen.wrong);
+    }
+    seen.digest.update(&run.text);
+    seen.digest
+        .update(format!(in alloc; "{store:?}\n")?.as_bytes());
+    Ok(true)
+}
+
+/// Lets each call of a cause fail in turn, until a run meets no failure, and writes how many failures
+/// there were, what was returned, and how many results were wrong: those that are neither the plain
+/// key of their call nor an error that the failure allows, those after a single failure that are not
+/// what the pairs then held give, and those that leave a pair that is no call's own. The last line is
+/// the digest of all results and stores.
+pub(crate) fn write(
+    alloc: Global,
+    out: &mut Vec<u8>,
+    text: &[u8],
+    cause: Cause,
+    is_once: bool,
+) -> Result<(), CaseError> {
+    let list = List::of_text(alloc, text)?;
+    let alone = list.each_alone()?;
+    let places = if cause == Cause::Files {
+        alone.len()
+    } else {
+        1
+    };
+    let mut seen = Seen::new();
+    for place in 0..places {
+        for n in 1..u64::MAX {
+            let failure = Failure {
+                cause,
+                is_once,
+                place,
+                n,
+            };
+            if !run_under(&list, &alone, failure, &mut seen)? {
+                break;
+            }
+        }
+    }
+    seen.write(alloc, out)
+}
+
+/// Makes all calls at once, and writes how many results there were, and how many of them are neither
+/// the plain key of their call nor an error that lack of memory allows, with one more where a pair is
+/// held that is no call's own. Each call is made alone twice, so that one of the two is whole where
+/// one growth of memory is refused.
+pub(crate) fn write_checked(
+    alloc: Global,
+    out: &mut Vec<u8>,
+    text: &[u8],
+) -> Result<(), CaseError> {
+    let list = List::of_text(alloc, text)?;
+    let mut store = list.store()?;
+    let mut calls = list.calls()?;
+    let answers = list.make_all(&mut store, &mut calls)?;
+    let first = wrong_answers(alloc, &list.each_alone()?, &store, &answers)?;
+    let second = wrong_answers(alloc, &list.each_alone()?, &store, &answers)?;
+    let (count, wrong) = (answers.len(), first.min(second));
+    let text = format!(in alloc; "{count} results, {wrong} wrong")?;
+    Ok(out.extend_from_slice(text.as_bytes())?)
+}
+
+fn wrong_answers(
+    alloc: Global,
+    each: &[Alone],
+    store: &MapStore,
+    answers: &[Answer],
+) -> Result<u64, CaseError> {
+    let mut wrong = 0;
+    if !holds_own_alone(alloc, store, each)? {
+        one_more(&mut wrong);
+    }
+    for (alone, answer) in each.iter().zip(answers.iter()) {
+        let is_right = match answer {
+            Ok(_) => same_key(&alone.answer, answer),
+            Err(KeyError::Memory | KeyError::Store) => true,
+            Err(_) => same_answer(&alone.answer, answer),
+        };
+        if !is_right {
+            one_more(&mut wrong);
+        }
+    }
+    Ok(wrong)
+}

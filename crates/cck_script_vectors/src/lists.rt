@@ -1,0 +1,201 @@
+//! The calls of a script as a list, made on a store.
+use c_cache_keys::{Call, HashResult, KeyError, MapStore, run_calls};
+use cck_cases::CaseError;
+use cck_command::{Failed, MiniCompiler, compiler_of, ready_calls, zone_at};
+use cck_script::{Script, ScriptError};
+use cck_time::PreprocessorCacheModeConfig;
+use cck_util::{MapFiles, Sha256State, UtilError};
+use jiff::tz::TimeZone;
+use std::alloc::Global;
+
+/// A call of a script.
+pub(crate) type Request = Call<MiniCompiler, MapFiles>;
+
+/// The result of a call.
+pub(crate) type Answer = Result<HashResult, KeyError>;
+
+/// What the calls of a script are made of and under.
+#[derive(Drop)]
+pub(crate) struct List {
+    /// The allocator of all that is made.
+    pub(crate) alloc: Global,
+    script: Script,
+    // The calls, in the order of their lines.
+    calls: Vec<Request>,
+    zone: TimeZone<'static>,
+    basedirs: Vec<Vec<u8>>,
+}
+
+/// A call that is made alone, on a store that holds nothing.
+#[derive(Drop)]
+pub(crate) struct Alone {
+    /// Its result, of which the key is its plain key.
+    pub(crate) answer: Answer,
+    /// The store after it, which holds its own pair, or nothing.
+    pub(crate) store: MapStore,
+    /// The keys of what it holds.
+    pub(crate) keys: Vec<String>,
+}
+
+/// That memory ran out. Nothing else makes a call of a script fail as a whole.
+pub(crate) fn memory_error(_: Failed) -> CaseError {
+    CaseError::Util(UtilError::Memory)
+}
+
+impl List {
+    /// The list of the script of this text.
+    pub(crate) fn of_text(alloc: Global, text: &[u8]) -> Result<List, CaseError> {
+        let script = match Script::parse(alloc, text) {
+            Ok(script) => script,
+            Err(ScriptError::Memory) => return Err(CaseError::Util(UtilError::Memory)),
+            Err(_) => return Err(CaseError::Line),
+        };
+        let options = script.options(alloc)?;
+        let compiler = compiler_of::<Sha256State>(alloc, options.zone_offset).map_err(
+            memory_error,
+        )?;
+        Ok(List {
+            alloc,
+            calls: ready_calls(alloc, &compiler, &script).map_err(memory_error)?,
+            script,
+            zone: zone_at(options.zone_offset).map_err(memory_error)?,
+            basedirs: options.basedirs,
+        })
+    }
+
+    /// A store that holds nothing, armed as the lines `store` of the script say.
+    pub(crate) fn store(&self) -> Result<MapStore, CaseError> {
+        let options = self.script.options(self.alloc)?;
+        let mut store = MapStore::new(self.alloc);
+        store.forget_at(options.forget_at.unwrap_or(0));
+        store.fail_at(options.fail_at.unwrap_or(0));
+        Ok(store)
+    }
+
+    /// The calls once more, in the order of their lines.
+    pub(crate) fn calls(&self) -> Result<Vec<Request>, CaseError> {
+        let mut copies = Vec::new(self.alloc);
+        for call in &self.calls {
+            copies.push(self.copy(call)?)?;
+        }
+        Ok(copies)
+    }
+
+    /// The call of this place once more.
+    pub(crate) fn call(&self, place: usize) -> Result<Request, CaseError> {
+        self.copy(self.calls.get(place).ok_or(CaseError::Line)?)
+    }
+
+    fn copy(&self, call: &Request) -> Result<Request, CaseError> {
+        let mut vars = Vec::new(self.alloc);
+        for (name, value) in &call.vars {
+            vars.push((name.to_vec(self.alloc)?, value.to_vec(self.alloc)?))?;
+        }
+        let hasher = call.hasher.copy(self.alloc);
+        Ok(Call {
+            hasher: hasher.map_err(|_| CaseError::Util(UtilError::Memory))?,
+            files: call.files.copy(self.alloc)?,
+            cwd: call.cwd.to_vec(self.alloc)?,
+            vars,
+            moment: call.moment,
+            control: call.control,
+        })
+    }
+
+    /// Makes calls on a store.
+    pub(crate) fn make_all(
+        &self,
+        store: &mut MapStore,
+        calls: &mut [Request],
+    ) -> Result<Vec<Answer>, CaseError> {
+        let config = PreprocessorCacheModeConfig::activated();
+        let answers = run_calls::<Sha256State, MiniCompiler, MapFiles, MapStore>(
+            self.alloc,
+            store,
+            &self.zone,
+            config,
+            &self.basedirs,
+            calls,
+        )?;
+        Ok(answers)
+    }
+
+    /// Makes one call on a store, and returns its result and how many calls on files it made.
+    pub(crate) fn make(
+        &self,
+        store: &mut MapStore,
+        call: Request,
+    ) -> Result<(Answer, u64), CaseError> {
+        let mut calls = Vec::new(self.alloc);
+        calls.push(call)?;
+        let answer = self.make_all(store, &mut calls)?.pop();
+        match (answer, calls.pop()) {
+            (Some(answer), Some(call)) => Ok((answer, call.files.calls())),
+            _ => Err(CaseError::Line),
+        }
+    }
+
+    /// Each call alone.
+    pub(crate) fn each_alone(&self) -> Result<Vec<Alone>, CaseError> {
+        let mut all = Vec::new(self.alloc);
+        for call in self.calls()? {
+            let mut store = MapStore::new(self.alloc);
+            let (answer, _) = self.make(&mut store, call)?;
+            let keys = keys_of(self.alloc, &store)?;
+            all.push(Alone {
+                answer,
+                store,
+                keys,
+            })?;
+        }
+        Ok(all)
+    }
+}
+
+/// The keys under which a store holds something, as `Debug` prints them.
+pub(crate) fn keys_of(alloc: Global, store: &MapStore) -> Result<Vec<String>, CaseError> {
+    let text = format!(in alloc; "{store:?}")?;
+    let mut keys = Vec::new(alloc);
+    let mut rest = text.as_str();
+    for _ in 0..text.len() {
+        let Some((_, behind)) = rest.split_once('"') else {
+            break;
+        };
+        let (key, left) = behind.split_once('"').ok_or(CaseError::Line)?;
+        keys.push(String::from_str(alloc, key)?)?;
+        rest = left;
+    }
+    Ok(keys)
+}
+
+/// Whether both stores hold the same bytes under a key, or nothing.
+pub(crate) fn is_held_alike(one: &MapStore, other: &MapStore, key: &str) -> bool {
+    match (one.held(key), other.held(key)) {
+        (Some(bytes), Some(others)) => bytes == others,
+        (None, None) => true,
+        _ => false,
+    }
+}
+
+/// Writes `hit KEY`, `miss KEY` or `error N`.
+pub(crate) fn write_answer(
+    alloc: Global,
+    out: &mut Vec<u8>,
+    answer: &Answer,
+) -> Result<(), CaseError> {
+    match answer {
+        Ok(found) => {
+            let word: &[u8] = if found.is_locally_preprocessed {
+                b"miss "
+            } else {
+                b"hit "
+            };
+            out.extend_from_slice(word)?;
+            Ok(out.extend_from_slice(found.key.as_bytes())?)
+        }
+        Err(error) => {
+            let number = error.number();
+            Ok(out.extend_from_slice(format!(in alloc; "error {number}")?.as_bytes())?)
+        }
+    }
+}
