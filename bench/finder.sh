@@ -13,9 +13,9 @@ top=$(cd "$here/.." && pwd)
 folder=${1:-$(mktemp -d)}
 . "$here/headers.sh"
 
-if [ ! -s "$folder/underscores.i" ]; then
+if [ ! -s "$folder/words.i" ]; then
     yes '__attribute__ ((__nothrow__, __leaf__)) ________ __TIME_ __DATE_ __TIMEOUT__ _T_I_M_E_' |
-        head -c $size > "$folder/underscores.i"
+        head -c $size > "$folder/words.i"
 fi
 
 rm -rf "$folder/work"
@@ -33,7 +33,7 @@ if ! (cd "$folder/work/crates/finder_bench" && rt run < /dev/null > "$folder/bui
 fi
 
 echo 'text          finder  one macro  ratio  each __  ratio   (milliseconds, best of 11)'
-for text in headers underscores; do
+for text in headers words; do
     "$folder/work/crates/finder_bench/out/finder_bench" < "$folder/$text.i" |
         awk -v text="$text" '{
             if ($5 != "false") { print text ": a macro was found, so not all was searched"; exit 1 }
