@@ -4,8 +4,11 @@ import re
 import subprocess
 
 
-def seconds(words, path):
-    """The processor time of these words on a file, in seconds. What they print goes to a file beside it."""
+def times(words, path):
+    """The times that these words take on a file, as users and in the system, in seconds of a processor.
+
+    What they print goes to a file beside it.
+    """
     actions = [
         (os.POSIX_SPAWN_OPEN, 0, path, os.O_RDONLY, 0),
         (os.POSIX_SPAWN_OPEN, 1, path + ".out", os.O_WRONLY | os.O_CREAT | os.O_TRUNC, 0o644),
@@ -14,7 +17,12 @@ def seconds(words, path):
     _, status, usage = os.wait4(child, 0)
     if status != 0:
         raise ChildProcessError(f"{words[0]} ended with status {status}")
-    return usage.ru_utime + usage.ru_stime
+    return usage.ru_utime, usage.ru_stime
+
+
+def seconds(words, path):
+    """The processor time of these words on a file, in seconds."""
+    return sum(times(words, path))
 
 
 def memory(words, path):

@@ -11,30 +11,19 @@ set -e
 here=$(cd "$(dirname "$0")" && pwd)
 top=$(cd "$here/.." && pwd)
 folder=${1:-$(mktemp -d)}
+. "$here/program.sh"
 . "$here/headers.sh"
 
-if [ ! -s "$folder/underscores.i" ]; then
+if [ ! -s "$folder/words.i" ]; then
     yes '__attribute__ ((__nothrow__, __leaf__)) ________ __TIME_ __DATE_ __TIMEOUT__ _T_I_M_E_' |
-        head -c $size > "$folder/underscores.i"
+        head -c $size > "$folder/words.i"
 fi
 
-rm -rf "$folder/work"
-mkdir -p "$folder/work/crates/finder_bench/src"
-cp -r "$top/crates/cck_digest" "$folder/work/crates/"
-cp "$here/finder/main.rt.in" "$folder/work/crates/finder_bench/src/main.rt"
-cp "$top/HANDLES" "$folder/work/"
-{
-    grep '^cck_digest:' "$top/crates.txt"
-    echo 'finder_bench: cck_digest memchr'
-} > "$folder/work/crates.txt"
-if ! (cd "$folder/work/crates/finder_bench" && rt run < /dev/null > "$folder/build.log" 2>&1); then
-    tail -20 "$folder/build.log" >&2
-    exit 1
-fi
+build_program finder cck_digest 'cck_digest memchr'
 
 echo 'text          finder  one macro  ratio  each __  ratio   (milliseconds, best of 11)'
-for text in headers underscores; do
-    "$folder/work/crates/finder_bench/out/finder_bench" < "$folder/$text.i" |
+for text in headers words; do
+    "$program" < "$folder/$text.i" |
         awk -v text="$text" '{
             if ($5 != "false") { print text ": a macro was found, so not all was searched"; exit 1 }
             printf "%-12s %7.1f  %9.1f  %5.2f  %7.1f  %5.2f   (%d bytes, %d times __)\n",

@@ -11,24 +11,12 @@ set -e
 here=$(cd "$(dirname "$0")" && pwd)
 top=$(cd "$here/.." && pwd)
 folder=${1:-$(mktemp -d)}
-crates='cck_digest cck_path cck_path_map'
+. "$here/program.sh"
 
-rm -rf "$folder/work"
-mkdir -p "$folder/work/crates/map_bench/src"
-for crate in $crates; do
-    cp -r "$top/crates/$crate" "$folder/work/crates/"
-    grep "^$crate:" "$top/crates.txt" >> "$folder/work/crates.txt"
-done
-echo 'map_bench: cck_digest cck_path cck_path_map anyhow' >> "$folder/work/crates.txt"
-cp "$here/map/main.rt.in" "$folder/work/crates/map_bench/src/main.rt"
-cp "$top/HANDLES" "$folder/work/"
-if ! (cd "$folder/work/crates/map_bench" && rt run < /dev/null > "$folder/build.log" 2>&1); then
-    tail -20 "$folder/build.log" >&2
-    exit 1
-fi
+build_program map 'cck_digest cck_path cck_path_map' 'cck_digest cck_path cck_path_map anyhow'
 
 echo 'paths   order    nanoseconds an insert  ratio   (best of 5)'
-"$folder/work/crates/map_bench/out/map_bench" |
+"$program" |
     awk '
         $1 == "insert" && NF == 4 {
             each = $4 / $3

@@ -12,27 +12,16 @@ set -e
 here=$(cd "$(dirname "$0")" && pwd)
 top=$(cd "$here/.." && pwd)
 folder=${1:-$(mktemp -d)}
+. "$here/program.sh"
 . "$here/headers.sh"
 . "$here/dense.sh"
 . "$here/short_lines.sh"
 
-rm -rf "$folder/work"
-mkdir -p "$folder/work/crates/markers_bench/src"
-cp -r "$top/crates/cck_markers" "$folder/work/crates/"
-cp "$here/markers/main.rt.in" "$folder/work/crates/markers_bench/src/main.rt"
-cp "$top/HANDLES" "$folder/work/"
-{
-    grep '^cck_markers:' "$top/crates.txt"
-    echo 'markers_bench: cck_markers memchr'
-} > "$folder/work/crates.txt"
-if ! (cd "$folder/work/crates/markers_bench" && rt run < /dev/null > "$folder/build.log" 2>&1); then
-    tail -20 "$folder/build.log" >&2
-    exit 1
-fi
+build_program markers cck_markers 'cck_markers memchr'
 
 echo 'text         markers  line ends  ratio   (milliseconds, best of 11)'
 for text in headers dense feeds hashes underscores digits; do
-    "$folder/work/crates/markers_bench/out/markers_bench" < "$folder/$text.i" |
+    "$program" < "$folder/$text.i" |
         awk -v text="$text" '{
             printf "%-12s %7.1f  %9.1f  %5.2f   (%d bytes, %d names, %d other marks, %d lines)\n",
                 text, $2 / 1000, $3 / 1000, $2 / $3, $1, $4, $5, $6

@@ -6,8 +6,8 @@
 #     bench/runs.sh [FOLDER]
 #
 # All is made in FOLDER, by default a new one below /tmp: a copy of the crate and the program that
-# hashes. Times are processor time: compare them within one run. Needs Python 3,
-# valgrind and GNU time as /usr/bin/time.
+# hashes. Times are processor time: compare them within one run. Needs Python 3, valgrind and GNU time
+# as /usr/bin/time.
 set -e
 here=$(cd "$(dirname "$0")" && pwd)
 top=$(cd "$here/.." && pwd)

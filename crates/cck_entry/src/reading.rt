@@ -107,6 +107,7 @@ fn read_time(bytes: &[u8]) -> Result<(Option<Timestamp>, &[u8]), Error>
 }
 
 /// An include, with its path and its digest where they stand.
+// Inlined with its parts, since what skips includes uses none of the fields.
 #[inline(always)]
 #[tactic(auto, unfolding(crate::specs::Reading::include_at))]
 pub(crate) fn read_include(bytes: &[u8]) -> Result<(IncludeRef<'_>, &[u8]), Error>
