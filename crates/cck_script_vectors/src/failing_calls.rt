@@ -30,9 +30,9 @@ pub(crate) struct ListGiven<'a> {
     /// From which get or put of the store on all fail, or 0.
     pub(crate) store_fail_after: u64,
     /// How many results the entry has that the store holds at first, beside that of the first call,
-    /// or 0 where it holds none; and the path that these are of.
+    /// or 0 where it holds none.
     pub(crate) other_results: u64,
-    /// The path.
+    /// The path of the file that they include.
     pub(crate) path: &'a [u8],
 }
 
