@@ -4,6 +4,7 @@ import copy
 import dataclasses
 
 from .calls import Answer, number_of, run_calls
+from .entry import add_result, entry_bytes, read_entry
 from .errors import is_fault
 from .program import answer_line, conditions_of, each_call
 from .store import MapStore
@@ -12,6 +13,19 @@ from .store import MapStore
 def own_calls(lines):
     """The calls of a script, each over files of its own."""
     return [dataclasses.replace(call, files=call.files.copy()) for call in each_call(lines)]
+
+
+def first_pair(lines, others, path):
+    """What a store holds at first under the key of the first call: an entry of its own result, and so
+    many others of one path, whose recorded digest no file has."""
+    call, files = own_calls(lines)[0], own_calls(lines)[0].files
+    store = MapStore()
+    run_calls([call], conditions_of(lines), store)
+    [(key, own)] = store.pairs.items()
+    entry = read_entry(own)
+    for number in range(others):
+        entry = add_result(entry, files, call.moment, b"z%d" % number, [(b"none", path)])
+    return key, entry_bytes(entry)
 
 
 @dataclasses.dataclass
@@ -59,8 +73,9 @@ class Failure:
 class Runs:
     """The calls of a script, made again and again under failures, and what was seen."""
 
-    def __init__(self, lines):
+    def __init__(self, lines, first):
         self.lines = lines
+        self.first = first
         self.conditions = conditions_of(lines)
         self.alone = []
         for call in own_calls(lines):
@@ -78,6 +93,7 @@ class Runs:
     def is_own(self, pairs, place):
         """Whether each pair is the own pair of a call up to a place."""
         owns = [own for _, own in self.alone[: place + 1]]
+        owns.append(dict([self.first] if self.first else []))
         return all(any(own.get(key) == data for own in owns) for key, data in pairs.items())
 
     def is_as_held(self, place, held, answer, pairs):
@@ -90,6 +106,9 @@ class Runs:
     def run(self, failure, store_text):
         """Makes all calls under a failure, and says whether it was met; if not, nothing is counted."""
         store = MapStore()
+        if self.first:
+            store.put(*self.first)
+        start = store.armed.calls
         failure.arm_store(store)
         has_met, results, told = False, [], b""
         for place, call in enumerate(own_calls(self.lines)):
@@ -97,7 +116,7 @@ class Runs:
             failure.arm_files(call.files, place)
             answer = self.make(call, store)
             told += answer_line(answer)
-            made = range(before + 1, store.armed.calls + 1)
+            made = range(before + 1 - start, store.armed.calls + 1 - start)
             if failure.is_met(place, call.files.armed.calls, made):
                 has_met = has_met or failure.cause != "files" or place == failure.place
                 is_right = failure.allows(self.alone[place][0], answer)
@@ -121,9 +140,9 @@ def word_of(answer):
     return number_of(answer)
 
 
-def runs_of(lines, cause, is_once, store_text):
+def runs_of(lines, first, cause, is_once, store_text):
     """All runs: each call of a cause fails in turn, until a run meets no failure."""
-    runs = Runs(lines)
+    runs = Runs(lines, first)
     for place in range(len(runs.alone) if cause == "files" else 1):
         n = 1
         while runs.run(Failure(cause, is_once, place, n), store_text):

@@ -57,13 +57,13 @@ fn run(
 // Whether this is a beginning of what is printed otherwise, and after it a beginning of the line of a
 // refusal.
 fn is_cut(written: &[u8], printed: &[u8]) -> bool {
-    for (at, byte) in written.iter().enumerate() {
-        if printed.get(at) != Some(byte) {
-            let (_, rest) = written.split_at(at);
-            return REFUSED.starts_with(rest);
+    for (at, _) in written.iter().enumerate() {
+        let (front, rest) = written.split_at(at);
+        if printed.starts_with(front) && REFUSED.starts_with(rest) {
+            return true;
         }
     }
-    true
+    printed.starts_with(written)
 }
 
 /// Lets each call of a kind fail in turn, until a run meets no failure, and writes how many failures

@@ -29,6 +29,11 @@ pub(crate) struct ListGiven<'a> {
     pub(crate) streams: &'a Streams,
     /// From which get or put of the store on all fail, or 0.
     pub(crate) store_fail_after: u64,
+    /// How many results the entry has that the store holds at first, beside that of the first call,
+    /// or 0 where it holds none.
+    pub(crate) other_results: u64,
+    /// The path of the file that they include.
+    pub(crate) path: &'a [u8],
 }
 
 /// Makes a call on the list of calls that the script of this text asks for, and writes its result.
@@ -40,61 +45,73 @@ pub(crate) fn write(
     text: &[u8],
     rest: &str,
 ) -> Result<(), CaseError> {
+    if let (ListCall::FailEach, Some((broken, is_once))) = (call, broken_of(rest)) {
+        return broken_streams::write(alloc, out, given.streams, text, broken, is_once);
+    }
+    let mut list = List::of_text(alloc, text)?;
+    if given.other_results > 0 {
+        list.hold_entry(given.other_results, given.path)?;
+    }
     match call {
-        ListCall::PlainKeys => {
-            for alone in List::of_text(alloc, text)?.each_alone()? {
-                begin_line(out)?;
-                write_answer(alloc, out, &alone.answer)?;
-            }
-            Ok(())
+        ListCall::PlainKeys => write_plain_keys(&list, out),
+        ListCall::Answers => write_answers(&list, out, given.store_fail_after),
+        ListCall::Checked => failures::write_checked(&list, out),
+        ListCall::FailEach => {
+            let (cause, is_once) = cause_of(rest).ok_or(CaseError::Line)?;
+            failures::write(&list, out, cause, is_once)
         }
-        ListCall::Answers => write_answers(alloc, out, given, text),
-        ListCall::Checked => failures::write_checked(alloc, out, text),
-        ListCall::FailEach => write_failures(alloc, out, given, text, rest),
     }
 }
 
-// Makes all calls at once, on one store.
-fn write_answers(
-    alloc: Global,
-    out: &mut Vec<u8>,
-    given: ListGiven<'_>,
-    text: &[u8],
-) -> Result<(), CaseError> {
-    let list = List::of_text(alloc, text)?;
-    let mut store = list.store()?;
-    store.fail_after(given.store_fail_after);
-    let answers: Vec<Answer> = list.make_all(&mut store, &mut list.calls()?)?;
-    for answer in &answers {
+// Makes each call alone, on an empty store.
+fn write_plain_keys(list: &List, out: &mut Vec<u8>) -> Result<(), CaseError> {
+    for alone in list.each_alone()? {
         begin_line(out)?;
-        write_answer(alloc, out, answer)?;
+        write_answer(list.alloc, out, &alone.answer)?;
     }
     Ok(())
 }
 
-// `fail_each CAUSE once` and `fail_each CAUSE on`: each call of a cause fails in turn, alone or with
-// all later ones.
-fn write_failures(
-    alloc: Global,
-    out: &mut Vec<u8>,
-    given: ListGiven<'_>,
-    text: &[u8],
-    rest: &str,
-) -> Result<(), CaseError> {
-    let (cause, how) = rest.split_once(' ').ok_or(CaseError::Line)?;
-    let is_once = match how {
-        "once" => true,
-        "on" => false,
-        _ => return Err(CaseError::Line),
+// Makes all calls at once, on one store, of whose gets and puts all from this one on fail.
+fn write_answers(list: &List, out: &mut Vec<u8>, fail_after: u64) -> Result<(), CaseError> {
+    let mut store = list.store()?;
+    store.fail_after(fail_after);
+    let answers: Vec<Answer> = list.make_all(&mut store, &mut list.calls()?)?;
+    for answer in &answers {
+        begin_line(out)?;
+        write_answer(list.alloc, out, answer)?;
+    }
+    Ok(())
+}
+
+// `CAUSE once` and `CAUSE on`: a cause, and whether one call alone fails.
+fn cause_of(rest: &str) -> Option<(Cause, bool)> {
+    let (cause, how) = rest.split_once(' ')?;
+    let cause = match cause {
+        "files" => Cause::Files,
+        "store" => Cause::Store,
+        "forget" => Cause::Forgetting,
+        _ => return None,
     };
+    Some((cause, is_once(how)?))
+}
+
+// The same of the reader and the writer of `cck run`.
+fn broken_of(rest: &str) -> Option<(Broken, bool)> {
+    let (cause, how) = rest.split_once(' ')?;
     let broken = match cause {
-        "files" => return failures::write(alloc, out, text, Cause::Files, is_once),
-        "store" => return failures::write(alloc, out, text, Cause::Store, is_once),
-        "forget" => return failures::write(alloc, out, text, Cause::Forgetting, is_once),
         "reads" => Broken::Reads,
         "writes" => Broken::Writes,
         "flushes" => Broken::Flushes,
-        _ => return Err(CaseError::Line),
+        _ => return None,
     };
-    broken_streams::write(alloc, out, given.streams, text, broken, is_once)
+    Some((broken, is_once(how)?))
+}
+
+fn is_once(how: &str) -> Option<bool> {
+    match how {
+        "once" => Some(true),
+        "on" => Some(false),
+        _ => None,
+    }
 }

@@ -1,6 +1,6 @@
 //! Each failure of one cause in turn, over the calls of a script.
-use crate::lists::{Alone, Answer, List, Request, is_held_alike, keys_of, write_answer};
-use c_cache_keys::{HashResult, KeyError, MapStore, PreprocessError, PreprocessorStore};
+use crate::lists::{Alone, Answer, List, Request, hold, is_held_alike, keys_of, write_answer};
+use c_cache_keys::{HashResult, KeyError, MapStore, PreprocessError};
 use cck_cases::CaseError;
 use cck_util::{Digest, FileError, Sha256State, UtilError};
 use std::alloc::Global;
@@ -179,6 +179,8 @@ struct Run<'a> {
     store: MapStore,
     // A line for each call.
     text: Vec<u8>,
+    // How many gets and puts came before the first call.
+    store_first: u64,
     // Whether the first call that is to fail came.
     has_met: bool,
 }
@@ -193,8 +195,8 @@ impl Run<'_> {
         let (answer, files) = self.list.make(&mut self.store, call)?;
         let counts = Counts {
             files,
-            store_before,
-            store_after: self.store.calls(),
+            store_before: store_before.saturating_sub(self.store_first),
+            store_after: self.store.calls().saturating_sub(self.store_first),
         };
         write_answer(alloc, &mut self.text, &answer)?;
         self.text.push(b'\n')?;
@@ -212,8 +214,22 @@ impl Run<'_> {
         };
         let made = place.saturating_add(1).min(self.alone.len());
         let is_right = self.failure.allows(&alone.answer, &answer)
-            && holds_own(&self.store, self.alone, &self.alone[..made]);
+            && self.holds_own(&self.alone[..made]);
         Ok((answer, is_right))
+    }
+
+    // Whether each pair that is held under the keys of all calls is the own pair of one that was made,
+    // or was held at first.
+    fn holds_own(&self, made: &[Alone]) -> bool {
+        for alone in self.alone {
+            for key in &alone.keys {
+                let is_held = self.store.held(key).is_some();
+                if is_held && !is_own(self.list, &self.store, made, key) {
+                    return false;
+                }
+            }
+        }
+        true
     }
 }
 
@@ -222,26 +238,12 @@ fn disarmed(alloc: Global, each: &[Alone], store: &MapStore) -> Result<MapStore,
     let mut copy = MapStore::new(alloc);
     for alone in each {
         for key in &alone.keys {
-            hold(alloc, &mut copy, key, store.held(key))?;
+            if let Some(bytes) = store.held(key) {
+                hold(alloc, &mut copy, key, bytes)?;
+            }
         }
     }
     Ok(copy)
-}
-
-// Puts bytes under a key, if there are any.
-fn hold(
-    alloc: Global,
-    store: &mut MapStore,
-    key: &str,
-    bytes: Option<&[u8]>,
-) -> Result<(), CaseError> {
-    let Some(bytes) = bytes else {
-        return Ok(());
-    };
-    match store.put_preprocessor_cache_entry(alloc, key, bytes) {
-        Ok(()) => Ok(()),
-        Err(_) => Err(CaseError::Util(UtilError::Memory)),
-    }
 }
 
 // Whether two stores hold the same under the keys of these calls.
@@ -256,31 +258,20 @@ fn hold_alike(each: &[Alone], one: &MapStore, other: &MapStore) -> bool {
     true
 }
 
-// Whether each pair that is held under the keys of all calls is the own pair of one that was made.
-fn holds_own(store: &MapStore, each: &[Alone], made: &[Alone]) -> bool {
-    for alone in each {
-        for key in &alone.keys {
-            if store.held(key).is_some() && !is_own(store, made, key) {
-                return false;
-            }
-        }
-    }
-    true
-}
-
-fn is_own(store: &MapStore, made: &[Alone], key: &str) -> bool {
+// Whether a store holds under a key the own pair of one of these calls, or what was held at first.
+fn is_own(list: &List, store: &MapStore, made: &[Alone], key: &str) -> bool {
     for alone in made {
         if is_held_alike(store, &alone.store, key) {
             return true;
         }
     }
-    false
+    list.is_first(store, key)
 }
 
-// Whether each pair that is held is the own pair of one of these calls.
-fn holds_own_alone(alloc: Global, store: &MapStore, each: &[Alone]) -> Result<bool, CaseError> {
-    for key in &keys_of(alloc, store)? {
-        if !is_own(store, each, key) {
+// Whether each pair that is held is the own pair of one of these calls, or was held at first.
+fn holds_own_alone(list: &List, store: &MapStore, each: &[Alone]) -> Result<bool, CaseError> {
+    for key in &keys_of(list.alloc, store)? {
+        if !is_own(list, store, each, key) {
             return Ok(false);
         }
     }
@@ -296,7 +287,8 @@ fn run_under(
     seen: &mut Seen,
 ) -> Result<bool, CaseError> {
     let alloc = list.alloc;
-    let mut store = MapStore::new(alloc);
+    let mut store = list.first_store()?;
+    let store_first = store.calls();
     failure.arm_store(&mut store);
     let mut run = Run {
         list,
@@ -304,6 +296,7 @@ fn run_under(
         failure,
         store,
         text: Vec::new(alloc),
+        store_first,
         has_met: false,
     };
     let mut results = Vec::new(alloc);
@@ -318,7 +311,7 @@ fn run_under(
     }
     one_more(&mut seen.runs);
     let store = &run.store;
-    if !holds_own_alone(alloc, store, alone)? {
+    if !holds_own_alone(list, store, alone)? {
         one_more(&mut seen.wrong);
     }
     seen.digest.update(&run.text);
@@ -333,13 +326,11 @@ fn run_under(
 /// what the pairs then held give, and those that leave a pair that is no call's own. The last line is
 /// the digest of all results and stores.
 pub(crate) fn write(
-    alloc: Global,
+    list: &List,
     out: &mut Vec<u8>,
-    text: &[u8],
     cause: Cause,
     is_once: bool,
 ) -> Result<(), CaseError> {
-    let list = List::of_text(alloc, text)?;
     let alone = list.each_alone()?;
     let places = if cause == Cause::Files {
         alone.len()
@@ -355,42 +346,37 @@ pub(crate) fn write(
                 place,
                 n,
             };
-            if !run_under(&list, &alone, failure, &mut seen)? {
+            if !run_under(list, &alone, failure, &mut seen)? {
                 break;
             }
         }
     }
-    seen.write(alloc, out)
+    seen.write(list.alloc, out)
 }
 
 /// Makes all calls at once, and writes how many results there were, and how many of them are neither
 /// the plain key of their call nor an error that lack of memory allows, with one more where a pair is
 /// held that is no call's own. Each call is made alone twice, so that one of the two is whole where
 /// one growth of memory is refused.
-pub(crate) fn write_checked(
-    alloc: Global,
-    out: &mut Vec<u8>,
-    text: &[u8],
-) -> Result<(), CaseError> {
-    let list = List::of_text(alloc, text)?;
+pub(crate) fn write_checked(list: &List, out: &mut Vec<u8>) -> Result<(), CaseError> {
     let mut store = list.store()?;
     let mut calls = list.calls()?;
     let answers = list.make_all(&mut store, &mut calls)?;
-    let first = wrong_answers(alloc, &list.each_alone()?, &store, &answers)?;
-    let second = wrong_answers(alloc, &list.each_alone()?, &store, &answers)?;
+    let first = wrong_answers(list, &list.each_alone()?, &store, &answers)?;
+    let second = wrong_answers(list, &list.each_alone()?, &store, &answers)?;
     let (count, wrong) = (answers.len(), first.min(second));
-    let text = format!(in alloc; "{count} results, {wrong} wrong")?;
+    let text = format!(in list.alloc; "{count} results, {wrong} wrong")?;
     Ok(out.extend_from_slice(text.as_bytes())?)
 }
 
 fn wrong_answers(
-    alloc: Global,
+    list: &List,
     each: &[Alone],
     store: &MapStore,
     answers: &[Answer],
 ) -> Result<u64, CaseError> {
     let mut wrong = 0;
-    if !holds_own_alone(alloc, store, each)? {
+    if !holds_own_alone(list, store, each)? {
         one_more(&mut wrong);
     }
     for (alone, answer) in each.iter().zip(answers.iter()) {

@@ -1,5 +1,6 @@
 //! The calls of a script as a list, made on a store.
-use c_cache_keys::{Call, HashResult, KeyError, MapStore, run_calls};
+use c_cache_keys::cck_entry::PreprocessorCacheEntry;
+use c_cache_keys::{Call, HashResult, KeyError, MapStore, PreprocessorStore, run_calls};
 use cck_cases::CaseError;
 use cck_command::{Failed, MiniCompiler, compiler_of, ready_calls, zone_at};
 use cck_script::{Script, ScriptError};
@@ -22,6 +23,8 @@ pub(crate) struct List {
     script: Script,
     // The calls, in the order of their lines.
     calls: Vec<Request>,
+    // What is held before the first call: bytes under a key.
+    first: Option<(String, Vec<u8>)>,
     zone: TimeZone<'static>,
     basedirs: Vec<Vec<u8>>,
 }
@@ -58,15 +61,56 @@ impl List {
             alloc,
             calls: ready_calls(alloc, &compiler, &script).map_err(memory_error)?,
             script,
+            first: None,
             zone: zone_at(options.zone_offset).map_err(memory_error)?,
             basedirs: options.basedirs,
         })
     }
 
-    /// A store that holds nothing, armed as the lines `store` of the script say.
+    /// Lets the store hold an entry at first, under the key of the first call: its own result, and so
+    /// many others, of this path, with a recorded digest that no file has.
+    pub(crate) fn hold_entry(&mut self, others: u64, path: &[u8]) -> Result<(), CaseError> {
+        let alloc = self.alloc;
+        let (call, mut files) = (self.call(0)?, self.call(0)?.files);
+        let moment = call.moment;
+        let mut store = MapStore::new(alloc);
+        let _ = self.make(&mut store, call)?;
+        let key = keys_of(alloc, &store)?.pop().ok_or(CaseError::Line)?;
+        let own = store.held(&key).ok_or(CaseError::Line)?;
+        let mut entry = PreprocessorCacheEntry::read(alloc, own)?;
+        let mut included = Vec::new(alloc);
+        included.push((String::from_str(alloc, "none")?, path.to_vec(alloc)?))?;
+        for number in 0..others {
+            let name = format!(in alloc; "z{number}")?;
+            entry.add_result(&mut files, moment, &name, &included)?;
+        }
+        let mut bytes = Vec::new(alloc);
+        entry.serialize_to(&mut bytes)?;
+        self.first = Some((key, bytes));
+        Ok(())
+    }
+
+    /// Whether a store holds under a key what is held at first.
+    pub(crate) fn is_first(&self, store: &MapStore, key: &str) -> bool {
+        match (&self.first, store.held(key)) {
+            (Some((name, bytes)), Some(held)) => name.as_str() == key && bytes.as_slice() == held,
+            _ => false,
+        }
+    }
+
+    /// A store that holds what is held at first.
+    pub(crate) fn first_store(&self) -> Result<MapStore, CaseError> {
+        let mut store = MapStore::new(self.alloc);
+        if let Some((key, bytes)) = &self.first {
+            hold(self.alloc, &mut store, key, bytes)?;
+        }
+        Ok(store)
+    }
+
+    /// The same, armed as the lines `store` of the script say.
     pub(crate) fn store(&self) -> Result<MapStore, CaseError> {
         let options = self.script.options(self.alloc)?;
-        let mut store = MapStore::new(self.alloc);
+        let mut store = self.first_store()?;
         store.forget_at(options.forget_at.unwrap_or(0));
         store.fail_at(options.fail_at.unwrap_or(0));
         Ok(store)
@@ -166,6 +210,19 @@ pub(crate) fn keys_of(alloc: Global, store: &MapStore) -> Result<Vec<String>, Ca
         rest = left;
     }
     Ok(keys)
+}
+
+/// Puts bytes under a key.
+pub(crate) fn hold(
+    alloc: Global,
+    store: &mut MapStore,
+    key: &str,
+    bytes: &[u8],
+) -> Result<(), CaseError> {
+    match store.put_preprocessor_cache_entry(alloc, key, bytes) {
+        Ok(()) => Ok(()),
+        Err(_) => Err(CaseError::Util(UtilError::Memory)),
+    }
 }
 
 /// Whether both stores hold the same bytes under a key, or nothing.

@@ -25,7 +25,8 @@
 //! | `fail_each CAUSE HOW` | each call of a cause fails in turn (`failures.rt`, `broken_streams.rt`) |
 //!
 //! The causes are `files`, `store`, `forget`, `reads`, `writes` and `flushes`; a call fails `once`, or
-//! with all later ones, `on`. `store_fail_after N` arms the store of `answers`.
+//! with all later ones, `on`. `store_fail_after N` arms the store of `answers`, and `other_results N
+//! PATH` has it hold an entry at first.
 //! `reader`, `writer`, `flush` and `written` are words of the streams of a run ([`Streams`]).
 //! After `digested` the results of the case are written as their digest texts.
 //!

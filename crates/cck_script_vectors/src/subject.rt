@@ -12,13 +12,15 @@ enum Word {
     WorkingDirectory,
     Digested,
     StoreFailAfter,
+    Held,
 }
 
-const WORDS: [(&str, Word); 4] = [
+const WORDS: [(&str, Word); 5] = [
     ("line", Word::Line),
     ("cwd", Word::WorkingDirectory),
     ("digested", Word::Digested),
     ("store_fail_after", Word::StoreFailAfter),
+    ("other_results", Word::Held),
 ];
 
 /// What lines give to the calls.
@@ -35,6 +37,10 @@ pub(crate) struct Scripts {
     is_digested: bool,
     // `store_fail_after N`: from which get or put of the store on all fail. 0, for none, at first.
     store_fail_after: u64,
+    // `other_results N PATH`: how many results of this path the entry has that the store holds at
+    // first, beside that of the first call. 0, for no entry, at first.
+    other_results: u64,
+    path: Vec<u8>,
     text: Vec<u8>,
     result: Vec<u8>,
 }
@@ -57,6 +63,8 @@ impl Subject for Scripts {
             cwd: Vec::new(alloc),
             is_digested: false,
             store_fail_after: 0,
+            other_results: 0,
+            path: Vec::new(alloc),
             text: Vec::new(alloc),
             result: Vec::new(alloc),
         }
@@ -69,6 +77,7 @@ impl Subject for Scripts {
         self.cwd.clear();
         self.is_digested = false;
         self.store_fail_after = 0;
+        self.other_results = 0;
     }
 
     fn give(&mut self, name: &str, rest: &str) -> Result<bool, CaseError> {
@@ -83,6 +92,11 @@ impl Subject for Scripts {
             Word::WorkingDirectory => self.cwd = bytes_of(self.alloc, rest)?,
             Word::Digested => self.is_digested = true,
             Word::StoreFailAfter => self.store_fail_after = number(rest)?,
+            Word::Held => {
+                let (count, path) = rest.split_once(' ').ok_or(CaseError::Line)?;
+                self.other_results = number(count)?;
+                self.path = bytes_of(self.alloc, path)?;
+            }
         }
         Ok(true)
     }
@@ -122,6 +136,8 @@ impl Scripts {
             let given = ListGiven {
                 streams: &self.streams,
                 store_fail_after: self.store_fail_after,
+                other_results: self.other_results,
+                path: &self.path,
             };
             return failing_calls::write(call, self.alloc, out, given, &self.text, line.rest);
         }

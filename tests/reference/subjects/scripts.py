@@ -1,12 +1,11 @@
 """The calls of `cck_script_vectors`: scripts, the small preprocessor, the program as a function."""
 import copy
-import os.path
 
 from ..cases import BaseSubject, WrongLine, cut_words, flag, list_of, moment, number_of, undo
 from ..calls import run_calls
 from ..digests import digest_text
 from ..errors import Refused
-from ..failures import own_calls, runs_of
+from ..failures import first_pair, own_calls, runs_of
 from ..files import FILE, FOLDER
 from ..given import World
 from ..mini import MiniCompiler, print_input
@@ -229,8 +228,8 @@ def run_under(streams, text, cause, failures):
 
 def is_cut(written, whole):
     """Whether a text is a beginning of another one, and after it a beginning of the refusal."""
-    common = len(os.path.commonprefix([written, whole]))
-    return REFUSED.startswith(written[common:])
+    cuts = range(len(written) + 1)
+    return any(whole.startswith(written[:at]) and REFUSED.startswith(written[at:]) for at in cuts)
 
 
 def fail_streams(streams, text, cause, failing):
@@ -265,6 +264,7 @@ class Subject(BaseSubject):
         self.cwd = b"/w"
         self.is_digested = False
         self.store_fail_after = 0
+        self.other_results = None
 
     def give(self, word, rest):
         """Takes what a line gives, and returns whether it knows the line's word."""
@@ -274,6 +274,8 @@ class Subject(BaseSubject):
             self.cwd = undo(rest) or b"/w"
         elif word == "digested":
             self.is_digested = True
+        elif word == "other_results":
+            self.other_results = cut_words(rest, 1)
         elif word == "store_fail_after":
             self.store_fail_after = number_of(rest)
         else:
@@ -404,6 +406,9 @@ class Subject(BaseSubject):
         """`answers TEXT`: the answers of all calls as a list."""
         lines = self.said(self.text(rest, made))
         store = armed_by(lines)
+        if self.other_results:
+            key, data = self.first(lines)
+            store.pairs[key] = data
         store.fail_after(self.store_fail_after)
         answers = run_calls(own_calls(lines), conditions_of(lines), store)
         return b"".join(map(answer_line, answers)).removesuffix(b"\n")
@@ -422,7 +427,15 @@ class Subject(BaseSubject):
             return fail_streams(self.streams, text, cause, 1 if how == "once" else MANY)
         if cause not in ("files", "store", "forget"):
             raise WrongLine
-        return runs_text(runs_of(self.said(text), cause, how == "once", store_text))
+        lines = self.said(text)
+        return runs_text(runs_of(lines, self.first(lines), cause, how == "once", store_text))
+
+    def first(self, lines):
+        """The pair that the store holds at first, or None."""
+        if self.other_results is None:
+            return None
+        count, path = self.other_results
+        return first_pair(lines, number_of(count), undo(path))
 
     CALLS = {
         "plain_keys": plain_keys,
