@@ -9,6 +9,7 @@ pub mod JoinLemmas
 pub mod LastLemmas
 pub mod MomentLemmas
 pub mod NameLemmas
+pub mod NameOrderLemmas
 pub mod NormalLemmas
 pub mod OrderLemmas
 pub mod PartLemmas

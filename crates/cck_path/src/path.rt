@@ -8,7 +8,7 @@ ghost use Rattle.std.specs.Path.{extension_of_split, rsplit_once};
 ghost use Rattle.cck_path.specs.Path.{Name, components, beginning, inner_components, part_components, has_root, joined, normal, leading_names, path_cmp};
 ghost use Rattle.cck_path.specs.Text.{ends_in_slash, path_text, join_path as joined_text};
 ghost use Rattle.cck_path.specs.Names.{file_name_of, extension_of};
-ghost use Rattle.cck_path.specs.Components.{component_of, components_behind, components_left};
+ghost use Rattle.cck_path.specs.Components.{IsInName, component_of, components_behind, components_left};
 
 use cck_digest::UtilError;
 use memchr::{memchr, memrchr};
@@ -156,8 +156,8 @@ fn part_component(part: &[u8]) -> Option<Component<'_>>
 /// The lexicographic order of two paths as lists of components: a list comes before each longer
 /// list that begins with it. It allocates no memory.
 ///
-/// Equal bytes are not read as components. Otherwise components are read only from the part on that
-/// has the first different byte.
+/// Equal bytes are not read as components. If the first different bytes are of two names, their order
+/// is that of the paths. Otherwise components are read only from the part on that has these bytes.
 #[tactic(auto, using(crate::proofs::CommonPrefixLemmas::same_bytes))]
 pub fn compare_paths(a: &[u8], b: &[u8]) -> Ordering
     ensures { result ≡ path_cmp (components a.now) (components b.now) }
@@ -168,13 +168,23 @@ pub fn compare_paths(a: &[u8], b: &[u8]) -> Ordering
     }
     match memrchr(b'/', &a[..same]) {
         Some(slash) => {
-            compare_components(
-                Components::after(&a[slash + 1..]),
-                Components::after(&b[slash + 1..]),
-            )
+            let part = slash + 1;
+            if is_in_name(a, part, same) && is_in_name(b, part, same) {
+                return a[same].cmp(&b[same]);
+            }
+            compare_components(Components::after(&a[part..]), Components::after(&b[part..]))
         }
         None => compare_components(Components::new(a), Components::new(b)),
     }
+}
+
+// Whether the byte at this position is of a name whose part starts at `part`. A part that starts with
+// `.` counts as no name, since it may be `.` or `..`.
+fn is_in_name(path: &[u8], part: usize, at: usize) -> bool
+    requires { part ≤ at }
+    ensures { MatchBool result (IsInName path.now part at) (IsInName path.now part at → ⊥) }
+{
+    at < path.len() && path[part] != b'.' && path[at] != b'/'
 }
 
 // The order of two lists of components.
