@@ -39,9 +39,9 @@ abbrev pub calls_of : {V : Type 0} → List (Done V) → List (Call V)
 calls_of [] = []
 calls_of (d ∷ ds) = d.call ∷ calls_of ds
 
--- Why a call returns an error: lack of memory; an extra file without a digest, or a fault there; an input that is no regular file, or a
--- fault there; a store that failed; bytes of the store that are no entry; no preprocessed text, or a fault there; a malformed line marker
--- of that text.
+-- Why a call returns an error. Memory is lacking, or the store failed, or what it returned is no entry. Or an extra file has no digest, the
+-- input is no regular file, or there is no preprocessed text; for each of these three the cause may be a fault. Or a line marker of the
+-- text is malformed.
 pub data Why : Type 0 where
   Memory : Why
   Extra : Why

@@ -27,16 +27,16 @@ abbrev pub IsAside : {V : Type 0} → World V → Bytes → Call V → Answer �
 IsAside w k c r = (key : Bytes) → r ≡ Keyed key true → preprocessor_key_of w c ≢ Some k
 
 module _ {V S : Type 0} (w : World V) (st : Store S) where
-  -- After a miss, if something can be recorded and there was no fault and no store failure, the store holds that one result under the
-  -- call's key, and nothing else there.
+  -- After a miss the store holds that one result under the call's key, and nothing else there. The conditions are that something can be
+  -- recorded, and that there was no fault and no store failure.
   abbrev pub FreshIsHeld : Type 0
   FreshIsHeld =
       (d : Done V) (s t : S) (k key : Bytes) (includes : List Include) → preprocessor_key_of w d.call ≡ Some k → AreOwnIncludes w d.call includes
       → (Fault d → ⊥) → (Setback st s t → ⊥) → Step w st d.call (Fault d) s (Keyed key true) t
       → (own : List Include) × AreOwnIncludes w d.call own × (bytes : Bytes) × EntryText (added empty key own) bytes × HoldsOnly st t k bytes
 
-  -- If something is held under the key of a call that can hit, and all of it is entries with a key that matches, the call returns such a
-  -- key.
+  -- Let a call be able to hit, and let something be held under its key, all of it entries with a key that matches. If there is no store
+  -- failure, the call returns such a key.
   abbrev pub HeldIsAnswered : Type 0
   HeldIsAnswered =
       (d : Done V) (s t : S) (r : Answer) (k bytes : Bytes) → CanHit w d k r → (Setback st s t → ⊥) → st.held s k bytes
@@ -44,8 +44,9 @@ module _ {V S : Type 0} (w : World V) (st : Store S) where
       → Step w st d.call (Fault d) s r t
       → (key : Bytes) × (x : Bytes) × (e : Entry) × st.held s k x × EntryText e x × (found w d.call e ≡ Some key) × (r ≡ Keyed key false)
 
-  -- After a miss, a later call that can hit, with the same preprocessor key and on the same recorded files, returns the same key from the
-  -- store, if no call between put another result there.
+  -- After a miss of which something can be recorded, a later call that can hit, with the same preprocessor key, returns the same key from
+  -- the store. The recorded files must be the same, and no call between may have returned a computed key with that preprocessor key. There
+  -- must be no fault in the first call and no store failure.
   abbrev pub StoredIsHit : Type 0
   StoredIsHit =
       (c d : Done V) (between : List (Done V)) (answers : List Answer) (s after before t : S) (k key : Bytes) (includes : List Include) (r : Answer)

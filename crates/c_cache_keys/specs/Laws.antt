@@ -54,7 +54,7 @@ module _ {V S : Type 0} (w : World V) (st : Store S) where
   NothingDamaged = (earlier : List (Call V)) (d : Done V) (s t : S) → Sound w st s earlier → Step w st d.call (Fault d) s (Refused Damaged) t → ⊥
 
   -- A call that can hit asks the store once, under its key. If the store returns an entry with a key whose included files are all
-  -- unchanged, the call returns the greatest such key as a stored one, whatever a preprocessor would print, and puts nothing.
+  -- unchanged, the call returns the greatest such key, as a stored one, and puts nothing. So it does whatever a preprocessor would print.
   abbrev pub AnswersHanded : Done V → S → Answer → S → Type 0
   AnswersHanded d s r t =
       (k : Bytes) → CanHit w d k r
@@ -75,7 +75,7 @@ module _ {V S : Type 0} (w : World V) (st : Store S) where
   abbrev pub RunAnswersHanded : Type 0
   RunAnswersHanded = (s t : S) (done : List (Done V)) (answers : List Answer) → Run w st s done answers t → AllAnswerHanded s done answers t
 
-  -- The headline. Its first half: every key that a run from an empty store returns, stored or computed, is the plain key of its call, and
+  -- The headline. Its first half: every key that a run from an empty store returns, stored or computed, is the plain key of its call. And
   -- no call returns an error because of what the store returned. Its second half: a stored key that matches is returned, whatever a
   -- preprocessor prints. The first half has four premises, and a fifth where the option `hash_working_directory` is off. `Premises` has all
   -- but one: no shared digest, prints again, options off, and one request for that option. The other one, an honest store, is part of what

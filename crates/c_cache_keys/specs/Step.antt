@@ -150,8 +150,8 @@ module _ {V S : Type 0} (w : World V) (st : Store S) where
   Ends c F (Failed why) mid r t = (r ≡ Refused why) × (t ≡ mid)
   Ends c F Miss mid r t = Makes c F mid r t
 
-  -- One call. It returns an error before the store is asked; or it has no preprocessor key or may not ask, and computes its key; or it
-  -- asks, and computes its key after a miss.
+  -- One call. It may return an error before the store is asked. If it has no preprocessor key or may not ask, it computes its key.
+  -- Otherwise it asks, and computes its key after a miss.
   pub data Step (c : Call V) (F : Type 0) (s : S) (r : Answer) (t : S) : Type 0 where
     stopped : (why : Why) → StopsOpening w c F why → r ≡ Refused why → t ≡ s → Step c F s r t
     made : Opened w c → (preprocessor_key_of w c ≡ None) ⊎ (c.control ≡ ForceRecache) → Makes c F s r t → Step c F s r t

@@ -46,9 +46,9 @@ pub struct Call<I, F> {
 /// because of what the store returned. This holds if
 ///
 /// - no two different strings that may be hashed have one digest;
-/// - a preprocessor prints the same text again for a later call that agrees with the first one in
-///   all that the preprocessor key has of a request and in the working directory, on the same input
-///   and the same included files;
+/// - a preprocessor prints the same text again for a later call that agrees with the first one, on
+///   the same input and the same included files. Calls agree in all that the preprocessor key has
+///   of a request, and in the working directory;
 /// - the options that let a changed file count as unchanged are off;
 /// - calls with one preprocessor key are of one request, if
 ///   [`hash_working_directory`](PreprocessorCacheModeConfig::hash_working_directory) is off. If it
@@ -59,9 +59,10 @@ pub struct Call<I, F> {
 /// Second: on any store, whether these hold or not, a stored key that matches is returned, whatever
 /// a preprocessor would print, if
 ///
-/// - the call can hit: it may use the store and has a preprocessor key, it met no fault, its memory
-///   sufficed, and the store returned an entry with a key whose included files are all unchanged.
-///   The greatest such key is returned, and nothing is put.
+/// - the call can hit: it may use the store, has a preprocessor key, met no fault and had enough
+///   memory;
+/// - the store returned an entry with a key whose included files are all unchanged. The greatest
+///   such key is returned, and nothing is put.
 ///
 /// Of a call only the state of its files changes. Each result is that of
 /// [`generate_hash_key`](CCompilerHasher::generate_hash_key) on the store that the calls before it

@@ -58,8 +58,8 @@ pub fn runs_headline<H: HashState, I: CCompilerImpl, S: PreprocessorStore>()
 {}
 
 /// A call that can hit asks the store once. If the store returns an entry with a key whose included
-/// files are all unchanged, the call returns the greatest such key, whatever a preprocessor would
-/// print, and puts nothing.
+/// files are all unchanged, the call returns the greatest such key and puts nothing. So it does
+/// whatever a preprocessor would print.
 pub fn handed_is_answered<H: HashState, I: CCompilerImpl, S: PreprocessorStore>()
     ensures { (zone : TimeZone) (config : PreprocessorCacheModeConfig) (basedirs : List (List ℕ)) →
         HandedIsAnswered (world_of H.hash I.compiler zone config basedirs) S.store }
@@ -92,15 +92,17 @@ pub fn fresh_is_held<H: HashState, I: CCompilerImpl, S: PreprocessorStore>()
         FreshIsHeld (world_of H.hash I.compiler zone config basedirs) S.store }
 {}
 
-/// If something is held under the key of a call that can hit, and all of it is entries with a key
-/// that matches, the call returns such a key.
+/// Let a call be able to hit, and let something be held under its key, all of it entries with a key
+/// that matches. If there is no store failure, the call returns such a key.
 pub fn held_is_answered<H: HashState, I: CCompilerImpl, S: PreprocessorStore>()
     ensures { (zone : TimeZone) (config : PreprocessorCacheModeConfig) (basedirs : List (List ℕ)) →
         HeldIsAnswered (world_of H.hash I.compiler zone config basedirs) S.store }
 {}
 
-/// After a miss, a later call that can hit returns the same key from the store, on the same
-/// recorded files, if no call between put another result there.
+/// After a miss of which something can be recorded, a later call that can hit, with the same
+/// preprocessor key, returns the same key from the store. The recorded files must be the same, and
+/// no call between may have returned a computed key with that preprocessor key. There must be no
+/// fault in the first call and no store failure.
 pub fn stored_is_hit<H: HashState, I: CCompilerImpl, S: PreprocessorStore>()
     ensures { (zone : TimeZone) (config : PreprocessorCacheModeConfig) (basedirs : List (List ℕ)) →
         StoredIsHit (world_of H.hash I.compiler zone config basedirs) S.store }

@@ -1,10 +1,10 @@
 //! The keys of compilations, after sccache's `src/compiler/c.rs`.
 //!
-//! The *plain key* of a compilation is the digest of the compiler, its arguments, some variables
-//! and the preprocessed text. To save preprocessing, a store may hold entries. An entry is held
-//! under a *preprocessor key*, which needs no preprocessed text, and has plain keys with the files
-//! that each was computed from. Such a key is returned from the store if all its files are
-//! unchanged.
+//! The *plain key* of a compilation is the hex digest of the compiler, its arguments, some
+//! variables and the preprocessed text. To save preprocessing, a store may hold entries. An entry
+//! is held under a *preprocessor key*, which needs no preprocessed text, and has plain keys with
+//! the files that each was computed from. Such a key is returned from the store if all its files
+//! are unchanged.
 //!
 //! [`CCompiler`] is a compiler with its executable. It parses a command line into a
 //! [`CCompilerHasher`], whose [`generate_hash_key`](CCompilerHasher::generate_hash_key) is one call
@@ -18,9 +18,9 @@
 //! that is returned is the plain key of its call, if
 //!
 //! - no two different strings that may be hashed have one digest;
-//! - a preprocessor prints the same text again for a later call that agrees with the first one in
-//!   all that the preprocessor key has of a request and in the working directory, on the same input
-//!   and the same included files;
+//! - a preprocessor prints the same text again for a later call that agrees with the first one, on
+//!   the same input and the same included files. Calls agree in all that the preprocessor key has
+//!   of a request, and in the working directory;
 //! - the options that let a changed file count as unchanged are off;
 //! - the store returns only what was put, as its interface demands;
 //! - calls with one preprocessor key are of one request, if the option `hash_working_directory` is

@@ -2,8 +2,8 @@
 use Rattle.std.specs.Prelude.{◌≡◌, ◌==◌, ◌||◌, ℕ, ◌+◌, ◌-◌, ◌^◌, Bool, min, refl, if◌then◌else◌}
 use Rattle.std.specs.Coded.{Coded, code_by, coded×, coded_ℕ}
 
--- which of the next calls is armed alone, and from which of them on all are, each counted from 1, or 0 for none; and the number of calls so
--- far
+-- which of the next calls is armed alone, and from which of them on all are; each is counted from 1, and 0 is none. Also the number of
+-- calls so far
 pub record Armed : Type 0 where
   pub one : ℕ
   pub onward : ℕ

@@ -11,9 +11,9 @@ use std::alloc::Global;
 /// An implementation is described by a finite map from paths to nodes, a map of canonical paths,
 /// and a count of faults. The count has 64 bits and stays at its greatest value. Links are followed
 /// in the map. Each result is the map's own or, only where the count rose, a fault.
-///
 /// An implementation also says which of its states are *quiet*: no call on them meets a fault or
-/// leaves quiet states. And it says which states a call at a path leads to, so that the contract of
+/// leaves quiet states. And it says which states a call at a path leads to. By that the contract of
+/// a function over all files can name the paths at which it makes calls.
 /// a function over all files can name the paths at which it makes calls.
 ///
 /// Paths are compared by components. The errors of the calls:

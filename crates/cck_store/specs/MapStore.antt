@@ -11,8 +11,8 @@ use Rattle.cck_path.specs.TextOrder.{text_cmp}
 use Rattle.cck_store.specs.Store.{Handed, Store, Stored, counted, more}
 use Rattle.cck_store.specs.declared.store.StoreError.TheVariants as store
 
--- keys and bytes, ascending by the keys; the number of store failures; which of the next calls loses all that is held, counted from 1, or 0
--- for none; and which of them fail
+-- Keys and bytes, ascending by the keys, and the number of store failures. Also which of the next calls loses all that is held, counted
+-- from 1, or 0 for none; and which of them fail.
 pub record State : Type 0 where
   pub pairs : List (Bytes × Bytes)
   pub setbacks : ℕ
