@@ -1,4 +1,4 @@
--- What the bytes come to that a store hands out.
+-- The result for bytes that a store returns.
 use Rattle.std.proofs.Common.{◌≡◌, inl, inr, Bool, Option, Some, None, Ok, subst}
 use Rattle.std.specs.Prelude.{Contains}
 use Rattle.std.specs.FinMap.{empty, entries}
@@ -12,7 +12,7 @@ use Rattle.cck_include.specs.Include.{Include}
 use Rattle.c_cache_keys.proofs.Elements.{none_in}
 use Rattle.c_cache_keys.specs.Step.{Asked, Hit, Miss, ReadsBy}
 
--- what was looked up
+-- the result of a look-up
 abbrev pub looked_up : Option Bytes → Asked
 looked_up None = Miss
 looked_up (Some key) = Hit key

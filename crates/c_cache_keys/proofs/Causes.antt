@@ -1,4 +1,4 @@
--- Each refusal has its cause.
+-- Each error has its cause.
 use Rattle.std.proofs.Common.{◌≡◌, inl, inr, sym, subst, Some, None, Ok, Err}
 use Rattle.cck_path.specs.Bytes.{Bytes}
 use Rattle.cck_store.specs.Store.{Handed, Store, StoreLaws}
@@ -42,7 +42,7 @@ module _ {V S : Type 0} (w : World V) (st : Store S) (laws : StoreLaws st) where
   making_cause c F s t TextFault no_fault h = no_fault h.1
   making_cause c F s t Marker no_fault h = h
 
-  -- the state of the store before a key is made has no part in why it isn't
+  -- the cause of an error while a key is computed doesn't depend on the state of the store
   makes_cause : (c : Call V) (F : Type 0) (z s t : S) (why : Why) → (F → ⊥) → Makes w st c F s (Refused why) t → Cause w st c z t why
   makes_cause c F z s t why no_fault (stops v cause is same) = subst (Cause w st c z t) (same_why (sym is)) (making_cause c F z t v no_fault cause)
   makes_cause c F z s t why no_fault (gives key is-plain quiet is stores) = absurd (not_refused (sym is))

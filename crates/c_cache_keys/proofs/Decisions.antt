@@ -31,7 +31,7 @@ is_missing None h = refl
 is_missing (Some x) h = cc
 
 module _ {V : Type 0} (w : World V) (c : Call V) where
-  -- what a name does, and why
+  -- the outcome of a name, and why
   pub data Does (held : Digests) (name : Bytes) (system : Bool) (o : Outcome) : Type 0 where
     unlooked : (IsLooked w c name system → ⊥) → o ≡ Passes → Does held name system o
     known : (digest : Bytes) → get held (path_of c name) ≡ Some digest → o ≡ Passes → Does held name system o
@@ -90,7 +90,7 @@ module _ {V : Type 0} (w : World V) (c : Call V) where
   set_at held p q digest own true is h = inl (tied q p is, same_Some digest own h)
   set_at held p q digest own false is h = inr h
 
-  -- what has a digest after one was set
+  -- the digests after one was set
   set_in : (held : Digests) (p q : Path) (digest own : Bytes) → get (insert held p digest) q ≡ Some own → ((q ≡ p) × (digest ≡ own)) ⊎ (get held q ≡ Some own)
   set_in held p q digest own h = set_at held p q digest own (eq_by_cmp path_cmp q p) refl (sym (get-insert path_cmp_total held p digest q) ∙ h)
 
@@ -121,7 +121,7 @@ module _ {V : Type 0} (w : World V) (c : Call V) where
         subst After (sym is) (inl (λ looked. good (path_of c name) digest one, others (insert held (path_of c name) digest) (more_regular held (path_of c name) digest regular one)))
     name_decides o (refuses looked bad is) = subst After (sym is) (inr (looked, bad, refl))
 
-  -- marks decide the verdict that is said of them
+  -- marks decide the verdict of their outcomes
   pub told : (marks : List Mark) (held : Digests) → AreRegular held → MarksDecide w c marks (verdict_of (decided (walk_context w c) (Some held) marks))
   unfolding decided
   told [] held regular = refl

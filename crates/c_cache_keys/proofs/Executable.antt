@@ -1,4 +1,4 @@
--- The digest text of an executable.
+-- The hex digest of an executable.
 use Rattle.std.proofs.Common.{◌≡◌, ◌++◌, Bor, Option, None, Some, sym, ap, ◌∙◌}
 use Rattle.std.specs.Option.{option_map, option_map_or}
 use Rattle.cck_digest.specs.Digest.{digest_text}

@@ -1,4 +1,4 @@
--- A stored key that an earlier call's own pair leads to is the plain key.
+-- A stored key that comes from an earlier call's own pair is the plain key.
 use Rattle.std.proofs.Common.{◌≡◌, inl, inr, Bool, true, false, List, refl, sym, ap, ◌∙◌, subst, Some, Ok}
 use Rattle.std.specs.Prelude.{Contains}
 use Rattle.std.specs.FinMap.{empty, entries}
@@ -26,7 +26,7 @@ use Rattle.c_cache_keys.specs.Step.{AreOwnIncludes, OwnPair, matching}
 use Rattle.c_cache_keys.specs.Walk.{IsNamed, IsRecorded, input_path}
 use Rattle.c_cache_keys.specs.World.{HasSize, World, setting}
 
--- the result that stands in the entry of one result
+-- the result in the entry of one result
 pub only_result : (e : Entry) (key found : Bytes) (includes list : List Include) (bytes : Bytes) → EntryText e bytes → EntryText (added empty key includes) bytes
     → Contains (entries e) (found, list) → (found ≡ key) × (list ≡ includes)
 only_result e key found includes list bytes text own at =
@@ -34,7 +34,7 @@ only_result e key found includes list bytes text own at =
     let is = only_one (key, includes) (found, list) (subst (λ es. Contains es (found, list)) (ap entries same ∙ entries-added key includes) at) in
     (ap (λ (r : KeyResult). r.0) (sym is), ap (λ (r : KeyResult). r.1) (sym is))
 
--- the path of a named file is read as it is written
+-- the components of the written path of a named file are that path
 pub components-named : {V : Type 0} (w : World V) (c : Call V) (text : Bytes) (p : Path) → IsNamed w c text p → components (path_text p) ≡ p
 components-named w c text p named =
     ap (λ q. components (path_text q)) named.is ∙ components-meant c.request.cwd named.name ∙ sym named.is
@@ -54,7 +54,7 @@ module _ {V : Type 0} (w : World V) (size : HasSize w.hash) (calls : List (Call 
       (premises.hash c d _ _ in_first in_second (of_file p n file refl) (of_file q o file' refl))
       (λ x y timed timed' is is'. premises.hash c d x y in_first in_second (of_time p n file timed is) (of_time q o file' timed' is'))
 
-  -- calls that ask under one key and have equal parts are of one directory
+  -- calls with one preprocessor key and equal parts have one directory
   same_cwd : (k : Bytes) → preprocessor_key_of w c ≡ Some k → preprocessor_key_of w d ≡ Some k → request_parts w c.request (input_path c) ≡ request_parts w d.request (input_path d)
       → c.request.cwd ≡ d.request.cwd
   same_cwd k is-c is-d parts = by w.config.hash_working_directory refl
@@ -63,7 +63,7 @@ module _ {V : Type 0} (w : World V) (size : HasSize w.hash) (calls : List (Call 
       by true on = cwd_told w c.request d.request (input_path c) (input_path d) parts on
       by false off = ap (λ q. q.cwd) (premises.requests off c d k in_first in_second is-c is-d)
 
-  -- what one key tells
+  -- what follows from one preprocessor key
   key_agrees : (k : Bytes) → preprocessor_key_of w c ≡ Some k → preprocessor_key_of w d ≡ Some k
       → Agree w c d × (uses_cache w c.request ≡ true) × (r : Bytes) × (input_recorded w c ≡ Some r) × (input_recorded w d ≡ Some r)
   key_agrees k is-c is-d =
@@ -107,7 +107,7 @@ module _ {V : Type 0} (w : World V) (size : HasSize w.hash) (calls : List (Call 
       let (o, file-o, rec-o) = match_known (setting w d) d.files x p premises.options.file_stat_matches (ap (λ i. components i.path) (sym made) ∙ read) match in
       (o, file-o, (file_same n o p p digest file file-o (ap (recorded (setting w c)) (sym same_node) ∙ of_path.digest) (rec-o ∙ ap (λ i. Some i.digest) (sym made))).0)
 
-  -- so is each regular file that the earlier text names
+  -- and so is each regular file that the earlier text names
   named_same : (includes : List Include) → (keeps : AreOwnIncludes w c includes) → list_all (matching w d) includes ≡ true
       → (p : Path) (n : FileNode) → IsNamed w c keeps.text p → file_at c.files p ≡ Ok n → (o : FileNode) × (file_at d.files p ≡ Ok o) × IsSameFile w c d n o
   named_same includes keeps all_match p n named file =
@@ -115,7 +115,7 @@ module _ {V : Type 0} (w : World V) (size : HasSize w.hash) (calls : List (Call 
       let (x, at-x, is) = gathered_each c.files c.moment keeps.digested includes keeps.includes_are (digest, path_text p) at in
       record_same keeps.text p n digest x named file (keeps.recorded.each (digest, path_text p) at) is (each_passes (matching w d) includes x all_match at-x)
 
-  -- what the own pair of the earlier call leads to
+  -- a key that is found in the own pair of the earlier call
   pub hit_plain : (key k bytes : Bytes) → OwnPair w c key k bytes → preprocessor_key_of w d ≡ Some k → (e : Entry) (found : Bytes) (list : List Include) → EntryText e bytes
       → Contains (entries e) (found, list) → list_all (matching w d) list ≡ true → plain_key w d ≡ Some found
   hit_plain key k bytes own is-k e found list text at all_match =

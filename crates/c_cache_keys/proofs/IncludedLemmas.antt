@@ -1,4 +1,4 @@
--- What a walk recorded, taken one by one.
+-- What a walk recorded, one file at a time.
 use Rattle.std.proofs.Common.{◌≡◌, ℕ, List, [], ◌∷◌, ◌++◌, length, arith, sym, ap, ◌∙◌, String}
 use Rattle.std.proofs.lemmas.List.{append_assoc, append-nil, map_push}
 use Rattle.std.specs.Global.{Vec}

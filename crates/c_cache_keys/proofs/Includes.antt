@@ -36,12 +36,12 @@ same_ok x y e = cc
 
 -- ---- files
 
--- a path that a name means is read as it is written
+-- the components of a written path that a name means are that path
 pub components-meant : (cwd name : Bytes) → components (path_text (normal (joined (components cwd) (components name)))) ≡ normal (joined (components cwd) (components name))
 components-meant cwd name =
     ap (λ p. components (path_text (normal p))) (sym (components-join cwd name)) ∙ components-normal (join_path cwd name) ∙ ap normal (components-join cwd name)
 
--- what is said of a regular file
+-- the metadata of a regular file
 said_of : (o : Option FileNode) (n : FileNode) → file_in o ≡ Ok n → metadata_in o ≡ Ok (metadata_of n) × (n.kind ≡ File)
 said_of None n e = absurd cc
 said_of (Some m) n e = let (same, kind) = kind_of_file m n m.kind refl e in (ap (λ v. Ok (metadata_of v)) same, kind)

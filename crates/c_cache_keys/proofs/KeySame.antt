@@ -1,4 +1,4 @@
--- What a preprocessor key tells of a call, and what one such key tells of two calls.
+-- What follows from the preprocessor key of one call, and from two calls that have the same.
 use Rattle.std.proofs.Common.{◌≡◌, ◌≢◌, Bool, true, false, ◌||◌, cond, List, [], ◌∷◌, ◌++◌, map, filter, refl, sym, ap, ap₂, ◌∙◌, Option, Some, None, Result, Ok, Err}
 use Rattle.std.specs.List.{list_any}
 use Rattle.std.specs.Option.{option_map}
@@ -45,7 +45,7 @@ of_both_same f g same (Some a) (Some b) = ap Some (same a b)
 
 -- ---- variables
 
--- what passes one test and, with it, another
+-- what passes one test also passes another
 filter_both : {X : Type 0} (p q : X → Bool) → ((x : X) → p x ≡ true → q x ≡ true) → (xs : List X) → filter p (filter q xs) ≡ filter p xs
 filter_both p q both [] = refl
 filter_both p q both (x ∷ xs) = by (p x) (q x) refl refl (filter_both p q both xs)
@@ -64,7 +64,7 @@ any_in_front test (x ∷ xs) ys e = by (test x) refl e (any_in_front test xs ys)
     by true at here rest = ap (λ b. b || list_any test (xs ++ ys)) at
     by false at here rest = ap (λ b. b || list_any test (xs ++ ys)) at ∙ rest here
 
--- the variables of an object's key stand among those of a request's key
+-- the variables of an object key are among those of a preprocessor key
 object_among_request : (variables : List Variable) → object_variables (request_variables variables) ≡ object_variables variables
 object_among_request variables =
     filter_both (λ v. list_any (bytes_eq (v.0)) object_variable_names) (λ v. list_any (bytes_eq (v.0)) (object_variable_names ++ include_path_names))
@@ -77,7 +77,7 @@ module _ {V : Type 0} (w : World V) where
   unfolding preprocessor_key_of
   key_known c k e = mapped_some (digest_text w.hash) (key_material w c) k e
 
-  -- what the material of a call is made of
+  -- the parts of the key material of a call
   pub material_known : (c : Call V) (m : Bytes) → key_material w c ≡ Some m
       → (uses_cache w c.request ≡ true) × (xs : List Bytes) × (r : Bytes) × (extra_texts w c ≡ Some xs) × (input_recorded w c ≡ Some r)
       × (m ≡ preprocessor_material (request_parts w c.request (input_path c)) xs r)
@@ -98,7 +98,7 @@ module _ {V : Type 0} (w : World V) where
   unfolding uses_cache
   used_prints q e = (and_parts (is_preprocessed q) _ e).0
 
-  -- equal material is of equal parts, of equal digest texts of the further files, and of one recorded digest of the input
+  -- equal key material is of equal parts, equal hex digests of the extra files, and one recorded digest of the input
   pub material_same : (c d : Call V) (m : Bytes) → key_material w c ≡ Some m → key_material w d ≡ Some m
       → (uses_cache w c.request ≡ true) × (request_parts w c.request (input_path c) ≡ request_parts w d.request (input_path d))
       × (extra_texts w c ≡ extra_texts w d) × (extra_texts w c ≢ None) × (r : Bytes) × (input_recorded w c ≡ Some r) × (input_recorded w d ≡ Some r)
@@ -114,7 +114,7 @@ module _ {V : Type 0} (w : World V) where
   unfolding request_parts
   path_told p q i j same = ap (λ parts. parts.input_file) same
 
-  -- and of one working directory, where it enters the key
+  -- and of one working directory, where it is part of the key
   pub cwd_told : (p q : Request V) (i j : Bytes) → request_parts w p i ≡ request_parts w q j → w.config.hash_working_directory ≡ true → p.cwd ≡ q.cwd
   unfolding request_parts
   cwd_told p q i j same on =
@@ -125,7 +125,7 @@ module _ {V : Type 0} (w : World V) where
   unfolding request_parts
   needs_told p q i j same = ap (λ parts. is_preprocessed_first parts.language) same
 
-  -- what of the parts enters the plain key
+  -- the parts that are hashed for the plain key
   abbrev parts_of_key : List Bytes → Bytes → RequestParts → KeyParts
   parts_of_key extra_hashes text p = record {
     compiler_digest = p.compiler_digest;

@@ -19,7 +19,7 @@ module _ (c : Context) where
   short_text : LooksForNone c (codes "# 1 \"")
   short_text = by_marks _ [] short_text_marks tt
 
-  -- what a text includes besides is refused, and not looked for
+  -- any other inclusion makes the text refused, and is not looked for
   inclusion : LooksForNone c (codes "x .incbin \"f\"")
   inclusion = by_marks _ _ inclusion_marks (tt, tt)
 
@@ -28,7 +28,7 @@ module _ (c : Context) where
   unfolding is_looked_for is_passed is_angled
   system_header skips = by_marks _ _ system_header_marks (rw skips refl, tt)
 
-  -- and no path is looked for behind it
+  -- and no path is looked for after it
   nothing_asked : (p : Path) → Asked c (codes "x .incbin \"f\"") p → ⊥
   nothing_asked = none_asked c _ inclusion
 

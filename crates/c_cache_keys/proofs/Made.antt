@@ -1,4 +1,4 @@
--- How a key is made afresh.
+-- Computing a key.
 use Rattle.std.proofs.Common.{◌≡◌, ◌≢◌, ℕ, suc, ◌⊎◌, inl, inr, Bool, true, false, cond, List, [], ◌∷◌, map, Option, Some, None, Result, Ok, Err, String, refl, sym, ap, ◌∙◌, subst}
 use Rattle.std.proofs.lemmas.Bool.{eqb-true}
 use Rattle.std.specs.Prelude.{◌==◌, length, Contains, IfOk, IsOkUnless, string_bytes}
@@ -56,7 +56,7 @@ all_there f (d ∷ ds) each e = by (f d) (each d (first_in d ds)) (all_there f d
     by None here rest e = here refl
     by (Some x) here rest e = rest (mapped_none (λ xs. x ∷ xs) (all_of (map f ds)) e)
 
--- a list with nothing in it, and one with something
+-- an empty list, and one that isn't
 pub empty_list : {X : Type 0} (xs : List X) (b : Bool) → b ≡ (length xs == 0) → b ≡ true → xs ≡ []
 empty_list [] b is e = refl
 empty_list (x ∷ xs) b is e = absurd (zero_true (length xs) (sym is ∙ e))
@@ -78,7 +78,7 @@ pub nothing_mapped : {X Y : Type 0} (f : X → Y) (xs : List X) → map f xs ≡
 nothing_mapped f [] e = refl
 nothing_mapped f (x ∷ xs) e = absurd cc
 
--- ---- what a walk answered
+-- ---- the result of a walk
 
 module _ {V : Type 0} (w : World V) (c : Call V) (text : Bytes) (F : Type 0) where
   pub refused_walk : (r : walk.Walk) → r ≡ answer.Refused → IsWalked w c text F (Ok r) → Walk w c text NotAccepted ⊎ F
@@ -113,7 +113,7 @@ module _ {V S : Type 0} (w : World V) (st : Store S) (c : Call V) (F : Type 0) w
   unfolding plain_key
   is_plain xs text extra is = rw (extra, is) refl
 
-  -- a language that needs no preprocessor has no key to ask under
+  -- a language that needs no preprocessor has no preprocessor key
   no_key : is_preprocessed c.request ≡ false → preprocessor_key_of w c ≡ None
   unfolding preprocessor_key_of key_material uses_cache
   no_key needs = rw needs refl
@@ -132,7 +132,7 @@ module _ {V S : Type 0} (w : World V) (st : Store S) (c : Call V) (F : Type 0) w
   quiet_without : preprocessor_key_of w c ≡ None → NotErring w c F
   quiet_without none text some prints errs = absurd (some none)
 
-  -- a key of a text that nothing is stored of: it is the answer, or memory ran out
+  -- the key of a text of which nothing is stored: it is returned, or memory ran out
   finished : (s : S) (r : Result (String Global) KeyError) (bytes : Bytes) → plain_key w c ≡ Some bytes → NotErring w c F → F ⊎ NothingNew w c
       → IfOk r (λ k. string_bytes k ≡ bytes) → IsOkUnless r key.Memory → Makes w st c F s (made_of r) s
   finished s (Ok k) bytes plain quiet new is unless = gives (string_bytes k) (plain ∙ ap Some (sym is)) quiet refl (inr (refl, new))
@@ -169,7 +169,7 @@ module _ {V S : Type 0} (w : World V) (st : Store S) (c : Call V) (F : Type 0) w
   stop_text s text.Failed prints needs same h = stops _ (needs, sym same ∙ h) refl refl
   stop_text s text.Memory prints needs same h = stop_memory s key.Memory refl
 
-  -- a text is printed, and there is no key to ask under
+  -- a text is printed, and there is no preprocessor key
   pub without_key : (s : S) (r : Result (String Global) KeyError) (xs : List Bytes) (text : Bytes) → is_preprocessed c.request ≡ true → extra_texts w c ≡ Some xs → printed w c ≡ Some text
       → preprocessor_key_of w c ≡ None → IfOk r (λ k. string_bytes k ≡ object_key w.hash (params w c.request xs text)) → IsOkUnless r key.Memory → Makes w st c F s (made_of r) s
   without_key s r xs text needs extra prints none is unless =
@@ -204,7 +204,7 @@ module _ {V S : Type 0} (w : World V) (st : Store S) (c : Call V) (F : Type 0) w
     refused s r (inl walk) is unless = finished s r plain plain_here (quiet_by NotAccepted walk not_errs) (inr (nothing_by NotAccepted walk not_accepted)) is unless
     refused s r (inr fault) is unless = finished s r plain plain_here (λ other some prints errs. fault) (inl fault) is unless
 
-    -- the walk is refused
+    -- the walk returns an error
     pub stop_walked : (s : S) (e : KeyError) → IsWalked w c text F (Err e) → Makes w st c F s (made_of (Err e)) s
     stop_walked s key.Memory h = stops Memory tt refl refl
     stop_walked s key.Marker h = stops _ (some_none for.key, (text, for.prints, h)) refl refl

@@ -51,7 +51,7 @@ is_stop x = (x == 34) || (x == 10)
 pub free_before : (s : List ℕ) → IsFree (before is_stop s)
 free_before s = all_before (λ x. (x ≢ 34) × (x ≢ 10)) is_stop (λ x e. let both = or_parts (x == 34) (x == 10) e in (differs x 34 both.0, differs x 10 both.1)) s
 
--- all of a text, where nothing stops
+-- all of a text, if no byte of it stops
 pub whole : (stops : ℕ → Bool) (s : List ℕ) → behind stops s ≡ [] → before stops s ≡ s
 whole stops s e = sym (together stops s ∙ ap (λ (t : List ℕ). before stops s ++ t) e ∙ append-nil (before stops s))
 
@@ -140,7 +140,7 @@ item more start s Hidden e = hidden_line more start s e (behind is_line_end s) r
 item more start s Inclusion e = Some (Refusal ∷ [], refused e refl)
 item more start s Plain e = one_byte more start s e
 
--- the marks that are read in so many steps
+-- the marks that are read in n steps
 abbrev pub marks_in : ℕ → (start : Bool) (s : List ℕ) → Found start s
 marks_in zero start s = None
 marks_in (suc n) start s = item (marks_in n) start s (what start s) refl
@@ -151,6 +151,6 @@ told start s (Some (found, are)) marks e =
     let same : found ≡ marks = cc in
     subst (Marks start s) same are
 
--- what is read are the marks
+-- the marks that are read are those of the text
 pub are_marks : (s : List ℕ) (marks : List Mark) → option_map (λ f. f.0) (marks_in (suc (length s)) true s) ≡ Some marks → Marks true s marks
 are_marks s marks e = told true s (marks_in (suc (length s)) true s) marks e

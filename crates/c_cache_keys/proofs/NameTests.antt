@@ -8,13 +8,13 @@ use Rattle.cck_path.specs.Bytes.{Bytes}
 use Rattle.cck_walk.specs.Decided.{is_angled, is_passed}
 use Rattle.c_cache_keys.specs.Walk.{IsAngled}
 
--- the last byte stands behind the others
+-- the last byte of a text that ends with it
 last_byte : (front : Bytes) (byte : ℕ) → slice_index (front ++ byte ∷ []) (length (front ++ byte ∷ []) - 1) ≡ byte
 last_byte front byte =
     let size : length (front ++ byte ∷ []) - 1 ≡ length front = omega (arith, length-append front (byte ∷ [])) in
     ap (slice_index (front ++ byte ∷ [])) size ∙ get_or-append_seam front byte [] 0
 
--- a text is its bytes before the last one, and that one
+-- a text is its bytes before the last one, followed by that one
 with_last : (byte : ℕ) (text : Bytes) → take (length text) (byte ∷ text) ++ slice_index (byte ∷ text) (length text) ∷ [] ≡ byte ∷ text
 with_last byte text = sym (take_more (byte ∷ text) (length text) 0 (omega arith)) ∙ take_all (length text + 1) (byte ∷ text) (omega arith)
 
@@ -39,7 +39,7 @@ tested_angled (a ∷ b ∷ name) h =
     let ends : slice_index (b ∷ name) (length name) ≡ 62 = ap (slice_index (a ∷ b ∷ name)) (sym place) ∙ eqb-true (slice_index (a ∷ b ∷ name) (length (a ∷ b ∷ name) - 1)) 62 parts.1 in
     (take (length name) (b ∷ name), λ i. begins i ∷ (sym (with_last b name) ∙ ap (λ last. take (length name) (b ∷ name) ++ last ∷ []) ends) i)
 
--- a name that is passed over has no bytes, stands in angles, or is a system header's where these are skipped
+-- a name that is passed over is empty, in angle brackets, or of a system header where these are skipped
 pub passed_for : (skips : Bool) (name : Bytes) (system : Bool) → is_passed skips name system ≡ true → name ≢ [] → (IsAngled name → ⊥) → (skips ≡ true → system ≡ false) → ⊥
 unfolding is_passed
 passed_for skips [] system h some angled wanted = some refl
@@ -53,7 +53,7 @@ both_off : (skips system : Bool) → (skips && system) ≡ false → skips ≡ t
 both_off true system h on = h
 both_off false system h on = absurd (false≢true on)
 
--- and any other has bytes, no angles, and is no system header's where these are skipped
+-- and any other is not empty, not in angle brackets, and of no system header where these are skipped
 pub taken_for : (skips : Bool) (name : Bytes) (system : Bool) → is_passed skips name system ≡ false → (name ≢ []) × (IsAngled name → ⊥) × (skips ≡ true → system ≡ false)
 unfolding is_passed
 taken_for skips [] system h = absurd (false≢true (sym h))

@@ -1,4 +1,4 @@
--- How a call begins.
+-- The first part of a call.
 use Rattle.std.proofs.Common.{◌≡◌, ℕ, zero, suc, ◌<◌, Bool, true, false, ◌&&◌, List, [], ◌∷◌, length, map, Option, Some, None, Result, Ok, Err, refl, sym, ap, ◌∙◌, arith}
 use Rattle.std.specs.Prelude.{IsOkAnd, is_none, slice_index_or, string_bytes}
 use Rattle.std.specs.Global.{Vec}
@@ -39,19 +39,19 @@ some_none is none = (none-some _ (sym none ∙ is))
 true_false : (b : Bool) → b ≡ true → b ≡ false → ⊥
 true_false b e f = cc
 
--- a value that is seen otherwise is there or not
+-- whether there is a value doesn't change by a function of it
 pub is_none_map : {A B : Type 0} (f : A → B) (o : Option A) → is_none (option_map f o) ≡ is_none o
 is_none_map f None = refl
 is_none_map f (Some x) = refl
 
--- the components of paths that are written so
+-- the components of written paths
 pub paths_as : (written : List (Vec ℕ)) → paths_of written ≡ map components (lists_of written)
 paths_as [] = refl
 paths_as (v ∷ vs) = ap (λ ps. components v.items ∷ ps) (paths_as vs)
 
 -- ---- digests of files
 
--- what is refused for another cause than a fault or lack of memory has no digest text
+-- a path whose error is neither a fault nor lack of memory has no hex digest
 module _ (hash : Bytes → Bytes) (files : FileMap) (F : Type 0) where
   no_text : (p : Path) → digest_material files p ≡ None → text_at hash files p ≡ None
   unfolding text_at
@@ -88,7 +88,7 @@ module _ {V : Type 0} (w : World V) (c : Call V) (F : Type 0) where
       stop_extra e (slice_index_or (map components c.request.arguments.extra_hash_files) r.at [])
       (texts_none w.hash c.files F (map components c.request.arguments.extra_hash_files) r.at r.within) r.cause
 
-  -- the key of the input
+  -- the preprocessor key
   pub key_of_input : (xs : List Bytes) (k : Option Bytes) (found : Result FileNode FileError) → found ≡ file_at c.files (components (input_path c))
       → IsOkAnd found (λ n. k ≡ option_map (λ r. digest_text w.hash (preprocessor_material (request_parts w c.request (input_path c)) xs r)) (recorded (setting w c) n))
       → IsKeyOfInput w c xs k

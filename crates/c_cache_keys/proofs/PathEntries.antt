@@ -57,7 +57,7 @@ module _ {X : Type 0} where
   pub of_entry : (m : FinMap path_cmp X) (e : Path × X) → Contains (entries m) e → get m e.0 ≡ Some e.1
   of_entry m e at = get-entries m e.0 ∙ stands_found e (entries m) (entries_sorted m) at
 
-  -- what is made of an entry comes from one
+  -- each element of the resulting list comes from an entry
   pub made_from : {Y : Type 0} (f : Path × X → Y) (es : List (Path × X)) (y : Y) → Contains (map f es) y → (e : Path × X) × Contains es e × (f e ≡ y)
   made_from f [] y at = absurd (none_in y at)
   made_from f (e ∷ es) y at =
@@ -66,7 +66,7 @@ module _ {X : Type 0} where
         | inr more ↦ (let r = made_from f es y more in (r.0, later_in e r.0 es r.1, r.2))
       ]
 
-  -- what is made of each entry is there
+  -- each entry has its element in the resulting list
   pub made_of : {Y : Type 0} (f : Path × X → Y) (es : List (Path × X)) (e : Path × X) → Contains es e → Contains (map f es) (f e)
   made_of f [] e at = absurd (none_in e at)
   made_of f (d ∷ es) e at =
@@ -75,7 +75,7 @@ module _ {X : Type 0} where
         | inr more ↦ later_in (f d) (f e) (map f es) (made_of f es e more)
       ]
 
-  -- and where paths can be told from what is made, that stands in their order
+  -- and if the elements have the paths of their entries, they are in the order of these
   pub made_in_order : {Y : Type 0} (f : Path × X → Y) (path : Y → Path) (es : List (Path × X)) → ((e : Path × X) → Contains es e → path (f e) ≡ e.0)
       → T (is_sorted path_cmp es) → AllPairs (λ y z. path_cmp (path y) (path z) ≡ Less) (map f es)
   made_in_order f path [] told h i j d lt range = absurd (omega (arith, range))

@@ -1,4 +1,4 @@
--- Calls are made one after another.
+-- Calls are made in order.
 use Rattle.std.proofs.Common.{◌≡◌, ℕ, zero, suc, ◌<◌, ◌≤◌, List, [], ◌∷◌, ◌++◌, length, map, take, drop, get_or, Result, refl, ap, subst, arith}
 use Rattle.std.proofs.Math.ListN.{set}
 use Rattle.std.proofs.lemmas.List.{take_all}
@@ -17,7 +17,7 @@ use Rattle.c_cache_keys.specs.declared.calls.Call.{Call}
 
 module _ {I F V : Type 0} (value : I → V) (file_map : F → FileMap) (faults : F → ℕ) where
   module _ {S : Type 0} (w : World V) (st : Store S) where
-    -- one more call was answered
+    -- one more call was made
     pub answered_more : (i : ℕ) (olds news : List (Call I F)) (rs : List (Result HashResult KeyError)) (v : Call I F) (f : F) (r : Result HashResult KeyError) (s mid t : S)
         → i < length olds → drop i news ≡ drop i olds → AreAnswered value file_map faults w st s (take i olds) (take i news) rs mid
         → IsAnswered value file_map faults w st mid (get_or news i v) (record (get_or news i v) { files = f }) r t
@@ -34,7 +34,7 @@ module _ {I F V : Type 0} (value : I → V) (file_map : F → FileMap) (faults :
     answered_more (suc i) (o ∷ olds) (n ∷ news) (x ∷ rs) v f r s mid t l same (m, first, rest) next =
         (m, first, answered_more i olds news rs v f r m mid t (omega (l, arith)) same rest next)
 
-    -- calls that were answered are a run
+    -- calls that were made are a run
     pub run_answered : (olds news : List (Call I F)) (rs : List (Result HashResult KeyError)) (s t : S)
         → AreAnswered value file_map faults w st s olds news rs t → Run w st s (done_all value file_map faults olds news) (map answer_of rs) t
     run_answered [] [] [] s t made = made
@@ -44,7 +44,7 @@ module _ {I F V : Type 0} (value : I → V) (file_map : F → FileMap) (faults :
     run_answered (o ∷ olds) (n ∷ news) [] s t made = absurd made
     run_answered (o ∷ olds) (n ∷ news) (r ∷ rs) s t (mid, first, rest) = (mid, first.step, run_answered olds news rs mid t rest)
 
-    -- so they are once the loop has gone over all of them
+    -- and so they are at the end of the loop
     pub all_answered : (i : ℕ) (olds news : List (Call I F)) (rs : List (Result HashResult KeyError)) (s t : S) → length olds ≤ i → length news ≡ length olds
         → AreAnswered value file_map faults w st s (take i olds) (take i news) rs t → AreAnswered value file_map faults w st s olds news rs t
     all_answered i olds news rs s t past long made =
@@ -56,7 +56,7 @@ module _ {I F V : Type 0} (value : I → V) (file_map : F → FileMap) (faults :
         → AreAnswered value file_map faults w st s (take i olds) (take i news) rs t → Run w st s (done_all value file_map faults olds news) (map answer_of rs) t
     all_run i olds news rs s t past long made = run_answered olds news rs s t (all_answered i olds news rs s t past long made)
 
--- what is left stays
+-- the calls that are left are unchanged
 pub rest_more : {A : Type 0} (i : ℕ) (olds news : List A) (v : A) → length news ≡ length olds → drop i news ≡ drop i olds → drop (suc i) (set news i v) ≡ drop (suc i) olds
 rest_more i [] [] v long same = refl
 rest_more i [] (n ∷ news) v long same = absurd (omega (long, arith))
@@ -65,7 +65,7 @@ rest_more zero (o ∷ olds) (n ∷ news) v long same = cc
 rest_more (suc i) (o ∷ olds) (n ∷ news) v long same = rest_more i olds news v (omega (long, arith)) same
 
 module _ {I F : Type 0} (file_map : F → FileMap) (faults : F → ℕ) (is_quiet : F → Type 0) where
-  -- calls that weren't made are what they were
+  -- calls that weren't made are unchanged
   pub untouched : (cs : List (Call I F)) → AllZip (IsAfter file_map faults is_quiet) cs cs
   untouched [] = tt
   untouched (c ∷ cs) = (record { same = refl; keeps = keeps_itself c.files }, untouched cs)

@@ -1,4 +1,4 @@
--- The reasons of refusals, where files are missing, and where a store hands out bytes that are written out.
+-- The reasons of errors, where files are missing, and where a store returns bytes that are written out.
 use Rattle.std.proofs.Common.{◌≡◌, List, [], ◌∷◌, Some, None, Ok, Err, codes, map, refl, sym, ap, ◌∙◌, subst, arith}
 use Rattle.std.specs.Prelude.{is_some}
 use Rattle.std.specs.FinMap.{get}
@@ -22,14 +22,14 @@ module _ {V : Type 0} (w : World V) (c : Call V) (F : Type 0) where
     unfolding file_at
     input_missing = ap file_in nothing
 
-    -- and it isn't told as something else that stands there
+    -- and the reason is not that a node of another kind is there
     input_not_told_as_folder : IsFileReason w c F (refusal.Input (util.File OtherKind)) → ⊥
     unfolding file_at
     input_not_told_as_folder told =
         let apart : Err NotFound ≡ Err OtherKind = sym (ap file_in nothing) ∙ told in
         cc
 
-  -- of two further files the first is missing
+  -- of two extra files the first is missing
   further_file_missing : c.request.arguments.extra_hash_files ≡ codes "/x" ∷ codes "/y" ∷ [] → get c.files.nodes (components (codes "/x")) ≡ None → IsFileReason w c F (refusal.Extra (util.File NotFound))
   unfolding stands_at
   further_file_missing are nothing =
@@ -42,12 +42,12 @@ module _ {V : Type 0} (w : World V) (c : Call V) (F : Type 0) where
       } in
       (λ e. cc, subst (λ (files : List Bytes). IsFirstRefusal w.hash c.files (map components files) F (util.File NotFound)) (sym are) first)
 
-  -- a fault is told only where one came
+  -- the reason is a fault only where there was one
   input_fault : IsFileReason w c F (refusal.Input (util.File Fault)) → F
   input_fault came = came
 
 module _ {S : Type 0} (st : Store S) (k : Bytes) (s t : S) where
-  -- the first byte of an entry is 1, so what begins with another one is of an unknown format
+  -- the first byte of an entry is 1, so bytes that begin with another one are of an unknown format
   other_format : st.got s k (Ok (Some (codes "x"))) t → IsStoreReason st k s t (refusal.Entry (entry.UnknownFormat 120))
   other_format got =
       record {

@@ -1,4 +1,4 @@
--- Each refusal gives its reason.
+-- Each error gives its reason.
 use Rattle.std.proofs.Common.{◌≡◌, Some, Ok, Err, map, subst, sym, List, Result}
 use Rattle.std.specs.Prelude.{IfErr, IsOkUnless}
 use Rattle.std.specs.FinMap.{get}
@@ -85,7 +85,7 @@ module _ {V : Type 0} (w : World V) (c : Call V) (F : Type 0) where
   unless_reason (Ok x) is = tt
   unless_reason (Err e) is = memory_reason e is
 
-  -- a further file has no digest
+  -- an extra file has no digest
   pub extra_reason : (e : UtilError) → IsFirstRefusal w.hash c.files (map components c.request.arguments.extra_hash_files) F e → IsFileReason w c F (extra_refusal e)
   extra_reason util.Memory r = tt
   extra_reason util.Read r = ((λ e. cc), r)
@@ -98,7 +98,7 @@ module _ {V : Type 0} (w : World V) (c : Call V) (F : Type 0) where
   extra_reason util.IncompleteHex r = ((λ e. cc), r)
   extra_reason util.InvalidHex r = ((λ e. cc), r)
 
-  -- there is no key to ask under
+  -- there is no preprocessor key
   pub key_reason : (e : KeyError) → IsInputRefusal w c F e → IsFileReason w c F e
   key_reason key.Memory h = tt
   key_reason (key.Extra e) h = absurd h

@@ -1,4 +1,4 @@
--- Equal recorded digests are of files that a text can't tell apart.
+-- Files with equal recorded digests are equal as far as a text can show.
 use Rattle.std.proofs.Common.{◌≡◌, Bool, true, false, ◌||◌, [], ◌++◌, length, refl, sym, ap, ◌∙◌, Option, Some, None, not, ◌&&◌}
 use Rattle.std.proofs.lemmas.List.{append-nil}
 use Rattle.std.proofs.lemmas.Bool.{or_right}
@@ -15,11 +15,11 @@ use Rattle.c_cache_keys.specs.Call.{Call}
 use Rattle.c_cache_keys.specs.Premises.{IsSameFile}
 use Rattle.c_cache_keys.specs.World.{HasSize, World, setting}
 
--- a digest text has 64 characters
+-- a hex digest has 64 characters
 pub length-digest_text : (hash : Bytes → Bytes) → HasSize hash → (bytes : Bytes) → length (digest_text hash bytes) ≡ 64
 length-digest_text hash size bytes = text_length hash bytes (size bytes)
 
--- what a recorded digest is made of
+-- the parts of a recorded digest
 recorded_some : (hash : Bytes → Bytes) (time timed : Bool) (text : Bytes) (part : Option Bytes) (r : Bytes) → recorded_by hash time timed text part ≡ Some r
     → (time ≡ false) × (rest : Bytes) × (r ≡ text ++ rest) × (timed ≡ true → (p : Bytes) × (part ≡ Some p) × (rest ≡ digest_text hash p))
 recorded_some hash true timed text part r e = absurd cc
@@ -39,7 +39,7 @@ abbrev IsTold : {V : Type 0} → World V → Call V → Call V → FileNode → 
 IsTold w c d n o date timestamp = (date ≡ true → SameDay w c d) × (timestamp ≡ true → SameSecond w n o)
 
 module _ {V : Type 0} (w : World V) (size : HasSize w.hash) where
-  -- the same of a call's file, where the macros of time count
+  -- the same of a call's file, where time macros are not ignored
   made_of : w.config.ignore_time_macros ≡ false → (c : Call V) (n : FileNode) (r : Bytes) → recorded (setting w c) n ≡ Some r
       → (has_time n.contents ≡ false) × (rest : Bytes) × (r ≡ digest_text w.hash n.contents ++ rest)
       × (is_timed n.contents ≡ true → (p : Bytes) × (file_time_part (setting w c) n ≡ Some p) × (rest ≡ digest_text w.hash p))
@@ -48,7 +48,7 @@ module _ {V : Type 0} (w : World V) (size : HasSize w.hash) where
       recorded_some w.hash (has_time n.contents) (is_timed n.contents) (digest_text w.hash n.contents) (file_time_part (setting w c) n) r
       (ap (λ b. recorded_by w.hash (not b && has_time n.contents) (not b && is_timed n.contents) (digest_text w.hash n.contents) (file_time_part (setting w c) n)) (sym off) ∙ e)
 
-  -- equal time parts tell the day, the variable and the second
+  -- equal time parts are of one day, one value of the variable and one second
   time_told : (date timestamp : Bool) (c d : Call V) (n o : FileNode) (p : Bytes)
       → time_part date timestamp n.modified c.moment w.zone c.request.env_vars ≡ Some p → time_part date timestamp o.modified d.moment w.zone d.request.env_vars ≡ Some p
       → IsTold w c d n o date timestamp
@@ -64,7 +64,7 @@ module _ {V : Type 0} (w : World V) (size : HasSize w.hash) where
       second true e f h = seconds_told w.zone date n.modified o.modified c.moment d.moment c.request.env_vars d.request.env_vars p e f
       second false e f h = absurd cc
 
-  -- equal recorded digests of two files, where no two of the bytes in hand share a digest
+  -- two files with equal recorded digests, where no two of the strings that are hashed share a digest
   pub recorded_same : w.config.ignore_time_macros ≡ false → (c d : Call V) (n o : FileNode) (r : Bytes)
       → recorded (setting w c) n ≡ Some r → recorded (setting w d) o ≡ Some r
       → (digest_text w.hash n.contents ≡ digest_text w.hash o.contents → n.contents ≡ o.contents)

@@ -41,7 +41,7 @@ module _ {V S : Type 0} (w : World V) (st : Store S) where
   )
 
 module _ {V S : Type 0} (w : World V) (st : Store S) (size : HasSize w.hash) (laws : StoreLaws st) where
-  -- what is held after a step was held before it, or is the call's own pair behind a fresh answer
+  -- what is held after a step was held before it, or is the own pair of a call that returned a computed key
   abbrev pub IsKept : Call V → Answer → S → S → Type 0
   IsKept c r s t = (k b : Bytes) → st.held t k b → st.held s k b ⊎ ((key : Bytes) × (r ≡ Keyed key true) × OwnPair w c key k b)
 
@@ -100,7 +100,7 @@ module _ {V S : Type 0} (w : World V) (st : Store S) (size : HasSize w.hash) (la
   pub fresh_is_plain : FreshIsPlain w st
   fresh_is_plain d s t key step = fresh_any d.call (Fault d) s t key step
 
-  -- what a hit rests on: bytes that are held, and a result of their entry whose included files all are what they were
+  -- what a hit follows from: bytes that are held, and a result of their entry whose included files are all unchanged
   abbrev Known : Call V → S → Bytes → Bytes → Type 0
   Known c s k key = (b : Bytes) × st.held s k b × (e : Entry) × EntryText e b × (list : List Include) × Contains (entries e) (key, list) × (list_all (matching w c) list ≡ true)
 
@@ -183,7 +183,7 @@ module _ {V S : Type 0} (w : World V) (st : Store S) (size : HasSize w.hash) (la
   pub keeps_old_or_own : KeepsOldOrOwn w st
   keeps_old_or_own d s t r step = step_kept d.call (Fault d) s t r step
 
-  -- runs in turn are one run over all their calls
+  -- runs in order are one run over all their calls
   joined_run : (s t : S) (runs : List (List (Done V))) (answers : List (List Answer)) → Runs w st s runs answers t → Run w st s (joined_lists runs) (joined_lists answers) t
   joined_run s t [] [] p = p
   joined_run s t [] (a ∷ answers) p = absurd p

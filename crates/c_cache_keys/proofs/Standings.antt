@@ -1,4 +1,4 @@
--- What a path stands for, by what stands there.
+-- How the node at a path decides what a name of it does.
 use Rattle.std.proofs.Common.{◌≡◌, inl, inr, ◌||◌, Bool, true, false, if◌then◌else◌, not, Option, Some, None, Ok, refl, sym, ap, subst, ◌∙◌}
 use Rattle.std.proofs.lemmas.Bool.{false≢true, not-false, or_from, or_parts}
 use Rattle.std.specs.FinMap.{get}
@@ -26,7 +26,7 @@ not_late moment None h = refl
 not_late moment (Some time) h = ap not h
 
 module _ {V : Type 0} (w : World V) (c : Call V) where
-  -- an old regular file stands there, with this recorded digest
+  -- an old regular file is there, with this recorded digest
   abbrev pub IsRegular : Path → Bytes → Type 0
   IsRegular p digest = (n : FileNode) × (file_at c.files p ≡ Ok n) × IsOld w c n × (recorded (setting w c) n ≡ Some digest)
 
@@ -110,7 +110,7 @@ module _ {V : Type 0} (w : World V) (c : Call V) where
   two_nodes n None folder file = cc
   two_nodes n (Some m) folder file = two_kinds n m m.kind folder file
 
-  -- a folder is no regular file
+  -- a directory is no regular file
   pub folder_or_file : (p : Path) (n : FileNode) → folder_at c.files p ≡ Ok tt → file_at c.files p ≡ Ok n → ⊥
   unfolding file_at folder_at
   folder_or_file p n folder file = two_nodes n (get c.files.nodes p) folder file

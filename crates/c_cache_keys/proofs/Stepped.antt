@@ -23,7 +23,7 @@ pub failed_miss : {why : Why} → Failed why ≡ Miss → ⊥
 failed_miss e = cc
 
 module _ {V S : Type 0} (w : World V) (st : Store S) (c : Call V) (F : Type 0) where
-  -- the call is refused before the store is asked
+  -- the call returns an error before the store is asked
   pub step_stopped : (s : S) (e : KeyError) → StopsOpening w c F (why_of e) → Step w st c F s (Refused (why_of e)) s
   step_stopped s e h = stopped (why_of e) h refl refl
 
@@ -32,7 +32,7 @@ module _ {V S : Type 0} (w : World V) (st : Store S) (c : Call V) (F : Type 0) w
   step_starved s e is = stopped Memory tt (ap (λ e. Refused (why_of e)) is) refl
 
 module _ {V S : Type 0} (w : World V) (st : Store S) (c : Call V) (o : Opening) (opens : IsOpening w c o) (F : Type 0) (s t : S) where
-  -- what is found under the key that a call begins with is found under the call's key
+  -- what is found under the preprocessor key of the first part is found under the call's key
   pub found_under : (a : Asked) → IsFoundBy st (option_map string_bytes o.key) c.control (matching w c) F s a t → IsFound w st c F s a t
   found_under a h = subst (λ key. IsFoundBy st key c.control (matching w c) F s a t) (sym opens.key) h
 
@@ -41,7 +41,7 @@ module _ {V S : Type 0} (w : World V) (st : Store S) (c : Call V) (o : Opening) 
   found_as r found is h = subst (λ r. IsFound w st c F s (asked_of (Ok r)) t) is (found_under (asked_of (Ok r)) h)
 
 module _ {V S : Type 0} (w : World V) (st : Store S) (c : Call V) (o : Opening) (opens : IsOpening w c o) (first second last : ℕ) (up : first ≤ second) where
-  -- a stored key is answered
+  -- a stored key is returned
   pub step_hit : (s t : S) (key : Bytes) → IsFound w st c (Rose second last) s (Hit key) t → Step w st c (Rose first last) s (Keyed key false) t
   step_hit s t key (inl not) = absurd (hit_miss not.1)
   step_hit s t key (inr (k, is-k, control, asks)) =
@@ -53,7 +53,7 @@ module _ {V S : Type 0} (w : World V) (st : Store S) (c : Call V) (o : Opening) 
   step_failed s t why (inr (k, is-k, control, asks)) =
       asked opens.opened k is-k control (Failed why) t (wide_asks w c (Rose second last) (Rose first last) (rose_earlier first second last up) st k s (Failed why) t asks) (refl, refl)
 
-  -- the key is made
+  -- the key is computed
   pub step_made : (third : ℕ) → second ≤ third → third ≤ last → (s mid t : S) (r : Answer) → IsFound w st c (Rose second third) s Miss mid → Makes w st c (Rose third last) mid r t → Step w st c (Rose first last) s r t
   step_made third more rest s mid t r found makes = by found (wide_makes w c (Rose third last) (Rose first last) (rose_earlier first third last (omega (up, more, arith))) st mid r t makes)
     where

@@ -31,7 +31,7 @@ use Rattle.c_cache_keys.specs.World.{World, setting}
 use Rattle.c_cache_keys.specs.declared.call.CacheControl.{CacheControl}
 use Rattle.c_cache_keys.specs.declared.call.CacheControl.TheVariants.{Default, ForceRecache}
 
--- a count that doesn't rise over a stretch rises in no part of it
+-- a count that doesn't rise over several calls rises in none of them
 pub calm_part : (a b c d : ℕ) → a ≤ b → b ≤ c → c ≤ d → (Rose a d → ⊥) → Rose b c → ⊥
 calm_part a b c d ab bc cd calm (inl less) = calm (inl (omega arith))
 calm_part a b c d ab bc cd calm (inr top) = calm (inr (omega arith))
@@ -67,7 +67,7 @@ module _ {V : Type 0} (w : World V) where
   unfolding input_recorded
   no_input c r is missing = (none-some _ (ap (option_and_then (recorded (setting w c))) (sym missing) ∙ is))
 
-  -- a call with a key to ask under is stopped before it only for lack of memory, where no fault came
+  -- a call with a preprocessor key and no fault stops before the store is asked only for lack of memory
   not_stopped : (c : Call V) (F : Type 0) (k : Bytes) (why : Why) → preprocessor_key_of w c ≡ Some k → (F → ⊥) → StopsOpening w c F why → why ≡ Memory
   not_stopped c F k Memory is-k no_fault cause = refl
   not_stopped c F k Extra is-k no_fault cause =
@@ -86,7 +86,7 @@ module _ {V : Type 0} (w : World V) where
   not_stopped c F k TextFault is-k no_fault cause = absurd cause
   not_stopped c F k Marker is-k no_fault cause = absurd cause
 
-  -- what bytes come to that are the text of an entry with a key to be found
+  -- the result for bytes that are the text of an entry with a key that matches
   reads_found : (c : Call V) (F : Type 0) (e : Entry) (bytes key : Bytes) (o : Asked) → (F → ⊥) → EntryText e bytes → found w c e ≡ Some key → ReadsAs w c F bytes o
       → (o ≡ Hit key) ⊎ (o ≡ Failed Memory)
   reads_found c F e bytes key (Hit other) no_fault text is (f, text', (list, at, all, which)) =
@@ -116,7 +116,7 @@ module _ {V S : Type 0} (w : World V) (st : Store S) where
   recache_is_fresh d s t key again (made opened not (gives other is-plain quiet is stores)) = absurd (not_fresh (sym is))
   recache_is_fresh d s t key again (asked opened k is-k control o mid asks ends) = absurd (not_both (sym control ∙ again))
 
-  -- what a look into the store ends in
+  -- the result of a call after such a look-up
   ends_found : (c : Call V) (F : Type 0) (mid t : S) (r : Answer) (key : Bytes) (o : Asked) → r ≢ Refused Memory → Ends w st c F o mid r t → (o ≡ Hit key) ⊎ (o ≡ Failed Memory) → (r ≡ Keyed key false) × (t ≡ mid)
   ends_found c F mid t r key o enough ends (inl is) = subst (λ v. Ends w st c F v mid r t) is ends
   ends_found c F mid t r key o enough ends (inr is) = absurd (enough (subst (λ v. Ends w st c F v mid r t) is ends).0)
@@ -149,7 +149,7 @@ module _ {V S : Type 0} (w : World V) (st : Store S) (laws : StoreLaws st) where
   abbrev Calm : S → S → Type 0
   Calm s t = Setback st s t → ⊥
 
-  -- ---- the count of setbacks falls at no time
+  -- ---- the count of store failures never falls
 
   stores_count : (c : Call V) (F : Type 0) (key : Bytes) (s t : S) → Stores w st c F key s t → st.setbacks s ≤ st.setbacks t
   stores_count c F key s t (inl p) = laws.put_count s t p.k p.bytes p.answer p.put
@@ -175,7 +175,7 @@ module _ {V S : Type 0} (w : World V) (st : Store S) (laws : StoreLaws st) where
   run_count (c ∷ calls) [] s t run = absurd run
   run_count (c ∷ calls) (r ∷ answers) s t run = le_trans (step_count c.call (Fault c) s run.0 r run.1) (run_count calls answers run.0 t run.2)
 
-  -- ---- what a fresh answer leaves
+  -- ---- what a miss leaves
 
   abbrev HeldSo : Call V → S → Bytes → Bytes → Type 0
   HeldSo c t k key = (own : List Include) × AreOwnIncludes w c own × (bytes : Bytes) × EntryText (added empty key own) bytes × HoldsOnly st t k bytes
@@ -209,7 +209,7 @@ module _ {V S : Type 0} (w : World V) (st : Store S) (laws : StoreLaws st) where
   pub fresh_is_held : FreshIsHeld w st
   fresh_is_held d s t k key includes is-k keeps no_fault calm step = held_any d.call (Fault d) s t k key includes is-k keeps no_fault calm step
 
-  -- ---- what is answered of what is held
+  -- ---- what is returned of what is held
 
   handed_held : (c : Call V) (F : Type 0) (s mid t : S) (r : Answer) (k bytes : Bytes) (o : Asked) (handed : Handed) → (F → ⊥) → r ≢ Refused Memory → Calm s mid → st.held s k bytes
       → ((x : Bytes) → st.held s k x → (e : Entry) × EntryText e x × (key : Bytes) × (found w c e ≡ Some key))
@@ -228,7 +228,7 @@ module _ {V S : Type 0} (w : World V) (st : Store S) (laws : StoreLaws st) where
       handed_held d.call (Fault d) s mid t r k bytes o handed can.no_fault can.enough_memory
       (calm_part _ _ _ _ (le_refl _) (laws.got_count s mid k handed got) (ends_count d.call (Fault d) o mid t r ends) calm) held each got given ends
 
-  -- ---- what calls between leave of what is held
+  -- ---- what the calls between leave of what is held
 
   abbrev Kept : S → S → Bytes → Bytes → Type 0
   Kept s t k b = HoldsOnly st s k b → HoldsOnly st t k b
@@ -290,7 +290,7 @@ module _ {V S : Type 0} (w : World V) (st : Store S) (laws : StoreLaws st) where
       match_by_digest (setting w d) d.files x of_path.path o (ap (λ i. components i.path) (sym is-x) ∙ read) file (size ∙ sym long ∙ ap (λ i. i.size) is-x)
       (digests ∙ of_path.digest ∙ ap (λ i. Some i.digest) is-x)
 
-  -- so the entry of that result alone has its key to be found
+  -- so the entry of that result alone has a key that matches
   own_found : (c d : Call V) (key : Bytes) (includes : List Include) (keeps : AreOwnIncludes w c includes) (text : Bytes) → keeps.text ≡ text → SameRecords w c d text → found w d (added empty key includes) ≡ Some key
   own_found c d key includes keeps text is same =
       let all : list_all (matching w d) includes ≡ true = all_pass (matching w d) includes (record_matches c d includes keeps text is same) in

@@ -1,4 +1,4 @@
--- Files that show the time, at written moments in a zone one hour east.
+-- Files that show the time, at written times in a zone one hour east.
 use Rattle.std.proofs.Common.{◌≡◌, true, false, List, ℕ, ℤ, pos, Option, Some, None, codes, refl, sym, ap, ◌∙◌}
 use Rattle.std.specs.Ordering.{int_eq}
 use Rattle.cck_digest.specs.Digest.{digest_text}
@@ -17,7 +17,7 @@ use Rattle.jiff.specs.Words.{offset_at}
 abbrev moment_at : ℕ → ℕ → Moment
 moment_at seconds nanoseconds = record { seconds = pos seconds; nanoseconds = nanoseconds }
 
--- two numbers that a test tells apart
+-- two numbers that a test distinguishes
 apart : (a b : ℤ) → int_eq a b ≡ false → int_eq a a ≡ true → a ≡ b → ⊥
 apart a b differ same e =
     let both : true ≡ false = sym same ∙ ap (int_eq a) e ∙ differ in

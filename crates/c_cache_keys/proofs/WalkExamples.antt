@@ -41,7 +41,7 @@ differ p q same apart e = true_false (sym same ∙ ap (λ r. eq_by_cmp path_cmp 
 one_name : (a b : Bytes) (s t : Bool) → Name a s ≡ Name b t → a ≡ b
 one_name a b s t e = cc
 
--- ---- what stands nowhere, and what is as new as the moment
+-- ---- paths without a node, and files as new as the call time
 
 no_folder : (files : FileMap) (p : Path) → get files.nodes p ≡ None → folder_at files p ≡ Ok tt → ⊥
 unfolding folder_at
@@ -149,7 +149,7 @@ module _ {V : Type 0} (w : World V) (c : Call V) (cwd_is : c.request.cwd ≡ cod
   header_accepted n at old told =
       (header_marks, header_text_marks, inl (input_passes, inl (λ _. subst (IsGood w c) (sym header_path) (inr (n, at, old, told)), inl (input_passes, refl))))
 
-  -- the header was modified at the moment of the call
+  -- the header was modified at the call time
   new_header_refused : (n : FileNode) → get c.files.nodes (in_w (codes "h.h")) ≡ Some n → n.kind ≡ File → n.modified ≡ Some fifth_second → c.moment ≡ fifth_second → Walk w c header_text NotAccepted
   new_header_refused n at is modified moment =
       let not_good : IsGood w c (in_w (codes "h.h")) → ⊥ = λ good. elim good [

@@ -1,4 +1,4 @@
--- What a walk answers, as the verdict on the text of a call and what is recorded.
+-- The result of a walk, as the verdict on the text of a call and what is recorded.
 use Rattle.std.proofs.Common.{◌≡◌, inl, inr, ℕ, List, [], ◌∷◌, map, true, Some, Ok, Err, Result, String, refl, sym, ap, subst, ◌∙◌}
 use Rattle.std.specs.FinMap.{empty, entries, entries_sorted, get, get-empty}
 use Rattle.std.specs.Global.{Vec}
@@ -30,7 +30,7 @@ use Rattle.c_cache_keys.specs.Walk.{AreRecorded, MarksDecide, IsNamed, Verdict, 
 use Rattle.c_cache_keys.specs.Walked.{IsWalked, VerdictIsDecided, digested_by, digested_of, verdict_of, walk_context}
 use Rattle.c_cache_keys.specs.World.{World}
 
--- a walk is handed the parts of a call
+-- a walk takes the parts of a call
 pub same_context : {V : Type 0} (w : World V) (c : Call V) (files : FileMap) (moment : Moment) (variables : List (Vec ℕ × Vec ℕ)) (input cwd : Bytes)
     → c.files ≡ files → c.moment ≡ moment → c.request.env_vars ≡ variables_of variables → input_path c ≡ input → c.request.cwd ≡ cwd
     → context_in w.hash w.config moment w.zone variables files input cwd ≡ walk_context w c
@@ -42,7 +42,7 @@ same_context w c files moment variables input cwd same-files same-moment same-va
       cwd = components (sym same-cwd i);
     }
 
--- an entry as it is handed on
+-- an entry as the walk returns it
 abbrev handed : Path × Bytes → Digested
 handed e = (e.1, path_text (e.0))
 
@@ -66,7 +66,7 @@ module _ {V : Type 0} (w : World V) (c : Call V) (text : Bytes) where
     meant_again : (p : Path) → IsNamed w c text p → IsMeant w c marks p
     meant_again p n = (n.name, n.system, subst (λ l. Contains l (Name n.name n.system)) (one_list true text n.marks marks n.are are) n.stands, n.looked, n.is)
 
-    -- it is read as it is written
+    -- the components of its written path are that path
     read_back : (p : Path) → IsMeant w c marks p → components (path_text p) ≡ p
     read_back p (name, system, at, looked, is) = ap (λ q. components (path_text q)) is ∙ components-meant c.request.cwd name ∙ sym is
 
@@ -109,7 +109,7 @@ module _ {V : Type 0} (w : World V) (c : Call V) (text : Bytes) where
       turned_written [] = refl
       turned_written (e ∷ es) = ap (λ l. handed e ∷ l) (turned_written es)
 
-  -- what a walk answers
+  -- the result of a walk
   pub walked : (F : Type 0) (r : Result walk.Walk KeyError) → IsWalk (walk_context w c) F text r → IsWalked w c text F r
   walked F (Ok (answer.Accepted files)) (digests, decides, is) =
       (verdict_told (Accepts digests) decides, subst (AreRecorded w c text) (sym (handed_on files.items (entries digests) is)) (all_recorded digests decides))
@@ -123,7 +123,7 @@ module _ {V : Type 0} (w : World V) (c : Call V) (text : Bytes) where
   walked F (Err (error.Entry e)) h = absurd h
   walked F (Err (error.Preprocess e)) h = absurd h
 
--- the same of a walk that was handed the parts of a call
+-- the same for a walk over the parts of a call
 pub walked_over : {V : Type 0} (w : World V) (c : Call V) (text : Bytes) (files : FileMap) (moment : Moment) (variables : List (Vec ℕ × Vec ℕ)) (input cwd : Bytes)
     → c.files ≡ files → c.moment ≡ moment → c.request.env_vars ≡ variables_of variables → input_path c ≡ input → c.request.cwd ≡ cwd
     → (F : Type 0) (r : Result walk.Walk KeyError) → IsWalk (context_in w.hash w.config moment w.zone variables files input cwd) F text r → IsWalked w c text F r

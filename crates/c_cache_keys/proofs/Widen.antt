@@ -1,4 +1,4 @@
--- What is said with the faults of a part of a call holds with those of the whole.
+-- What holds for the faults of a part of a call holds for those of the whole call.
 use Rattle.std.proofs.Common.{inl, inr, Bool, List, Option, Some, None, Ok, Err}
 use Rattle.std.specs.FinMap.{entries}
 use Rattle.cck_path.specs.Bytes.{Bytes}

@@ -75,7 +75,7 @@ pub included_at : file_at witness_files included_in_w ≡ Ok included_node
 unfolding file_at
 included_at = ap file_in (node_at included_in_w)
 
--- there are these two alone
+-- there are no others
 each_file : (p : Path) (n : FileNode) → file_at witness_files p ≡ Ok n → (n ≡ input_node) ⊎ (n ≡ included_node)
 unfolding file_at
 each_file p n e = by (eq_by_cmp path_cmp p input_in_w) (eq_by_cmp path_cmp p included_in_w) (sym (ap file_in (node_at p)) ∙ e)
@@ -113,7 +113,7 @@ witness_parts = request_parts witness_world first_call.request (input_path first
 abbrev witness_material : Bytes
 witness_material = preprocessor_material witness_parts [] (digest_text witness_hash input_text)
 
--- where an object is written is no part
+-- the place of an object is no part of the key
 pub same_parts : (object : Bytes) → request_parts witness_world (witness_call object).request (input_path (witness_call object)) ≡ witness_parts
 unfolding request_parts is_multiarch archs
 same_parts object = refl
@@ -167,7 +167,7 @@ material_size : length witness_material ≡ 170
 unfolding preprocessor_material compiler_material request_parts join_path is_multiarch archs length_bytes
 material_size = refl
 
--- the string that a digest is of
+-- the string that has a digest
 abbrev hashed_of : Bytes → Bytes
 hashed_of digest =
     cond (bytes_eq digest (digest_text witness_hash input_text)) input_text
@@ -352,7 +352,7 @@ matched object = match_by_digest (setting witness_world first_call) witness_file
 
 -- ---- the steps
 
--- the new store after so many calls, where it holds these pairs
+-- a new store after n calls on it, where it holds these pairs
 abbrev after_calls : ℕ → List (Bytes × Bytes) → State
 after_calls calls pairs = record new_state { pairs = pairs; armed = record new_armed { calls = calls } }
 

@@ -1,4 +1,4 @@
--- What the laws of stored results take, by the two calls of the witness.
+-- The conditions of the laws of stored results, for the two calls of the witness.
 use Rattle.std.proofs.Common.{◌≡◌, false, true, [], ◌∷◌, codes, refl, sym, ◌∙◌}
 use Rattle.std.proofs.lemmas.Option.{none-some}
 use Rattle.cck_include.specs.Recorded.{has_timestamp}
@@ -25,7 +25,7 @@ same_records p n named file = (n, file, refl, refl)
 is_aside : IsAside witness_world witness_key second_call (Keyed witness_answer false)
 is_aside key e = absurd cc
 
--- both agree, over the same files
+-- both agree, on the same files
 agree : Agree witness_world first_call second_call
 agree = record {
   parts = sym (same_parts (codes "b.o"));

@@ -14,11 +14,11 @@ use Rattle.cck_path.specs.Path.{Path}
 use Rattle.c_cache_keys.specs.declared.c_compiler.CCompiler.{CCompiler}
 use Rattle.c_cache_keys.specs.declared.hasher.CCompilerHasher.{CCompilerHasher}
 
--- the digest text of an executable: that of what stands at its path, or, of a compiler with a version, that of this text and the version
+-- the hex digest of an executable: that of the node at its path or, of a compiler with a version, that of this hex digest and the version
 unfoldable pub executable_text : (Bytes → Bytes) → Option Bytes → FileMap → Path → Option Bytes
 executable_text hash version m p = option_map (λ text. option_map_or (λ v. digest_text hash (text ++ v)) version text) (text_at hash m p)
 
--- what a command line was found to be
+-- the result of parsing a command line, as a value of the definitions
 abbrev pub found_of : {I : Type 0} → CompilerArguments (CCompilerHasher I) → Parsed
 found_of (parsed.Ok hasher) = Compilation (arguments_of hasher.parsed_args)
 found_of (parsed.CannotCache reason detail) = CannotCache reason.now (option_map string_bytes detail)

@@ -1,4 +1,4 @@
--- calls: what is asked for, and what it is asked over
+-- calls: what is asked for, and on which files
 use Rattle.std.specs.Prelude.{ℕ, List, [], ◌∷◌, Bool}
 use Rattle.cck_compiler.specs.Arguments.{Arguments}
 use Rattle.cck_files.specs.Calls.{Rose}
@@ -8,7 +8,7 @@ use Rattle.cck_path.specs.Timestamp.{Moment}
 use Rattle.cck_path.specs.Variables.{Variable}
 use Rattle.c_cache_keys.specs.declared.call.CacheControl.{CacheControl}
 
--- what is asked for, where V is what a compiler is seen as
+-- a request; V is the type of compilers in definitions
 pub record Request (V : Type 0) : Type 0 where
   pub compiler : V
   pub executable : Bytes
@@ -17,7 +17,7 @@ pub record Request (V : Type 0) : Type 0 where
   pub cwd : Bytes
   pub env_vars : List Variable
 
--- a call, with its files, its moment, and whether a stored result may be answered
+-- a call, with its files, its call time, and whether a stored key may be returned
 pub record Call (V : Type 0) : Type 0 where
   pub request : Request V
   pub files : FileMap
@@ -30,7 +30,7 @@ pub record Done (V : Type 0) : Type 0 where
   pub faults_before : ℕ
   pub faults_after : ℕ
 
--- a fault came during the call
+-- there was a fault during the call
 abbrev pub Fault : {V : Type 0} → Done V → Type 0
 Fault d = Rose d.faults_before d.faults_after
 
@@ -39,9 +39,9 @@ abbrev pub calls_of : {V : Type 0} → List (Done V) → List (Call V)
 calls_of [] = []
 calls_of (d ∷ ds) = d.call ∷ calls_of ds
 
--- why a call is refused: for lack of memory; a further file has no digest, or a fault came there; the input is no regular file, or
--- a fault came there; the store failed; what it handed out is no entry; there is no preprocessed text, or a fault came there; a
--- line marker of that text is malformed
+-- Why a call returns an error. Memory is lacking, or the store failed, or what it returned is no entry. Or an extra file has no digest, the
+-- input is no regular file, or there is no preprocessed text; for each of these three the cause may be a fault. Or a line marker of the
+-- text is malformed.
 pub data Why : Type 0 where
   Memory : Why
   Extra : Why
@@ -54,7 +54,7 @@ pub data Why : Type 0 where
   TextFault : Why
   Marker : Why
 
--- an answer: a key and whether it was made afresh, or a refusal
+-- the result of a call: a key and whether it was computed, or an error
 pub data Answer : Type 0 where
   Keyed : Bytes → Bool → Answer
   Refused : Why → Answer

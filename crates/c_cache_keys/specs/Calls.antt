@@ -21,7 +21,7 @@ pub record IsAfter {I F : Type 0} (file_map : F → FileMap) (faults : F → ℕ
   pub keeps : Keeps file_map faults is_quiet before.files after.files
 
 module _ {I F V : Type 0} (value : I → V) (file_map : F → FileMap) (faults : F → ℕ) where
-  -- what a call asks for, over the files that it has
+  -- the call of the definitions, on the files that it has
   abbrev pub call_in : Call I F → seen.Call V
   call_in c = record {
     request = request_of value c.hasher c.cwd.items (variables_of c.vars.items);
@@ -41,13 +41,13 @@ module _ {I F V : Type 0} (value : I → V) (file_map : F → FileMap) (faults :
   done_all (c ∷ cs) (d ∷ ds) = done_in c d.files ∷ done_all cs ds
 
   module _ {S : Type 0} (w : World V) (st : Store S) where
-    -- this call was answered so, from one store to another: it is a step, a refusal gives its reason, and an answer names the toolchain
+    -- This call had this result, from one store to another: it is a step, an error gives its reason, and a result has the toolchain's key.
     pub record IsAnswered (s : S) (before after : Call I F) (r : Result HashResult KeyError) (t : S) : Type 0 where
       pub step : Step w st (call_in before) (seen.Fault (done_in before after.files)) s (answer_of r) t
       pub reason : IfErr r (IsReason w st (call_in before) (seen.Fault (done_in before after.files)) s t)
       pub toolchain : IfOk r (λ found. string_bytes found.weak_toolchain_key ≡ toolchain_key before.hasher.executable.items (string_bytes before.hasher.executable_digest))
 
-    -- these calls were answered so, one after another
+    -- these calls had these results, in order
     abbrev pub AreAnswered : S → List (Call I F) → List (Call I F) → List (Result HashResult KeyError) → S → Type 0
     AreAnswered s [] [] [] t = t ≡ s
     AreAnswered s (o ∷ olds) (n ∷ news) (r ∷ rs) t = (mid : S) × IsAnswered s o n r mid × AreAnswered mid olds news rs t

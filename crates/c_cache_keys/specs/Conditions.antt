@@ -1,4 +1,4 @@
--- what a call is made under, and the call and the world that a hasher makes of it
+-- the conditions of a call, and the call and the world that they make with a hasher
 use Rattle.std.specs.Prelude.{List, string_bytes}
 use Rattle.cck_compiler.specs.Compiler.{Compiler}
 use Rattle.cck_compiler.specs.Seen.{arguments_of}
@@ -16,7 +16,7 @@ use Rattle.c_cache_keys.specs.declared.call.CacheControl.{CacheControl}
 use Rattle.c_cache_keys.specs.declared.conditions.Conditions.{Conditions}
 use Rattle.c_cache_keys.specs.declared.hasher.CCompilerHasher.{CCompilerHasher}
 
--- what a call is made under, beside its files
+-- the conditions of a call beside its request and its files
 pub record Given : Type 0 where
   pub cwd : Bytes
   pub env_vars : List Variable
@@ -40,7 +40,7 @@ given_by cwd env_vars moment zone config basedirs control = record {
 abbrev pub given_of : Conditions → Given
 given_of c = given_by c.cwd.now (variables_of c.vars.now) c.moment (plain_zone c.zone.now) c.config (lists_of c.basedirs.now) c.control
 
--- how files are judged under it
+-- how files are judged under these conditions
 abbrev pub setting_under : (Bytes → Bytes) → Given → Setting
 setting_under hash given = record {
   hash = hash;
@@ -54,7 +54,7 @@ setting_under hash given = record {
 abbrev pub world_under : {V : Type 0} → (Bytes → Bytes) → Compiler V → Given → World V
 world_under hash compiler given = world_of hash compiler given.zone given.config given.basedirs
 
--- what a hasher asks for in a directory under variables
+-- the request of a hasher in a directory and under variables
 abbrev pub request_of : {I V : Type 0} → (I → V) → CCompilerHasher I → Bytes → List Variable → Request V
 request_of value hasher cwd env_vars = record {
   compiler = value hasher.compiler;

@@ -1,4 +1,4 @@
--- what the parts of one call answer
+-- the results of the parts of one call
 use Rattle.std.specs.Prelude.{◌≡◌, ◌⊎◌, List, Bool, true, ◌∷◌, ◌++◌, map, Option, Some, None, Result, Ok, Err, String, string_bytes}
 use Rattle.std.specs.FinMap.{empty}
 use Rattle.std.specs.Option.{option_map}
@@ -31,24 +31,24 @@ use Rattle.c_cache_keys.specs.declared.hasher.opening.Opening.{Opening}
 unfoldable pub toolchain_key : Bytes → Bytes → Bytes
 toolchain_key executable digest = lossy executable ++ 45 ∷ digest
 
--- the digest texts of the further files and the key that a store is asked under, as these values hold them
+-- the hex digests of the extra files and the preprocessor key, as these values hold them
 pub record IsOpening {V : Type 0} (w : World V) (c : Call V) (o : Opening) : Type 0 where
   pub opened : Opened w c
   pub extra : extra_texts w c ≡ Some (map string_bytes o.extra_hashes.items)
   pub key : preprocessor_key_of w c ≡ option_map string_bytes o.key
 
--- what asking the store came to
+-- the result of asking the store, as a value of the definitions
 abbrev pub asked_of : Result (Option (String Global)) KeyError → Asked
 asked_of (Ok None) = Miss
 asked_of (Ok (Some key)) = Hit (string_bytes key)
 asked_of (Err e) = Failed (why_of e)
 
--- what making a key came to
+-- the result of computing a key, as a value of the definitions
 abbrev pub made_of : Result (String Global) KeyError → Answer
 made_of (Ok key) = Keyed (string_bytes key) true
 made_of (Err e) = Refused (why_of e)
 
--- The text of the entry of this one result is put; or nothing is, where an included file is missing or a fault came.
+-- The text of the entry of this one result is put; or nothing is, where an included file is missing or there was a fault.
 abbrev pub IsPut : {S : Type 0} → Store S → FileMap → Moment → List Digested → Bytes → Bytes → Type 0 → S → Result (Unit {0}) KeyError → S → Type 0
 IsPut st files moment digested k key HasFault s (Err e) t = (e ≡ refusal.Memory) × (t ≡ s)
 IsPut st files moment digested k key HasFault s (Ok u) t =
@@ -56,26 +56,26 @@ IsPut st files moment digested k key HasFault s (Ok u) t =
     ⊎ ((includes : List Include) × (gathered files moment digested ≡ Some includes)
     × (bytes : Bytes) × EntryText (added empty key includes) bytes × (answer : Stored) × st.put s k bytes answer t)
 
--- the key that a store is asked under, over these digest texts of further files: there is one where the input has a recorded digest
+-- the preprocessor key for these hex digests of extra files: there is one if the input has a recorded digest
 abbrev pub IsKeyOfInput : {V : Type 0} → World V → Call V → List Bytes → Option Bytes → Type 0
 IsKeyOfInput w c extra_hashes key =
     (file : FileNode) × (input_file w c ≡ Some file)
     × (key ≡ option_map (λ recorded. digest_text w.hash (preprocessor_material (request_parts w c.request (input_path c)) extra_hashes recorded)) (recorded (setting w c) file))
 
--- why there is none: the input is no regular file, a fault came, or lack of memory
+-- why there is no such result: the input is no regular file, there was a fault, or memory is lacking
 abbrev pub IsInputRefusal : {V : Type 0} → World V → Call V → Type 0 → KeyError → Type 0
 IsInputRefusal w c HasFault refusal.Memory = Unit {0}
 IsInputRefusal w c HasFault (refusal.Input e) = IsInputReason w c HasFault e
 IsInputRefusal w c HasFault _ = ⊥
 
--- A text that is printed for this call, the key that a store is asked under, and the digest texts of the further files.
+-- A text that is printed for this call, the preprocessor key, and the hex digests of the extra files.
 pub record IsPrintedFor {V : Type 0} (w : World V) (c : Call V) (k : Bytes) (extra_hashes : List Bytes) (text : Bytes) : Type 0 where
   pub key : preprocessor_key_of w c ≡ Some k
   pub extra : extra_texts w c ≡ Some extra_hashes
   pub first : is_preprocessed c.request ≡ true
   pub prints : printed w c ≡ Some text
 
--- The store is asked under this key; or it isn't, where there is none or no stored result may be answered.
+-- The store is asked under this key; or it isn't, where there is no key or no stored key may be returned.
 abbrev pub IsFoundBy : {S : Type 0} → Store S → Option Bytes → CacheControl → (Include → Bool) → Type 0 → S → Asked → S → Type 0
 IsFoundBy st key control test HasFault s o t =
     (((key ≡ None) ⊎ (control ≡ ForceRecache)) × (o ≡ Miss) × (t ≡ s))

@@ -1,4 +1,4 @@
--- what is said of stored results, and of refusals; none of it needs the premises
+-- statements about stored results and about errors; none of them needs the premises
 use Rattle.std.specs.Prelude.{◌≡◌, ◌≢◌, ◌⊎◌, List, [], true, false, ⊤, length, Some, None, Ok}
 use Rattle.std.specs.FinMap.{empty}
 use Rattle.std.specs.List.{AllZip}
@@ -22,21 +22,21 @@ SameRecords w c d text =
     (p : Path) (n : FileNode) → IsNamed w c text p → file_at c.files p ≡ Ok n
     → (o : FileNode) × (file_at d.files p ≡ Ok o) × (length o.contents ≡ length n.contents) × (recorded (setting w d) o ≡ recorded (setting w c) n)
 
--- a call isn't answered afresh under this key
+-- the call doesn't return a computed key with this preprocessor key
 abbrev pub IsAside : {V : Type 0} → World V → Bytes → Call V → Answer → Type 0
 IsAside w k c r = (key : Bytes) → r ≡ Keyed key true → preprocessor_key_of w c ≢ Some k
 
 module _ {V S : Type 0} (w : World V) (st : Store S) where
-  -- After a fresh answer, where something can be recorded and no fault and no setback came, the store holds that one result under the
-  -- call's key, and nothing else.
+  -- After a miss the store holds that one result under the call's key, and nothing else there. The conditions are that something can be
+  -- recorded, and that there was no fault and no store failure.
   abbrev pub FreshIsHeld : Type 0
   FreshIsHeld =
       (d : Done V) (s t : S) (k key : Bytes) (includes : List Include) → preprocessor_key_of w d.call ≡ Some k → AreOwnIncludes w d.call includes
       → (Fault d → ⊥) → (Setback st s t → ⊥) → Step w st d.call (Fault d) s (Keyed key true) t
       → (own : List Include) × AreOwnIncludes w d.call own × (bytes : Bytes) × EntryText (added empty key own) bytes × HoldsOnly st t k bytes
 
-  -- Where something is held under the key of a call that can hit, and all of it is entries with a key to be found, such a key is
-  -- answered.
+  -- Let a call be able to hit, and let something be held under its key, all of it entries with a key that matches. If there is no store
+  -- failure, the call returns such a key.
   abbrev pub HeldIsAnswered : Type 0
   HeldIsAnswered =
       (d : Done V) (s t : S) (r : Answer) (k bytes : Bytes) → CanHit w d k r → (Setback st s t → ⊥) → st.held s k bytes
@@ -44,8 +44,9 @@ module _ {V S : Type 0} (w : World V) (st : Store S) where
       → Step w st d.call (Fault d) s r t
       → (key : Bytes) × (x : Bytes) × (e : Entry) × st.held s k x × EntryText e x × (found w d.call e ≡ Some key) × (r ≡ Keyed key false)
 
-  -- After a fresh answer a later call that can hit, with the same key and over the same recorded files, answers the same key from the
-  -- store, if no call between put another result there.
+  -- After a miss of which something can be recorded, a later call that can hit, with the same preprocessor key, returns the same key from
+  -- the store. The recorded files must be the same, and no call between may have returned a computed key with that preprocessor key. There
+  -- must be no fault in the first call and no store failure.
   abbrev pub StoredIsHit : Type 0
   StoredIsHit =
       (c d : Done V) (between : List (Done V)) (answers : List Answer) (s after before t : S) (k key : Bytes) (includes : List Include) (r : Answer)
@@ -55,7 +56,7 @@ module _ {V S : Type 0} (w : World V) (st : Store S) where
       → (Setback st s t → ⊥)
       → r ≡ Keyed key false
 
-  -- what stands in a call that is refused, where no fault came
+  -- what is true where a call returns an error and there was no fault
   abbrev pub Cause : Call V → S → S → Why → Type 0
   Cause c s t Memory = ⊤
   Cause c s t Extra = extra_texts w c ≡ None
@@ -68,6 +69,6 @@ module _ {V S : Type 0} (w : World V) (st : Store S) where
   Cause c s t TextFault = ⊥
   Cause c s t Marker = (preprocessor_key_of w c ≢ None) × ((text : Bytes) × (printed w c ≡ Some text) × Walk w c text Errs)
 
-  -- each refusal has its cause
+  -- each error has its cause
   abbrev pub RefusalsHaveCauses : Type 0
   RefusalsHaveCauses = (d : Done V) (s t : S) (why : Why) → (Fault d → ⊥) → Step w st d.call (Fault d) s (Refused why) t → Cause d.call s t why

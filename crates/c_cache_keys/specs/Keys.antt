@@ -1,4 +1,4 @@
--- the two keys of a call: the one that a store is asked under, and the plain one, which knows of no store
+-- the two keys of a call: the preprocessor key, and the plain key, which does not depend on a store
 use Rattle.std.specs.Prelude.{List, ◌++◌, Bool, true, ◌&&◌, ◌||◌, not, is_none, if◌then◌else◌, Option, Some, None, Result, Ok, Err, codes, map}
 use Rattle.std.specs.Option.{option_map, option_map_or, option_and_then}
 use Rattle.std.specs.Str.{str_eq_ignore_ascii_case}
@@ -27,12 +27,12 @@ is_off value = str_eq_ignore_ascii_case value (codes "false") || str_eq_ignore_a
 unfoldable pub is_direct : List Variable → Bool
 is_direct env_vars = option_map_or (λ value. not (is_off value)) (first_value env_vars (codes "SCCACHE_DIRECT")) true
 
--- what is told of a result, or nothing
+-- the value of a result, or nothing for an error
 abbrev pub told : {X : Type 0} → Result X FileError → Option X
 told (Ok x) = Some x
 told (Err e) = None
 
--- what a function gives for two things that are there
+-- a function of two values, if both are there
 abbrev pub of_both : {A B C : Type 0} → (A → B → C) → Option A → Option B → Option C
 of_both f None b = None
 of_both f (Some a) b = option_map (f a) b
@@ -48,7 +48,7 @@ module _ {V : Type 0} (w : World V) where
       is_preprocessed q && (w.config.use_preprocessor_cache_mode
       && (is_none q.arguments.too_hard_for_preprocessor_cache_mode && is_direct q.env_vars))
 
-  -- the digest texts of the further files, if each has one
+  -- the hex digests of the extra files, if each has one
   unfoldable pub extra_texts : Call V → Option (List Bytes)
   extra_texts c = texts w.hash c.files (map components c.request.arguments.extra_hash_files)
 
@@ -63,7 +63,7 @@ module _ {V : Type 0} (w : World V) where
   abbrev pub assembler_digest : Request V → Option Bytes
   assembler_digest q = if q.arguments.uses_external_assembler then w.compiler.assembler_digest q.compiler else None
 
-  -- what a request says for the key that a store is asked under
+  -- what a request says for the preprocessor key
   unfoldable pub request_parts : Request V → Bytes → RequestParts
   request_parts q input = record {
     compiler_digest = q.executable_digest;
@@ -79,14 +79,14 @@ module _ {V : Type 0} (w : World V) where
     directory = hashed_directory w.config q.cwd;
   }
 
-  -- the material of that key, if there is one: the cache is used, all further files have digests, and the input has a recorded one
+  -- the key material of that key, if there is one: the cache is used, all extra files have digests, and the input has a recorded digest
   unfoldable pub key_material : Call V → Option Bytes
   key_material c =
       if uses_cache c.request
       then of_both (preprocessor_material (request_parts c.request (input_path c))) (extra_texts c) (input_recorded c)
       else None
 
-  -- the key that a store is asked under
+  -- the preprocessor key
   unfoldable pub preprocessor_key_of : Call V → Option Bytes
   preprocessor_key_of c = option_map (digest_text w.hash) (key_material c)
 
@@ -94,7 +94,7 @@ module _ {V : Type 0} (w : World V) where
   unfoldable pub printed : Call V → Option Bytes
   printed c = w.compiler.prints c.request.compiler c.request.executable c.request.arguments c.request.cwd c.request.env_vars c.files c.moment
 
-  -- the text that the plain key is made over: what is printed, or the input itself where no preprocessor is needed
+  -- the text of the plain key: what is printed, or the input itself where no preprocessor is needed
   unfoldable pub text_of : Call V → Option Bytes
   text_of c = if is_preprocessed c.request then printed c else option_map (λ n. n.contents) (input_file c)
 
@@ -112,6 +112,6 @@ module _ {V : Type 0} (w : World V) where
     assembler_digest = assembler_digest q;
   }
 
-  -- the plain key, if there is a text and all further files have digests
+  -- the plain key, if there is a text and all extra files have digests
   unfoldable pub plain_key : Call V → Option Bytes
   plain_key c = of_both (λ extra_hashes text. object_key w.hash (params c.request extra_hashes text)) (extra_texts c) (text_of c)

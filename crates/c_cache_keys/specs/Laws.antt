@@ -1,4 +1,4 @@
--- what is said of runs
+-- statements about runs
 use Rattle.std.specs.Prelude.{◌≡◌, ◌≢◌, ◌⊎◌, ◌↔◌, List, [], ◌∷◌, ◌++◌, true, false, Some, Ok}
 use Rattle.std.specs.List.{AllZip}
 use Rattle.cck_path.specs.Bytes.{Bytes}
@@ -11,31 +11,31 @@ use Rattle.c_cache_keys.specs.Step.{IsEmpty, OwnPair, Run, Sound, Step, found}
 use Rattle.c_cache_keys.specs.World.{World}
 use Rattle.c_cache_keys.specs.declared.call.CacheControl.TheVariants.{Default, ForceRecache}
 
--- an answered key is the plain key, and no call is refused for what the store handed out
+-- a key that is returned is the plain key, and an error isn't caused by what the store returned
 abbrev pub IsTransparent : {V : Type 0} → World V → Call V → Answer → Type 0
 IsTransparent w c (Keyed key fresh) = plain_key w c ≡ Some key
 IsTransparent w c (Refused why) = why ≢ Damaged
 
--- a stored key may be answered: it isn't forbidden, the preprocessor cache is used, and no fault and no lack of memory came
+-- the call may return a stored key: its control allows it, there is a preprocessor key, and there was no fault and no lack of memory
 pub record CanHit {V : Type 0} (w : World V) (d : Done V) (k : Bytes) (r : Answer) : Type 0 where
   pub control : d.call.control ≡ Default
   pub key : preprocessor_key_of w d.call ≡ Some k
   pub no_fault : Fault d → ⊥
   pub enough_memory : r ≢ Refused Memory
 
--- these lists one behind the other
+-- these lists joined, in their order
 abbrev pub joined_lists : {X : Type 0} → List (List X) → List X
 joined_lists [] = []
 joined_lists (xs ∷ others) = xs ++ joined_lists others
 
 module _ {V S : Type 0} (w : World V) (st : Store S) where
-  -- a run over lists in turn is a run over the list joined, and the other way round
+  -- a run over one list and then another is a run over both lists joined, and conversely
   abbrev pub RunsJoin : Type 0
   RunsJoin =
       (s t : S) (first second : List (Done V)) (answers : List Answer) → Run w st s (first ++ second) answers t
       ↔ ((mid : S) × (before : List Answer) × (after : List Answer) × (answers ≡ before ++ after) × Run w st s first before mid × Run w st mid second after t)
 
-  -- a fresh key is the plain key, whatever the store holds
+  -- a computed key is the plain key, whatever the store holds
   abbrev pub FreshIsPlain : Type 0
   FreshIsPlain = (d : Done V) (s t : S) (key : Bytes) → Step w st d.call (Fault d) s (Keyed key true) t → plain_key w d.call ≡ Some key
 
@@ -43,18 +43,18 @@ module _ {V S : Type 0} (w : World V) (st : Store S) where
   abbrev pub StaysSound : Type 0
   StaysSound = (earlier : List (Call V)) (d : Done V) (s t : S) (r : Answer) → Sound w st s earlier → Step w st d.call (Fault d) s r t → Sound w st t (earlier ++ d.call ∷ [])
 
-  -- under the premises a stored key that a sound store leads to is the plain key
+  -- under the premises, a key that is returned from a sound store is the plain key
   abbrev pub HitIsPlain : Type 0
   HitIsPlain =
       (earlier later : List (Call V)) (d : Done V) (s t : S) (key : Bytes) → Premises w (earlier ++ d.call ∷ later) → Sound w st s earlier
       → Step w st d.call (Fault d) s (Keyed key false) t → plain_key w d.call ≡ Some key
 
-  -- a sound store hands out nothing that is no entry
+  -- a sound store returns nothing that is no entry
   abbrev pub NothingDamaged : Type 0
   NothingDamaged = (earlier : List (Call V)) (d : Done V) (s t : S) → Sound w st s earlier → Step w st d.call (Fault d) s (Refused Damaged) t → ⊥
 
-  -- A call that can hit asks the store once, under its key. Where it is handed an entry with a key whose included files all are what
-  -- they were, the greatest such key is answered, as a stored one, whatever a preprocessor would print; and nothing is put.
+  -- A call that can hit asks the store once, under its key. If the store returns an entry with a key whose included files are all
+  -- unchanged, the call returns the greatest such key, as a stored one, and puts nothing. So it does whatever a preprocessor would print.
   abbrev pub AnswersHanded : Done V → S → Answer → S → Type 0
   AnswersHanded d s r t =
       (k : Bytes) → CanHit w d k r
@@ -64,29 +64,29 @@ module _ {V S : Type 0} (w : World V) (st : Store S) where
   abbrev pub HandedIsAnswered : Type 0
   HandedIsAnswered = (d : Done V) (s t : S) (r : Answer) → Step w st d.call (Fault d) s r t → AnswersHanded d s r t
 
-  -- a run, each of whose calls answers what it is handed, between the same two states as its step
+  -- a run, each of whose calls does so between the same two states as its step
   abbrev pub AllAnswerHanded : S → List (Done V) → List Answer → S → Type 0
   AllAnswerHanded s [] [] t = t ≡ s
   AllAnswerHanded s (d ∷ ds) (r ∷ rs) t = (mid : S) × Step w st d.call (Fault d) s r mid × AnswersHanded d s r mid × AllAnswerHanded mid ds rs t
   AllAnswerHanded s [] (r ∷ rs) t = ⊥
   AllAnswerHanded s (d ∷ ds) [] t = ⊥
 
-  -- each run is such a one, whatever the store holds at first
+  -- each run is one of these, whatever the store holds at first
   abbrev pub RunAnswersHanded : Type 0
   RunAnswersHanded = (s t : S) (done : List (Done V)) (answers : List Answer) → Run w st s done answers t → AllAnswerHanded s done answers t
 
-  -- The headline. Its first half: every answered key of a run from an empty store, stored or fresh, is its call's plain key, and no call
-  -- is refused for what the store handed out. Its second half: a stored key that matches is answered, whatever a preprocessor prints.
-  -- The first half has four premises, and a fifth where the option `hash_working_directory` is off. `Premises` has all but one: no shared
-  -- digest, prints again, options off, and one request for that option. The other one, an honest store, is part of what each
-  -- `PreprocessorStore` keeps to (`got_some`, `got_old` and `put_old` of `StoreLaws`). The second half needs none of them, nor an empty
-  -- store, but that the call can hit (`CanHit`).
+  -- The headline. Its first half: every key that a run from an empty store returns, stored or computed, is the plain key of its call. And
+  -- no call returns an error because of what the store returned. Its second half: a stored key that matches is returned, whatever a
+  -- preprocessor prints. The first half has four premises, and a fifth where the option `hash_working_directory` is off. `Premises` has all
+  -- but one: no shared digest, prints again, options off, and one request for that option. The other one, an honest store, is part of what
+  -- each `PreprocessorStore` keeps to (`got_some`, `got_old` and `put_old` of `StoreLaws`). The second half needs none of them and no empty
+  -- store. It needs that the call can hit (`CanHit`).
   abbrev pub Headline : Type 0
   Headline =
       (s t : S) (done : List (Done V)) (answers : List Answer) → Run w st s done answers t
       → (IsEmpty w st s → Premises w (calls_of done) → AllZip (IsTransparent w) (calls_of done) answers) × AllAnswerHanded s done answers t
 
-  -- the same of several runs on one store, each starting where the one before ended
+  -- several runs on one store, each starting where the one before it ended
   abbrev pub Runs : S → List (List (Done V)) → List (List Answer) → S → Type 0
   Runs s [] [] t = t ≡ s
   Runs s (run ∷ runs) (answers ∷ others) t = (mid : S) × Run w st s run answers mid × Runs mid runs others t
@@ -99,12 +99,12 @@ module _ {V S : Type 0} (w : World V) (st : Store S) where
       → (IsEmpty w st s → Premises w (calls_of (joined_lists runs)) → AllZip (IsTransparent w) (calls_of (joined_lists runs)) (joined_lists answers))
       × AllAnswerHanded s (joined_lists runs) (joined_lists answers) t
 
-  -- what is held after a call was held before it, or is the call's own pair, whose key was the fresh answer
+  -- what is held after a call was held before it, or is the call's own pair, whose key was returned as a computed one
   abbrev pub KeepsOldOrOwn : Type 0
   KeepsOldOrOwn =
       (d : Done V) (s t : S) (r : Answer) → Step w st d.call (Fault d) s r t → (k bytes : Bytes) → st.held t k bytes
       → st.held s k bytes ⊎ ((key : Bytes) × (r ≡ Keyed key true) × OwnPair w d.call key k bytes)
 
-  -- where nothing stored may be answered, nothing is
+  -- a call that may not return a stored key returns none
   abbrev pub RecacheIsFresh : Type 0
   RecacheIsFresh = (d : Done V) (s t : S) (key : Bytes) → d.call.control ≡ ForceRecache → Step w st d.call (Fault d) s (Keyed key false) t → ⊥

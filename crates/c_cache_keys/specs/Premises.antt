@@ -1,4 +1,4 @@
--- what is asked of the calls, so that a stored key is the plain key
+-- the premises on the calls, under which a stored key is the plain key
 use Rattle.std.specs.Prelude.{◌≡◌, ◌≢◌, ◌⊎◌, List, ◌++◌, true, false, Some, None, Ok, Contains}
 use Rattle.cck_digest.specs.Digest.{digest_text}
 use Rattle.cck_file_digest.specs.FolderText.{digest_material}
@@ -21,35 +21,35 @@ module _ {V : Type 0} (w : World V) where
     of_time : (p : Path) (n : FileNode) → file_at c.files p ≡ Ok n → is_timed n.contents ≡ true → file_time_part (setting w c) n ≡ Some x → IsHashed c x
     of_key : key_material w c ≡ Some x → IsHashed c x
 
-  -- no two of these share a digest, but they are equal
+  -- two of these that have one digest are equal
   abbrev pub NoSharedDigest : List (Call V) → Type 0
   NoSharedDigest calls = (c d : Call V) (x y : Bytes) → Contains calls c → Contains calls d → IsHashed c x → IsHashed d y → digest_text w.hash x ≡ digest_text w.hash y → x ≡ y
 
-  -- calls that ask under one key ask for the same
+  -- calls with one preprocessor key are of one request
   abbrev pub OneRequest : List (Call V) → Type 0
   OneRequest calls = (c d : Call V) (k : Bytes) → Contains calls c → Contains calls d → preprocessor_key_of w c ≡ Some k → preprocessor_key_of w d ≡ Some k → c.request ≡ d.request
 
-  -- the first call stands before the second
+  -- the first call comes before the second
   abbrev pub IsBefore : List (Call V) → Call V → Call V → Type 0
   IsBefore calls c d = (xs : List (Call V)) × (ys : List (Call V)) × (calls ≡ xs ++ ys) × Contains xs c × Contains ys d
 
-  -- Two calls agree in what a printed text and a key are made of, beside the input's text and what it includes: in all that a request says
-  -- for the key that a store is asked under, and in the working directory. All their further files have digests, and these are the same.
+  -- Two calls agree in what a printed text and a key depend on, but for the input's text and its included files. That is all that a request
+  -- says for the preprocessor key, and the working directory. All their extra files have hex digests, and these are equal.
   pub record Agree (c d : Call V) : Type 0 where
     pub parts : request_parts w c.request (input_path c) ≡ request_parts w d.request (input_path d)
     pub cwd : c.request.cwd ≡ d.request.cwd
     pub extra : extra_texts w c ≡ extra_texts w d
     pub some_extra : extra_texts w c ≢ None
 
-  -- The file of one call is as that of the other, as far as a text can show: by its contents, by the day and the `SOURCE_DATE_EPOCH` of the
-  -- calls where these hold a date, and by the second of its modification where they hold a timestamp.
+  -- The file of one call equals that of the other as far as a text can show: in its contents; if these hold a date, in the day and the
+  -- `SOURCE_DATE_EPOCH` of the calls; and if they hold a timestamp, in the second of its modification.
   pub record IsSameFile (c d : Call V) (n o : FileNode) : Type 0 where
     pub contents : n.contents ≡ o.contents
     pub day : has_date n.contents ≡ true → local_day w.zone (nanos_of c.moment) ≡ local_day w.zone (nanos_of d.moment)
     pub epoch : has_date n.contents ≡ true → source_date_epoch c.request.env_vars ≡ source_date_epoch d.request.env_vars
     pub second : has_timestamp n.contents ≡ true → AreOfOneSecond w.zone n.modified o.modified
 
-  -- the input is a regular file, and of it and what the text names each regular file is as it was
+  -- the input is a regular file, and it and each regular file that the text names are unchanged
   pub record SameFiles (c d : Call V) (text : Bytes) : Type 0 where
     pub input : FileNode
     pub is_input : file_at c.files (components (input_path c)) ≡ Ok input
@@ -60,7 +60,7 @@ module _ {V : Type 0} (w : World V) where
   abbrev pub NoTime : Call V → Type 0
   NoTime c = (n : FileNode) → file_at c.files (components (input_path c)) ≡ Ok n → has_time n.contents ≡ false
 
-  -- a preprocessor prints the same text once more for a later call that agrees with the first one, over the same files
+  -- a preprocessor prints the same text again for a later call that agrees with the first one, on the same files
   abbrev pub PrintsAgain : List (Call V) → Type 0
   PrintsAgain calls =
       (c d : Call V) (text : Bytes) → IsBefore calls c d → printed w c ≡ Some text → NoTime c → Walk w c text Accepted
@@ -72,7 +72,7 @@ module _ {V : Type 0} (w : World V) where
     pub ignore_time_macros : w.config.ignore_time_macros ≡ false
     pub file_stat_matches : w.config.file_stat_matches ≡ false
 
-  -- All of these, over the calls of a run. One key may be of several requests, where it has the working directory.
+  -- All of these, over the calls of a run. One key may be of several requests if it contains the working directory.
   pub record Premises (calls : List (Call V)) : Type 0 where
     pub hash : NoSharedDigest calls
     pub requests : w.config.hash_working_directory ≡ false → OneRequest calls

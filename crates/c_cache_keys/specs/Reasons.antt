@@ -1,4 +1,4 @@
--- the reason that a refusal gives
+-- the reason that an error gives
 use Rattle.std.specs.Prelude.{◌≡◌, ◌≢◌, map, Some, Ok, Err}
 use Rattle.cck_digest.specs.declared.error.UtilError.{UtilError}
 use Rattle.cck_digest.specs.declared.error.UtilError.TheVariants as util
@@ -19,14 +19,14 @@ use Rattle.c_cache_keys.specs.Keys.{preprocessor_key_of}
 use Rattle.c_cache_keys.specs.Walk.{input_path}
 use Rattle.c_cache_keys.specs.World.{World}
 
--- Here and below F says that a fault came.
+-- Here and below F says that there was a fault.
 module _ {V : Type 0} (w : World V) (c : Call V) (F : Type 0) where
   -- why the input can't be read
   abbrev pub IsInputReason : UtilError → Type 0
   IsInputReason (util.File e) = IsRefusal (file_at c.files (components (input_path c))) F e
   IsInputReason _ = ⊥
 
-  -- the reason of a refusal that comes of files: for a further file it is that of the first one without a digest
+  -- the reason of an error that is caused by files: for an extra file it is that of the first one without a digest
   abbrev pub IsFileReason : KeyError → Type 0
   IsFileReason refusal.Memory = Unit {0}
   IsFileReason (refusal.Extra e) = (e ≢ util.Memory) × IsFirstRefusal w.hash c.files (map components c.request.arguments.extra_hash_files) F e
@@ -37,14 +37,14 @@ module _ {V : Type 0} (w : World V) (c : Call V) (F : Type 0) where
   IsFileReason refusal.Marker = Unit {0}
 
 module _ {S : Type 0} (st : Store S) (k : Bytes) (s t : S) where
-  -- under this key bytes were handed out that are refused as no entry's, for this reason
+  -- under this key the store returned bytes that are no entry, for this reason
   pub record IsNoEntry (e : Error) : Type 0 where
     pub other : e ≢ entry.Memory
     pub bytes : Bytes
     pub got : st.got s k (Ok (Some bytes)) t
     pub reads : Reads (Err e) bytes
 
-  -- the reason of a refusal that comes of asking the store under this key
+  -- the reason of an error that is caused by asking the store under this key
   abbrev pub IsStoreReason : KeyError → Type 0
   IsStoreReason refusal.Memory = Unit {0}
   IsStoreReason refusal.Store = Unit {0}
@@ -52,7 +52,7 @@ module _ {S : Type 0} (st : Store S) (k : Bytes) (s t : S) where
   IsStoreReason _ = ⊥
 
 module _ {V S : Type 0} (w : World V) (st : Store S) (c : Call V) (F : Type 0) (s t : S) where
-  -- the reason of any refusal
+  -- the reason of any error
   abbrev pub IsReason : KeyError → Type 0
   IsReason refusal.Store = Unit {0}
   IsReason (refusal.Entry e) = (k : Bytes) × (preprocessor_key_of w c ≡ Some k) × IsNoEntry st k s t e

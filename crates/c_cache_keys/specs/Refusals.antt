@@ -1,4 +1,4 @@
--- why a call for a key is refused, by why a call below it is
+-- the error of a call for a key, from the error of a call that it makes
 use Rattle.cck_digest.specs.declared.error.FileError.{FileError}
 use Rattle.cck_digest.specs.declared.error.FileError.TheVariants as file
 use Rattle.cck_digest.specs.declared.error.UtilError.{UtilError}

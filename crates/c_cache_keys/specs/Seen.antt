@@ -1,4 +1,4 @@
--- what the program's answers are seen as
+-- the program's results as values of the definitions
 use Rattle.std.specs.Prelude.{Result, Ok, Err}
 use Rattle.std.specs.String.{string_bytes}
 use Rattle.cck_digest.specs.declared.error.FileError.TheVariants as file
@@ -11,7 +11,7 @@ use Rattle.c_cache_keys.specs.Call as calls
 use Rattle.c_cache_keys.specs.Call.{Answer, Keyed, Refused, Why}
 use Rattle.c_cache_keys.specs.declared.call.HashResult.{HashResult}
 
--- whether a refusal is a fault's
+-- the cause of an error: a fault, or the other one
 abbrev pub by_cause : Why → Why → UtilError → Why
 by_cause other fault (util.File file.Fault) = fault
 by_cause other fault (util.File file.NotFound) = other
@@ -27,7 +27,7 @@ by_cause other fault util.InvalidEscape = other
 by_cause other fault util.IncompleteHex = other
 by_cause other fault util.InvalidHex = other
 
--- what a refusal says
+-- the cause of an error
 abbrev pub why_of : KeyError → Why
 why_of key.Memory = calls.Memory
 why_of (key.Extra e) = by_cause calls.Extra calls.ExtraFault e

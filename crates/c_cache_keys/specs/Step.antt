@@ -1,4 +1,4 @@
--- what one call may answer and do to the store, and what a list of calls may
+-- what one call may return and do to the store, and what a list of calls may
 use Rattle.std.specs.Prelude.{◌≡◌, ◌≢◌, ◌⊎◌, List, [], ◌∷◌, Bool, true, false, ⊤, Option, Some, None, Ok, Err, Contains}
 use Rattle.std.specs.FinMap.{empty, entries}
 use Rattle.std.specs.Option.{option_map}
@@ -16,14 +16,14 @@ use Rattle.c_cache_keys.specs.Walk.{Accepted, AreRecorded, Errs, Walk}
 use Rattle.c_cache_keys.specs.World.{World, setting}
 use Rattle.c_cache_keys.specs.declared.call.CacheControl.TheVariants.{Default, ForceRecache}
 
--- what asking the store comes to: a key that may be answered, none, or a refusal
+-- the result of asking the store: a key to return, none, or an error
 pub data Asked : Type 0 where
   Hit : Bytes → Asked
   Miss : Asked
   Failed : Why → Asked
 
--- What bytes come to that were handed out, where a test says which included files are what they were: it is all that is taken of a
--- call. No bytes are the empty entry. Here and below F says that a fault came
+-- The result for bytes that a store returned. The test says which included files are unchanged; nothing else of a call is used. No bytes
+-- are the empty entry. Here and below F says that there was a fault.
 abbrev pub ReadsBy : (Include → Bool) → Type 0 → Bytes → Asked → Type 0
 ReadsBy test F bytes (Hit key) = (e : Entry) × EntryText e bytes × IsLookup test (entries e) F (Some key)
 ReadsBy test F bytes Miss = (bytes ≡ []) ⊎ ((e : Entry) × EntryText e bytes × IsLookup test (entries e) F None)
@@ -51,15 +51,15 @@ pub record AsksBy {S : Type 0} (st : Store S) (test : Include → Bool) (F : Typ
   pub gives : GivesBy test F answer o
 
 module _ {V : Type 0} (w : World V) where
-  -- an included file is what it was, for this call
+  -- an included file is unchanged, for this call
   abbrev pub matching : Call V → Include → Bool
   matching c = matches (setting w c) c.files
 
-  -- the greatest key of an entry whose included files all are what they were, if there is one
+  -- the greatest key of an entry whose included files are all unchanged, if there is one
   unfoldable pub found : Call V → Entry → Option Bytes
   found c e = option_map (λ r. r.0) (found_in (matching c) (entries e))
 
-  -- why a call is refused before the store is asked
+  -- why a call returns an error before the store is asked
   abbrev pub StopsOpening : Call V → Type 0 → Why → Type 0
   StopsOpening c F Memory = ⊤
   StopsOpening c F Extra = extra_texts w c ≡ None
@@ -72,19 +72,19 @@ module _ {V : Type 0} (w : World V) where
   StopsOpening c F TextFault = ⊥
   StopsOpening c F Marker = ⊥
 
-  -- all further files have digests, and the input is a regular file where the preprocessor cache is used
+  -- all extra files have digests, and where the preprocessor cache is used the input is a regular file
   pub record Opened (c : Call V) : Type 0 where
     pub extra : extra_texts w c ≢ None
     pub input : uses_cache w c.request ≡ true → input_file w c ≢ None
 
-  -- what bytes come to for a call that were handed out
+  -- the result of a call for bytes that the store returned
   abbrev pub ReadsAs : Call V → Type 0 → Bytes → Asked → Type 0
   ReadsAs c = ReadsBy (matching c)
 
   abbrev pub Gives : Call V → Type 0 → Handed → Asked → Type 0
   Gives c = GivesBy (matching c)
 
-  -- these included files are recorded of the call: all regular files that its text names, and there are some
+  -- these included files are recorded of the call: all regular files that its text names, at least one
   pub record AreOwnIncludes (c : Call V) (includes : List Include) : Type 0 where
     pub text : Bytes
     pub is_text : printed w c ≡ Some text
@@ -94,7 +94,7 @@ module _ {V : Type 0} (w : World V) where
     pub some : digested ≢ []
     pub includes_are : gathered c.files c.moment digested ≡ Some includes
 
-  -- the key and the bytes are the call's own: its preprocessor key, and the text of the entry of its plain key alone
+  -- the pair is the call's own: its preprocessor key, and the text of the entry that has its plain key alone
   pub record OwnPair (c : Call V) (key k bytes : Bytes) : Type 0 where
     pub is_key : preprocessor_key_of w c ≡ Some k
     pub is_plain : plain_key w c ≡ Some key
@@ -106,7 +106,7 @@ module _ {V : Type 0} (w : World V) where
   abbrev pub NothingNew : Call V → Type 0
   NothingNew c = (k : Bytes) (includes : List Include) → preprocessor_key_of w c ≡ Some k → AreOwnIncludes c includes → ⊥
 
-  -- why a call is refused while its key is made
+  -- why a call returns an error while its key is computed
   abbrev pub StopsMaking : Call V → Type 0 → Why → Type 0
   StopsMaking c F Memory = ⊤
   StopsMaking c F NoText = (is_preprocessed c.request ≡ true) × (printed w c ≡ None)
@@ -119,7 +119,7 @@ module _ {V : Type 0} (w : World V) where
   StopsMaking c F StoreFails = ⊥
   StopsMaking c F Damaged = ⊥
 
-  -- No key is answered over a malformed marker. Where a fault came, the text may have been refused before that
+  -- No key is returned where a malformed marker decides. Where there was a fault, the walk may have ended before that marker.
   abbrev pub NotErring : Call V → Type 0 → Type 0
   NotErring c F = (text : Bytes) → preprocessor_key_of w c ≢ None → printed w c ≡ Some text → Walk w c text Errs → F
 
@@ -136,11 +136,11 @@ module _ {V S : Type 0} (w : World V) (st : Store S) where
     pub answer : Stored
     pub put : st.put s k bytes answer t
 
-  -- it is put; or nothing is, where nothing can be recorded or a fault came
+  -- the pair is put; or nothing is, where nothing can be recorded or there was a fault
   abbrev pub Stores : Call V → Type 0 → Bytes → S → S → Type 0
   Stores c F key s t = Puts c key s t ⊎ ((t ≡ s) × (F ⊎ NothingNew w c))
 
-  -- the key is made afresh: it is refused and nothing is put, or it is the plain key
+  -- the key is computed: there is an error and nothing is put, or it is the plain key
   pub data Makes (c : Call V) (F : Type 0) (s : S) (r : Answer) (t : S) : Type 0 where
     stops : (why : Why) → StopsMaking w c F why → r ≡ Refused why → t ≡ s → Makes c F s r t
     gives : (key : Bytes) → plain_key w c ≡ Some key → NotErring w c F → r ≡ Keyed key true → Stores c F key s t → Makes c F s r t
@@ -150,14 +150,14 @@ module _ {V S : Type 0} (w : World V) (st : Store S) where
   Ends c F (Failed why) mid r t = (r ≡ Refused why) × (t ≡ mid)
   Ends c F Miss mid r t = Makes c F mid r t
 
-  -- One call: it is refused before the store is asked; or has no key to ask under, or mustn't ask, and makes its key; or asks, and
-  -- makes its key after a miss
+  -- One call. It may return an error before the store is asked. If it has no preprocessor key or may not ask, it computes its key.
+  -- Otherwise it asks, and computes its key after a miss.
   pub data Step (c : Call V) (F : Type 0) (s : S) (r : Answer) (t : S) : Type 0 where
     stopped : (why : Why) → StopsOpening w c F why → r ≡ Refused why → t ≡ s → Step c F s r t
     made : Opened w c → (preprocessor_key_of w c ≡ None) ⊎ (c.control ≡ ForceRecache) → Makes c F s r t → Step c F s r t
     asked : Opened w c → (k : Bytes) → preprocessor_key_of w c ≡ Some k → c.control ≡ Default → (o : Asked) (mid : S) → Asks c F k s o mid → Ends c F o mid r t → Step c F s r t
 
-  -- calls in order, each starting where the one before ended
+  -- calls in order, each starting where the one before it ended
   abbrev pub Run : S → List (Done V) → List Answer → S → Type 0
   Run s [] [] t = t ≡ s
   Run s (d ∷ ds) (r ∷ rs) t = (mid : S) × Step d.call (Fault d) s r mid × Run mid ds rs t

@@ -15,7 +15,7 @@ use Rattle.c_cache_keys.specs.World.{World, setting}
 abbrev pub IsAngled : Bytes → Type 0
 IsAngled name = (inner : Bytes) × (name ≡ 60 ∷ inner ++ 62 ∷ [])
 
--- a text is recorded, or not, or has a malformed marker
+-- the verdict on a text: it is recorded, or not, or has a malformed marker
 pub data Verdict : Type 0 where
   Accepted : Verdict
   NotAccepted : Verdict
@@ -30,7 +30,8 @@ abbrev pub path_of : {V : Type 0} → Call V → Bytes → Path
 path_of c name = normal (joined (components c.request.cwd) (components name))
 
 module _ {V : Type 0} (w : World V) where
-  -- what a name means is looked at: the name is something, and no `<..>`, nor a system header's where these are skipped, nor the input
+  -- The file of a name is looked at: the name is not empty and no `<..>`, is not of a system header where these are skipped, and its path
+  -- is not the input's.
   pub record IsLooked (c : Call V) (name : Bytes) (system : Bool) : Type 0 where
     pub some : name ≢ []
     pub not_angled : IsAngled name → ⊥
@@ -47,15 +48,15 @@ module _ {V : Type 0} (w : World V) where
     pub looked : IsLooked c name system
     pub is : p ≡ path_of c name
 
-  -- neither time of the file is the moment or later
+  -- both times of the file, where it has them, are before the call time
   abbrev pub IsOld : Call V → FileNode → Type 0
   IsOld c n = IfSome n.modified (λ t. is_before t c.moment ≡ true) × IfSome n.changed (λ t. is_before t c.moment ≡ true)
 
-  -- a folder, or an old regular file that has a recorded digest
+  -- a directory, or an old regular file that has a recorded digest
   abbrev pub IsGood : Call V → Path → Type 0
   IsGood c p = (folder_at c.files p ≡ Ok tt) ⊎ ((n : FileNode) × (file_at c.files p ≡ Ok n) × IsOld c n × (recorded (setting w c) n ≢ None))
 
-  -- the first refusal, malformed marker or path that isn't good decides
+  -- the first of these decides: a mark of a refused text, a malformed marker, or a path that isn't good
   abbrev pub MarksDecide : Call V → List Mark → Verdict → Type 0
   MarksDecide c [] v = v ≡ Accepted
   MarksDecide c (Refusal ∷ marks) v = v ≡ NotAccepted
@@ -68,7 +69,7 @@ module _ {V : Type 0} (w : World V) where
   abbrev pub Walk : Call V → Bytes → Verdict → Type 0
   Walk c text v = (marks : List Mark) × Marks true text marks × MarksDecide c marks v
 
-  -- a recorded digest and a path as it is written: of a regular file that the text names
+  -- a recorded digest and a written path: those of a regular file that the text names
   pub record IsRecorded (c : Call V) (text : Bytes) (d : Digested) : Type 0 where
     pub path : Path
     pub written : d.1 ≡ path_text path

@@ -1,4 +1,4 @@
--- what a walk is handed of a call, and what is made of its answer
+-- what a walk takes of a call, and the meaning of its result
 use Rattle.std.specs.Prelude.{◌≡◌, ◌⊎◌, ◌↔◌, ℕ, List, map, Result, Ok, Err, String}
 use Rattle.std.specs.Global.{Vec}
 use Rattle.std.specs.FinMap.{entries}
@@ -18,7 +18,7 @@ use Rattle.c_cache_keys.specs.Call.{Call}
 use Rattle.c_cache_keys.specs.Walk.{Accepted, AreRecorded, Errs, NotAccepted, Verdict, Walk, input_path}
 use Rattle.c_cache_keys.specs.World.{World, setting}
 
--- how a call's files are judged, which there are, its input, and where names begin
+-- how a call's files are judged, the files, the input, and the directory from which names are resolved
 abbrev pub walk_context : {V : Type 0} → World V → Call V → Context
 walk_context w c = record {
   setting = setting w c;
@@ -49,7 +49,7 @@ VerdictIsDecided {V} w =
 abbrev pub digested_of : List (Vec ℕ × String Global) → List Digested
 digested_of files = map (λ f. (string_bytes (f.1), f.0.items)) files
 
--- A walk over a call's text answered: its verdict, and with an accepted text what is recorded; with a fault the text may be refused
+-- The result of a walk over a call's text: its verdict, and for an accepted text what is recorded. With a fault the text may be refused
 -- whatever its verdict.
 abbrev pub IsWalked : {V : Type 0} → World V → Call V → Bytes → Type 0 → Result walk.Walk KeyError → Type 0
 IsWalked w c text HasFault (Ok (answer.Accepted files)) = Walk w c text Accepted × AreRecorded w c text (digested_of files.items)

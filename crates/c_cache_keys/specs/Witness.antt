@@ -1,4 +1,4 @@
--- two calls that meet all that is asked of a run, of which the second one is of another request and is answered from the store
+-- two calls that meet the premises of a run; the second is of another request and returns its key from the store
 use Rattle.std.specs.Prelude.{◌≢◌, ◌%◌, ℕ, List, [], ◌∷◌, length, pos, true, false, Some, None, codes}
 use Rattle.std.specs.FinMap.{empty, from_sorted}
 use Rattle.cck_compiler.specs.Arguments.{Arguments}
@@ -41,7 +41,7 @@ included_text = codes "int y1;\n"
 abbrev pub printed_text : Bytes
 printed_text = codes "# 1 \"/w/a.c\"\n# 1 \"/w/h.h\" 1\nint y1;\n# 2 \"/w/a.c\" 2\nint x;\n"
 
--- both are a second old or older at the moment of the calls
+-- the time n seconds after 1970; both files are of second 1, and the calls of second 5
 abbrev pub second : ℕ → Moment
 second n = record { seconds = pos n; nanoseconds = 0 }
 
@@ -57,7 +57,7 @@ witness_nodes = (path_in_w (codes "a.c"), file_of input_text) ∷ (path_in_w (co
 abbrev pub witness_files : FileMap
 witness_files = record { nodes = from_sorted {R = path_cmp} witness_nodes; canonicals = empty }
 
--- the arguments of a compilation that writes its object there
+-- the arguments of a compilation that writes its object at this path
 abbrev pub witness_arguments : Bytes → Arguments
 witness_arguments object = record {
   input = codes "a.c";
@@ -125,8 +125,8 @@ witness_done c = record { call = c; faults_before = 0; faults_after = 0 }
 abbrev pub witness_run : List (Done (Unit {0}))
 witness_run = witness_done first_call ∷ witness_done second_call ∷ []
 
--- All that the promise takes holds of this run at once, with no fault and no setback, on a store in memory that is new: of its two calls,
--- which are of two requests, the first one makes a key, and the second one answers it from the store.
+-- All that the headline takes holds of this run at once, with no fault and no store failure, on a new store in memory. Of its two calls,
+-- which are of two requests, the first computes a key, and the second returns it from the store.
 pub record PremisesCanHold : Type 0 where
   pub two_requests : first_call.request ≢ second_call.request
   pub size : HasSize witness_hash

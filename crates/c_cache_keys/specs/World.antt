@@ -1,4 +1,4 @@
--- what the keys are made by, beside a call: the hash, the zone, the options, the base directories and the compiler
+-- what the keys depend on beside a call: the hash, the zone, the options, the base directories and the compiler
 use Rattle.std.specs.Prelude.{◌≡◌, List, length}
 use Rattle.cck_compiler.specs.Compiler.{Compiler}
 use Rattle.cck_include.specs.Setting.{Setting}
@@ -28,6 +28,6 @@ setting w c = record {
   variables = c.request.env_vars;
 }
 
--- what is handed in, as one
+-- these values as a world
 abbrev pub world_of : {V : Type 0} → (Bytes → Bytes) → Compiler V → TimeZone → PreprocessorCacheModeConfig → List Bytes → World V
 world_of hash compiler zone config basedirs = record { hash = hash; zone = zone; config = config; basedirs = basedirs; compiler = compiler }

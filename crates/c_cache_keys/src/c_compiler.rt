@@ -18,7 +18,7 @@ use cck_file_digest::DigestFiles;
 use cck_files::Files;
 use std::alloc::Global;
 
-/// A compiler and the executable that it is.
+/// A compiler and its executable.
 ///
 /// Upstream's `compiler::c::CCompiler`.
 #[derive(Drop)]
@@ -27,15 +27,19 @@ pub struct CCompiler<I> {
     pub compiler: I,
     /// The path of its executable.
     pub executable: Vec<u8>,
-    /// The digest text of its executable.
+    /// The hex digest of its executable.
     pub executable_digest: String,
 }
 
 impl<I: CCompilerImpl> CCompiler<I> {
-    /// A compiler with its executable, which is read for its digest text: that of what stands at
-    /// the path, or, where the compiler has a version, that of this text and the version behind it.
+    /// Returns a compiler with its executable, which is read for its hex digest. That is the hex
+    /// digest of the node at the path. Where the compiler has a version, it is the hex digest of
+    /// that one followed by the version.
     ///
-    /// Upstream's `CCompiler::new`. It is refused as [`DigestFiles::file`] is at the path.
+    /// The errors are those of [`DigestFiles::file`] at the path. After an error the compiler and
+    /// the path are dropped.
+    ///
+    /// Upstream's `CCompiler::new`.
     pub fn new<H: HashState, F: Files>(
         alloc: Global,
         compiler: I,
@@ -72,16 +76,16 @@ impl<I: CCompilerImpl> CCompiler<I> {
         self.compiler.kind()
     }
 
-    /// What a command line comes to, in a directory and under variables.
+    /// Returns what a command line is, in a directory and under variables.
     ///
-    /// A compilation is what the compiler says of it, with more files whose digests stand in the
-    /// keys, which [`add_extra_files`] puts behind those that the compiler tells: what the
-    /// variables `SCCACHE_EXTRAFILES` name and, for HIP, the device libraries.
+    /// A compilation has the arguments that the compiler parses. To their extra files
+    /// [`add_extra_files`] appends those that the variables `SCCACHE_EXTRAFILES` name and, for HIP,
+    /// the device libraries.
     ///
-    /// It is refused as
+    /// Errors:
     ///
-    /// - [`KeyError::Extra`] of a fault only where the count of faults rose, for HIP,
-    /// - [`KeyError::Memory`].
+    /// - [`KeyError::Extra`] of a fault: only for HIP, and only where the count of faults rose.
+    /// - [`KeyError::Memory`]: memory is lacking.
     ///
     /// Upstream's `CCompiler::parse_arguments`.
     pub fn parse_arguments<F: Files>(
@@ -116,9 +120,9 @@ impl<I: CCompilerImpl> CCompiler<I> {
         }
     }
 
-    /// The same compiler once more.
+    /// A copy of the compiler.
     ///
-    /// It is refused only for lack of memory, as [`KeyError::Memory`].
+    /// The only error is [`KeyError::Memory`].
     pub fn copy(&self, alloc: Global) -> Result<CCompiler<I>, KeyError>
         ensures compiler { IfOk result (λ copy. I.value copy.compiler ≡ I.value self.now.compiler) }
         ensures executable { IfOk result (λ copy. copy.executable.items ≡ self.now.executable.items) }
@@ -155,7 +159,7 @@ impl<I: CCompilerImpl> CCompiler<I> {
     }
 }
 
-// The digest text of a digest text and a version behind it.
+// The hex digest of a hex digest followed by a version.
 fn text_with_version<H: HashState>(
     alloc: Global,
     text: &str,

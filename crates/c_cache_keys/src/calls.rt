@@ -1,4 +1,4 @@
-//! Calls for keys, one after another on one store.
+//! Calls for keys, in order on one store.
 ghost use Rattle.std.specs.Prelude.{◌≡◌, IfOk, IsOkUnless, OnErr, length, map};
 ghost use Rattle.std.specs.List.{AllZip};
 ghost use Rattle.cck_path.specs.Bytes.{lists_of};
@@ -27,45 +27,46 @@ use std::alloc::Global;
 pub struct Call<I, F> {
     /// The compilation.
     pub hasher: CCompilerHasher<I>,
-    /// The files that it is made over.
+    /// The files of the call.
     pub files: F,
     /// The working directory.
     pub cwd: Vec<u8>,
     /// The variables of the environment, as pairs of a name and a value.
     pub vars: Vec<(Vec<u8>, Vec<u8>)>,
-    /// When it begins.
+    /// The call time: when the call begins.
     pub moment: Timestamp,
-    /// Whether a stored result may be answered.
+    /// Whether a stored key may be returned.
     pub control: CacheControl,
 }
 
-/// The keys of these calls in their order, one result a call.
+/// Makes these calls in order on one store, and returns their results in the same order.
 ///
-/// The headline has two halves. Over a store that is empty at first each key that is answered,
-/// stored or fresh, is the plain key of its call, and no call is refused for what the store handed
-/// out, if
+/// The headline has two halves. First: on a store that is empty at first, each key that is
+/// returned, from the store or computed, is the plain key of its call. And no call returns an error
+/// because of what the store returned. This holds if
 ///
-/// - no two different strings that may be hashed share a digest;
-/// - a preprocessor prints the same text again for a later call that agrees with the first one in
-///   all that the preprocessor key has of a request and in the working directory, over the same
-///   input and the same included files;
+/// - no two different strings that may be hashed have one digest;
+/// - a preprocessor prints the same text again for a later call that agrees with the first one, on
+///   the same input and the same included files. Calls agree in all that the preprocessor key has
+///   of a request, and in the working directory;
 /// - the options that let a changed file count as unchanged are off;
-/// - calls that have one preprocessor key ask for the same, if
-///   [`hash_working_directory`](PreprocessorCacheModeConfig::hash_working_directory) is off. Where it
-///   is on, nothing of the kind is asked;
-/// - the store hands out only what was put under the key: its interface demands it, so it is no
-///   further condition here. It may forget, fail and run out of memory at any time.
+/// - calls with one preprocessor key are of one request, if
+///   [`hash_working_directory`](PreprocessorCacheModeConfig::hash_working_directory) is off. If it
+///   is on, this is not asked;
+/// - the store returns only what was put under the key. The store's interface demands it, so it is
+///   no extra condition here. The store may lose entries, fail and run out of memory at any time.
 ///
-/// And over any store, whether these hold or not, a stored key that matches is answered, whatever a
-/// preprocessor would print, if
+/// Second: on any store, whether these hold or not, a stored key that matches is returned, whatever
+/// a preprocessor would print, if
 ///
-/// - the call can hit: it may use the store and has a key to ask it under, no fault came in it, its
-///   memory sufficed, and it was handed an entry with a key whose included files all are what they
-///   were. The greatest such key is then the answer, and nothing is put.
+/// - the call can hit: it may use the store, has a preprocessor key, met no fault and had enough
+///   memory;
+/// - the store returned an entry with a key whose included files are all unchanged. The greatest
+///   such key is returned, and nothing is put.
 ///
-/// Of a call only the state of its files changes. Each result is as
-/// [`generate_hash_key`](CCompilerHasher::generate_hash_key) gives it, of the store as the calls
-/// before leave it. The whole is refused only as [`UtilError::Memory`], and then no call was made.
+/// Of a call only the state of its files changes. Each result is that of
+/// [`generate_hash_key`](CCompilerHasher::generate_hash_key) on the store that the calls before it
+/// left. The only error is [`UtilError::Memory`], and then no call was made.
 pub fn run_calls<H: HashState, I: CCompilerImpl, F: Files, S: PreprocessorStore>(
     alloc: Global,
     store: &mut S,

@@ -1,24 +1,24 @@
-//! What a call for a key is made under.
+//! The conditions of a call for a key.
 use crate::call::CacheControl;
 use cck_path::Timestamp;
 use cck_time::PreprocessorCacheModeConfig;
 use jiff::tz::TimeZone;
 
-/// All that a call for a key is made under, beside its files and its store.
+/// All that a call for a key takes beside the compilation, its files and its store.
 #[derive(Drop)]
 pub(crate) struct Conditions<'a> {
     /// The working directory.
     pub(crate) cwd: &'a [u8],
     /// The variables of the environment, as pairs of a name and a value.
     pub(crate) vars: &'a [(Vec<u8>, Vec<u8>)],
-    /// When the call began.
+    /// The call time.
     pub(crate) moment: Timestamp,
-    /// Where local days and seconds are told.
+    /// The zone of local dates and seconds.
     pub(crate) zone: &'a TimeZone<'a>,
-    /// How files are judged.
+    /// The options by which files are judged.
     pub(crate) config: PreprocessorCacheModeConfig,
-    /// The directories that are cut out of what enters a key.
+    /// The directories that are cut out of what is hashed for a key.
     pub(crate) basedirs: &'a [Vec<u8>],
-    /// Whether a stored result may be answered.
+    /// Whether a stored key may be returned.
     pub(crate) control: CacheControl,
 }

@@ -30,7 +30,7 @@ use cck_util::Language;
 use jiff::tz::TimeZone;
 use std::alloc::Global;
 
-/// A compilation that keys are asked for: a compiler and a command line for it.
+/// A compilation whose keys can be computed: a compiler and a parsed command line.
 ///
 /// Upstream's `compiler::c::CCompilerHasher`.
 #[derive(Drop)]
@@ -39,39 +39,41 @@ pub struct CCompilerHasher<I> {
     pub compiler: I,
     /// The path of its executable.
     pub executable: Vec<u8>,
-    /// The digest text of its executable.
+    /// The hex digest of its executable.
     pub executable_digest: String,
-    /// The command line.
+    /// The parsed command line.
     pub parsed_args: ParsedArguments,
 }
 
 impl<I: CCompilerImpl> CCompilerHasher<I> {
-    /// The key of the compilation, stored or fresh.
+    /// Returns the key of the compilation, from the store or computed.
     ///
-    /// First the digests of further files are taken, and the key under which a store may be asked,
-    /// if there is one: the language is preprocessed, the options and the variable `SCCACHE_DIRECT`
-    /// allow it, and the arguments don't forbid it. Under that key the store is asked once, unless
-    /// `control` forbids it, and the greatest key of an entry whose included files all are what
-    /// they were is the answer: what looks it up takes no compiler, so it can't preprocess. Else
-    /// the input is preprocessed, and its text with the compiler and its arguments gives the key.
-    /// Where there is a key to ask under, and the text could be walked over and names files, an
-    /// entry of this one result is put; whether that went well doesn't change the answer.
+    /// First the digests of the extra files are computed, then the preprocessor key. There is one
+    /// if the language is preprocessed, the options and the variable `SCCACHE_DIRECT` allow the
+    /// cache, the arguments don't forbid it, and the input has a recorded digest. Unless `control`
+    /// forbids it, the store is then asked once under that key. If it returns an entry with a key
+    /// whose included files are all unchanged, the greatest such key is returned. This look-up has
+    /// no access to the compiler, so it can't preprocess.
     ///
-    /// It is refused as
+    /// Otherwise the input is preprocessed, or read where its language needs no preprocessor. Its
+    /// text, the compiler and the arguments give the key. If there is a preprocessor key, and the
+    /// walk accepts the text and records files, an entry of this one result is put into the store.
+    /// Whether the put succeeds doesn't change the result.
     ///
-    /// - [`KeyError::Extra`] where a further file has no digest,
-    /// - [`KeyError::Input`] where the input is no regular file, and the preprocessor cache is
-    ///   used, or no preprocessor is needed,
-    /// - [`KeyError::Store`] where the store failed, and [`KeyError::Entry`] where what it handed
-    ///   out is no entry,
-    /// - [`KeyError::Preprocess`] where there is no preprocessed text,
-    /// - [`KeyError::Marker`] where there is a key to ask the store under, and a line marker of the
-    ///   text is malformed before the text is refused,
-    /// - [`KeyError::Memory`].
+    /// Errors:
     ///
-    /// A fault of the files can bring about the refusals of a further file, of the input and of the
-    /// preprocessor too, and can keep an entry from being used or put. A call that is refused puts
-    /// nothing.
+    /// - [`KeyError::Extra`]: an extra file has no digest.
+    /// - [`KeyError::Input`]: the input is no regular file, and the preprocessor cache is used or
+    ///   no preprocessor is needed.
+    /// - [`KeyError::Store`]: the store failed.
+    /// - [`KeyError::Entry`]: what the store returned is no entry.
+    /// - [`KeyError::Preprocess`]: there is no preprocessed text.
+    /// - [`KeyError::Marker`]: there is a preprocessor key, and the text has a malformed line
+    ///   marker before anything else stops the walk.
+    /// - [`KeyError::Memory`]: memory is lacking.
+    ///
+    /// A fault of the files can also cause the errors `Extra`, `Input` and `Preprocess`, and can
+    /// keep an entry from being used or put. A call that returns an error puts nothing.
     ///
     /// Upstream's `CCompilerHasher::generate_hash_key`.
     pub fn generate_hash_key<H: HashState, F: Files, S: PreprocessorStore>(
@@ -152,11 +154,10 @@ impl<I: CCompilerImpl> CCompilerHasher<I> {
         self.parsed_args.color_mode
     }
 
-    /// The file name of the output `obj`, to be shown, or `Unknown filename`, as
-    /// [`ParsedArguments::output_pretty`] says.
+    /// Returns the file name of the output `obj` for display, or `Unknown filename`, as
+    /// [`ParsedArguments::output_pretty`] does.
     ///
-    /// Upstream's `CCompilerHasher::output_pretty`. It is refused only for lack of memory, as
-    /// [`KeyError::Memory`].
+    /// Upstream's `CCompilerHasher::output_pretty`. The only error is [`KeyError::Memory`].
     pub fn output_pretty(&self, alloc: Global) -> Result<String, KeyError>
         ensures name { IfOk result (λ name.
             string_bytes name ≡ output_name (arguments_of self.now.parsed_args)) }
@@ -165,9 +166,9 @@ impl<I: CCompilerImpl> CCompilerHasher<I> {
         self.parsed_args.output_pretty(alloc)
     }
 
-    /// The same compilation, in memory of its own.
+    /// A copy of the compilation, in memory of its own.
     ///
-    /// [`KeyError::Memory`] is the only refusal.
+    /// The only error is [`KeyError::Memory`].
     pub fn copy(&self, alloc: Global) -> Result<CCompilerHasher<I>, KeyError>
         ensures compiler { IfOk result (λ copy. I.value copy.compiler ≡ I.value self.now.compiler) }
         ensures executable { IfOk result (λ copy. copy.executable.items ≡ self.now.executable.items) }
@@ -188,8 +189,8 @@ impl<I: CCompilerImpl> CCompilerHasher<I> {
         })
     }
 
-    // The path of the executable, with U+FFFD for what is no UTF-8, a `-` and the executable's
-    // digest.
+    // The path of the executable with U+FFFD for what is not UTF-8, a `-`, and the hex digest of
+    // the executable.
     #[tactic(auto, unfolding(crate::specs::Hasher::toolchain_key))]
     fn weak_toolchain_key(&self, alloc: Global) -> Result<String, KeyError>
         ensures key { IfOk result (λ key. string_bytes key

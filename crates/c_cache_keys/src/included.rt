@@ -1,4 +1,4 @@
-//! What a walk recorded, as an entry takes it.
+//! What a walk recorded, in the form that an entry takes.
 ghost use Rattle.std.specs.Prelude.{◌≡◌, IfOk, IsOkUnless};
 ghost use Rattle.cck_include.specs.Gathered.{digested_in};
 ghost use Rattle.c_cache_keys.specs.Walked.{digested_of};
@@ -9,7 +9,7 @@ use std::alloc::Global;
 /// The digests and the paths that a walk recorded, in their order, as
 /// [`add_result`](cck_entry::PreprocessorCacheEntry::add_result) takes them.
 ///
-/// It is refused only as [`KeyError::Memory`].
+/// The only error is [`KeyError::Memory`].
 pub(crate) fn included_of(
     alloc: Global,
     files: Vec<(Vec<u8>, String)>,

@@ -1,40 +1,43 @@
 //! The keys of compilations, after sccache's `src/compiler/c.rs`.
 //!
-//! A compilation is told by its *plain key*: the digest of the compiler, its arguments, some
-//! variables and the preprocessed text. To save preprocessing, a store may hold, under a
-//! *preprocessor key* that needs no preprocessed text, plain keys with the files that each of them
-//! was made over, and a plain key is answered from there if all these files still are what they
-//! were.
+//! The *plain key* of a compilation is the hex digest of the compiler, its arguments, some
+//! variables and the preprocessed text. To save preprocessing, a store may hold entries. An entry
+//! is held under a *preprocessor key*, which needs no preprocessed text, and has plain keys with
+//! the files that each was computed from. Such a key is returned from the store if all its files
+//! are unchanged.
 //!
-//! [`CCompiler`] is a compiler with its executable, and parses command lines; what it makes of one
-//! is a [`CCompilerHasher`], whose [`generate_hash_key`](CCompilerHasher::generate_hash_key) is one
-//! call for a key. [`run_calls`] makes calls in order. They work over any
-//! [`Files`](cck_files::Files), any compiler ([`CCompilerImpl`]), any store ([`PreprocessorStore`])
-//! and any hash function. A call answers a [`HashResult`], or a [`KeyError`] that says why there is
-//! no key, be it for a [`PreprocessError`] of the compiler or a [`StoreError`] of the store.
+//! [`CCompiler`] is a compiler with its executable. It parses a command line into a
+//! [`CCompilerHasher`], whose [`generate_hash_key`](CCompilerHasher::generate_hash_key) is one call
+//! for a key. [`run_calls`] makes calls in order. They take any [`Files`](cck_files::Files), any
+//! compiler ([`CCompilerImpl`]), any store ([`PreprocessorStore`]) and any hash function. A call
+//! returns a [`HashResult`], or a [`KeyError`] that says why there is no key. Its cause may be a
+//! [`PreprocessError`] of the compiler or a [`StoreError`] of the store.
 //!
-//! The headline is two clauses of [`run_calls`] and a law over its words, [`laws::headline`]. Over
-//! calls in order on a store that starts empty every answered key is the plain key, where
+//! The headline is two clauses of [`run_calls`], and a law over the same definitions,
+//! [`laws::headline`]. The first half: over calls in order on a store that starts empty, every key
+//! that is returned is the plain key of its call, if
 //!
-//! - no two different strings that may be hashed share a digest;
-//! - a preprocessor prints the same text again for a later call that agrees with the first one in
-//!   all that the preprocessor key has of a request and in the working directory, over the same
-//!   input and the same included files;
+//! - no two different strings that may be hashed have one digest;
+//! - a preprocessor prints the same text again for a later call that agrees with the first one, on
+//!   the same input and the same included files. Calls agree in all that the preprocessor key has
+//!   of a request, and in the working directory;
 //! - the options that let a changed file count as unchanged are off;
-//! - the store hands out only what was put, as its interface demands;
-//! - calls that have one preprocessor key ask for the same, if the option `hash_working_directory`
-//!   is off. Where it is on, nothing of the kind is asked.
+//! - the store returns only what was put, as its interface demands;
+//! - calls with one preprocessor key are of one request, if the option `hash_working_directory` is
+//!   off. If it is on, this is not asked.
 //!
-//! And on any store a stored key that matches is answered, by a call that may use the store and
-//! meets no fault and no lack of memory.
+//! The second half: on any store, a stored key that matches is returned by a call that may use the
+//! store and meets no fault and no lack of memory.
 //!
-//! What a text was made of is read from its line markers by [`process_preprocessed_file`], and
-//! [`laws::verdict_is_decided`] says that this is what calls speak of.
+//! [`process_preprocessed_file`] reads from the line markers of a text which files it was made of.
+//! [`laws::verdict_is_decided`] says that the verdicts in its contract are those in the contracts
+//! of calls.
 //!
-//! What compilers and stores are, and the walk, is passed on from `cck_compiler`, `cck_store` and
-//! `cck_walk`; two stores are at hand: [`MapStore`] in memory, and [`EmptyStore`], which keeps
-//! nothing. All else that a caller names, as hash functions, files, moments and options, stands in
-//! [`cck_util`] and [`cck_entry`], which are passed on whole. Zones are those of `jiff`.
+//! The interfaces of compilers and stores, and the walk, are re-exported from `cck_compiler`,
+//! `cck_store` and `cck_walk`. There are two stores: [`MapStore`] in memory, and [`EmptyStore`],
+//! which keeps nothing. All else that a caller names, such as hash functions, files, times and
+//! options, is in [`cck_util`] and [`cck_entry`], which are re-exported whole. Zones are those of
+//! `jiff`.
 //!
 //! One call, from a command line to a key:
 //!
@@ -59,12 +62,12 @@
 //!     let found = hasher.generate_hash_key::<Sha256State, F, S>(
 //!         alloc, files, store, b"/w", &[], moment, &zone, config, &[], CacheControl::Default,
 //!     )?;
-//!     Ok(Some(found.key)) // and `found.is_locally_preprocessed`: whether it was made afresh
+//!     Ok(Some(found.key)) // and `found.is_locally_preprocessed`: whether it was computed
 //! }
 //! ```
 //!
-//! And a list of calls, each a [`Call`] with its hasher, files, directory, variables and moment;
-//! the result of the first call stands first:
+//! And a list of calls, each a [`Call`] with its hasher, files, directory, variables and call time.
+//! The results are in the order of the calls:
 //!
 //! ```rust
 //! let answers = run_calls::<Sha256State, I, F, S>(alloc, &mut store, &zone, config, &[], &mut calls)?;

@@ -1,5 +1,5 @@
-//! Why a call for a key is refused, by why a call below it is. Lack of memory is
-//! [`KeyError::Memory`], wherever it came.
+//! The error of a call for a key, from the error of a call that it makes. Lack of memory is always
+//! [`KeyError::Memory`].
 ghost use Rattle.std.specs.Prelude.{◌≡◌};
 ghost use Rattle.c_cache_keys.specs.Refusals.{entry_refusal, extra_refusal, input_refusal, key_refusal, text_refusal};
 
@@ -7,7 +7,7 @@ use cck_compiler::{KeyError, PreprocessError};
 use cck_digest::{FileError, UtilError};
 use cck_time::Error;
 
-/// A further file has no digest.
+/// The error for an extra file without a digest.
 pub(crate) fn extra_refusal(error: UtilError) -> KeyError
     ensures { result ≡ extra_refusal error }
 {
@@ -17,7 +17,7 @@ pub(crate) fn extra_refusal(error: UtilError) -> KeyError
     }
 }
 
-/// The input can't be read.
+/// The error for an input that can't be read.
 pub(crate) fn input_refusal(error: FileError) -> KeyError
     ensures { result ≡ input_refusal error }
 {
@@ -27,7 +27,7 @@ pub(crate) fn input_refusal(error: FileError) -> KeyError
     }
 }
 
-/// There is no key to ask a store under, since the input can't be read.
+/// The error where there is no preprocessor key, since the input can't be read.
 pub(crate) fn key_refusal(error: Error) -> KeyError
     ensures { result ≡ key_refusal error }
 {
@@ -37,7 +37,7 @@ pub(crate) fn key_refusal(error: Error) -> KeyError
     }
 }
 
-/// There is no preprocessed text.
+/// The error where there is no preprocessed text.
 pub(crate) fn text_refusal(error: PreprocessError) -> KeyError
     ensures { result ≡ text_refusal error }
 {
@@ -47,7 +47,7 @@ pub(crate) fn text_refusal(error: PreprocessError) -> KeyError
     }
 }
 
-/// What a store handed out is no entry.
+/// The error for bytes of a store that are no entry.
 pub(crate) fn entry_refusal(error: Error) -> KeyError
     ensures { result ≡ entry_refusal error }
 {

@@ -1,4 +1,4 @@
--- The paths below a folder.
+-- The paths below a directory.
 use Rattle.std.proofs.Common.{◌≡◌, ◌≢◌, ◌&&◌, ◌==◌, ℕ, ◌+◌, ◌<◌, ◌≤◌, List, [], ◌∷◌, ◌++◌, length, map, get_or, take, Bool, true, false, not, cond, None, is_some, Ordering, Less, Equal, Greater, refl, sym, ap, ◌∙◌, arith, inl, inr}
 use Rattle.std.proofs.Math.Seq.{take-append_seam}
 use Rattle.std.proofs.lemmas.Bool.{cases_eq, false≢true, true≢false}
@@ -16,12 +16,12 @@ use Rattle.cck_path_map.specs.PathMap.{IsPlaceOf, is_from, pair_of, part_from, p
 use Rattle.cck_path_map.specs.declared.path_map.Entry.{Entry}
 use Rattle.cck_files.specs.Children.{HasChildNames}
 
--- a child of a folder is not lower than the folder
+-- a child of a directory is not lower than the directory
 child_from : (p : Path) (c : Component) → is_lt (path_cmp (p ++ c ∷ []) p) ≡ false
 child_from [] c = refl
 child_from (x ∷ p) c = ap (λ o. is_lt (ordering_then o (path_cmp (p ++ c ∷ []) p))) (tied_itself component_cmp_total x) ∙ child_from p c
 
--- a path from a folder on that is lower than a child of it is below the folder
+-- a path from a directory on that is lower than a child of it is below the directory
 below_folder : (p q : Path) (c : Component) → is_lt (path_cmp q p) ≡ false → path_cmp q (p ++ c ∷ []) ≡ Less → take (length p) q ≡ p
 below_folder [] q c from low = refl
 below_folder (x ∷ p) [] c from low = absurd (true≢false from)
@@ -33,11 +33,11 @@ below_folder (x ∷ p) (y ∷ q) c from low = by (component_cmp y x) refl from l
     by Equal is from low next = (λ i. component_cmp-IsAntisymmetric y x is i ∷ next from low i)
     by Greater is from low next = absurd (false≢true (ap is_lt low))
 
--- a path whose front is not the folder's is not below it
+-- a path whose front is not the directory's is not below it
 pub not_within : (p q : Path) (n : ℕ) → is_eq (path_cmp (take n q) p) ≡ false → n ≡ length p → take (length p) q ≢ p
 not_within p q n test size same = false≢true (sym test ∙ ap (λ r. is_eq (path_cmp r p)) (ap (λ k. take k q) size ∙ same) ∙ ap is_eq (tied_itself path_cmp_total p))
 
--- ---- how many components a path has
+-- ---- the number of components of a path
 
 one_of : (b : Bool) (p q : Path) → length p ≤ 1 → length q ≤ 1 → length (cond b p q) ≤ 1
 one_of true p q h k = h
@@ -75,7 +75,7 @@ module _ {V : Type 0} (p : Path) (m : FinMap path_cmp V) where
   in_part : (q : Path) → get (part_from p m) q ≡ cond (is_from p q) (get m q) None
   in_part q = get-retain_keys m (is_from p) q (λ x e. ap (is_from p) (sym (path_cmp-IsAntisymmetric q x e)))
 
-  -- the children of a folder stand in the part of the map from the folder on
+  -- the children of a directory are in the part of the map from the directory on
   pub children_of_part : (names : List (List ℕ)) → HasChildNames (part_from p m) p names → HasChildNames m p names
   children_of_part names h = record {
     names_only = h.names_only;
@@ -90,7 +90,7 @@ module _ {V : Type 0} (p : Path) (m : FinMap path_cmp V) where
         let there = sym (in_part (path_of e)) ∙ get-entries (part_from p m) (path_of e) ∙ ap (find path_cmp (path_of e)) (sym is) ∙ found in
         not_true (is_lt (path_cmp (path_of e) p)) (then_some (is_from p (path_of e)) (get m (path_of e)) (get_or es i e).value there).0
 
-    -- from an entry on that is not below the folder, none is of a child
+    -- from an entry on that is not below the directory, none is of a child
     pub none_behind : take (length p) (path_of e) ≢ p → (n : List ℕ) (k : ℕ) (d : Entry V) → i ≤ k → k < length es → path_of (get_or es k d) ≢ p ++ Name n ∷ []
     none_behind other n k d le high same =
         let here = ap path_of (at ∙ get_or_default es i e d low) in

@@ -1,4 +1,4 @@
--- calls on files, one after another
+-- calls on files, in order
 use Rattle.std.proofs.Common.{ℕ, ◌≡◌, ◌≤◌, arith, refl, sym, subst, ◌∙◌, inl, inr, Result}
 use Rattle.cck_digest.specs.declared.error.FileError.{FileError}
 use Rattle.cck_digest.specs.declared.error.FileError.TheVariants.{NotFound, OtherKind, Fault, Memory}
@@ -31,17 +31,17 @@ module _ {F : Type 0} {is_call : F → Path → F → Type 0} where
   calls_among At Among a b all (none same) = none same
   calls_among At Among a b all (one_more d p more at call) = one_more d p (calls_among At Among a d all more) (all p at) call
 
-  -- with no path of their kind there is none
+  -- if there is no path of their kind, there is no call
   pub no_calls : (At : Path → Type 0) (a b : F) → ((p : Path) → At p → ⊥) → AreCalls is_call At a b → b ≡ a
   no_calls At a b nowhere (none same) = same
   no_calls At a b nowhere (one_more d p more at call) = absurd (nowhere p at)
 
--- what rose in a later part rose in the whole
+-- a count that rose in a later part rose in the whole
 pub rose_earlier : (a b c : ℕ) → a ≤ b → Rose b c → Rose a c
 rose_earlier a b c h (inl r) = inl (omega (arith, h, r))
 rose_earlier a b c h (inr r) = inr r
 
--- what rose in an earlier part rose in the whole
+-- a count that rose in an earlier part rose in the whole
 pub rose_later : (a b c : ℕ) → b ≤ c → Rose a b → Rose a c
 rose_later a b c h (inl r) = inl (omega (arith, h, r))
 rose_later a b c h (inr r) = inr (omega (arith, h, r))

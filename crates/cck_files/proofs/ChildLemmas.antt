@@ -1,4 +1,4 @@
--- Direct children of a folder.
+-- Direct children of a directory.
 use Rattle.std.proofs.Common.{◌≡◌, ◌≢◌, ℕ, List, [], ◌∷◌, ◌++◌, Bool, true, false, Some, None, MatchBool, length, map, option_and_then, refl, sym, ap, subst, ◌∙◌}
 use Rattle.std.specs.List.{AllByRecursion, fold}
 use Rattle.std.proofs.lemmas.Iterator.{YieldsList}
@@ -50,7 +50,7 @@ no_child p f none n is = some≢none n (sym (name_last f n) ∙ ap file_name_of 
 pub same_last : (f : Path) (n m : List ℕ) → f ++ Name n ∷ [] ≡ f ++ Name m ∷ [] → n ≡ m
 same_last f n m is = ap (λ o. unwrap_or o n) (sym (name_last f n) ∙ ap file_name_of is ∙ name_last f m)
 
--- a path is of a child exactly if it is that of the folder and the path's file name
+-- a path is of a child exactly if it is that of the directory followed by the path's file name
 pub child_of : (s : List ℕ) (f : Path) (n : List ℕ) (b : Bool) → b ≡ is_eq (path_cmp (components s) (f ++ Name n ∷ [])) → Some n ≡ file_name_of (components s)
     → MatchBool b (IsName n × (components s ≡ f ++ Name n ∷ [])) ((m : List ℕ) → components s ≢ f ++ Name m ∷ [])
 child_of s f n b e last = by b (same_by_order (components s) (f ++ Name n ∷ []) b e)

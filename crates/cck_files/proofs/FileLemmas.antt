@@ -1,4 +1,4 @@
--- what stands at a path, asked in several ways
+-- the node at a path, by several functions
 use Rattle.std.proofs.Common.{◌≡◌, ℕ, List, Option, Some, None, Ok, Err, length, refl, sym, ap, ◌∙◌}
 use Rattle.std.specs.FinMap.{get}
 use Rattle.cck_digest.specs.declared.error.FileError.{FileError}
@@ -23,7 +23,7 @@ pub file_with_contents : (m : FileMap) (p : Path) (c : List ℕ) → contents_at
 unfolding contents_at file_at
 file_with_contents m p c e = found_with_contents (get m.nodes p) c e
 
--- and where there are none, there is no regular file, for the same cause.
+-- and where there are none, there is no regular file, with the same error.
 kind_without_contents : (n : FileNode) (k : FileKind) (x : FileError) → contents_if k n.contents ≡ Err x → file_if n k ≡ Err x
 kind_without_contents n File x e = cc
 kind_without_contents n Folder x e = cc
@@ -37,7 +37,7 @@ pub no_file_without_contents : (m : FileMap) (p : Path) (x : FileError) → cont
 unfolding contents_at file_at
 no_file_without_contents m p x e = found_without_contents (get m.nodes p) x e
 
--- where there is no metadata, there is no regular file, for the same cause
+-- where there is no metadata, there is no regular file, with the same error
 found_without_metadata : (o : Option FileNode) (x : FileError) → metadata_in o ≡ Err x → file_in o ≡ Err x
 found_without_metadata None x e = cc
 found_without_metadata (Some n) x e = cc
@@ -46,12 +46,12 @@ pub no_file_without_metadata : (m : FileMap) (p : Path) (x : FileError) → meta
 unfolding metadata_at file_at
 no_file_without_metadata m p x e = found_without_metadata (get m.nodes p) x e
 
--- whatever stands at a path has metadata
+-- each node has metadata
 pub no_other_kind : (o : Option FileNode) → metadata_in o ≡ Err OtherKind → ⊥
 no_other_kind None e = cc
 no_other_kind (Some n) e = cc
 
--- the metadata of a regular file are its own
+-- the metadata of a regular file are those of its node
 pub kind_of_file : (n o : FileNode) (k : FileKind) → n.kind ≡ k → file_if n k ≡ Ok o → (n ≡ o) × (o.kind ≡ File)
 kind_of_file n o File is e = let same : n ≡ o = cc in (same, ap (λ (x : FileNode). x.kind) (sym same) ∙ is)
 kind_of_file n o Folder is e = cc
@@ -65,7 +65,7 @@ pub metadata_of_file : (m : FileMap) (p : Path) (n : FileNode) (d : Metadata) �
 unfolding metadata_at file_at
 metadata_of_file m p n d e f = found_metadata (get m.nodes p) n d e f
 
--- What has the metadata of a regular file is one,
+-- A node with the metadata of a regular file is one,
 found_of_kind : (at : Option FileNode) (d : Metadata) → metadata_in at ≡ Ok d → d.kind ≡ File → (n : FileNode) × (file_in at ≡ Ok n) × (length n.contents ≡ d.len) × (n.modified ≡ d.modified) × (n.changed ≡ d.changed)
 found_of_kind None d e is = cc
 found_of_kind (Some n) d e is =
@@ -83,7 +83,7 @@ pub file_of_kind : (m : FileMap) (p : Path) (d : Metadata) → metadata_at m p �
 unfolding metadata_at file_at
 file_of_kind m p d e is = found_of_kind (get m.nodes p) d e is
 
--- and what has other metadata is none.
+-- and a node with other metadata is none.
 kind_no_file : (n : FileNode) (k : FileKind) → (k ≡ File → ⊥) → file_if n k ≡ Err OtherKind
 kind_no_file n File h = absurd (h refl)
 kind_no_file n Folder h = refl

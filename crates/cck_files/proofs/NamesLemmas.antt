@@ -59,7 +59,7 @@ module _ {V : Type 0} where
   abbrev found : List (Entry V) → ℕ → Path → Bool
   found es i q = is_some (find path_cmp q (map pair_of (take i es)))
 
-  -- a path that no entry from a place on has is found before it
+  -- if no entry from a place on has a path, the path is found before that place
   found_stops : (q : Path) (es : List (Entry V)) (i : ℕ) → ((k : ℕ) (d : Entry V) → i ≤ k → k < length es → path_of (get_or es k d) ≢ q) → found es i q ≡ found es (length es) q
   found_stops q [] zero none = refl
   found_stops q [] (suc i) none = refl
@@ -78,7 +78,7 @@ module _ {V : Type 0} where
     pub names_only : AllByRecursion IsName names
     pub each_once : (n : List ℕ) → count_by (is_same_name n) names ≡ one_if (found es i (p ++ Name n ∷ []))
 
-  -- where no entry from a place on is of a child, all names stand before it
+  -- if no entry from a place on is of a child, all names are before it
   pub listed_stop : (p : Path) (es : List (Entry V)) (i : ℕ) (names : List (List ℕ)) → ((n : List ℕ) (k : ℕ) (d : Entry V) → i ≤ k → k < length es → path_of (get_or es k d) ≢ p ++ Name n ∷ [])
       → IsListed p es i names → IsListed p es (length es) names
   listed_stop p es i names none l = record { names_only = l.names_only; each_once = λ n. l.each_once n ∙ ap one_if (found_stops (p ++ Name n ∷ []) es i (none n)) }
@@ -127,7 +127,7 @@ module _ {V : Type 0} where
         by n true same = let is = same_name_is n name same in sums _ _ _ _ (l.each_once n) (same ∙ sym (tie n is)) (λ t. before n is)
         by n false other = sums _ _ _ _ (l.each_once n) (other ∙ sym (no_tie n other)) (λ t. absurd (false≢true (sym (no_tie n other) ∙ t)))
 
--- the names of a folder's children are its listing
+-- the names of a directory's children are its listing
 pub listing : (m : FinMap path_cmp Place) (p : Path) (node : FileNode) (names : List (List ℕ)) → get (files_of m).nodes p ≡ Some node → node.kind ≡ Folder → HasChildNames m p names → IsListing (files_of m) p names
 unfolding folder_at
 listing m p node names at kind children = record {

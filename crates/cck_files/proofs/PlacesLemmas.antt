@@ -21,7 +21,7 @@ module _ (m : FinMap path_cmp Place) (p : Path) where
   pub files_without : files_of (remove m p) ≡ without_place (files_of m) p
   files_without = λ i. record { nodes = map_values-remove node_at m p i; canonicals = map_values-remove canonical_of m p i }
 
-  -- what a path has is what its place says
+  -- what the maps have at a path is what its place has
   node_found : (x : Option Place) → get m p ≡ x → get (files_of m).nodes p ≡ option_map node_at x
   node_found x is = get-map_values node_at m p ∙ ap (option_map node_at) is
 
@@ -36,7 +36,7 @@ module _ (m : FinMap path_cmp Place) (p : Path) where
   pub has_node : (place : Place) → Some place ≡ get m p → IsSome (get (files_of m).nodes p)
   has_node place is = ap is_some (node_found (Some place) (sym is))
 
-  -- a path with what a target has, or with nothing where it has nothing
+  -- a path with what a target has, or with nothing if the target has nothing
   pub linked_none : (target : Path) → None ≡ get m target → without_place (files_of m) p ≡ linked (files_of m) p target
   linked_none target is = λ i. record {
     nodes = set_option (files_of m).nodes p (sym (get-map_values node_at m target ∙ ap (option_map node_at) (sym is)) i);

@@ -2,18 +2,18 @@
 use Rattle.std.specs.Prelude.{◌≡◌, ◌==◌, ◌||◌, ℕ, ◌+◌, ◌-◌, ◌^◌, Bool, min, refl, if◌then◌else◌}
 use Rattle.std.specs.Coded.{Coded, code_by, coded×, coded_ℕ}
 
--- which of the calls that follow is armed alone, and from which of them on all are, each counted from 1, or 0 for none; and how many calls
--- came
+-- which of the next calls is armed alone, and from which of them on all are; each is counted from 1, and 0 is none. Also the number of
+-- calls so far
 pub record Armed : Type 0 where
   pub one : ℕ
   pub onward : ℕ
   pub calls : ℕ
 
--- none is armed, and none came
+-- no call is armed, and there was none so far
 abbrev pub new_armed : Armed
 new_armed = record { one = 0; onward = 0; calls = 0 }
 
--- none of the calls that follow is armed
+-- none of the next calls is armed
 abbrev pub IsUnarmed : Armed → Type 0
 IsUnarmed a = (a.one ≡ 0) × (a.onward ≡ 0)
 
@@ -21,8 +21,8 @@ IsUnarmed a = (a.one ≡ 0) × (a.onward ≡ 0)
 abbrev pub fails : Armed → Bool
 fails a = (a.one == 1) || (a.onward == 1)
 
--- A call came: an armed one behind it is nearer by one, and where all calls from it on are armed, all of them still are. The count has 64
--- bits, and stays at its greatest value.
+-- After a call: an armed call that is still to come is nearer by one. If all calls from this one on are armed, all that follow still are.
+-- The count has 64 bits, and stays at its greatest value.
 abbrev pub after_call : Armed → Armed
 after_call a = record {
   one = a.one - 1;

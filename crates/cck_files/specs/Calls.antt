@@ -9,7 +9,7 @@ use Rattle.cck_files.specs.FileMap.{FileMap}
 abbrev pub Rose : ℕ → ℕ → Type 0
 Rose before after = (before < after) ⊎ (2 ^ 64 ≤ after + 1)
 
--- the map stays, the count of faults falls at no time, and quiet files stay quiet and meet no fault
+-- the map is unchanged, the count of faults never falls, and quiet files stay quiet and meet no fault
 pub record Keeps {F : Type 0} (file_map : F → FileMap) (faults : F → ℕ) (is_quiet : F → Type 0) (before after : F) : Type 0 where
   pub same_map : file_map after ≡ file_map before
   pub not_lower : faults before ≤ faults after
@@ -21,18 +21,18 @@ pub data AreCalls {F : Type 0} (is_call : F → Path → F → Type 0) (At : Pat
   none : {after : F} → after ≡ before → AreCalls is_call At before after
   one_more : {after : F} (between : F) (p : Path) → AreCalls is_call At before between → At p → is_call between p after → AreCalls is_call At before after
 
--- the refusal of a call: the map's own, or a fault where one came, or lack of memory where it can come
+-- the error of a call: the map's own, or a fault where there was one, or lack of memory where it is possible
 abbrev pub IsRefusalWhere : {X : Type 0} → Result X FileError → Type 0 → Type 0 → FileError → Type 0
 IsRefusalWhere answer HasFault TakesMemory NotFound = answer ≡ Err NotFound
 IsRefusalWhere answer HasFault TakesMemory OtherKind = answer ≡ Err OtherKind
 IsRefusalWhere answer HasFault TakesMemory Fault = HasFault
 IsRefusalWhere answer HasFault TakesMemory Memory = TakesMemory
 
--- the refusal of a call that takes no memory
+-- the error of a call that takes no memory
 abbrev pub IsRefusal : {X : Type 0} → Result X FileError → Type 0 → FileError → Type 0
 IsRefusal answer HasFault = IsRefusalWhere answer HasFault ⊥
 
--- the refusal of a call that takes memory
+-- the error of a call that takes memory
 abbrev pub IsRefusalOrMemory : {X : Type 0} → Result X FileError → Type 0 → FileError → Type 0
 IsRefusalOrMemory answer HasFault = IsRefusalWhere answer HasFault (Unit {0})
 
@@ -44,7 +44,7 @@ pub record IsRead (contents : List ℕ) (offset n : ℕ) (buffer : List ℕ) : T
   pub at_end : n ≡ 0 → 0 < length buffer → length contents ≤ offset
   pub fits : offset ≤ 2 ^ 64 - 1 - n
 
--- n bytes were read, as many as there is room for or are left, and behind them stands what stood there
+-- n bytes were read, as there is room for or as are left, whichever is less; the rest of the buffer is unchanged
 pub record IsFullRead (contents : List ℕ) (offset n : ℕ) (before after : List ℕ) : Type 0 where
   pub count : n ≡ min (length before) (length contents - offset)
   pub bytes : after ≡ take n (drop offset contents) ++ drop n before

@@ -10,7 +10,7 @@ use Rattle.cck_path.specs.declared.metadata.FileKind.TheVariants.{File, Folder, 
 use Rattle.cck_path.specs.declared.metadata.Metadata.{Metadata}
 use Rattle.cck_files.specs.Children.{HasChildNames}
 
--- what stands at a path; the contents say something of a regular file alone
+-- the node at a path; its contents have a meaning for a regular file alone
 pub record FileNode : Type 0 where
   pub kind : FileKind
   pub contents : List ℕ
@@ -21,18 +21,18 @@ pub record FileNode : Type 0 where
 abbrev pub Nodes : Type 0
 Nodes = FinMap path_cmp FileNode
 
--- what stands at each path, and which path leads there without links
+-- the node at each path, and its canonical path, which leads there without links
 pub record FileMap : Type 0 where
   pub nodes : Nodes
   pub canonicals : FinMap path_cmp Path
 
--- the contents of a regular file, and nothing of anything else
+-- the contents of a regular file, and no bytes for any other kind
 abbrev pub contents_of_kind : FileKind → List ℕ → List ℕ
 contents_of_kind File contents = contents
 contents_of_kind Folder contents = []
 contents_of_kind Other contents = []
 
--- what is said of what stands at a path
+-- the metadata of a node
 abbrev pub metadata_of : FileNode → Metadata
 metadata_of n = record { kind = n.kind; len = length (contents_of_kind n.kind n.contents); modified = n.modified; changed = n.changed }
 
@@ -40,7 +40,7 @@ abbrev pub metadata_in : Option FileNode → Result Metadata FileError
 metadata_in None = Err NotFound
 metadata_in (Some n) = Ok (metadata_of n)
 
--- what is said of what stands at a path, if something does
+-- the metadata of the node at a path, if there is one
 unfoldable pub metadata_at : FileMap → Path → Result Metadata FileError
 metadata_at m p = metadata_in (get m.nodes p)
 
@@ -79,11 +79,11 @@ abbrev pub folder_in : Option FileNode → Result (Unit {0}) FileError
 folder_in None = Err NotFound
 folder_in (Some n) = folder_if n.kind
 
--- a folder stands at a path
+-- the node at a path is a directory
 unfoldable pub folder_at : FileMap → Path → Result (Unit {0}) FileError
 folder_at m p = folder_in (get m.nodes p)
 
--- something stands at a path
+-- whether there is a node at a path
 unfoldable pub stands_at : FileMap → Path → Bool
 stands_at m p = is_some (get m.nodes p)
 
@@ -95,7 +95,7 @@ found_or_not (Some q) = Ok q
 unfoldable pub canonical_at : FileMap → Path → Result Path FileError
 canonical_at m p = found_or_not (get m.canonicals p)
 
--- these are the last names of a folder's direct children, each once
+-- these are the last names of a directory's direct children, each once
 pub record IsListing (m : FileMap) (p : Path) (names : List (List ℕ)) : Type 0 where
   pub folder : folder_at m p ≡ Ok tt
   pub children : HasChildNames m.nodes p names

@@ -1,4 +1,4 @@
--- files in memory by what they say
+-- files in memory, as values of the definitions
 use Rattle.std.specs.Prelude.{◌≡◌, ◌==◌, ℕ, ◌+◌, ◌-◌, ◌^◌, ◌<◌, zero, suc, ℤ, List, Bool, true, false, Option, Some, None, Result, Ok, Err, min, refl, if◌then◌else◌}
 use Rattle.std.specs.Coded.{Coded, code_by, coded×, coded_list, coded_option, coded_ℕ, coded_ℤ}
 use Rattle.std.specs.FinMap as finite
@@ -15,13 +15,13 @@ use Rattle.cck_files.specs.FileMap.{FileMap, FileNode, Nodes}
 use Rattle.cck_files.specs.Node.{node_of}
 use Rattle.cck_files.specs.declared.map_files.places.Place.{Place}
 
--- the map, how often a call met a fault, and which of the following calls are armed to be one
+-- the map, the number of faults, and which of the next calls are armed to be one
 pub record FileState : Type 0 where
   pub files : FileMap
   pub faults : ℕ
   pub armed : Armed
 
--- what is counted of the faults: the count has 64 bits, and stays at its greatest value
+-- the counted faults: the count has 64 bits, and stays at its greatest value
 abbrev pub fault_count : FileState → ℕ
 fault_count s = min s.faults (2 ^ 64 - 1)
 
@@ -33,12 +33,12 @@ IsQuiet s = IsUnarmed s.armed × (fault_count s + 1 < 2 ^ 64)
 abbrev pub count_after : FileState → ℕ
 count_after s = if fails s.armed then min (fault_count s + 1) (2 ^ 64 - 1) else fault_count s
 
--- a call came: what is armed and the count are those after it
+-- the armed calls and the count of faults are those after a call
 pub record IsAfterCall (before after : FileState) : Type 0 where
   pub armed : after.armed ≡ after_call before.armed
   pub count : fault_count after ≡ count_after before
 
--- the answer is a fault
+-- the result is a fault
 abbrev pub is_fault : {X : Type 0} → Result X FileError → Bool
 is_fault (Ok x) = false
 is_fault (Err NotFound) = false
@@ -78,7 +78,7 @@ node_at place = node_of place.node
 abbrev pub canonical_of : Place → Path
 canonical_of place = components place.canonical.items
 
--- what places say
+-- the map of places
 abbrev pub files_of : finite.FinMap path_cmp Place → FileMap
 files_of places = record { nodes = map_values node_at places; canonicals = map_values canonical_of places }
 

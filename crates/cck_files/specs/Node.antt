@@ -1,4 +1,4 @@
--- nodes by what they say
+-- nodes, as values of the definitions
 use Rattle.cck_files.specs.FileMap.{FileNode}
 use Rattle.cck_files.specs.declared.node.Node.{Node}
 

@@ -4,7 +4,7 @@ ghost use Rattle.cck_files.specs.ArmedCalls.{after_call, fails, new_armed};
 
 use std::marker::Model;
 
-/// Which of the calls that follow are armed to fail, and how many calls came so far.
+/// Which of the next calls are armed to fail, and the number of calls so far.
 ///
 /// One of them may be armed alone, and all from one of them on; neither replaces the other. The
 /// count of calls is a `u64` and stays at `u64::MAX`. No method takes memory.
@@ -28,7 +28,7 @@ impl Model for ArmedCalls {
 }
 
 impl ArmedCalls {
-    /// No call so far, and none armed.
+    /// An object without a call so far, and with none armed.
     pub fn new() -> ArmedCalls
         ensures { result ≡ new_armed }
     {
@@ -39,17 +39,17 @@ impl ArmedCalls {
         }
     }
 
-    /// Arms the nth of the following calls, counted from 1, and that one alone, beside what
-    /// [`fail_after`](ArmedCalls::fail_after) arms. What it armed before no longer counts, and 0
-    /// arms none.
+    /// Arms the nth of the next calls, counted from 1, and that one alone, beside what
+    /// [`fail_after`](ArmedCalls::fail_after) arms. It replaces what this method armed before, and
+    /// 0 arms none.
     pub fn fail_at(&mut self, n: u64)
         ensures { self.new ≡ record self.old { one = n } }
     {
         self.one = n;
     }
 
-    /// Arms the nth of the following calls, counted from 1, and all after it, beside what
-    /// [`fail_at`](ArmedCalls::fail_at) arms. What it armed before no longer counts, and 0 arms
+    /// Arms the nth of the next calls, counted from 1, and all after it, beside what
+    /// [`fail_at`](ArmedCalls::fail_at) arms. It replaces what this method armed before, and 0 arms
     /// none.
     pub fn fail_after(&mut self, n: u64)
         ensures { self.new ≡ record self.old { onward = n } }
@@ -57,14 +57,14 @@ impl ArmedCalls {
         self.onward = n;
     }
 
-    /// How many calls came so far. At `u64::MAX` it stays.
+    /// The number of calls so far. It stays at `u64::MAX`.
     pub fn calls(&self) -> u64
         ensures { result ≡ self.now.calls }
     {
         self.calls
     }
 
-    /// Counts a call, and says whether it fails.
+    /// Counts a call, and returns whether it fails.
     pub fn begin(&mut self) -> bool
         ensures fails { result ≡ fails self.old }
         ensures after { self.new ≡ after_call self.old }

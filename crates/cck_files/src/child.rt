@@ -1,4 +1,4 @@
-//! The last names of a folder's children.
+//! The last names of a directory's children.
 ghost use Rattle.std.specs.Prelude.{◌≡◌, ◌≢◌, ℕ, List, [], ◌∷◌, ◌++◌, IfOk, IsOkUnless, MatchOption, length, map, take, vec_items};
 ghost use Rattle.std.specs.Ordering.{is_eq};
 ghost use Rattle.cck_path.specs.Path.{IsName, Name, components, path_cmp};
@@ -10,7 +10,7 @@ use cck_path_map::PathMap;
 use std::alloc::Global;
 use std::iter;
 
-// The last name of a path, where the path is that of a direct child of the folder.
+// The last name of a path, if the path is that of a direct child of the directory.
 fn child_name<'a>(folder: &[u8], path: &'a [u8]) -> Option<&'a [u8]>
     ensures { MatchOption result
         ((name : List ℕ) → components path.now ≢ components folder.now ++ Name name ∷ [])
@@ -24,10 +24,10 @@ fn child_name<'a>(folder: &[u8], path: &'a [u8]) -> Option<&'a [u8]>
     None
 }
 
-/// The last names of a path's direct children in a map, each once, in their order. A child whose
-/// last component is no name has none.
+/// Returns the last names of a path's direct children in a map, each once, in their order. A child
+/// whose last component is no name has none.
 ///
-/// It is refused only for lack of memory, as [`FileError::Memory`].
+/// The only error is [`FileError::Memory`].
 pub(crate) fn child_names<V>(
     alloc: Global,
     paths: &PathMap<V>,
@@ -40,7 +40,7 @@ pub(crate) fn child_names<V>(
     let size = component_count(folder);
     let mut names = Vec::new(alloc);
     for entry in paths.entries_from(folder) {
-        // The paths below the folder stand together.
+        // The paths that begin with the directory's are consecutive.
         if !is_within(folder, size, &entry.path) {
             return Ok(names);
         }
@@ -51,14 +51,14 @@ pub(crate) fn child_names<V>(
     Ok(names)
 }
 
-// How many components a path has.
+// The number of components of a path.
 fn component_count(path: &[u8]) -> usize
     ensures { result ≡ length (components path.now) }
 {
     Components::new(path).count()
 }
 
-// Whether a path begins with that of the folder, which has so many components.
+// Whether a path begins with that of the directory, which has `size` components.
 fn is_within(folder: &[u8], size: usize, path: &[u8]) -> bool
     ensures { result ≡ is_eq (path_cmp (take size (components path.now)) (components folder.now)) }
 {
@@ -66,7 +66,7 @@ fn is_within(folder: &[u8], size: usize, path: &[u8]) -> bool
     front.cmp(Components::new(folder)).is_eq()
 }
 
-// Whether a path is the folder's and then the name.
+// Whether a path is the directory's followed by the name.
 fn is_child(folder: &[u8], name: &[u8], path: &[u8]) -> bool
     ensures { result ≡ is_eq (path_cmp (components path.now)
         (components folder.now ++ Name name.now ∷ [])) }

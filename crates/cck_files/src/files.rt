@@ -8,22 +8,24 @@ use std::alloc::Global;
 
 /// Files, as one map that no call changes, and a count of faults.
 ///
-/// An implementation is seen as a finite map from paths to nodes, a map of canonical paths, and a
-/// count of faults, which has 64 bits and stays at its greatest value. Links are followed in the
-/// map. Each answer is the map's own, or, only where the count rose, a fault. An implementation
-/// also says which of its states are *quiet*: no call on them meets a fault or leaves quiet
-/// states. And it says which states a call at a path leads to, so that the contract of a function
-/// over all files can tell at which paths it makes calls.
+/// An implementation is described by a finite map from paths to nodes, a map of canonical paths,
+/// and a count of faults. The count has 64 bits and stays at its greatest value. Links are followed
+/// in the map. Each result is the map's own or, only where the count rose, a fault.
+/// An implementation also says which of its states are *quiet*: no call on them meets a fault or
+/// leaves quiet states. And it says which states a call at a path leads to. By that the contract of
+/// a function over all files can name the paths at which it makes calls.
+/// a function over all files can name the paths at which it makes calls.
 ///
-/// Paths are compared by components. Every call is refused as
+/// Paths are compared by components. The errors of the calls:
 ///
-/// - [`FileError::NotFound`] only where nothing stands at the path,
-/// - [`FileError::OtherKind`] only where what stands there isn't what the call asks for,
-/// - [`FileError::Fault`] only where the count of faults rose,
-/// - [`FileError::Memory`] where it takes memory, and never where it doesn't.
+/// - [`FileError::NotFound`]: only where nothing is at the path.
+/// - [`FileError::OtherKind`]: only where the node at the path isn't of the kind that the call asks
+///   for.
+/// - [`FileError::Fault`]: only where the count of faults rose.
+/// - [`FileError::Memory`]: only of a call that takes memory.
 ///
-/// Where one of the first two causes stands, the call is refused: for it, or for one of the last
-/// two.
+/// Where the cause of one of the first two exists, the call returns an error: that one, or one of
+/// the last two.
 pub trait Files {
     ghost use Rattle.cck_files.specs.FileMap.{FileMap, metadata_at, contents_at, folder_at, stands_at, canonical_at, IsListing};
     ghost use Rattle.cck_files.specs.Calls.{Keeps, IsRefusal, IsRefusalOrMemory, IsRead, Rose};
@@ -31,7 +33,7 @@ pub trait Files {
     // The nodes and the canonical paths.
     ghost file_map: { Self → FileMap };
 
-    // How often a call met a fault.
+    // The number of faults.
     ghost faults: { Self → ℕ };
 
     // No call meets a fault from here on.
@@ -40,7 +42,7 @@ pub trait Files {
     // A call at this path leads from one state to another.
     ghost is_call: { Self → Path → Self → Type 0 };
 
-    /// What is known of what stands at a path. It takes no memory, and asks for no kind.
+    /// Returns the metadata of the node at a path, of any kind. It takes no memory.
     fn metadata(&mut self, path: &[u8]) -> Result<Metadata, FileError>
         ensures keeps { Keeps file_map faults is_quiet self.old self.new }
         ensures call { is_call self.old (components path.now) self.new }
@@ -48,10 +50,11 @@ pub trait Files {
             MatchResult result (λ metadata. found ≡ Ok metadata)
             (IsRefusal found (Rose (faults self.old) (faults self.new))) };
 
-    /// Reads bytes of a regular file, from an offset on, to the beginning of the buffer, and
-    /// answers how many. There may be fewer than there is room for; into a buffer with room it
-    /// reads none only at the end. The offset and the answer together are at most `u64::MAX`. What
-    /// stands in the buffer behind them, or after a refusal, is open. It takes no memory.
+    /// Reads bytes of a regular file, from an offset on, into the beginning of the buffer, and
+    /// returns their number. The number may be less than the room. Into a buffer with room it is 0
+    /// only at the end of the file. The offset and the number together are at most `u64::MAX`. No
+    /// clause says what the rest of the buffer has, or what the buffer has after an error. It takes
+    /// no memory.
     fn read_at(&mut self, path: &[u8], offset: u64, buffer: &mut [u8]) -> Result<usize, FileError>
         ensures keeps { Keeps file_map faults is_quiet self.old self.new }
         ensures call { is_call self.old (components path.now) self.new }
@@ -59,8 +62,8 @@ pub trait Files {
             MatchResult result (λ n. IsOkAnd found (λ contents. IsRead contents offset n buffer.new))
             (IsRefusal found (Rose (faults self.old) (faults self.new))) };
 
-    /// The last names of a folder's direct children, each once, in any order. A child whose last
-    /// component is no name has none.
+    /// Returns the last names of a directory's direct children, each once, in any order. A child
+    /// whose last component is no name has none.
     fn read_dir(&mut self, alloc: Global, path: &[u8]) -> Result<Vec<Vec<u8>>, FileError>
         ensures keeps { Keeps file_map faults is_quiet self.old self.new }
         ensures call { is_call self.old (components path.now) self.new }
@@ -69,7 +72,7 @@ pub trait Files {
             (IsRefusalOrMemory (folder_at (file_map self.old) (components path.now))
             (Rose (faults self.old) (faults self.new))) };
 
-    /// Whether something stands at a path. `false` may stand for a fault too. It takes no memory.
+    /// Whether a node is at a path. The result is `false` for a fault too. It takes no memory.
     fn exists(&mut self, path: &[u8]) -> bool
         ensures keeps { Keeps file_map faults is_quiet self.old self.new }
         ensures call { is_call self.old (components path.now) self.new }
@@ -77,8 +80,8 @@ pub trait Files {
             MatchBool result (stands ≡ true)
             ((stands ≡ false) ⊎ Rose (faults self.old) (faults self.new)) };
 
-    /// The path that leads to the same place without links. It is refused as
-    /// [`FileError::NotFound`] only where the path has no canonical one.
+    /// Returns the canonical path of a path, which leads to the same place without links.
+    /// [`FileError::NotFound`] occurs only where the path has no canonical one.
     fn canonical(&mut self, alloc: Global, path: &[u8]) -> Result<Vec<u8>, FileError>
         ensures keeps { Keeps file_map faults is_quiet self.old self.new }
         ensures call { is_call self.old (components path.now) self.new }

@@ -1,4 +1,4 @@
-//! Laws about the definitions, each the contract of a function that does nothing.
+//! Laws about the definitions. Each is the contract of a function with an empty body.
 ghost use Rattle.std.specs.Prelude.{◌≡◌, ◌↔◌, IsTrue};
 ghost use Rattle.cck_files.specs.Node.{node_of};
 

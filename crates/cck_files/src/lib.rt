@@ -1,13 +1,12 @@
 //! Files as a map, and files in memory.
 //!
-//! Whatever reads files here takes them by the trait [`Files`], whose answers are those of one map
-//! from paths to what stands there. The map never changes under a call, links are followed in it,
-//! and where a device fails the count of faults says so. So what is made of files is a function of
-//! a map, and can be stated without a file system.
+//! Every function here that reads files takes them by the trait [`Files`]. Its results are those of
+//! one map from paths to nodes. The map never changes by a call, and links are followed in it.
+//! Where a device fails, the count of faults shows it. So a result that depends on files is a
+//! function of a map, and can be stated without a file system.
 //!
-//! [`MapFiles`] has such a map in memory. It is filled by [`MapFiles::put`] and [`MapFiles::link`],
-//! and told by [`MapFiles::fail_at`] which call is to fail, or by [`MapFiles::fail_after`] from which
-//! one on all are.
+//! [`MapFiles`] has such a map in memory. [`MapFiles::put`] and [`MapFiles::link`] fill it.
+//! [`MapFiles::fail_at`] arms one call to fail, and [`MapFiles::fail_after`] all calls from one on.
 //!
 //! ```rust
 //! let mut files = MapFiles::new(alloc);
@@ -16,7 +15,7 @@
 //! let mut buffer = [0; 4];
 //! files.read_at(b"/l", 4, &mut buffer)?; // 2: the buffer begins with `y;`
 //! files.canonical(alloc, b"/l")?; // `/w/h.h`
-//! files.exists(b"/w"); // `false`: no folder was put there
+//! files.exists(b"/w"); // `false`: no directory was put there
 //! files.fail_at(1);
 //! files.metadata(b"/l"); // `Err(FileError::Fault)`, and the next call is right again
 //! ```

@@ -1,4 +1,4 @@
-//! Files in memory, which meet a fault where they are told to.
+//! Files in memory, which meet a fault where a call is armed to be one.
 ghost use Rattle.std.specs.Prelude.{◌≡◌, Err, IfOk, IsOkUnless, IsSome, MatchOption, None, OnErr, OnOk, Some, true};
 ghost use Rattle.std.specs.FinMap as finite;
 ghost use Rattle.cck_path.specs.Path.{components, normal};
@@ -21,16 +21,16 @@ use places::Place;
 
 /// Files in memory: for each path that was put or linked a [`Node`] and a canonical path.
 ///
-/// What stands at a path says nothing of other paths: a node below a path makes no folder there,
-/// and a folder that goes leaves what is below it. Paths are told apart by their components alone,
-/// so `x` and `./x` are two.
+/// The node at a path doesn't depend on other paths: a node below a path makes no directory there,
+/// and where a directory is removed the nodes below it stay. Paths differ by their components
+/// alone, so `x` and `./x` are two.
 ///
-/// The calls of [`Files`](crate::Files) give the map's own answers, each by a binary search, save
-/// that of [`read_dir`](crate::Files::read_dir), which looks at every path. One of them may be
-/// armed by [`fail_at`](MapFiles::fail_at), and all from one of them on by
-/// [`fail_after`](MapFiles::fail_after): these are faults and change no file. The count of faults
-/// is a `u64`, rises by one at each fault, and stays at `u64::MAX`. A fault comes at an armed call
-/// and at no other. They are quiet where no call is armed and the count is below `u64::MAX`.
+/// The calls of [`Files`](crate::Files) return the map's own results. Each is a binary search, and
+/// [`read_dir`](crate::Files::read_dir) also visits every path that begins with the directory's.
+/// One of the calls may be armed by [`fail_at`](MapFiles::fail_at), and all from one of them on by
+/// [`fail_after`](MapFiles::fail_after). An armed call is a fault and changes no file, and no other
+/// call is a fault. The count of faults is a `u64`, rises by one at each fault, and stays at
+/// `u64::MAX`. The files are quiet if no call is armed and the count is below `u64::MAX`.
 #[derive(Debug, Drop)]
 pub struct MapFiles {
     alloc: Global,
@@ -62,10 +62,10 @@ impl MapFiles {
         }
     }
 
-    /// Sets what stands at a path, in place of what stood there. Its canonical path is the path as
-    /// [`normalize_path`] has it. No other path changes: no folder is made above it.
+    /// Sets the node at a path, in place of the one that was there. Its canonical path is the path
+    /// as [`normalize_path`] returns it. No other path changes: no directory is made above it.
     ///
-    /// It is refused only for lack of memory, as [`UtilError::Memory`], and changes nothing then.
+    /// The only error is [`UtilError::Memory`], and then nothing is changed.
     pub fn put(&mut self, path: &[u8], node: Node) -> Result<(), UtilError>
         ensures set { OnOk result (self.new ≡ record self.old {
           files =
@@ -80,11 +80,10 @@ impl MapFiles {
         Ok(())
     }
 
-    /// Gives a path the node and the canonical path that a target has now. Where the target has
-    /// none, the path has neither afterwards. What becomes of the target later changes nothing
-    /// here.
+    /// Gives a path the node and the canonical path that a target has now. If the target has none,
+    /// the path has neither afterwards. A later change of the target doesn't change this path.
     ///
-    /// It is refused only for lack of memory, as [`UtilError::Memory`], and changes nothing then.
+    /// The only error is [`UtilError::Memory`], and then nothing is changed.
     pub fn link(&mut self, path: &[u8], target: &[u8]) -> Result<(), UtilError>
         ensures set { OnOk result (self.new ≡ record self.old {
           files =
@@ -104,7 +103,7 @@ impl MapFiles {
         Ok(())
     }
 
-    /// Takes the node and the canonical path of this path alone away, if it has them. It takes no
+    /// Removes the node and the canonical path of this path alone, if it has them. It takes no
     /// memory.
     pub fn remove(&mut self, path: &[u8])
         ensures { self.new ≡ record self.old {
@@ -115,35 +114,35 @@ impl MapFiles {
         self.places.remove(path);
     }
 
-    /// Makes the nth of the following calls of [`Files`](crate::Files) a fault, counted from 1, and
-    /// that one alone, beside what [`fail_after`](MapFiles::fail_after) arms. What it armed before
-    /// no longer counts, and 0 arms none.
+    /// Arms the nth of the next calls of [`Files`](crate::Files), counted from 1, to be a fault. It
+    /// arms that one alone, beside what [`fail_after`](MapFiles::fail_after) arms. It replaces what
+    /// this method armed before, and 0 arms none.
     pub fn fail_at(&mut self, n: u64)
         ensures { self.new ≡ record self.old { armed = record self.old.armed { one = n } } }
     {
         self.armed.fail_at(n);
     }
 
-    /// Makes the nth of the following calls of [`Files`](crate::Files) a fault, counted from 1, and
-    /// all after it, beside what [`fail_at`](MapFiles::fail_at) arms. What it armed before no longer
-    /// counts, and 0 arms none.
+    /// Arms the nth of the next calls of [`Files`](crate::Files), counted from 1, and all after it,
+    /// to be faults, beside what [`fail_at`](MapFiles::fail_at) arms. It replaces what this method
+    /// armed before, and 0 arms none.
     pub fn fail_after(&mut self, n: u64)
         ensures { self.new ≡ record self.old { armed = record self.old.armed { onward = n } } }
     {
         self.armed.fail_after(n);
     }
 
-    /// How many calls of [`Files`](crate::Files) came so far. At `u64::MAX` it stays.
+    /// The number of calls of [`Files`](crate::Files) so far. It stays at `u64::MAX`.
     pub fn calls(&self) -> u64
         ensures { result ≡ self.now.armed.calls }
     {
         self.armed.calls()
     }
 
-    /// The same files once more: the same map, the same counts of faults and of calls, and the same
+    /// A copy of the files: the same map, the same counts of faults and of calls, and the same
     /// calls armed.
     ///
-    /// It is refused only for lack of memory, as [`UtilError::Memory`].
+    /// The only error is [`UtilError::Memory`].
     pub fn copy(&self, alloc: Global) -> Result<MapFiles, UtilError>
         ensures same { IfOk result (λ copy. copy ≡ self.now) }
         ensures refused { IsOkUnless result UtilError.Memory }
@@ -157,7 +156,7 @@ impl MapFiles {
         })
     }
 
-    // What stands at a path, and its canonical path.
+    // The node at a path, and its canonical path.
     fn place(&self, path: &[u8]) -> Option<&Place>
         ensures { MatchOption result
             ((finite.get self.now.files.nodes (components path.now) ≡ None)
@@ -170,7 +169,7 @@ impl MapFiles {
         self.places.get(path)
     }
 
-    // Counts a call, and says whether it is a fault.
+    // Counts a call, and returns whether it is a fault.
     fn begin(&mut self) -> bool
         ensures fails { result ≡ fails self.old.armed }
         ensures files { self.new.files ≡ self.old.files }
@@ -187,7 +186,7 @@ impl MapFiles {
 }
 
 impl Place {
-    // The same place once more.
+    // A copy of the place.
     fn copy(&self, alloc: Global) -> Result<Place, UtilError>
         ensures node { IfOk result (λ copy. node_at copy ≡ node_at self.now) }
         ensures canonical { IfOk result (λ copy. canonical_of copy ≡ canonical_of self.now) }
@@ -200,7 +199,7 @@ impl Place {
     }
 }
 
-// The same places once more.
+// A copy of the places.
 fn copy_places(alloc: Global, places: &PathMap<Place>) -> Result<PathMap<Place>, UtilError>
     ensures same { IfOk result (λ copy. files_of copy ≡ files_of places.now) }
     ensures refused { IsOkUnless result UtilError.Memory }

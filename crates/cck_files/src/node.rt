@@ -1,4 +1,4 @@
-//! What stands at a path.
+//! The node at a path.
 ghost use Rattle.std.specs.Prelude.{◌≡◌, IfOk, IsOkUnless};
 ghost use Rattle.cck_files.specs.Node.{node_of};
 
@@ -6,12 +6,12 @@ use cck_digest::UtilError;
 use cck_path::{FileKind, Metadata, Timestamp};
 use std::alloc::Global;
 
-/// What stands at a path of [`MapFiles`](crate::MapFiles).
+/// The node at a path of [`MapFiles`](crate::MapFiles).
 #[derive(Debug, Drop, PartialEq, Eq)]
 pub struct Node {
-    /// What it is.
+    /// Its kind.
     pub kind: FileKind,
-    /// The contents of a regular file. Of anything else they say nothing.
+    /// The contents of a regular file. For any other kind they have no meaning.
     pub contents: Vec<u8>,
     /// When the contents were last modified, where that is known.
     pub modified: Option<Timestamp>,
@@ -21,9 +21,9 @@ pub struct Node {
 }
 
 impl Node {
-    /// The same node once more.
+    /// A copy of the node.
     ///
-    /// It is refused only for lack of memory, as [`UtilError::Memory`].
+    /// The only error is [`UtilError::Memory`].
     pub fn copy(&self, alloc: Global) -> Result<Node, UtilError>
         ensures same { IfOk result (λ copy. node_of copy ≡ node_of self.now) }
         ensures refused { IsOkUnless result UtilError.Memory }

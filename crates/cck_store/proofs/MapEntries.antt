@@ -21,7 +21,7 @@ found_by : (b : Bool) (p : String Global × Vec ℕ) (o : Option (Vec ℕ)) (q :
 found_by true p o q e = refl
 found_by false p o q e = e
 
--- what a look into it finds
+-- what a look-up in it finds
 pub found_in_map : (key : Bytes) (es : List (String Global × Vec ℕ)) → option_map (λ v. v.items) (lookup (is_at (λ k. slice_cmp nat_cmp key (string_bytes k))) es) ≡ find text_cmp key (map pair_of es)
 found_in_map key [] = refl
 found_in_map key (e ∷ es) = found_by (eq_by_cmp text_cmp key (string_bytes (e.0))) e _ _ (found_in_map key es)

@@ -1,4 +1,4 @@
--- A store that keeps nothing keeps what is promised of stores.
+-- A store that keeps nothing meets the laws of stores.
 use Rattle.std.proofs.Common.{◌≡◌, ℕ, Some, None, Ok, Err, sym, subst, le_refl}
 use Rattle.cck_path.specs.Bytes.{Bytes}
 use Rattle.cck_files.specs.Calls.{Rose}

@@ -1,10 +1,10 @@
--- a store that keeps nothing, by its count of setbacks
+-- a store that keeps nothing: its state is its count of store failures
 use Rattle.std.specs.Prelude.{◌≡◌, ℕ, None, Ok, Err}
 use Rattle.cck_path.specs.Bytes.{Bytes}
 use Rattle.cck_store.specs.Store.{Handed, Store, Stored, counted, more}
 use Rattle.cck_store.specs.declared.store.StoreError.TheVariants as store
 
--- a get finds nothing, and a put fails, which is a setback
+-- a get finds nothing, and a put fails, which is a store failure
 abbrev pub FindsNothing : ℕ → Bytes → Handed → ℕ → Type 0
 FindsNothing s key handed t = (handed ≡ Ok None) × (t ≡ s)
 

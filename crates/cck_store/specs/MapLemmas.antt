@@ -1,4 +1,4 @@
--- A store in memory keeps what is promised of stores.
+-- A store in memory meets the laws of stores.
 use Rattle.std.proofs.Common.{◌≡◌, ◌⊎◌, inl, inr, ◌≤◌, ◌==◌, Bool, true, false, cond, List, [], refl, sym, ap, ◌∙◌, subst, arith, Some, Ok, Err}
 use Rattle.std.specs.Cmp.Lexicographic.{nat_list_cmp_total}
 use Rattle.std.specs.FinMap.{nat_cmp-IsAntisymmetric, slice_cmp-IsAntisymmetric}
@@ -42,7 +42,7 @@ begun_held s k x h = by (s.forget == 1) h
     by true h = absurd cc
     by false h = h
 
--- without a setback all of it is
+-- without a store failure all of it still is
 begun_calm : (s : State) (t : State) → t.setbacks ≡ (begun s).setbacks → (Setback map_store s t → ⊥) → (begun s).pairs ≡ s.pairs
 begun_calm s t is calm = by (s.forget == 1) is
   where

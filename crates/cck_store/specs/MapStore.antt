@@ -1,4 +1,4 @@
--- a store in memory that forgets and fails where it is told to
+-- a store in memory that can be armed to lose entries and to fail
 use Rattle.std.specs.Prelude.{◌≡◌, ℕ, ◌-◌, ◌==◌, List, [], String, Option, Ok, Err, true, false, refl, if◌then◌else◌}
 use Rattle.std.specs.Coded.{Coded, code_by, coded×, coded_list, coded_ℕ}
 use Rattle.std.specs.FinMap.Entries.{find, put}
@@ -11,8 +11,8 @@ use Rattle.cck_path.specs.TextOrder.{text_cmp}
 use Rattle.cck_store.specs.Store.{Handed, Store, Stored, counted, more}
 use Rattle.cck_store.specs.declared.store.StoreError.TheVariants as store
 
--- keys and bytes, ascending by the keys; how many setbacks came; which of the following calls forgets all that is held, counted from 1, or
--- 0; and which of them fail
+-- Keys and bytes, ascending by the keys, and the number of store failures. Also which of the next calls loses all that is held, counted
+-- from 1, or 0 for none; and which of them fail.
 pub record State : Type 0 where
   pub pairs : List (Bytes × Bytes)
   pub setbacks : ℕ
@@ -23,18 +23,18 @@ abbrev pub coded_state : Coded State
 coded_state = code_by (List (Bytes × Bytes) × (ℕ × (ℕ × Armed))) (coded× (coded_list (coded× (coded_list coded_ℕ) (coded_list coded_ℕ))) (coded× coded_ℕ (coded× coded_ℕ coded_armed)))
     (λ s. (s.pairs, (s.setbacks, (s.forget, s.armed)))) (λ p. record { pairs = p.0; setbacks = p.1.0; forget = p.1.1.0; armed = p.1.1.1 }) (λ _. refl)
 
--- nothing is held, no setback came, and no call is armed
+-- nothing is held, there was no store failure, and no call is armed
 abbrev pub new_state : State
 new_state = record { pairs = []; setbacks = 0; forget = 0; armed = new_armed }
 
 abbrev pub pair_of : String Global × Vec ℕ → Bytes × Bytes
 pair_of p = (string_bytes (p.0), p.1.items)
 
--- a setback came
+-- after one more store failure
 abbrev pub set_back : State → State
 set_back s = record s { setbacks = more s.setbacks }
 
--- a call begins: where it is the one that forgets, nothing is held from here on, which is a setback
+-- a call begins: if it is armed to lose all that is held, nothing is held from here on, which is a store failure
 abbrev pub begun : State → State
 begun s = record {
   pairs = if s.forget == 1 then [] else s.pairs;
@@ -43,13 +43,13 @@ begun s = record {
   armed = after_call s.armed;
 }
 
--- A get fails exactly where it is told to, which is a setback. Else it hands out what the key has, or memory ran out, a setback too.
+-- A get fails exactly if it is armed to. Otherwise it returns what the key has, or memory is lacking. Either error is a store failure.
 abbrev pub IsGot : State → Bytes → Handed → State → Type 0
 IsGot s key (Err store.Fault) t = (fails s.armed ≡ true) × (t ≡ set_back (begun s))
 IsGot s key (Err store.Memory) t = (fails s.armed ≡ false) × (t ≡ set_back (begun s))
 IsGot s key (Ok found) t = (fails s.armed ≡ false) × (found ≡ find text_cmp key (begun s).pairs) × (t ≡ begun s)
 
--- the same of a put, after which the key has the bytes
+-- the same for a put, after which the key has the bytes
 abbrev pub IsPut : State → Bytes → Bytes → Stored → State → Type 0
 IsPut s key bytes (Err store.Fault) t = (fails s.armed ≡ true) × (t ≡ set_back (begun s))
 IsPut s key bytes (Err store.Memory) t = (fails s.armed ≡ false) × (t ≡ set_back (begun s))

@@ -5,7 +5,7 @@ use Rattle.cck_path.specs.Bytes.{Bytes}
 use Rattle.cck_files.specs.Calls.{Rose}
 use Rattle.cck_store.specs.declared.store.StoreError.{StoreError}
 
--- what a store hands out, and what it says to a put
+-- the result of a get, and that of a put
 abbrev pub Handed : Type 0
 Handed = Result (Option Bytes) StoreError
 
@@ -17,7 +17,7 @@ handed_in (Err e) = Err e
 handed_in (Ok None) = Ok None
 handed_in (Ok (Some bytes)) = Ok (Some bytes.items)
 
--- which bytes are held under a key, how many setbacks came, and what a get and a put do, with their answers
+-- which bytes are held under a key, the number of store failures, and what a get and a put do, with their results
 pub record Store (S : Type 0) : Type 1 where
   pub held : S → Bytes → Bytes → Type 0
   pub setbacks : S → ℕ
@@ -28,21 +28,21 @@ pub record Store (S : Type 0) : Type 1 where
 unfoldable pub more : ℕ → ℕ
 more n = if nat_lt n 18446744073709551615 then n + 1 else n
 
--- what is counted: a count has 64 bits, and stays at its greatest value
+-- the counted number: a count has 64 bits, and stays at its greatest value
 abbrev pub counted : ℕ → ℕ
 counted n = min n (2 ^ 64 - 1)
 
--- a setback came between two states
+-- there was a store failure between two states
 abbrev pub Setback : {S : Type 0} → Store S → S → S → Type 0
 Setback st s t = Rose (st.setbacks s) (st.setbacks t)
 
--- under the key these bytes are held, and no other
+-- these bytes are held under the key, and no others
 abbrev pub HoldsOnly : {S : Type 0} → Store S → S → Bytes → Bytes → Type 0
 HoldsOnly st s key bytes = st.held s key bytes × ((others : Bytes) → st.held s key others → others ≡ bytes)
 
--- What is promised of a store: it never hands out what wasn't put under the key. It may forget, fail and run out of memory, and each
--- time counts as a setback, in a count of 64 bits. Without one a get changes nothing and finds what is held, and a put changes what its
--- own key holds.
+-- The laws of a store: it never returns what wasn't put under the key. It may lose entries, fail and run out of memory. Each of these is a
+-- store failure, and their count has 64 bits. Without a store failure a get changes nothing and finds what is held, and a put changes only
+-- what its own key holds.
 pub record StoreLaws {S : Type 0} (st : Store S) : Type 0 where
   pub setbacks_fit : (s : S) → st.setbacks s < 2 ^ 64
   pub got_count : (s t : S) (key : Bytes) (answer : Handed) → st.got s key answer t → st.setbacks s ≤ st.setbacks t

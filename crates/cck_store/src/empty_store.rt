@@ -5,8 +5,8 @@ use crate::store::{PreprocessorStore, StoreError, one_more};
 use std::alloc::Global;
 use std::marker::Model;
 
-/// A store that keeps nothing, for a caller who wants keys and no cache of them: each get finds
-/// nothing, and each put fails, which is a setback. No call takes memory.
+/// A store that keeps nothing, for a caller who wants keys and no cache of them. Each get finds
+/// nothing, and each put fails, which is a store failure. No call takes memory.
 #[derive(Debug, Drop)]
 pub struct EmptyStore {
     setbacks: u64,
@@ -23,7 +23,7 @@ impl Model for EmptyStore {
 }
 
 impl EmptyStore {
-    /// The store, without a setback so far.
+    /// A store without a store failure so far.
     pub fn new() -> EmptyStore
         ensures { result ≡ 0 }
     {

@@ -1,9 +1,9 @@
-//! Laws about the definitions, each the contract of a function that does nothing.
+//! Laws about the definitions. Each is the contract of a function with an empty body.
 ghost use Rattle.std.specs.Prelude.{◌≡◌, ◌↔◌, IsTrue};
 
 use crate::StoreError;
 
-/// Refusals are equal exactly if they are the same.
+/// Errors are equal exactly if they are the same.
 pub fn equality_is_exact()
     ensures { (a b : StoreError) → IsTrue (⟦<StoreError as PartialEq>⟧.eq a b) ↔ (a ≡ b) }
 {}

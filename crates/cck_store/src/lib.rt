@@ -1,20 +1,20 @@
-//! Stores of entries, as a cache of keys asks them.
+//! Stores of entries, as a cache of keys uses them.
 //!
-//! A [`PreprocessorStore`] holds bytes under keys. It may forget, fail and run out of memory, but
-//! never hands out what wasn't put under the key, and it counts its setbacks, so that a caller can
-//! be told what holds where none came. What calls for keys promise rests on these words alone, for
-//! any store.
+//! A [`PreprocessorStore`] holds bytes under keys. It may lose entries, fail and run out of memory,
+//! but it never returns what wasn't put under the key. It counts its store failures, so that a
+//! statement can say what holds if there was none. The contracts of calls for keys use this
+//! interface alone, so they hold for any store.
 //!
-//! Two stores stand here: [`MapStore`] in memory, which forgets and fails where it is told to, and
-//! [`EmptyStore`], which keeps nothing.
+//! This crate has two stores: [`MapStore`] in memory, which can be armed to lose entries and to
+//! fail, and [`EmptyStore`], which keeps nothing.
 //!
 //! ```rust
 //! let mut store = MapStore::new(alloc);
 //! store.put_preprocessor_cache_entry(alloc, "k", b"bytes")?;
 //! store.get_preprocessor_cache_entry(alloc, "k")?; // `Some` of these bytes
 //! store.fail_at(1);
-//! store.get_preprocessor_cache_entry(alloc, "k"); // `Err(StoreError::Fault)`, a setback
-//! store.held("k"); // the bytes still stand there
+//! store.get_preprocessor_cache_entry(alloc, "k"); // `Err(StoreError::Fault)`, a store failure
+//! store.held("k"); // the bytes are still held
 //! ```
 #![tactic(auto)]
 

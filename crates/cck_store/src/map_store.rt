@@ -15,9 +15,9 @@ use std::marker::Model;
 
 /// A store in memory: it keeps the newest bytes of each key.
 ///
-/// One of its following gets and puts may be armed to forget all that is held when it begins, and
-/// one, or all from one on, to fail. Each of these is a setback, and so is a growth of memory that
-/// is refused; nothing else is. The count of setbacks is a `u64` and stays at `u64::MAX`.
+/// One of its next gets and puts may be armed to lose all that is held when it begins. One, or all
+/// from one on, may be armed to fail. Each of these counts as a store failure, and so does lack of
+/// memory; nothing else does. The count of store failures is a `u64` and stays at `u64::MAX`.
 #[derive(Debug, Drop)]
 pub struct MapStore {
     alloc: Global,
@@ -43,8 +43,8 @@ impl Model for MapStore {
 }
 
 impl MapStore {
-    /// A store that holds nothing, without a setback so far, and with no call armed. It keeps the
-    /// allocator, and takes no memory.
+    /// A store that holds nothing, without a store failure so far, and with no call armed. It keeps
+    /// the allocator, and takes no memory.
     pub fn new(alloc: Global) -> MapStore
         ensures { result ≡ new_state }
     {
@@ -57,7 +57,7 @@ impl MapStore {
         }
     }
 
-    /// The bytes that are held under a key, if there are any. It is no get, and takes no memory.
+    /// The bytes that are held under a key, if there are any. This is no get, and takes no memory.
     pub fn held(&self, key: &str) -> Option<&[u8]>
         ensures { option_map (λ b. b.now) result ≡ find text_cmp key.now self.now.pairs }
     {
@@ -67,42 +67,42 @@ impl MapStore {
         }
     }
 
-    /// Makes the nth of the following gets and puts, counted from 1, forget all that is held when
-    /// it begins, and that one alone. What was armed before no longer counts, and 0 arms none.
+    /// Arms the nth of the next gets and puts, counted from 1, to lose all that is held when it
+    /// begins. It replaces what this method armed before, and 0 arms none.
     pub fn forget_at(&mut self, n: u64)
         ensures { self.new ≡ record self.old { forget = n } }
     {
         self.forget = n;
     }
 
-    /// Makes the nth of the following gets and puts, counted from 1, a [`StoreError::Fault`] that
-    /// hands out and puts nothing, and that one alone, beside what
-    /// [`fail_after`](MapStore::fail_after) arms. What it armed before no longer counts, and 0 arms
-    /// none. A call that is armed to forget as well forgets first.
+    /// Arms the nth of the next gets and puts, counted from 1, to return [`StoreError::Fault`]; it
+    /// then returns no bytes and puts nothing. This arms one call, beside what
+    /// [`fail_after`](MapStore::fail_after) arms. It replaces what this method armed before, and 0
+    /// arms none. A call that is also armed to lose all that is held does that first.
     pub fn fail_at(&mut self, n: u64)
         ensures { self.new ≡ record self.old { armed = record self.old.armed { one = n } } }
     {
         self.armed.fail_at(n);
     }
 
-    /// Makes the nth of the following gets and puts, counted from 1, and all after it a
-    /// [`StoreError::Fault`] that hands out and puts nothing, beside what
-    /// [`fail_at`](MapStore::fail_at) arms. What it armed before no longer counts, and 0 arms none.
-    /// A call that is armed to forget as well forgets first.
+    /// Arms the nth of the next gets and puts, counted from 1, and all after it, to return
+    /// [`StoreError::Fault`]; they then return no bytes and put nothing. This is beside what
+    /// [`fail_at`](MapStore::fail_at) arms. It replaces what this method armed before, and 0 arms
+    /// none. A call that is also armed to lose all that is held does that first.
     pub fn fail_after(&mut self, n: u64)
         ensures { self.new ≡ record self.old { armed = record self.old.armed { onward = n } } }
     {
         self.armed.fail_after(n);
     }
 
-    /// How many gets and puts came so far. At `u64::MAX` it stays.
+    /// The number of gets and puts so far. It stays at `u64::MAX`.
     pub fn calls(&self) -> u64
         ensures { result ≡ self.now.armed.calls }
     {
         self.armed.calls()
     }
 
-    // Holds a copy of these bytes under a key, in place of what it has.
+    // Holds a copy of these bytes under a key, in place of those that it has.
     fn keep(&mut self, key: &str, bytes: &[u8]) -> Result<(), AllocError>
         ensures kept { OnOk result (self.new ≡ record self.old {
           pairs = put text_cmp key.now bytes.now self.old.pairs;
@@ -117,14 +117,14 @@ impl MapStore {
         }
     }
 
-    // Counts a setback.
+    // Counts a store failure.
     fn set_back(&mut self)
         ensures { self.new ≡ set_back self.old }
     {
         self.setbacks = one_more(self.setbacks);
     }
 
-    // Forgets all, where the call that begins is the one that does.
+    // Loses all that is held, if the call that begins is armed to.
     fn forget_if_told(&mut self)
         ensures { self.new ≡ record self.old {
           pairs = if self.old.forget == 1 then [] else self.old.pairs;
@@ -137,7 +137,7 @@ impl MapStore {
         }
     }
 
-    // Begins a get or a put, and says whether it fails.
+    // Begins a get or a put, and returns whether it fails.
     fn begin(&mut self) -> bool
         ensures fails { result ≡ fails self.old.armed }
         ensures after { self.new ≡ (if fails self.old.armed then set_back (begun self.old) else begun self.old) }

@@ -1,4 +1,4 @@
-//! What a store says of a call. Nothing here takes a compiler.
+//! The look-up of a key in the store. Nothing here takes a compiler.
 ghost use Rattle.std.specs.Prelude.{◌≡◌, IfErr, List, Some, option_map, string_bytes, ℕ};
 ghost use Rattle.cck_files.specs.Calls.{Keeps, Rose};
 ghost use Rattle.cck_include.specs.Matching.{matches};
@@ -18,11 +18,11 @@ use cck_files::Files;
 use cck_store::{PreprocessorStore, StoreError};
 use std::alloc::Global;
 
-/// The stored key that is answered, if there is one: the store is asked where there is a key to ask
-/// it under and a stored result may be answered.
+/// Returns the stored key that matches, if there is one. The store is asked if there is a
+/// preprocessor key and a stored key may be returned.
 ///
-/// It takes no compiler, so it can't preprocess: what it answers depends on the files, the store
-/// and the conditions alone.
+/// It takes no compiler, so it can't preprocess: the result depends on the files, the store and the
+/// conditions alone.
 pub(super) fn find<H: HashState, F: Files, S: PreprocessorStore>(
     alloc: Global,
     files: &mut F,
@@ -46,8 +46,8 @@ pub(super) fn find<H: HashState, F: Files, S: PreprocessorStore>(
     }
 }
 
-// Asks the store under a key, and answers what stands in the entry that it hands out for these
-// files, if something does.
+// Asks the store under a key, and returns the key that the returned entry has for these files, if
+// there is one.
 fn ask<H: HashState, F: Files, S: PreprocessorStore>(
     alloc: Global,
     files: &mut F,

@@ -1,4 +1,4 @@
-//! How a key is made afresh.
+//! Computing a key without the store.
 ghost use Rattle.std.specs.Prelude.{◌≡◌, IfErr, IfOk, IsOkUnless, map, option_map, string_bytes};
 ghost use Rattle.cck_files.specs.Calls.{Keeps, Rose};
 ghost use Rattle.cck_path.specs.Text.{join_path};
@@ -26,7 +26,7 @@ use cck_walk::{Walk, process_preprocessed_file};
 use std::alloc::Global;
 
 impl<I: CCompilerImpl> CCompilerHasher<I> {
-    /// Makes the key afresh, and puts an entry of it where it has one.
+    /// Computes the key, and puts an entry of it if one can be made.
     pub(crate) fn make<H: HashState, F: Files, S: PreprocessorStore>(
         &self,
         alloc: Global,
@@ -83,7 +83,7 @@ impl<I: CCompilerImpl> CCompilerHasher<I> {
         }
     }
 
-    // The key of a text.
+    // The plain key for a text.
     fn plain_key<H: HashState>(
         &self,
         alloc: Global,
@@ -118,8 +118,8 @@ impl<I: CCompilerImpl> CCompilerHasher<I> {
         }
     }
 
-    // The key of a printed text, where a store may be asked: the text is walked over, and where it
-    // names files that can be recorded, the entry of the key is put.
+    // The key of a preprocessed text, where there is a preprocessor key. The walk judges the text;
+    // if it accepts the text and records files, the entry of the key is put.
     fn walk_and_put<H: HashState, F: Files, S: PreprocessorStore>(
         &self,
         alloc: Global,

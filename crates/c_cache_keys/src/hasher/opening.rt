@@ -1,4 +1,4 @@
-//! What a call begins with: the digests of further files, and the key that a store is asked under.
+//! The first part of a call: the digests of the extra files, and the preprocessor key.
 ghost use Rattle.std.specs.Prelude.{◌≡◌, ◌&&◌, IfErr, MatchResult, None, if◌then◌else◌, is_none, map, option_map, string_bytes};
 ghost use Rattle.std.specs.Str.{str_eq_ignore_ascii_case};
 ghost use Rattle.cck_compiler.specs.Seen.{arguments_of};
@@ -23,16 +23,16 @@ use cck_path::{first_value, join_path};
 use cck_preprocessor_key::preprocessor_cache_entry_hash_key;
 use std::alloc::Global;
 
-/// What a call begins with.
+/// The results of the first part of a call.
 #[derive(Drop)]
 pub(crate) struct Opening {
-    /// The digest texts of the further files, in their order.
+    /// The hex digests of the extra files, in their order.
     pub(crate) extra_hashes: Vec<String>,
-    /// The key that a store is asked under, if there is one.
+    /// The preprocessor key, if there is one.
     pub(crate) key: Option<String>,
 }
 
-// Whether these are the same bytes, in any case.
+// Whether these are the same bytes but for the case of ASCII letters.
 fn is_same_word(value: &[u8], word: &[u8]) -> bool
     ensures { result ≡ str_eq_ignore_ascii_case value.now word.now }
 {
@@ -58,7 +58,7 @@ fn is_direct(vars: &[(Vec<u8>, Vec<u8>)]) -> bool
 }
 
 impl<I: CCompilerImpl> CCompilerHasher<I> {
-    /// The digest text of the assembler, if a program of its own is called.
+    /// The hex digest of the assembler, if the assembler is a program of its own.
     pub(crate) fn assembler_digest(&self) -> Option<&str>
         ensures { option_map (λ d. d.now) result
             ≡ (if self.now.parsed_args.uses_external_assembler then I.compiler.assembler_digest (I.value self.now.compiler) else None) }
@@ -86,7 +86,7 @@ impl<I: CCompilerImpl> CCompilerHasher<I> {
             && is_direct(conditions.vars)
     }
 
-    /// The digest texts of the further files, and the key that a store is asked under.
+    /// Computes the hex digests of the extra files, and the preprocessor key.
     pub(crate) fn open<H: HashState, F: Files>(
         &self,
         alloc: Global,
@@ -123,7 +123,7 @@ impl<I: CCompilerImpl> CCompilerHasher<I> {
         }
     }
 
-    // The key that a store is asked under, where the preprocessor cache is used.
+    // The preprocessor key, where the preprocessor cache is used.
     fn preprocessor_key<H: HashState, F: Files>(
         &self,
         alloc: Global,

@@ -1,4 +1,4 @@
-//! How a fresh result is stored.
+//! Storing a computed key.
 ghost use Rattle.cck_files.specs.Calls.{Keeps, Rose};
 ghost use Rattle.cck_include.specs.Gathered.{digested_in};
 ghost use Rattle.c_cache_keys.specs.Hasher.{IsPut};
@@ -11,11 +11,11 @@ use cck_store::PreprocessorStore;
 use cck_time::Error;
 use std::alloc::Global;
 
-/// Puts the entry of one result: a key, and the files that it was made over.
+/// Puts the entry of one result: a key, and the files that it was computed from.
 ///
-/// Nothing is put where one of the files is missing or a fault came. It is refused only as
-/// [`KeyError::Memory`], and then nothing is put; that a store couldn't put the entry is no
-/// refusal.
+/// Nothing is put where one of the files is missing or a fault occurred. The only error is
+/// [`KeyError::Memory`], and then nothing is put. That the store couldn't put the entry is no
+/// error.
 pub(super) fn put_result<F: Files, S: PreprocessorStore>(
     alloc: Global,
     files: &mut F,
@@ -40,7 +40,7 @@ pub(super) fn put_result<F: Files, S: PreprocessorStore>(
         Ok(()) => {}
         Err(_) => return Err(KeyError::Memory),
     }
-    // Whether it was put changes nothing in the answer.
+    // Whether the put succeeds doesn't change the result.
     let _ = store.put_preprocessor_cache_entry(alloc, at, &bytes);
     Ok(())
 }

@@ -134,7 +134,7 @@ impl Files for MapFiles {
     ghost quiet_is_low = { λ files quiet. quiet.1 };
 }
 
-// What is said of a node.
+// The metadata of a node.
 fn metadata_of(node: &Node) -> Metadata
     ensures { result ≡ metadata_of (node_of node.now) }
 {
@@ -150,7 +150,7 @@ fn metadata_of(node: &Node) -> Metadata
     }
 }
 
-// Reads from an offset on, and answers how many bytes.
+// Reads from an offset on, and returns the number of bytes.
 fn read_bytes(contents: &[u8], offset: u64, buffer: &mut [u8]) -> usize
     ensures read { IsRead contents.now offset result buffer.new }
     ensures full { IsFullRead contents.now offset result buffer.old buffer.new }

@@ -5,7 +5,7 @@ ghost use Rattle.cck_path.specs.Text.{path_text};
 
 use crate::Node;
 
-// What stands at a path, and the path that leads there without links.
+// The node at a path, and its canonical path, which leads there without links.
 #[derive(Debug, Drop)]
 pub(super) struct Place {
     pub(super) node: Node,

@@ -7,7 +7,7 @@ use Rattle.c_cache_keys.specs.Calls.{AreAnswered, IsAfter}
 use Rattle.c_cache_keys.specs.World.{world_of}
 use Rattle.c_cache_keys.proofs.calls.run_calls.Given as goal
 
--- the calls made so far, those that are left, and the room for their answers
+-- the calls made so far, those that are left, and the room for their results
 abbrev pub invariant-loop-call : goal.invariant-loop-call
 invariant-loop-call g l = let F = g.F.Files in record {
   answered : AreAnswered g.I.CCompilerImpl.value F.file_map F.faults
