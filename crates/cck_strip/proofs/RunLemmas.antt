@@ -133,7 +133,7 @@ Pending-run nodes text best (suc n) at depth f (node, there, straight, rest) p b
     short : length text ≤ depth → starts_with nat_eq (drop depth text) (take (suc n) (drop (at.0) bytes)) ≡ false
     short past = ap (starts_with nat_eq (drop depth text)) expected ∙ ap (λ x. starts_with nat_eq x (node.byte ∷ take n (drop (straight.id.0) bytes))) (drop_all depth text past)
 
--- what is known of a walk behind a run, whose bytes were compared with the text
+-- what is known of a walk after a run, whose bytes were compared with the text
 pub Pending-compared : (nodes : List Node) (bytes own runs text : List ℕ) (next : Option NodeId) (at : NodeId) (depth best n m : ℕ) (b now : Bool)
     → IsForward nodes → HasRuns nodes bytes runs → Pending nodes text next depth best → next ≡ Some at → n ≡ get_or runs (at.0) n → own ≡ bytes → m ≡ n
     → b ≡ starts_with nat_eq (take (length text - depth) (drop depth text)) (take m (drop (at.0) own)) → b ≡ now → Walked nodes text at n depth best now
