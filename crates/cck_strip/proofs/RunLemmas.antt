@@ -37,7 +37,7 @@ byte_at nodes i node at =
 same_id : (a b : NodeId) → a.0 ≡ b.0 → a ≡ b
 same_id a b e = λ i. record { 0 = e i }
 
--- what is known of a walk behind so many nodes of a run, by whether the text goes on with their bytes
+-- what is known of a walk after n nodes of a run, by whether the text goes on with their bytes
 abbrev pub Walked : List Node → List ℕ → NodeId → ℕ → ℕ → ℕ → Bool → Type 0
 Walked nodes text at n depth best true = (end : NodeId) (later : ℕ) → end.0 ≡ at.0 + n → later ≡ depth + n → Pending nodes text (Some end) later best
 Walked nodes text at n depth best false = (words : List (List ℕ)) → IsTrie nodes words → best ≡ longest_prefix words text
