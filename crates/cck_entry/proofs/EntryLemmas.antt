@@ -146,7 +146,7 @@ counts_long (r ∷ rs) =
       length-append (to_le_bytes w64 (length r.1)) (flat_map include_bytes r.1),
     )
 
--- as many includes as the bytes can hold
+-- the number of includes that the bytes can hold
 pub count_bound : (rest : List ℕ) (rs : List KeyResult) → IsBytes rest → entry_at rest ≡ Some rs → 26 * include_count rs ≤ length rest
 count_bound rest rs fits e =
     let t = entry_takes rest rs fits e in

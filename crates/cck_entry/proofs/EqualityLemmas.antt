@@ -1,4 +1,4 @@
--- The tests of equality tell whether two values are one.
+-- The tests of equality hold exactly if two values are the same.
 use Rattle.std.proofs.Common.{◌≡◌, ap}
 use Rattle.std.specs.Cmp.Lexicographic.{bytes_decides, pointwise_decides}
 use Rattle.std.specs.FinMap.{entries, same_entries_map}

@@ -14,7 +14,7 @@ Read = Option (List Include × List ℕ)
 abbrev with_one : Include → Read → Read
 with_one n read = read >>= λ x. Some (n ∷ x.0, x.1)
 
--- the bytes behind
+-- the bytes after them
 abbrev behind : Read → Option (List ℕ)
 behind read = option_map (λ x. x.1) read
 
@@ -37,7 +37,7 @@ done_at count i bytes le =
     let k : count - i ≡ 0 = omega arith in
     rw k refl
 
--- ---- what stands behind them
+-- ---- the bytes after them
 
 same_behind : (n : Include) (read : Read) → behind (with_one n read) ≡ behind read
 same_behind n (Some x) = refl
@@ -57,7 +57,7 @@ ends (UnknownFormat b) count i bytes total lt h so_far = h
 pub is_behind : (count i : ℕ) (bytes : List ℕ) (total : Option (List ℕ)) → count ≤ i → behind (includes_at (count - i) bytes) ≡ total → total ≡ Some bytes
 is_behind count i bytes total le so_far = sym so_far ∙ ap behind (done_at count i bytes le)
 
--- ---- includes that are known to stand there
+-- ---- includes that are known to be readable
 
 from_one : (n : Include) (read : Read) → IsSome (with_one n read) → (begun (with_one n read) ≡ n ∷ begun read) × IsSome read
 from_one n (Some x) h = (refl, refl)

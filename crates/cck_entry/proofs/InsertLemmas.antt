@@ -1,4 +1,4 @@
--- A key that gets its includes, in a map and in the entry that lies in it.
+-- Setting the includes of a key, in a map and in the entry that it holds.
 use Rattle.std.proofs.Common.{◌≡◌, ℕ, ◌+◌, ◌≤◌, Bool, true, false, ltb, cond, List, [], ◌∷◌, length, map, Option, Some, None, option_map, unwrap_or, refl, sym, ap, ◌∙◌, arith, zero-add}
 use Rattle.std.specs.Prelude.{String}
 use Rattle.std.specs.Global.{Vec}

@@ -24,7 +24,7 @@ use Rattle.cck_entry.proofs.InsertLemmas.{added_to, under_limits}
 pub one_text_one_entry : OneTextOneEntry
 one_text_one_entry e f a b s t = (one_entry, one_text)
   where
-    -- what stands behind the format is read as the results of either
+    -- the bytes after the format are read as the results of either
     one_entry : a ≡ b → e ≡ f
     one_entry same =
         let rest = to_le_bytes w64 (length (entries e)) ++ flat_map result_bytes (entries e) in

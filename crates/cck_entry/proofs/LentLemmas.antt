@@ -1,4 +1,4 @@
--- Results where they stand in bytes, and the entry that has them.
+-- Results as borrowed from bytes, and the entry that has them.
 use Rattle.std.proofs.Common.{◌≡◌, ℕ, zero, suc, ◌+◌, ◌<◌, true, false, List, [], ◌∷◌, ◌++◌, append_assoc, drop, drop-cons, get_or, length, map, Some, refl, sym, ap, ◌∙◌, arith}
 use Rattle.std.specs.Prelude.{slice_get}
 use Rattle.std.specs.Cmp.{tied_itself}
@@ -93,7 +93,7 @@ pub after_own : (rs : List ResultRef) (i : ℕ) (d : ResultRef) (own : List KeyR
 after_own rs i d own key within s so_far is =
     ap (comes_after own) is ∙ after_front own (result_lent (get_or rs i d)) (map result_lent (drop (i + 1) rs)) (ap (is_sorted text_cmp) (lent_here rs i d own within so_far) ∙ s)
 
--- and behind it are the others
+-- and after it are the others
 pub own_push : (rs : List ResultRef) (i : ℕ) (d : ResultRef) (own new : List KeyResult) (key : List ℕ) (list : List Include) → i < length rs → own ++ map result_lent (drop i rs) ≡ map result_lent rs
     → new ≡ own ++ (key, list) ∷ [] → key ≡ (get_or rs i d).key.now → list ≡ includes_begun (get_or rs i d).count (get_or rs i d).includes.now → new ++ map result_lent (drop (i + 1) rs) ≡ map result_lent rs
 own_push rs i d own new key list within so_far all is has =

@@ -38,12 +38,12 @@ include_code =
 abbrev pub entry_code : Coded Entry
 entry_code = code (coded_list coded_ℕ) (coded_list include_code)
 
--- how many includes all results have together
+-- the number of includes of all results together
 abbrev pub include_count : List KeyResult → ℕ
 include_count [] = 0
 include_count (r ∷ rs) = length (r.1) + include_count rs
 
--- These bytes are the entry's text: no key stands twice, the keys ascend, and all numbers fit.
+-- These bytes are the entry's text: no key occurs twice, the keys ascend, and all numbers fit.
 pub record EntryText (e : Entry) (bytes : List ℕ) : Type 0 where
   pub count : length (entries e) < 2 ^ 64
   pub each : AllByRecursion FitsResult (entries e)
@@ -65,7 +65,7 @@ IsEntryOrMemory e (Err Deserialization) = ⊥
 IsEntryOrMemory e (Err (UnknownFormat x)) = ⊥
 IsEntryOrMemory e (Err (Io u)) = ⊥
 
--- what the bytes behind the format may be read as, and as nothing else
+-- what the bytes after the format may be read as, and as nothing else
 abbrev pub IsReadFrom : List ℕ → Result Entry Error → Type 0
 IsReadFrom rest (Ok e) = EntryText e (format_version ∷ rest) × ((f : Entry) → EntryText f (format_version ∷ rest) → e ≡ f)
 IsReadFrom rest (Err Memory) = Unit {0}
@@ -77,7 +77,7 @@ IsReadFrom rest (Err (Io u)) = ⊥
 abbrev pub within_results : Entry → Entry
 within_results e = if nat_lt 100 (len e) then empty else e
 
--- the entry, or the empty one where its includes and so many more are above 10000
+-- the entry, or the empty one where its includes and `more` are above 10000
 abbrev pub within_includes : Entry → ℕ → Entry
 within_includes e more = if nat_lt 10000 (include_count (entries e) + more) then empty else e
 
@@ -85,6 +85,6 @@ within_includes e more = if nat_lt 10000 (include_count (entries e) + more) then
 abbrev pub added : Entry → List ℕ → List Include → Entry
 added e key list = insert (within_includes (within_results e) (length list)) key list
 
--- either limit is passed
+-- either limit is exceeded
 abbrev pub is_over : Entry → ℕ → Bool
 is_over e more = nat_lt 100 (len e) || nat_lt 10000 (include_count (entries e) + more)

@@ -12,7 +12,7 @@ use Rattle.cck_include.specs.Include.{Include}
 abbrev pub found_in : (Include → Bool) → List KeyResult → Option KeyResult
 found_in matching results = find (λ r. list_all matching (r.1)) (reverse results)
 
--- the key that is looked up; where a fault came, it may be none, or another key whose includes all match
+-- the key that a look-up returns; after a fault it may be none, or another key whose includes all match
 abbrev pub IsLookup : (Include → Bool) → List KeyResult → Type 0 → Option (List ℕ) → Type 0
 IsLookup matching results HasFault None = (found_in matching results ≡ None) ⊎ HasFault
 IsLookup matching results HasFault (Some key) =

@@ -1,4 +1,4 @@
--- results where they stand in the bytes of an entry
+-- results as borrowed from the bytes of an entry
 use Rattle.std.specs.Prelude.{◌≡◌, ℕ, ◌+◌, List, [], ◌∷◌, map, true, Option, Some, None, IsSome}
 use Rattle.std.specs.FinMap.{from_sorted, is_sorted}
 use Rattle.std.specs.List.{AllByRecursion}
@@ -14,11 +14,11 @@ abbrev pub begun : Option (List Include × List ℕ) → List Include
 begun None = []
 begun (Some x) = x.0
 
--- so many includes that bytes begin with, and none where they begin with something else
+-- the first n includes of bytes, or none where they do not begin with n includes
 abbrev pub includes_begun : ℕ → List ℕ → List Include
 includes_begun n bytes = begun (includes_at n bytes)
 
--- the result that is lent
+-- the value of a borrowed result
 abbrev pub result_lent : ResultRef → KeyResult
 result_lent r = (r.key.now, includes_begun r.count r.includes.now)
 
@@ -26,7 +26,7 @@ result_lent r = (r.key.now, includes_begun r.count r.includes.now)
 abbrev pub IsWhole : ResultRef → Type 0
 IsWhole r = IsSome (includes_at r.count r.includes.now)
 
--- how many includes all have together
+-- the number of includes of all together
 abbrev pub counts : List ResultRef → ℕ
 counts [] = 0
 counts (r ∷ rs) = r.count + counts rs
@@ -35,7 +35,7 @@ counts (r ∷ rs) = r.count + counts rs
 abbrev pub entry_lent : List ResultRef → Entry
 entry_lent rs = from_sorted (map result_lent rs)
 
--- what a view keeps: its keys ascend, each result is whole, and their includes are so many together
+-- the invariant of a view: its keys ascend, each result is whole, and number is that of all their includes
 pub record IsView (rs : List ResultRef) (number : ℕ) : Type 0 where
   pub ascend : is_sorted text_cmp (map result_lent rs) ≡ true
   pub whole : AllByRecursion IsWhole rs

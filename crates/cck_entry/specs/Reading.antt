@@ -87,7 +87,7 @@ result_at bytes = do
 abbrev pub comes_after : List KeyResult → List ℕ → Bool
 comes_after front key = list_all (λ r. is_lt (text_cmp r.0 key)) front
 
--- so many results after those in front
+-- n results after those in front
 unfoldable pub results_from : List KeyResult → ℕ → List ℕ → Option (List KeyResult × List ℕ)
 results_from front zero bytes = Some (front, bytes)
 results_from front (suc n) bytes = do

@@ -17,7 +17,7 @@ KeyResult = List ℕ × List Include
 abbrev pub result_in : String Global × Vec IncludeEntry → KeyResult
 result_in r = (string_bytes r.0, includes_in r.1.items)
 
--- Bytes can tell a moment whose seconds fit 8 bytes,
+-- Bytes can represent a time whose seconds fit 8 bytes,
 abbrev pub FitsMoment : Moment → Type 0
 FitsMoment t = FitsSigned w64 t.seconds × IsMoment t
 

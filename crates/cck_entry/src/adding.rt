@@ -13,17 +13,17 @@ use cck_path::Timestamp;
 use cck_time::Error;
 
 impl PreprocessorCacheEntry {
-    /// Gives a key the files that its result included, each a digest and a path, as its result.
-    /// What is [recorded of them](gather) is asked of the files first. The result replaces the one
+    /// Adds the result of a key: the files that it included, each passed as a digest and a path.
+    /// What is [recorded of them](gather) is read from the files first. The result replaces the one
     /// that the key had.
     ///
-    /// All results are cleared before if there are more than 100, or if their includes and the new
-    /// ones are more than 10000 together; what the key had counts too. So at most 101 results stand
-    /// afterwards, and at most 10000 includes, unless one result stands alone.
+    /// All results are cleared first if there are more than 100, or if their includes and the new
+    /// ones are more than 10000 together; the includes that the key had count too. So afterwards
+    /// there are at most 101 results, and at most 10000 includes unless there is only one result.
     ///
-    /// It is refused as [`Error::Io`] with [`NotFound`](cck_digest::FileError::NotFound) only where
-    /// nothing stands at one of the paths, or with [`Fault`](cck_digest::FileError::Fault) only
-    /// where a fault came, and as [`Error::Memory`]. A refusal leaves the entry as it was.
+    /// The errors are [`Error::Io`] with [`NotFound`](cck_digest::FileError::NotFound) only where
+    /// there is no node at one of the paths, or with [`Fault`](cck_digest::FileError::Fault) only
+    /// where the count of faults rose, and [`Error::Memory`]. An error leaves the entry unchanged.
     ///
     /// Upstream's `PreprocessorCacheEntry::add_result`.
     pub fn add_result<F: Files>(

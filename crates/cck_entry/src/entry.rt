@@ -21,7 +21,7 @@ use std::fmt::{Debug, Formatter};
 use std::io::Write;
 use std::marker::Model;
 
-/// More results than these are not kept when another one is added.
+/// Results are cleared before another one is added when there are more than this number.
 const MAX_PREPROCESSOR_CACHE_ENTRIES: usize = 100;
 
 /// Results are cleared when their includes, with those to be added, are more than these.
@@ -58,7 +58,7 @@ impl Model for PreprocessorCacheEntry {
 }
 
 impl PreprocessorCacheEntry {
-    /// The entry without results. It takes its memory from this allocator.
+    /// Returns the entry without results. It takes its memory from this allocator.
     pub fn new(alloc: Global) -> PreprocessorCacheEntry
         ensures { result ≡ empty }
     {
@@ -69,12 +69,13 @@ impl PreprocessorCacheEntry {
         }
     }
 
-    /// The entry whose text these bytes are; for no bytes it is the one without results.
+    /// Returns the entry whose text these bytes are; for no bytes, the entry without results.
     ///
-    /// [`Error::UnknownFormat`] names a first byte other than 2. [`Error::Deserialization`] says
-    /// that the bytes begin with 2 and are the text of no entry. A count is compared with the bytes
-    /// left before memory is taken for it: for a number of results that they can't hold the error is
-    /// never [`Error::Memory`], which says that memory is lacking.
+    /// The error is [`Error::UnknownFormat`] with the first byte if that is not 2, and
+    /// [`Error::Deserialization`] if the bytes begin with 2 and are the text of no entry.
+    /// [`Error::Memory`] says that memory is lacking. A count is compared with the remaining bytes
+    /// before memory is taken for it: for a number of results that they can't hold the error is
+    /// never [`Error::Memory`].
     pub fn read(alloc: Global, bytes: &[u8]) -> Result<PreprocessorCacheEntry, Error>
         ensures reads { Reads result bytes.now }
         ensures only { (e : Entry) → EntryText e bytes.now → IsEntryOrMemory e result }
@@ -89,8 +90,8 @@ impl PreprocessorCacheEntry {
 
     /// Writes the entry's text, the only one that it has.
     ///
-    /// [`Error::Io`] with `UtilError::Write` says that the writer failed, and is the only refusal.
-    /// How much was written by then is not said.
+    /// The only error is [`Error::Io`] with `UtilError::Write`, where the writer failed. How much
+    /// was written before is not specified.
     pub fn serialize_to<W: Write>(&self, writer: &mut W) -> Result<(), Error>
         ensures text { OnOk result ((text : List ℕ) × EntryText self.now text
             × Appends (W.contents writer.old) (W.contents writer.new) text) }
@@ -99,22 +100,22 @@ impl PreprocessorCacheEntry {
         write_entry(writer, &self.results)
     }
 
-    /// How many results there are.
+    /// Returns the number of results.
     pub fn result_count(&self) -> usize
         ensures { result ≡ len self.now }
     {
         self.results.len()
     }
 
-    /// How many includes all results have together, known without going over them.
+    /// Returns the number of includes of all results together, without iterating over them.
     pub fn number_of_entries(&self) -> usize
         ensures { result ≡ include_count (entries self.now) }
     {
         self.number_of_entries
     }
 
-    /// The results, in the order of their keys' bytes: all that the entry holds, for a caller that
-    /// shows it or compares it with something else.
+    /// Returns all results, in the order of their keys' bytes, for a caller that prints or compares
+    /// them.
     pub fn results(&self) -> &BTreeMap<String, Vec<IncludeEntry>>
         ensures { entries self.now ≡ map result_in result.now.entries }
     {
@@ -126,9 +127,9 @@ impl PreprocessorCacheEntry {
         self.alloc
     }
 
-    /// The same entry, in memory of its own.
+    /// Returns a copy of the entry.
     ///
-    /// [`Error::Memory`] is the only refusal.
+    /// The only error is [`Error::Memory`].
     pub fn copy(&self, alloc: Global) -> Result<PreprocessorCacheEntry, Error>
         ensures value { IfOk result (λ copy. copy ≡ self.now) }
         ensures err { IfErr result (λ e. e ≡ Error.Memory) }
@@ -141,13 +142,13 @@ impl PreprocessorCacheEntry {
         })
     }
 
-    /// Gives a key these includes as its result, which replaces the one that it had.
+    /// Sets these includes as the result of a key, in place of the one that it had.
     ///
-    /// All results are cleared before if there are more than 100, or if their includes and the new
-    /// ones are more than 10000 together; what the key had counts too. So at most 101 results stand
-    /// afterwards, and at most 10000 includes, unless one result stands alone.
+    /// All results are cleared first if there are more than 100, or if their includes and the new
+    /// ones are more than 10000 together; the includes that the key had count too. So afterwards
+    /// there are at most 101 results, and at most 10000 includes unless there is only one result.
     ///
-    /// [`Error::Memory`] is the only refusal, and leaves the entry as it was.
+    /// The only error is [`Error::Memory`], which leaves the entry unchanged.
     pub(crate) fn insert_result(
         &mut self,
         key: String,
@@ -160,7 +161,7 @@ impl PreprocessorCacheEntry {
     {
         let count = includes.as_slice().len();
         if self.is_full(count) {
-            // The new map is made before the old one is let go, since it may be refused.
+            // The new map is made before the old one is dropped, since memory may be lacking.
             let mut results = BTreeMap::new(self.alloc);
             insert_counted(&mut results, key, includes)?;
             self.results = results;
@@ -172,7 +173,7 @@ impl PreprocessorCacheEntry {
         Ok(())
     }
 
-    /// Whether the results are cleared before one with so many includes is added.
+    /// Returns whether the results are cleared before one with `more` includes is added.
     fn is_full(&self, more: usize) -> bool
         ensures { result ≡ is_over self.now more }
     {
@@ -207,7 +208,7 @@ impl Eq for PreprocessorCacheEntry {
     ghost laws = { entry_equiv };
 }
 
-/// The entry that a view is of, in memory of its own.
+/// Returns a copy of a view's entry.
 fn copy_view(alloc: Global, view: &EntryView<'_>) -> Result<PreprocessorCacheEntry, Error>
     ensures value { IfOk result (λ copy. copy ≡ view.now) }
     ensures err { IfErr result (λ e. e ≡ Error.Memory) }
@@ -220,7 +221,7 @@ fn copy_view(alloc: Global, view: &EntryView<'_>) -> Result<PreprocessorCacheEnt
     })
 }
 
-/// Whether so many results are too many, or so many includes with those to be added.
+/// Returns whether there are too many results, or too many includes with those to be added.
 fn is_past_a_limit(results: usize, includes: usize, more: usize) -> bool
     ensures { result ≡ (nat_lt 100 results || nat_lt 10000 (includes + more)) }
 {

@@ -1,5 +1,4 @@
-//! Laws about the definitions: what they say beyond what they compute. Each is the contract of a
-//! function that does nothing.
+//! Laws about the definitions. Each is the contract of a function that does nothing.
 ghost use Rattle.std.specs.Prelude.{◌≡◌, ◌↔◌, IsTrue};
 ghost use Rattle.cck_entry.specs.Entry.{Entry};
 ghost use Rattle.cck_entry.specs.Find.{GreatestIsFound};
@@ -16,14 +15,14 @@ pub fn one_text_one_entry()
     ensures { OneTextOneEntry }
 {}
 
-/// A result is added to the entry as it stands, or to none of it: to the empty entry if it has more
-/// than 100 results, or if its includes and the new ones are more than 10000.
+/// A result is added to the empty entry if the entry has more than 100 results, or if its includes
+/// and the new ones are more than 10000; otherwise it is added to the entry itself.
 pub fn added_to_all_or_nothing()
     ensures { AddedToAllOrNothing }
 {}
 
-/// Once a result was added, at most 101 results stand, and at most 10000 includes unless one result
-/// stands alone.
+/// After a result was added, there are at most 101 results, and at most 10000 includes unless there
+/// is only one result.
 pub fn added_is_limited()
     ensures { AddedIsLimited }
 {}
@@ -33,7 +32,8 @@ pub fn equality_is_exact()
     ensures { (a b : Entry) → IsTrue (⟦<PreprocessorCacheEntry as PartialEq>⟧.eq a b) ↔ (a ≡ b) }
 {}
 
-/// What is looked up is the greatest key whose includes all match, and none only if no key's do.
+/// A look-up finds the greatest key whose includes all match, and none only if no key's includes
+/// do.
 pub fn greatest_is_found()
     ensures { GreatestIsFound }
 {}

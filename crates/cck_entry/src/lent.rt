@@ -1,4 +1,4 @@
-//! Results where they stand in the bytes of an entry.
+//! Results as borrowed from the bytes of an entry.
 ghost use Rattle.std.specs.Prelude.{◌≡◌, ◌<◌, ◌^◌, IfErr, IfOk, IsSome, map, true};
 ghost use Rattle.std.specs.BTreeMap.{IsOrdered};
 ghost use Rattle.std.specs.FinMap.{is_sorted};
@@ -17,18 +17,18 @@ use cck_time::Error;
 use std::alloc::Global;
 use std::collections::BTreeMap;
 
-/// A result where it stands in the bytes of an entry.
+/// A result, borrowed from the bytes of an entry.
 #[derive(Clone, Copy)]
 pub(crate) struct ResultRef<'a> {
     /// Its key.
     pub(crate) key: &'a str,
-    /// How many includes it has.
+    /// The number of its includes.
     pub(crate) count: u64,
     /// The bytes from the first of its includes on, to the end of the entry's.
     pub(crate) includes: &'a [u8],
 }
 
-/// How many includes all results have together.
+/// Returns the number of includes of all results together.
 pub(crate) fn total(results: &[ResultRef<'_>]) -> usize
     requires { counts results.now < 2 ^ 64 }
     ensures { result ≡ counts results.now }
@@ -51,7 +51,7 @@ pub(crate) fn comes_last(results: &[ResultRef<'_>], key: &str) -> bool
     }
 }
 
-/// So many includes that bytes begin with, in memory of their own.
+/// Returns copies of the first `count` includes of the bytes.
 fn copy_includes(alloc: Global, count: u64, bytes: &[u8]) -> Result<Vec<IncludeEntry>, Error>
     requires { IsSome (includes_at count bytes.now) }
     ensures value { IfOk result (λ copy. includes_in copy.items ≡ includes_begun count bytes.now) }
@@ -70,7 +70,7 @@ fn copy_includes(alloc: Global, count: u64, bytes: &[u8]) -> Result<Vec<IncludeE
     Ok(copies)
 }
 
-/// The same results, in memory of their own.
+/// Returns copies of the results.
 pub(crate) fn copy_results(alloc: Global, results: &[ResultRef<'_>]) -> Result<Results, Error>
     requires ascend { is_sorted text_cmp (map result_lent results.now) ≡ true }
     requires whole { AllByRecursion IsWhole results.now }

@@ -1,27 +1,28 @@
-//! The preprocessor cache, after sccache's `src/compiler/preprocessor_cache.rs`: the key that a
-//! store is asked under before anything is preprocessed, and the *entry* that it holds under it.
+//! The preprocessor cache, after sccache's `src/compiler/preprocessor_cache.rs`: the preprocessor
+//! key, and the *entry* that a store holds under it.
 //!
 //! An entry is a finite map from the keys of results to the files that each result included, as
-//! they were then. Where all of them are found unchanged later, the result's key is taken, and no
-//! preprocessor runs.
+//! they were then. If all of them are unchanged at a later call, the result's key is returned and
+//! no preprocessor runs.
 //!
-//! - [`preprocessor_cache_entry_hash_key`] gives the key.
+//! - [`preprocessor_cache_entry_hash_key`] returns the key.
 //! - [`PreprocessorCacheEntry`] is an entry. [`PreprocessorCacheEntry::add_result`] gives it a
 //!   result, within limits, and [`PreprocessorCacheEntry::lookup_result_digest`] finds the result
 //!   whose files all still are what they were.
 //! - [`IncludeEntry`] is a file that was included: its path, digest, size and times. The digest is
-//!   its [`recorded_digest`], which tells its contents and what the macros of time in them show.
+//!   its [`recorded_digest`], which covers its contents and what their time macros show.
 //! - [`PreprocessorCacheEntry::serialize_to`] writes an entry and [`PreprocessorCacheEntry::read`]
-//!   reads it back. Other bytes are refused, each for a named cause.
-//! - [`EntryView`] is an entry in its bytes, which [`EntryView::read`] accepts and refuses alike.
+//!   reads it back. For other bytes it returns an error, by their cause.
+//! - [`EntryView`] is an entry borrowed from its bytes; [`EntryView::read`] accepts the same bytes.
 //!   [`EntryView::lookup_result_digest`] finds the same result, and nothing but the places of the
 //!   results is kept in memory.
-//! - [`laws`] has what the definitions say beyond what they compute.
+//! - [`laws`] has what is proved of the definitions alone.
 //!
-//! What these calls take and return is passed on too: hash functions and errors of `cck_digest`,
-//! files of `cck_files`, their metadata and moments of `cck_path`, [`Language`] of `cck_util`, and
-//! [`KnownFiles`] of `cck_include`, which [`includes_match`] and [`include_matches`] keep metadata
-//! and digests in, the latter of an [`IncludeRef`]. Zones are those of `jiff`.
+//! The types that these calls take and return are exported again: hash functions and errors of
+//! `cck_digest`, files of `cck_files`, their metadata and times of `cck_path`, [`Language`] of
+//! `cck_util`, and [`KnownFiles`] of `cck_include`, which [`includes_match`] and
+//! [`include_matches`] keep metadata and digests in, the latter of an [`IncludeRef`]. Zones are
+//! those of `jiff`.
 //!
 //! An entry is written in one way only. Numbers have their lowest byte first:
 //!

@@ -1,4 +1,4 @@
-//! Which result of an entry still stands.
+//! The look-up of the result of an entry whose files are unchanged.
 ghost use Rattle.std.specs.Prelude.{IfOk, IsOkUnless, map};
 ghost use Rattle.std.specs.FinMap.{entries};
 ghost use Rattle.std.specs.List.{AllByRecursion, list_all};
@@ -25,15 +25,14 @@ use jiff::tz::TimeZone;
 use std::alloc::Global;
 
 impl PreprocessorCacheEntry {
-    /// The key of the result whose included files all still are what they were, the greatest by its
-    /// bytes where there are several, if there is one. A result that included nothing always
-    /// stands.
+    /// Returns the key of the result whose included files are all unchanged, if there is one: of
+    /// several the greatest by its bytes. A result that included nothing always matches.
     ///
     /// No file that could be read is read twice. A file that can't be read, for whatever cause,
-    /// isn't what it was; so where a fault came, the answer may be none, or another key whose files
-    /// all are what they were.
+    /// counts as changed. So if the count of faults rose, the result may be `None`, or another key
+    /// whose files are all unchanged.
     ///
-    /// It is refused only as [`Error::Memory`].
+    /// The only error is [`Error::Memory`].
     ///
     /// Upstream's `PreprocessorCacheEntry::lookup_result_digest`, which changes the entry.
     pub fn lookup_result_digest<H: HashState, F: Files>(
@@ -56,14 +55,14 @@ impl PreprocessorCacheEntry {
 }
 
 impl<'a> EntryView<'a> {
-    /// The key of the result whose included files all still are what they were, the greatest by its
-    /// bytes where there are several, if there is one. The key is a part of the bytes that were read.
+    /// Returns the key of the result whose included files are all unchanged, if there is one: of
+    /// several the greatest by its bytes. The key is borrowed from the bytes that were read.
     ///
     /// It is what [`PreprocessorCacheEntry::lookup_result_digest`] finds, by the same calls on the
-    /// files: where a fault came, the answer may be none, or another key whose files all are what
-    /// they were.
+    /// files: if the count of faults rose, the result may be `None`, or another key whose files are
+    /// all unchanged.
     ///
-    /// It is refused only as [`Error::Memory`].
+    /// The only error is [`Error::Memory`].
     pub fn lookup_result_digest<H: HashState, F: Files>(
         &self,
         alloc: Global,
@@ -140,7 +139,7 @@ fn find_lent<'a, H: HashState, F: Files>(
     Ok(None)
 }
 
-// Whether the includes of a view's result all still are what they were.
+// Returns whether the includes of a view's result are all unchanged.
 fn lent_matches<H: HashState, F: Files>(
     alloc: Global,
     files: &mut F,

@@ -1,6 +1,6 @@
-//! What bytes are read as, from the left: each call takes what they begin with, and hands back the
-//! bytes behind it. Keys, paths and digests are left where they stand. All lengths and counts are
-//! looked at before memory is taken for them.
+//! Reads entries from bytes, from the left: each call reads a value at their beginning, and returns
+//! it and the bytes after it. Keys, paths and digests are borrowed. All lengths and counts are
+//! checked before memory is taken for them.
 ghost use Rattle.std.specs.Prelude.{◌≡◌, ◌≤◌, ◌/◌, [], Err, IfErr, IfOk, length, map, vec_capacity};
 ghost use Rattle.std.specs.Int.{w32, w64};
 ghost use Rattle.std.specs.List.{AllByRecursion};
@@ -15,13 +15,13 @@ use cck_path::Timestamp;
 use cck_time::Error;
 use std::alloc::Global;
 
-/// How many bytes an include takes at least: two lengths, a size and two times that are none.
+/// The least number of bytes of an include: two lengths, a size and two absent times.
 const SHORTEST_INCLUDE: usize = 26;
 
-/// How many bytes a result takes at least: the length of its key, and the count of its includes.
+/// The least number of bytes of a result: the length of its key, and the count of its includes.
 const SHORTEST_RESULT: usize = 16;
 
-/// The nanoseconds of a moment are below this many.
+/// The nanoseconds of a time are below this number.
 const NANOS_IN_A_SECOND: u32 = 1_000_000_000;
 
 /// A number of 4 bytes.
@@ -51,7 +51,7 @@ fn read_u64(bytes: &[u8]) -> Result<(u64, &[u8]), Error>
     Ok((number, rest))
 }
 
-/// Bytes behind their length.
+/// Bytes after their length.
 #[tactic(auto, unfolding(crate::specs::Reading::length_prefixed_at))]
 fn read_length_prefixed(bytes: &[u8]) -> Result<(&[u8], &[u8]), Error>
     ensures { Gives (λ x. (x.0.now, x.1.now)) result (length_prefixed_at bytes.now) }
@@ -63,7 +63,7 @@ fn read_length_prefixed(bytes: &[u8]) -> Result<(&[u8], &[u8]), Error>
     Ok(rest.split_at(len as usize))
 }
 
-/// A text behind its length.
+/// A text after its length.
 #[tactic(auto, using(crate::proofs::Utf8Lemmas::tested), unfolding(crate::specs::Reading::text_at))]
 fn read_text(bytes: &[u8]) -> Result<(&str, &[u8]), Error>
     ensures { Gives (λ x. (x.0.now, x.1.now)) result (text_at bytes.now) }
@@ -106,7 +106,7 @@ fn read_time(bytes: &[u8]) -> Result<(Option<Timestamp>, &[u8]), Error>
     }
 }
 
-/// An include, with its path and its digest where they stand.
+/// An include, with its path and its digest borrowed.
 // Inlined with its parts, since what skips includes uses none of the fields.
 #[inline(always)]
 #[tactic(auto, unfolding(crate::specs::Reading::include_at))]
@@ -136,7 +136,7 @@ pub(crate) fn read_include(bytes: &[u8]) -> Result<(IncludeRef<'_>, &[u8]), Erro
     ))
 }
 
-/// What stands behind so many includes.
+/// Returns the bytes after `count` includes.
 fn skip_includes(count: u64, bytes: &[u8]) -> Result<&[u8], Error>
     ensures { Gives (λ rest. rest.now) result (option_map (λ x. x.1) (includes_at count bytes.now)) }
 {
@@ -151,7 +151,7 @@ fn skip_includes(count: u64, bytes: &[u8]) -> Result<&[u8], Error>
     Ok(rest)
 }
 
-/// A result, with its key and its includes where they stand.
+/// A result, with its key and its includes borrowed.
 #[tactic(auto, unfolding(crate::specs::Reading::counted_at, crate::specs::Reading::result_at))]
 fn read_result(bytes: &[u8]) -> Result<(ResultRef<'_>, &[u8]), Error>
     ensures read { Gives (λ x. (result_lent x.0, x.1.now)) result (result_at bytes.now) }
@@ -173,8 +173,8 @@ fn read_result(bytes: &[u8]) -> Result<(ResultRef<'_>, &[u8]), Error>
     ))
 }
 
-/// So many results, whose keys ascend. The memory for all of them is taken at once, and for no more
-/// results than the bytes can hold.
+/// Returns `count` results, whose keys ascend. Memory is taken once, for no more results than the
+/// bytes can hold.
 fn read_results(
     alloc: Global,
     count: u64,
@@ -202,9 +202,9 @@ fn read_results(
     Ok((results, rest))
 }
 
-/// The results that make up the whole of the bytes, which stand behind the format.
+/// Returns the results that all of the bytes after the format contain.
 ///
-/// If the bytes left can't hold the number of results that they name, the error is
+/// If the remaining bytes can't hold the number of results that they name, the error is
 /// [`Error::Deserialization`]: no memory is taken for such a number.
 #[tactic(auto, unfolding(crate::specs::Reading::entry_at))]
 pub(crate) fn read_entry(alloc: Global, bytes: &[u8]) -> Result<Vec<ResultRef<'_>>, Error>

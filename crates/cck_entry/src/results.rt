@@ -32,7 +32,7 @@ pub(crate) fn put_last(
     Ok(())
 }
 
-/// Puts in or replaces a key's result, and answers how many includes the key had before.
+/// Inserts or replaces a key's result, and returns the number of includes that the key had before.
 pub(crate) fn insert_counted(
     results: &mut Results,
     key: String,
@@ -55,7 +55,7 @@ pub(crate) fn insert_counted(
     }
 }
 
-/// A list of the same values, in memory of its own.
+/// Returns a copy of the list.
 fn copy_includes(alloc: Global, includes: &[IncludeEntry]) -> Result<Vec<IncludeEntry>, Error>
     ensures value { IfOk result (λ copy. includes_in copy.items ≡ includes_in includes.now) }
     ensures err { IfErr result (λ e. e ≡ Error.Memory) }
@@ -67,7 +67,7 @@ fn copy_includes(alloc: Global, includes: &[IncludeEntry]) -> Result<Vec<Include
     Ok(copies)
 }
 
-/// The same results, in memory of their own.
+/// Returns a copy of the results.
 pub(crate) fn copy_results(alloc: Global, results: &Results) -> Result<Results, Error>
     ensures value { IfOk result (λ copy.
         map result_in copy.entries ≡ map result_in results.now.entries) }

@@ -1,4 +1,4 @@
-//! Entries that are looked at where their bytes lie.
+//! Entries that are borrowed from their bytes.
 ghost use Rattle.std.specs.Prelude.{◌≡◌, ◌∷◌, Err, List, ℕ, map, true};
 ghost use Rattle.std.specs.FinMap.{empty, entries, is_sorted, len};
 ghost use Rattle.std.specs.List.{AllByRecursion};
@@ -16,8 +16,8 @@ use std::alloc::Global;
 use std::fmt::{Debug, Formatter};
 use std::marker::Model;
 
-/// An entry in the bytes of its text: it knows where each result stands there, and copies no key,
-/// path or digest. It is for a look-up in what a store hands out; the entry that grows is
+/// An entry borrowed from the bytes of its text. It holds the place of each result, and copies no
+/// key, path or digest. It is for a look-up in bytes that a store returns; results are added to a
 /// [`PreprocessorCacheEntry`](crate::PreprocessorCacheEntry).
 #[derive(Drop)]
 pub struct EntryView<'a> {
@@ -50,14 +50,14 @@ impl<'a> EntryView<'a> {
         }
     }
 
-    /// The entry whose text these bytes are; for no bytes it is the one without results.
+    /// Returns the entry whose text these bytes are; for no bytes, the entry without results.
     ///
-    /// It accepts and refuses as
+    /// It accepts the same bytes, and returns errors for the same causes, as
     /// [`PreprocessorCacheEntry::read`](crate::PreprocessorCacheEntry::read):
-    /// [`Error::UnknownFormat`] names a first byte other than 2, [`Error::Deserialization`] says that
-    /// the bytes begin with 2 and are the text of no entry, and [`Error::Memory`] that memory was
-    /// refused. Memory is taken once, for the number of results that the bytes name, after this
-    /// number was compared with the bytes left. If they can't hold it, the error is never
+    /// [`Error::UnknownFormat`] with a first byte other than 2, [`Error::Deserialization`] if the
+    /// bytes begin with 2 and are the text of no entry, and [`Error::Memory`] if memory is lacking.
+    /// Memory is taken once, for the number of results that the bytes say, after this number was
+    /// compared with the remaining bytes. If they can't hold it, the error is never
     /// [`Error::Memory`].
     pub fn read(alloc: Global, bytes: &'a [u8]) -> Result<EntryView<'a>, Error>
         ensures reads { Reads result bytes.now }
@@ -74,14 +74,14 @@ impl<'a> EntryView<'a> {
         read_body(alloc, rest)
     }
 
-    /// How many results there are.
+    /// Returns the number of results.
     pub fn result_count(&self) -> usize
         ensures { result ≡ len self.now }
     {
         self.results.len()
     }
 
-    /// How many includes all results have together, known without going over them.
+    /// Returns the number of includes of all results together, without iterating over them.
     pub fn number_of_entries(&self) -> usize
         ensures { result ≡ include_count (entries self.now) }
     {
@@ -107,7 +107,7 @@ impl Debug for EntryView<'_> {
     }
 }
 
-/// The entry of the bytes behind the format.
+/// Returns the entry of the bytes after the format.
 fn read_body(alloc: Global, rest: &[u8]) -> Result<EntryView<'_>, Error>
     ensures read { IsReadFrom rest.now result }
     ensures counted { IsOvercounted rest.now → result ≡ Err Error.Deserialization }

@@ -1,4 +1,4 @@
-//! The bytes that results are written in. A call that is refused may have written a beginning.
+//! Writes results as bytes. A call that returns an error may have written a part of them.
 ghost use Rattle.std.specs.Prelude.{◌≡◌, ◌<◌, ◌^◌, FitsSigned, IfErr, IfSome, OnOk, length, map};
 ghost use Rattle.std.specs.BTreeMap.{IsOrdered};
 ghost use Rattle.std.specs.Int.{cast_unsigned, to_le_bytes, w32, w64};
@@ -50,7 +50,7 @@ fn write_with_length<W: Write>(writer: &mut W, bytes: &[u8]) -> Result<(), Error
     write_bytes(writer, bytes)
 }
 
-/// Writes the seconds of a moment.
+/// Writes the seconds of a time.
 fn write_seconds<W: Write>(writer: &mut W, moment: Timestamp) -> Result<(), Error>
     ensures text { OnOk result
         (Appends (W.contents writer.old) (W.contents writer.new) (to_le_bytes w64 (cast_unsigned w64 moment.seconds))) }
@@ -61,7 +61,7 @@ fn write_seconds<W: Write>(writer: &mut W, moment: Timestamp) -> Result<(), Erro
     write_bytes(writer, &seconds.to_le_bytes())
 }
 
-/// Writes the nanoseconds of a moment.
+/// Writes the nanoseconds of a time.
 fn write_nanoseconds<W: Write>(writer: &mut W, moment: Timestamp) -> Result<(), Error>
     ensures text { OnOk result
         (Appends (W.contents writer.old) (W.contents writer.new) (to_le_bytes w32 moment.nanoseconds)) }
@@ -71,7 +71,7 @@ fn write_nanoseconds<W: Write>(writer: &mut W, moment: Timestamp) -> Result<(), 
     write_bytes(writer, &moment.nanoseconds().to_le_bytes())
 }
 
-/// Writes a moment.
+/// Writes seconds and nanoseconds.
 fn write_moment<W: Write>(writer: &mut W, moment: Timestamp) -> Result<(), Error>
     ensures text { OnOk result
         (Appends (W.contents writer.old) (W.contents writer.new) (moment_bytes moment)) }

@@ -270,7 +270,7 @@ module _ {V : Type 0} where
       )
 
   module _ (bs : List (Vec (Entry V) Global)) (ordered : AreOrderedBlocks bs) (p : Path) where
-    -- what stands before the block is lower
+    -- the entries before the block are lower
     lower_part : (k : ℕ) (d : Vec (Entry V) Global) → IsBlockFor p bs k → (i : ℕ) (e : Entry V) → i < start_of bs k → path_cmp (path_of (get_or (entries_of bs) i e)) p ≡ Less
     lower_part zero d at i e h = absurd (omega arith)
     lower_part (suc k) d at i e h =
@@ -280,7 +280,7 @@ module _ {V : Type 0} where
         (rises (entries_of bs) ordered.in_order i (start_of bs (suc k)) e h (omega arith))
         (ap (λ q. is_gt (path_cmp q p)) (sym (first_at bs (suc k) d e ordered.none_empty at.in_range)) ∙ at.not_higher d (omega arith))
 
-    -- what stands after it is higher
+    -- the entries after it are higher
     upper_part : (k : ℕ) (d : Vec (Entry V) Global) → IsBlockFor p bs k → (i : ℕ) (e : Entry V) → start_of bs (k + 1) ≤ i → i < length (entries_of bs) → path_cmp (path_of (get_or (entries_of bs) i e)) p ≡ Greater
     upper_part k d at i e h range = by_place (k + 1) (length bs) with_next (λ m is. absurd (let end = start_end bs (k + 1) (omega arith) in omega arith))
       where

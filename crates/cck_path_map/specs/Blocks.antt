@@ -12,7 +12,7 @@ use Rattle.cck_path_map.specs.declared.path_map.Entry.{Entry}
 abbrev pub entries_of : {V : Type 0} → List (Vec (Entry V) Global) → List (Entry V)
 entries_of bs = flat_map (λ b. b.items) bs
 
--- how many entries stand before block k
+-- the number of entries before block k
 abbrev pub start_of : {V : Type 0} → List (Vec (Entry V) Global) → ℕ → ℕ
 start_of bs k = length (entries_of (take k bs))
 
@@ -21,7 +21,7 @@ abbrev pub place_of : {V : Type 0} → List (Vec (Entry V) Global) → Option (�
 place_of bs None = 0
 place_of bs (Some position) = start_of bs position.0 + position.1
 
--- the path of the first entry, or the empty one
+-- the path of the first entry, or the empty path
 abbrev pub first_of : {V : Type 0} → List (Entry V) → Path
 first_of [] = components []
 first_of (e ∷ es) = path_of e
@@ -45,7 +45,7 @@ pub record IsBlockFor {V : Type 0} (p : Path) (bs : List (Vec (Entry V) Global))
   pub not_higher : (d : Vec (Entry V) Global) → 0 < k → is_gt (path_cmp (first_of (slice_index_or bs k d).items) p) ≡ false
   pub next_higher : (d : Vec (Entry V) Global) → k + 1 < length bs → path_cmp (first_of (slice_index_or bs (k + 1) d).items) p ≡ Greater
 
--- where in the block k the entry of a path stands, or where it would go
+-- the place of a path's entry in the block k, or where it would be inserted
 pub record IsPositionFor {V : Type 0} (p : Path) (bs : List (Vec (Entry V) Global)) (k : ℕ) (r : Result ℕ ℕ) : Type 0 where
   pub in_range : k < length bs
   pub in_block : (d : Vec (Entry V) Global) → IfOk r (λ j. j < length (slice_index_or bs k d).items) × IfErr r (λ j. j ≤ length (slice_index_or bs k d).items)

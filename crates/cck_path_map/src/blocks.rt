@@ -15,8 +15,8 @@ use std::alloc::Global;
 // A block with more entries than this is split into two.
 const BLOCK_LIMIT: usize = 128;
 
-// The block and the place in it where a path's entry stands, or else where it would go. There is no
-// such place where there is no block.
+// Returns the block and the place in it of a path's entry; if there is none, the error is the place
+// where it would be inserted, or `None` where there is no block.
 pub(crate) fn search<V>(
     blocks: &[Vec<Entry<V>>],
     path: &[u8],
@@ -36,8 +36,8 @@ pub(crate) fn search<V>(
     }
 }
 
-// The block in which a path's entry stands or would go: the last one that begins with no higher
-// path, or the first one.
+// Returns the block that has a path's entry, or into which it would be inserted: the last block
+// that begins with no higher path, or the first one.
 fn block_for<V>(blocks: &[Vec<Entry<V>>], path: &[u8]) -> usize
     requires ordered { AreOrderedBlocks blocks.now }
     requires some { 0 < length blocks.now }
@@ -52,7 +52,7 @@ fn block_for<V>(blocks: &[Vec<Entry<V>>], path: &[u8]) -> usize
     }
 }
 
-// The path of the first entry, or the empty one.
+// Returns the path of the first entry, or the empty path.
 fn first_path<V>(entries: &[Entry<V>]) -> &[u8]
     ensures { components result.now ≡ first_of entries.now }
 {
@@ -62,7 +62,8 @@ fn first_path<V>(entries: &[Entry<V>]) -> &[u8]
     }
 }
 
-// Where a path's entry stands among entries in order, or where it would go.
+// Returns the place of a path's entry among ordered entries; if there is none, the error is the
+// place where it would be inserted.
 fn search_block<V>(entries: &[Entry<V>], path: &[u8]) -> Result<usize, usize>
     requires { IsInOrder entries.now }
     ensures place { IfOk result (IsPlaceOf (components path.now) entries.now) }
@@ -71,7 +72,8 @@ fn search_block<V>(entries: &[Entry<V>], path: &[u8]) -> Result<usize, usize>
     entries.binary_search_by(|entry| compare_paths(&entry.path, path))
 }
 
-// Puts a new entry where its path would go. Where it is refused, all stays.
+// Inserts a new entry at the place of its path. The only error is [`UtilError::Memory`], which
+// leaves the entries unchanged.
 pub(crate) fn insert_at<V: Drop>(
     alloc: Global,
     blocks: &mut Vec<Vec<Entry<V>>>,
@@ -103,7 +105,7 @@ pub(crate) fn insert_at<V: Drop>(
     Ok(())
 }
 
-// Makes two blocks of one. Without memory it does nothing.
+// Splits a block into two. Where memory is lacking the blocks are left unchanged.
 fn split<V: Drop>(alloc: Global, blocks: &mut Vec<Vec<Entry<V>>>, block: usize)
     requires many { IsWithin blocks.old.items block 1 }
     requires none_empty { NoneEmpty blocks.old.items }
@@ -122,7 +124,7 @@ fn split<V: Drop>(alloc: Global, blocks: &mut Vec<Vec<Entry<V>>>, block: usize)
     }
 }
 
-// Takes the entry at a place of a block out.
+// Removes and returns the entry at a place of a block.
 pub(crate) fn remove_at<V: Drop>(
     blocks: &mut Vec<Vec<Entry<V>>>,
     block: usize,

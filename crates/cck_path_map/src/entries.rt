@@ -7,7 +7,8 @@ ghost use Rattle.cck_path_map.specs.Entries.{entries_left, now_of};
 
 use crate::path_map::Entry;
 
-/// The entries of a [`PathMap`](crate::PathMap) that are still to come, in the order of their paths.
+/// The entries of a [`PathMap`](crate::PathMap) that an iterator has not returned yet, in the order
+/// of their paths.
 #[derive(Debug, Drop)]
 pub struct Entries<'a, V> {
     pub(crate) block: &'a [Entry<V>],
@@ -29,7 +30,7 @@ impl<'a, V> Iterator for Entries<'a, V> {
     }
 }
 
-/// The entries from a place of a block on.
+/// Returns the entries from a place of a block on.
 pub(crate) fn entries_at<'a, V>(
     blocks: &'a [Vec<Entry<V>>],
     block: usize,
@@ -45,7 +46,7 @@ pub(crate) fn entries_at<'a, V>(
     }
 }
 
-// The first of these entries, and what follows it.
+// Returns the first of these entries, and what follows it.
 fn take_first<'a, V>(
     block: &'a [Entry<V>],
     blocks: &'a [Vec<Entry<V>>],

@@ -1,11 +1,11 @@
 //! A map keyed by paths.
 //!
-//! [`PathMap`] gives values to paths, and takes two paths for one where their components are the
-//! same: `/a/x` and `//a/./x/` have one value, `x` and `./x` two. Its entries, each an [`Entry`],
-//! stand in the order of the paths, in blocks: a look-up is a binary search for the block and one in
-//! it, and takes no memory.
+//! [`PathMap`] maps paths to values. Two paths are the same key if their components are the same:
+//! `/a/x` and `//a/./x/` have one value, `x` and `./x` two. Its entries, each an [`Entry`], are
+//! kept in the order of their paths, in blocks. A look-up is a binary search for the block and one
+//! in it, and takes no memory.
 //!
-//! A map is seen as the finite map from lists of components to values that it is.
+//! Contracts treat a map as a finite map from lists of components to values.
 //!
 //! ```rust
 //! let mut map = PathMap::new(alloc);

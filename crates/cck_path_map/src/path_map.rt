@@ -15,17 +15,17 @@ use std::marker::Model;
 /// A path of a [`PathMap`] and its value.
 #[derive(Debug, Drop)]
 pub struct Entry<V> {
-    /// The path, as it was written when it came into the map. Contracts tell its components alone,
-    /// and a test shows the spelling.
+    /// The path, as it was written when it was inserted first. Contracts state its components
+    /// alone; a test checks the spelling.
     pub path: Vec<u8>,
     /// Its value.
     pub value: V,
 }
 
-/// A map from paths to values, where paths are told apart by their components alone.
+/// A map from paths to values, in which paths are compared by their components alone.
 ///
 /// With n paths a look-up compares about log n of them. A new path and a removal also move entries
-/// of one block, which has at most 128 unless there was no memory to split it, and now and then the
+/// of one block, which has at most 128 unless there was no memory to split it, and sometimes the
 /// list of blocks.
 #[derive(Debug, Drop)]
 pub struct PathMap<V> {
@@ -52,7 +52,7 @@ impl<V> Model for PathMap<V> {
 }
 
 impl<V> PathMap<V> {
-    /// A map in which no path has a value. It keeps the allocator, and takes no memory.
+    /// Returns a map in which no path has a value. It keeps the allocator, and takes no memory.
     pub fn new(alloc: Global) -> PathMap<V>
         ensures { result ≡ finite.empty }
     {
@@ -63,21 +63,21 @@ impl<V> PathMap<V> {
         }
     }
 
-    /// How many paths have a value.
+    /// Returns the number of paths that have a value.
     pub fn len(&self) -> usize
         ensures { result ≡ finite.len self.now }
     {
         self.count
     }
 
-    /// Whether no path has a value.
+    /// Returns whether no path has a value.
     pub fn is_empty(&self) -> bool
         ensures { result ≡ (finite.len self.now == 0) }
     {
         self.len() == 0
     }
 
-    /// The paths and their values, in the order of the paths, which is that of
+    /// Returns the paths and their values, in the order of the paths, which is that of
     /// [`compare_paths`](cck_path::compare_paths). It takes no memory.
     pub fn entries(&self) -> Entries<'_, V>
         ensures { map pair_of (entries_left result) ≡ finite.entries self.now }
@@ -88,7 +88,8 @@ impl<V> PathMap<V> {
         }
     }
 
-    /// The entries of the paths that are not lower than a path, in their order. It takes no memory.
+    /// Returns the entries of the paths that are not lower than a path, in their order. It takes no
+    /// memory.
     pub fn entries_from(&self, path: &[u8]) -> Entries<'_, V>
         ensures { map pair_of (entries_left result)
             ≡ finite.entries (part_from (components path.now) self.now) }
@@ -100,7 +101,7 @@ impl<V> PathMap<V> {
         }
     }
 
-    /// The value of a path, if it has one. It takes no memory.
+    /// Returns the value of a path, if it has one. It takes no memory.
     pub fn get(&self, path: &[u8]) -> Option<&V>
         ensures { option_copied result ≡ finite.get self.now (components path.now) }
     {
@@ -110,7 +111,7 @@ impl<V> PathMap<V> {
         }
     }
 
-    /// Whether a path has a value. It takes no memory.
+    /// Returns whether a path has a value. It takes no memory.
     pub fn contains(&self, path: &[u8]) -> bool
         ensures { result ≡ finite.contains_key self.now (components path.now) }
     {
@@ -119,11 +120,11 @@ impl<V> PathMap<V> {
 }
 
 impl<V: Drop> PathMap<V> {
-    /// Gives a path a value, in place of the one that it has. The path is copied where it has none,
-    /// and else stays as it was written first.
+    /// Sets the value of a path, in place of the one that it has. The path is copied if it has
+    /// none, and otherwise stays as it was written first.
     ///
-    /// It is refused only for lack of memory, as [`UtilError::Memory`], and changes nothing then.
-    /// Where the path has a value it takes no memory and isn't refused.
+    /// The only error is [`UtilError::Memory`], which leaves the map unchanged. If the path has a
+    /// value, no memory is taken and no error is returned.
     pub fn insert(&mut self, path: &[u8], value: V) -> Result<(), UtilError>
         ensures set { OnOk result
             (self.new ≡ finite.insert self.old (components path.now) value) }
@@ -147,7 +148,7 @@ impl<V: Drop> PathMap<V> {
         Ok(())
     }
 
-    /// Takes a path and its value away, and answers the value, if there is one. It takes no memory.
+    /// Removes a path and its value, and returns the value, if there is one. It takes no memory.
     pub fn remove(&mut self, path: &[u8]) -> Option<V>
         ensures value { result ≡ finite.get self.old (components path.now) }
         ensures rest { self.new ≡ finite.remove self.old (components path.now) }

@@ -1,4 +1,4 @@
--- Equal material is of equal parts.
+-- Equal key materials have equal parts.
 use Rattle.std.proofs.Common.{◌≡◌, ◌↔◌, ℕ, List, [], ◌∷◌, ◌++◌, refl, sym, ◌∙◌, append_assoc, append-nil}
 use Rattle.cck_digest.specs.Frames.{frame, framed_list, framed_option}
 use Rattle.cck_digest.proofs.FrameLemmas.{frame_reads_back, framed_list_reads_back, option_reads_back}
@@ -9,23 +9,23 @@ use Rattle.cck_util.specs.Language.{language_name}
 use Rattle.cck_util.specs.Variables.{variable_frames}
 use Rattle.cck_preprocessor_key.specs.PreprocessorKey.{RequestParts, compiler_material, format_version, preprocessor_material}
 
--- what stands before the lists of arguments, before what follows it
+-- the key material up to the lists of arguments, and what follows
 abbrev begun : RequestParts → List ℕ → List ℕ
 begun p rest =
     (format_version ∷ []) ++ (frame cache_version ++ (frame p.compiler_digest ++ ((flag_byte p.plusplus ∷ []) ++ (frame (language_name p.language)
     ++ ((flag_byte p.multiarch ∷ []) ++ rest)))))
 
--- the lists, before what follows them
+-- the lists, and what follows
 abbrev listed : RequestParts → List (List ℕ) → List ℕ → List ℕ
 listed p xs rest =
     framed_list frame p.preprocessor_args ++ (framed_list frame p.arch_args ++ (framed_list frame p.common_args ++ (framed_list frame xs ++ rest)))
 
--- and what stands behind them
+-- the key material after the lists
 abbrev ended : RequestParts → List ℕ → List ℕ
 ended p r =
     framed_option p.assembler_digest ++ (framed_list variable_frames p.variables ++ (frame p.input_file ++ (framed_option p.directory ++ frame r)))
 
--- the material, each part before all that follows it
+-- the key material, nested to the right
 material-nested : (p : RequestParts) (xs : List (List ℕ)) (r : List ℕ) → preprocessor_material p xs r ≡ begun p (listed p xs (ended p r))
 unfolding preprocessor_material compiler_material
 material-nested p xs r =

@@ -1,8 +1,9 @@
--- what equal material tells
+-- what equal key materials mean
 use Rattle.std.specs.Prelude.{◌≡◌, ◌↔◌, ℕ, List}
 use Rattle.cck_preprocessor_key.specs.PreprocessorKey.{RequestParts, preprocessor_material}
 
--- it tells all parts of the request, the digest texts of the further files, and the recorded digest of the input; and the other way round
+-- key materials are equal exactly if all parts of the request, the hex digests of the extra files, and the recorded
+-- digest of the input are
 abbrev pub PreprocessorMaterialTellsParts : Type 0
 PreprocessorMaterialTellsParts =
     (p q : RequestParts) (xs ys : List (List ℕ)) (r s : List ℕ)

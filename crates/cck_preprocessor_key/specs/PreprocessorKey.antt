@@ -1,4 +1,4 @@
--- the key under which a store is asked before anything is preprocessed
+-- the preprocessor key
 use Rattle.std.specs.Prelude.{ℕ, List, [], ◌∷◌, ◌++◌, Bool, Option, Some, None, if◌then◌else◌}
 use Rattle.cck_digest.specs.Digest.{digest_text}
 use Rattle.cck_digest.specs.Frames.{frame, framed_list, framed_option}
@@ -9,7 +9,8 @@ use Rattle.cck_util.specs.Language.{language_name}
 use Rattle.cck_util.specs.Variables.{variable_frames}
 use Rattle.cck_util.specs.declared.language.Language.{Language}
 
--- what a request says for this key, beside what its files hold; of its variables those that change what is preprocessed or compiled
+-- the parts of a request that are hashed for this key, besides those that depend on files; of its variables those that
+-- change what is preprocessed or compiled
 pub record RequestParts : Type 0 where
   pub compiler_digest : List ℕ
   pub plusplus : Bool
@@ -23,7 +24,7 @@ pub record RequestParts : Type 0 where
   pub input_file : List ℕ
   pub directory : Option (List ℕ)
 
--- the working directory, where the options have it enter the key
+-- the working directory, if the options make it part of the key
 abbrev pub hashed_directory : PreprocessorCacheModeConfig → List ℕ → Option (List ℕ)
 hashed_directory config cwd = if config.hash_working_directory then Some cwd else None
 
@@ -31,7 +32,7 @@ hashed_directory config cwd = if config.hash_working_directory then Some cwd els
 abbrev pub format_version : ℕ
 format_version = 2
 
--- what is hashed first: the versions, the compiler, and in which way it is run
+-- what is hashed first: the versions, the compiler, and how it is run
 unfoldable pub compiler_material : RequestParts → List ℕ
 compiler_material p =
     format_version ∷ [] ++ frame cache_version ++ frame p.compiler_digest ++ flag_byte p.plusplus ∷ [] ++ frame (language_name p.language)
@@ -51,6 +52,6 @@ preprocessor_material p extra_hashes recorded =
     ++ framed_option p.directory
     ++ frame recorded
 
--- the key, by this hash
+-- the key, with this hash function
 abbrev pub preprocessor_key : (List ℕ → List ℕ) → RequestParts → List (List ℕ) → List ℕ → List ℕ
 preprocessor_key hash p extra_hashes recorded = digest_text hash (preprocessor_material p extra_hashes recorded)

@@ -1,11 +1,11 @@
--- what a `Request` says
+-- the value of a `Request`
 use Rattle.std.specs.Option.{option_map}
 use Rattle.cck_path.specs.Bytes.{lists_of, variables_of}
 use Rattle.cck_preprocessor_key.specs.PreprocessorKey.{RequestParts}
 use Rattle.cck_preprocessor_key.specs.declared.key.Request.TheInside.{Inside}
 use Rattle.cck_util.specs.Variables.{request_variables}
 
--- what its fields say, without where it lies in memory
+-- the values of its fields, without their addresses
 abbrev pub parts_of : Inside → RequestParts
 parts_of r = record {
   compiler_digest = r.compiler_digest.now;

@@ -1,4 +1,4 @@
-//! The key of a request in the preprocessor cache.
+//! The preprocessor key.
 ghost use Rattle.std.specs.Prelude.{◌≡◌, IfOk, IsOkAnd, IsOkUnless, MatchResult, map, string_bytes};
 ghost use Rattle.std.specs.Option.{option_map};
 ghost use Rattle.cck_files.specs.Calls.{Keeps, Rose};
@@ -22,13 +22,13 @@ use jiff::tz::TimeZone;
 use std::alloc::Global;
 use std::marker::Model;
 
-/// The format of entries: their first byte, and the first byte of each key material, so that keys
-/// of several formats differ.
+/// The format of entries. It is their first byte, and the first byte of the key material, so that
+/// keys of different formats differ.
 ///
 /// Upstream's `FORMAT_VERSION`.
 pub const FORMAT_VERSION: u8 = 2;
 
-// What a request says for its key, beside what its files hold.
+// The parts of a request that are hashed for its key, besides those that depend on files.
 #[derive(Drop)]
 struct Request<'a> {
     compiler_digest: &'a str,
@@ -54,7 +54,7 @@ impl<'a> Model for Request<'a> {
     ghost view = { parts_of };
 }
 
-// The working directory, where the options have it enter the key.
+// Returns the working directory, if the options make it part of the key.
 fn hashed_directory(config: PreprocessorCacheModeConfig, cwd: &[u8]) -> Option<&[u8]>
     ensures { option_map (λ directory. directory.now) result ≡ hashed_directory config cwd.now }
 {
@@ -65,7 +65,7 @@ fn hashed_directory(config: PreprocessorCacheModeConfig, cwd: &[u8]) -> Option<&
     }
 }
 
-// A digest that was fed the versions, the compiler and in which way it is run.
+// Returns a digest that was fed the versions, the compiler and how it is run.
 #[tactic(auto, unfolding(crate::specs::PreprocessorKey::compiler_material))]
 fn compiler_material<H: HashState>(request: &Request<'_>) -> Digest<H>
     ensures { H.holds result (compiler_material request.now) }
@@ -80,7 +80,7 @@ fn compiler_material<H: HashState>(request: &Request<'_>) -> Digest<H>
     digest
 }
 
-// The digest text of the key material.
+// Returns the hex digest of the key material.
 #[tactic(auto, unfolding(crate::specs::PreprocessorKey::preprocessor_material))]
 fn key_text<H: HashState>(
     alloc: Global,
@@ -105,27 +105,29 @@ fn key_text<H: HashState>(
     digest.finish(alloc)
 }
 
-/// The key of a request in the preprocessor cache: the digest text of its key material.
+/// Returns the preprocessor key of a request: the hex digest of its key material.
 ///
-/// The material is, in this order: the byte [`FORMAT_VERSION`]; a frame of [`CACHE_VERSION`]; of the
-/// compiler's digest text; the byte 1 for C++ and else 0; a frame of the language's name; the byte 1
-/// for several architectures and else 0; the lists of the preprocessor's arguments, of those of
-/// architectures and of the common ones, all as they are; the list of the digest texts of the
-/// further files; the assembler's digest text, as an option; the list of the variables that change
-/// what is compiled or which files a preprocessor finds, each as a frame of its name and one of its
-/// value; a frame of the input's path; the working directory, as an option that is there where
+/// The key material is, in this order: the byte [`FORMAT_VERSION`]; a frame of [`CACHE_VERSION`]; a
+/// frame of the compiler's hex digest; the byte 1 for C++ and otherwise 0; a frame of the
+/// language's name; the byte 1 for several architectures and otherwise 0; the lists of the
+/// preprocessor's arguments, of those of architectures and of the common ones, all unchanged; the
+/// list of the hex digests of the extra files; the assembler's hex digest, as an option; the list
+/// of the variables that change what is compiled or which files a preprocessor finds, each as a
+/// frame of its name and one of its value; a frame of the input's path; the working directory, as
+/// an option that is `None` unless
 /// [`hash_working_directory`](PreprocessorCacheModeConfig::hash_working_directory) is on; and a
 /// frame of the recorded digest of the input. Frames, lists and options are those of the object's
 /// key.
 ///
-/// There is none (`None`) exactly if the input is a regular file without a
-/// [recorded digest](recorded_digest). It is refused as [`Error::Io`] with
+/// On success, returns `None` exactly if the input is a regular file without a [recorded
+/// digest](recorded_digest). The errors are [`Error::Io`] with
 ///
-/// - [`NotFound`](cck_digest::FileError::NotFound) where nothing stands at the input's path,
-/// - [`OtherKind`](cck_digest::FileError::OtherKind) where what stands there is no regular file,
-/// - [`Fault`](cck_digest::FileError::Fault) only where a fault came,
+/// - [`NotFound`](cck_digest::FileError::NotFound) where there is no node at the input's path,
+/// - [`OtherKind`](cck_digest::FileError::OtherKind) where the node at the input's path is no
+///   regular file,
+/// - [`Fault`](cck_digest::FileError::Fault) only where the count of faults rose,
 ///
-/// and as [`Error::Memory`].
+/// and [`Error::Memory`].
 ///
 /// Upstream's `preprocessor_cache::preprocessor_cache_entry_hash_key`.
 pub fn preprocessor_cache_entry_hash_key<H: HashState, F: Files>(

@@ -1,10 +1,11 @@
 //! Laws about the definitions, each the contract of a function that does nothing.
 ghost use Rattle.cck_preprocessor_key.specs.Laws.{PreprocessorMaterialTellsParts};
 
-/// Equal key material is of equal parts, and the other way round: of one request as far as the key
-/// has it, of equal digest texts of the further files, and of one recorded digest of the input.
+/// Two key materials are equal exactly if their parts are: the parts of the request that are
+/// hashed, the hex digests of the extra files, and the recorded digest of the input.
 ///
-/// Each length and each count stands before what it is of, so no two requests share a material.
+/// Each length and each count is written before its bytes or items, so different parts never have
+/// the same key material.
 pub fn preprocessor_material_tells_parts()
     ensures { PreprocessorMaterialTellsParts }
 {}

@@ -1,15 +1,15 @@
 //! The preprocessor key, after sccache's `src/compiler/preprocessor_cache.rs`.
 //!
-//! Before anything is preprocessed a store is asked for what it knows of a request: this is the key
-//! that it is asked under. It is the digest text of the *key material*: the compiler and what it is
-//! told to do, the digest texts of further files that it reads, the variables that change what is
-//! compiled or which files a preprocessor finds, the path of the input, the working directory, and
-//! the input's [recorded digest](cck_include::recorded_digest). Which headers the input names isn't
-//! known yet, and is left to the entry that the store holds under the key.
+//! The preprocessor key is the key under which a store is searched for an entry before anything is
+//! preprocessed. It is the hex digest of the *key material*: the compiler and its arguments, the
+//! hex digests of extra files that it reads, the variables that change what is compiled or which
+//! files a preprocessor finds, the path of the input, the working directory, and the input's
+//! [recorded digest](cck_include::recorded_digest). The headers that the input includes are not
+//! known at this point; they are in the entry that the store holds under the key.
 //!
-//! - [`preprocessor_cache_entry_hash_key`] gives the key.
-//! - [`FORMAT_VERSION`] is the format of entries, which the key names.
-//! - [`laws`] says that equal material is of equal parts.
+//! - [`preprocessor_cache_entry_hash_key`] returns the key.
+//! - [`FORMAT_VERSION`] is the format of entries, which is part of the key material.
+//! - [`laws`] says that equal key materials have equal parts.
 #![tactic(auto)]
 
 mod key;

@@ -63,7 +63,7 @@ places_from-none test hay i (suc n) e k low high passes = go (test (get_or hay i
       | inr at ↦ let same : k ≡ i = omega arith in false≢true (sym p ∙ (ap (λ j. test (get_or hay j 0)) (sym same) ∙ passes))
     ]
 
--- what is left of the places of a byte behind `from`: there is no site at those that are gone
+-- what is left of the places of a byte after `from`: there is no site at those that are gone
 pub record Left (words : List (List ℕ)) (byte : ℕ) (text distances : List ℕ) (from : ℕ) : Type 0 where
   pub seen : ℕ
   pub seen_in : seen ≤ length (drop from text)
@@ -74,7 +74,7 @@ pub Left-start : (words : List (List ℕ)) (byte : ℕ) (text distances : List �
     → distances ≡ places_from (is_byte byte) (drop from text) 0 (length (drop from text) - 0) → Left words byte text distances from
 Left-start words byte text distances from e = record { seen = 0; seen_in = omega arith; rest = e; none = λ k low high. absurd (omega arith) }
 
--- where the byte stands, it is the byte of a place behind `from`
+-- where the byte is, it is the byte of a place after `from`
 passes_in_rest : (text : List ℕ) (byte from k : ℕ) → from ≤ k → OccursAt text (byte ∷ []) k → Passes (is_byte byte) (drop from text) (k - from)
 passes_in_rest text byte from k low o =
     let read : get_or text k 0 ≡ byte = ap (λ i. get_or text i 0) (omega arith) ∙ o.reads 0 (omega arith) in

@@ -20,7 +20,7 @@ AllBegin-first words word n h w c some = elim (Contains-push_cases words word w 
   })
 ]
 
--- a further word, of which some bytes are alike
+-- another word, of which some bytes are alike
 pub AllBegin-more : (words : List (List ℕ)) (word bytes : List ℕ) (n : ℕ) → AllBegin words bytes → n ≤ length bytes → n ≤ length word
     → ((k : ℕ) → k < n → get_or bytes k 0 ≡ get_or word k 0) → AllBegin (words ++ word ∷ []) (take n bytes)
 AllBegin-more words word bytes n h le fits alike w c some = elim (Contains-push_cases words word w c) [

@@ -37,7 +37,7 @@ byte_at nodes i node at =
 same_id : (a b : NodeId) → a.0 ≡ b.0 → a ≡ b
 same_id a b e = λ i. record { 0 = e i }
 
--- what is known of a walk behind so many nodes of a run, by whether the text goes on with their bytes
+-- what is known of a walk after n nodes of a run, by whether the text goes on with their bytes
 abbrev pub Walked : List Node → List ℕ → NodeId → ℕ → ℕ → ℕ → Bool → Type 0
 Walked nodes text at n depth best true = (end : NodeId) (later : ℕ) → end.0 ≡ at.0 + n → later ≡ depth + n → Pending nodes text (Some end) later best
 Walked nodes text at n depth best false = (words : List (List ℕ)) → IsTrie nodes words → best ≡ longest_prefix words text
@@ -133,7 +133,7 @@ Pending-run nodes text best (suc n) at depth f (node, there, straight, rest) p b
     short : length text ≤ depth → starts_with nat_eq (drop depth text) (take (suc n) (drop (at.0) bytes)) ≡ false
     short past = ap (starts_with nat_eq (drop depth text)) expected ∙ ap (λ x. starts_with nat_eq x (node.byte ∷ take n (drop (straight.id.0) bytes))) (drop_all depth text past)
 
--- what is known of a walk behind a run, whose bytes were compared with the text
+-- what is known of a walk after a run, whose bytes were compared with the text
 pub Pending-compared : (nodes : List Node) (bytes own runs text : List ℕ) (next : Option NodeId) (at : NodeId) (depth best n m : ℕ) (b now : Bool)
     → IsForward nodes → HasRuns nodes bytes runs → Pending nodes text next depth best → next ≡ Some at → n ≡ get_or runs (at.0) n → own ≡ bytes → m ≡ n
     → b ≡ starts_with nat_eq (take (length text - depth) (drop depth text)) (take m (drop (at.0) own)) → b ≡ now → Walked nodes text at n depth best now

@@ -1,4 +1,4 @@
--- A search of a text for the places at which base directories may stand.
+-- A search of a text for the places at which base directories may begin.
 use Rattle.std.proofs.Common.{◌≡◌, inl, inr, ℕ, ◌+◌, ◌-◌, ◌<◌, ◌≤◌, List, [], ◌∷◌, ◌++◌, Bool, true, false, Option, None, Some, cond, nat_eq, length, get_or, drop, max, filter, length-append, length-drop, refl, sym, ap, subst, ◌∙◌, arith, set}
 use Rattle.std.specs.Prelude.{Contains}
 use Rattle.std.specs.List.{starts_with}
@@ -16,7 +16,7 @@ use Rattle.cck_strip.specs.Cuts.{IsNextPlace}
 use Rattle.cck_strip.specs.SiteLemmas.{text_site-within}
 use Rattle.cck_strip.specs.Text.{is_boundary, longest_prefix, text_site}
 
--- where a word stands, a search of the rest of the text finds it
+-- where a word occurs, a search of the rest of the text finds it
 occurs_in_rest : (text word : List ℕ) (from k : ℕ) → from ≤ k → OccursAt text word k → OccursAt (drop from text) word (k - from)
 occurs_in_rest text word from k h o =
     let fits = o.fits in record {
@@ -31,7 +31,7 @@ FindsNeedle-same hay own needle word r now h n e f = rw (← h, ← n, ← e) f
 pub no_word : (word : List ℕ) → Contains [] word → ⊥
 no_word word (k, lt, e) = omega arith
 
--- one of the words stands where a site is
+-- one of the words is where a site is
 longest-some : (words : List (List ℕ)) (text : List ℕ) → 0 < longest (filter (starts_with nat_eq text) words)
     → (word : List ℕ) × Contains words word × (0 < length word) × (starts_with nat_eq text word ≡ true)
 longest-some [] text h = absurd (omega arith)
@@ -64,7 +64,7 @@ stands text word k some e =
     let size = ap length begins in
     OccursAt-from_part text word k (omega (arith, length-append word rest, length-drop k text)) (rw begins (take-append_seam word rest))
 
--- a site is a boundary, and a base directory stands there
+-- a site is a boundary, and a base directory is there
 pub record Begins (words : List (List ℕ)) (text : List ℕ) (k : ℕ) : Type 0 where
   pub boundary : is_boundary text k ≡ true
   pub word : List ℕ
@@ -125,13 +125,13 @@ FirstsMarked-pass words word marks h empty w c some = elim (Contains-push_cases 
   | inr e ↦ let same = ap length e in absurd (omega arith)
 ]
 
--- where a word stands, its first byte does
+-- where a word occurs, its first byte does
 pub OccursAt-first : (text word : List ℕ) (k : ℕ) → 0 < length word → OccursAt text word k → (k < length text) × (get_or text k 0 ≡ get_or word 0 0)
 OccursAt-first text word k some o =
     let fits = o.fits in
     (omega arith, ap (λ i. get_or text i 0) (omega arith) ∙ o.reads 0 some)
 
--- where a word stands, what it begins with does
+-- where a word occurs, what it begins with does
 pub OccursAt-beginning : (text word bytes : List ℕ) (k : ℕ) → OccursAt text word k → OccursAt word bytes 0 → OccursAt text bytes k
 OccursAt-beginning text word bytes k o begin =
     let fits = o.fits in
@@ -148,11 +148,11 @@ none_is n h = elim (cases_eq n 0) [ inl zero ↦ zero | inr some ↦ absurd (h (
 pub text_site-empty : (words : List (List ℕ)) (text : List ℕ) → AllEmpty words → (k : ℕ) → text_site words text k ≡ 0
 text_site-empty words text h k = none_is _ (λ p. let b = site-begins words text k p in h (b.word) (b.among) (b.some))
 
--- behind the end of a text there is no site
+-- after the end of a text there is no site
 pub text_site-beyond : (words : List (List ℕ)) (text : List ℕ) (k : ℕ) → length text ≤ k → text_site words text k ≡ 0
 text_site-beyond words text k h = none_is _ (λ p. let end = text_site-within words text k p in omega arith)
 
--- where all words begin with these bytes there is no site but where these bytes stand
+-- where all words begin with these bytes there is no site but where these bytes are
 pub text_site-beginning : (words : List (List ℕ)) (text bytes : List ℕ) (k : ℕ) → AllBegin words bytes → (OccursAt text bytes k → ⊥) → text_site words text k ≡ 0
 text_site-beginning words text bytes k h none =
     none_is _ (λ p. let b = site-begins words text k p in none (OccursAt-beginning text (b.word) bytes k (b.here) (h (b.word) (b.among) (b.some))))

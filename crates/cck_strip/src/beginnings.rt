@@ -24,7 +24,7 @@ pub fn first_bytes(basedirs: &[Vec<u8>]) -> [bool; 256]
     is_first
 }
 
-// How many bytes these begin with alike.
+// Returns the length of the common beginning of the two.
 fn shared_len(bytes: &[u8], others: &[u8]) -> usize
     ensures within { result ≤ length bytes.now }
     ensures within_others { result ≤ length others.now }
@@ -37,8 +37,8 @@ fn shared_len(bytes: &[u8], others: &[u8]) -> usize
     shared
 }
 
-// What all these base directories begin with, but for empty ones: as many bytes as they share, at
-// most 32. `None` if all are empty.
+// Returns the common beginning of all base directories that are not empty, at most 32 bytes. `None`
+// if all are empty.
 pub fn common_beginning<'a>(basedirs: &'a [Vec<u8>]) -> Option<&'a [u8]>
     ensures { MatchOption result (AllEmpty (map (λ b. b.items) basedirs.now))
         (λ common. AllBegin (map (λ b. b.items) basedirs.now) common.now) }
@@ -47,7 +47,8 @@ pub fn common_beginning<'a>(basedirs: &'a [Vec<u8>]) -> Option<&'a [u8]>
     for basedir in basedirs {
         if !basedir.is_empty() {
             common = match common {
-                // A search confirms so many bytes by one comparison, however often they stand in a text.
+                // A search confirms this number of bytes by one comparison, however often they
+                // occur in a text.
                 None => Some(&basedir[..basedir.len().min(32)]),
                 Some(bytes) => Some(&bytes[..shared_len(bytes, basedir)]),
             };

@@ -1,16 +1,15 @@
 //! Base directories cut out of preprocessed text and out of arguments, after sccache's
 //! `src/util.rs`.
 //!
-//! Two checkouts of one project can share a cache only if the directories that they lie in are cut
-//! out of all that enters a key, and a cache is sound only if nothing else is.
+//! Two checkouts of one project can share a cache only if their directories are cut out of all that
+//! is hashed for a key, and a cache is sound only if nothing else is.
 //!
 //! - [`strip_basedirs`] cuts preprocessed text, [`strip_basedirs_from_arg`] an argument of a
 //!   compiler.
 //! - [`BasedirTrie`] finds the longest base directory at a place of a text.
 //! - [`pathname_positions`] are the places of an argument where a path may begin.
 //! - [`hash_arguments`] feeds arguments to a digest, stripped.
-//! - [`laws`] has what the definitions say beyond what they compute: there is exactly one way to
-//!   cut.
+//! - [`laws`] has what is proved of the definitions alone: there is exactly one way to cut.
 //!
 //! A *site* is a place where a base directory may be cut out, and how long it is there. Sites may
 //! overlap. The *cuts* are those that are taken: they are disjoint, and each site starts inside one

@@ -15,7 +15,7 @@ use memchr::memmem::Finder;
 use std::alloc::Global;
 use std::borrow::CowSlice;
 
-// Whether a base directory may stand behind this byte.
+// Returns whether a base directory may follow this byte.
 fn is_separator(byte: u8) -> bool
     ensures { result ≡ is_separator byte }
 {
@@ -28,7 +28,7 @@ fn is_separator(byte: u8) -> bool
         || byte == b'<'
 }
 
-// Whether the place is the start of the text, or directly behind a separator.
+// Returns whether the place is the start of the text, or directly after a separator.
 fn is_boundary(text: &[u8], at: usize) -> bool
     requires { at ≤ length text.now }
     ensures { result ≡ is_boundary text.now at }
@@ -47,7 +47,7 @@ fn length_at_start(text: &[u8], basedir: &[u8]) -> usize
     }
 }
 
-// The sites of a text: base directories at its start or behind a separator.
+// The sites of a text: base directories at its start or after a separator.
 #[derive(Drop)]
 struct TextSites<'a> {
     text: &'a [u8],
@@ -103,7 +103,7 @@ impl<'b> Search<TextSites<'b>> for ByteSearch {
 
     fn next_place(&self, sites: &TextSites<'b>, from: usize) -> Option<usize> {
         let mut distances = memchr_iter(self.byte, &sites.text[from..]);
-        // Such a byte stands often where nothing may begin.
+        // Such a byte often occurs where no site may begin.
         while let Some(distance) = distances.next() {
             if is_boundary(sites.text, from + distance) {
                 return Some(from + distance);
@@ -133,16 +133,15 @@ impl<'b> Search<TextSites<'b>> for FirstByteSearch {
     }
 }
 
-/// The text without the base directories that stand at its start or directly behind a space, a
-/// tab, a line feed, a form feed, a carriage return, `"` or `<`. Bytes are compared exactly.
+/// Returns the text without the base directories at its start or directly after a space, a tab, a
+/// line feed, a form feed, a carriage return, `"` or `<`. Bytes are compared exactly.
 ///
-/// Where several base directories stand at one place the longest is cut out. What stands inside a
-/// stretch that is cut out is not looked at again, and neither is what comes to stand together: a
-/// place is judged by the bytes before it in the text that was handed in. An empty base directory
-/// stands nowhere. The text is handed back borrowed exactly if nothing is cut out.
+/// If several base directories are at one place, the longest is cut out. Bytes that are cut out are
+/// not searched again, and neither are bytes that become adjacent: a place is judged by the bytes
+/// before it in the text that was passed. An empty base directory is never cut out. The result
+/// borrows the text exactly if nothing is cut out.
 ///
-/// Upstream's `util::strip_basedirs`. It is refused only for lack of memory, as
-/// [`UtilError::Memory`].
+/// Upstream's `util::strip_basedirs`. The only error is [`UtilError::Memory`].
 pub fn strip_basedirs<'a>(
     alloc: Global,
     text: &'a [u8],

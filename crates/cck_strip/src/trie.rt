@@ -10,9 +10,9 @@ use cck_digest::UtilError;
 use std::alloc::Global;
 use std::marker::Model;
 
-// Adds a node for this byte, which ends nothing and has no node behind or beside it.
+// Adds a node for this byte, which ends nothing and has no node below or beside it.
 //
-// It is refused only for lack of memory, as [`UtilError::Memory`].
+// The only error is [`UtilError::Memory`].
 fn push_leaf(nodes: &mut Vec<Node>, byte: u8) -> Result<NodeId, UtilError>
     ensures pushed { OnOk result (nodes.new.items ≡ nodes.old.items ++ leaf_of byte ∷ []) }
     ensures last { IfOk result (λ id. id.0 ≡ length nodes.old.items) }
@@ -30,7 +30,7 @@ fn push_leaf(nodes: &mut Vec<Node>, byte: u8) -> Result<NodeId, UtilError>
 
 // The node for this byte among the node `from` and those beside it. It is added where there is none.
 //
-// It is refused only for lack of memory, as [`UtilError::Memory`].
+// The only error is [`UtilError::Memory`].
 fn node_beside(nodes: &mut Vec<Node>, from: NodeId, byte: u8) -> Result<NodeId, UtilError>
     requires forward { IsForward nodes.old.items }
     requires within { from.0 < length nodes.old.items }
@@ -62,7 +62,7 @@ fn node_beside(nodes: &mut Vec<Node>, from: NodeId, byte: u8) -> Result<NodeId, 
 
 // The first node below this one. It is added, for this byte, where there is none.
 //
-// It is refused only for lack of memory, as [`UtilError::Memory`].
+// The only error is [`UtilError::Memory`].
 fn node_below(nodes: &mut Vec<Node>, at: NodeId, byte: u8) -> Result<NodeId, UtilError>
     requires forward { IsForward nodes.old.items }
     requires within { at.0 < length nodes.old.items }
@@ -86,7 +86,7 @@ fn node_below(nodes: &mut Vec<Node>, at: NodeId, byte: u8) -> Result<NodeId, Uti
 
 // Adds a word to the nodes.
 //
-// It is refused only for lack of memory, as [`UtilError::Memory`].
+// The only error is [`UtilError::Memory`].
 fn insert(nodes: &mut Vec<Node>, word: &[u8]) -> Result<(), UtilError>
     requires forward { IsForward nodes.old.items }
     requires some { 0 < length word.now }
@@ -117,10 +117,10 @@ fn is_straight(node: &Node, next: usize) -> bool
     }
 }
 
-// For each node how many nodes from it on, one behind the other in the vector, end nothing, have no
+// For each node how many nodes from it on, one after the other in the vector, end nothing, have no
 // node beside them, and have the next one below them.
 //
-// It is refused only for lack of memory, as [`UtilError::Memory`].
+// The only error is [`UtilError::Memory`].
 fn run_lengths(alloc: Global, nodes: &[Node]) -> Result<Vec<usize>, UtilError>
     ensures size { IfOk result (λ runs. length runs.items ≡ length nodes.now) }
     ensures each { IfOk result (λ runs. (i : ℕ) → i < length nodes.now → IsRun (get_or runs.items i 0) nodes.now i) }
@@ -143,7 +143,7 @@ fn run_lengths(alloc: Global, nodes: &[Node]) -> Result<Vec<usize>, UtilError>
 
 // The bytes of the nodes, in their order.
 //
-// It is refused only for lack of memory, as [`UtilError::Memory`].
+// The only error is [`UtilError::Memory`].
 fn node_bytes(alloc: Global, nodes: &[Node]) -> Result<Vec<u8>, UtilError>
     ensures value { IfOk result (λ bytes. bytes.items ≡ map (λ node. node.byte) nodes.now) }
     ensures refused { IsOkUnless result UtilError.Memory }
@@ -155,10 +155,10 @@ fn node_bytes(alloc: Global, nodes: &[Node]) -> Result<Vec<u8>, UtilError>
     Ok(bytes)
 }
 
-/// Base directories in a trie: a search at a place of a text goes on only as far as one of them may
-/// stand there, however many there are.
+/// Base directories in a trie: a search at a place of a text continues only while one of them may
+/// match there, however many there are.
 ///
-/// The nodes stand in one vector and name each other by their places in it. Equal base directories
+/// The nodes are in one vector and name each other by their places in it. Equal base directories
 /// are one word of the trie, and empty ones none.
 #[derive(Drop)]
 pub struct BasedirTrie {
@@ -182,9 +182,9 @@ impl Model for BasedirTrie {
 }
 
 impl BasedirTrie {
-    /// The trie of these base directories, in any order. Empty ones stand nowhere.
+    /// Returns the trie of these base directories, in any order. Empty ones are never found.
     ///
-    /// It is refused only for lack of memory, as [`UtilError::Memory`].
+    /// The only error is [`UtilError::Memory`].
     pub fn new(alloc: Global, basedirs: &[Vec<u8>]) -> Result<BasedirTrie, UtilError>
         ensures trie { IfOk result (λ trie. IsTrie trie (map (λ b. b.items) basedirs.now)) }
         ensures refused { IsOkUnless result UtilError.Memory }
@@ -202,8 +202,8 @@ impl BasedirTrie {
         Ok(BasedirTrie { nodes, bytes, runs })
     }
 
-    /// The length in bytes of the longest base directory that stands at this place of the text, and 0
-    /// if there is none, as at its end and behind it. What stands before the place doesn't matter. It
+    /// Returns the length in bytes of the longest base directory at this place of the text, and 0
+    /// if there is none, as at its end and after it. The bytes before the place don't matter. It
     /// takes no memory.
     // Inlined, it takes registers from the search of the text around it.
     #[inline(never)]

@@ -1,4 +1,4 @@
--- The date of a day is the one that has it.
+-- The date of a day number is the only one with this day number.
 use Rattle.std.proofs.Common.{◌≡◌, ℕ, zero, suc, ◌+◌, ◌<◌, ◌≤◌, ◌⊎◌, inl, inr, List, [], ◌∷◌, ◌++◌, map, refl, sym, ap, ◌∙◌, subst, arith, Bool, true, false, cond, Option, Some, ℤ, pos, negsuc, ◌+ℤ◌, ◌-ℤ◌, ◌≤ℤ◌, unsigned_abs, int_eq}
 use Rattle.std.specs.List.{find, flat_map, range_with_len}
 use Rattle.std.specs.Option.{unwrap_or}
@@ -31,7 +31,7 @@ among_either x (y ∷ xs) ys (inr h) = elim (among_either x xs ys h) [
   | inr back ↦ inr back
 ]
 
--- what stands for the numbers of a range, and stands for one of them
+-- an element of the image of a range is the image of a number of the range
 among_map : (f : ℕ → CivilDate) (a n k : ℕ) → a ≤ k → k < a + n → IsAmong (f k) (map f (range_with_len a n))
 among_map f a zero k le lt = absurd (omega arith)
 among_map f a (suc n) k le lt = elim (cases_eq a k) [

@@ -1,4 +1,4 @@
--- The tests of equality tell whether two refusals are one.
+-- The tests of equality hold exactly if two errors are the same.
 use Rattle.std.proofs.Common.{◌≡◌, refl, ap}
 use Rattle.std.proofs.lemmas.Bool.Decides.{Decides-eqb, Decides-like}
 use Rattle.std.specs.Prelude.{Decides}

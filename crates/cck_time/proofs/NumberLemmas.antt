@@ -1,4 +1,4 @@
--- The bytes of a number and of a date tell which it is.
+-- Numbers with equal bytes are equal, and so are dates.
 use Rattle.std.proofs.Common.{◌≡◌, ℕ, ◌<◌, ◌^◌, List, ◌++◌, refl, sym, ap, ◌∙◌, arith, append_assoc, ℤ, pos, negsuc, FitsSigned}
 use Rattle.std.specs.Int.{w32, w64, cast_unsigned, cast_signed, from_le_bytes}
 use Rattle.std.proofs.lemmas.Int.{to_z-of_z}
@@ -37,7 +37,7 @@ i64_back a b p q e =
     let bits : cast_unsigned w64 a ≡ cast_unsigned w64 b = sym (from_le_bytes-to_le_bytes_8 _ (long_bits_small a p)) ∙ ap (from_le_bytes w64) e ∙ from_le_bytes-to_le_bytes_8 _ (long_bits_small b q) in
     sym (to_z-of_z w64 a p) ∙ ap (cast_signed w64) bits ∙ to_z-of_z w64 b q
 
--- three lists and what follows, each before all that follows it
+-- three lists and what follows, nested to the right
 pub nested : (a b c d : List ℕ) → ((a ++ b) ++ c) ++ d ≡ a ++ (b ++ (c ++ d))
 nested a b c d = append_assoc (a ++ b) c d ∙ append_assoc a b (c ++ d)
 

@@ -1,4 +1,4 @@
--- What the parts of a file's text tell.
+-- What follows if two time parts are equal.
 use Rattle.std.proofs.Common.{◌≡◌, ℕ, List, [], ◌++◌, length, codes, refl, sym, ap, ◌∙◌, arith, Bool, true, false, if◌then◌else◌, Option, Some, None, ℤ, pos, neg_ℤ, int_le, FitsSigned}
 use Rattle.std.specs.Int.{w64}
 use Rattle.std.specs.Option.{option_map, option_and_then, unwrap_or}
@@ -51,7 +51,7 @@ one_day_is zone m n a b p q e =
 pub one_second_is : (zone : TimeZone) (m n : ℤ) → is_instant m ≡ true → is_instant n ≡ true → i64_bytes (local_second zone m) ≡ i64_bytes (local_second zone n) → local_second zone m ≡ local_second zone n
 one_second_is zone m n p q e = i64_back (local_second zone m) (local_second zone n) (second_fits zone m p) (second_fits zone n q) e
 
--- where what is made of an option is there, so was the option
+-- if the image of an option is there, the option is there
 from_map : {X Y : Type 0} (f : X → Y) (o : Option X) (y : Y) → option_map f o ≡ Some y → (x : X) × (o ≡ Some x) × (f x ≡ y)
 from_map f None y e = absurd cc
 from_map {Y = Y} f (Some x) y e = (x, refl, ap (λ (p : Option Y). unwrap_or p y) e)
@@ -94,7 +94,7 @@ i64_length : (a b : ℤ) → length (i64_bytes a) ≡ length (i64_bytes b)
 unfolding i64_bytes
 i64_length a b = refl
 
--- the seconds of one flag take equally many bytes
+-- the seconds' parts for one flag have equal lengths
 stamp_length : (timestamp : Bool) (m n : Option Moment) (zone : TimeZone) (s t : List ℕ) → stamp_part timestamp m zone ≡ Some s → stamp_part timestamp n zone ≡ Some t → length s ≡ length t
 unfolding stamp_part
 stamp_length false m n zone s t p q = ap (λ (o : Option (List ℕ)). length (unwrap_or o s)) (sym p ∙ q)
@@ -105,7 +105,7 @@ stamp_length true m n zone s t p q =
     let j : List ℕ = i64_bytes (local_second zone (nanos_of second.0)) in
     omega (arith, ap length first.3, ap length second.3, length-append (delimiter (codes "timestamp")) i, length-append (delimiter (codes "timestamp")) j, i64_length (local_second zone (nanos_of first.0)) (local_second zone (nanos_of second.0)))
 
--- equal parts tell the day, and what the variable says
+-- equal parts have the same day, and the same value of the variable
 pub days_told : (zone : TimeZone) (timestamp : Bool) (m n : Option Moment) (a b : Moment) (v w : List Variable) (part : List ℕ)
     → time_part true timestamp m a zone v ≡ Some part → time_part true timestamp n b zone w ≡ Some part
     → (local_day zone (nanos_of a) ≡ local_day zone (nanos_of b)) × (source_date_epoch v ≡ source_date_epoch w)
@@ -121,7 +121,7 @@ days_told zone timestamp m n a b v w part p q =
     let told = option_reads_back (source_date_epoch v) (source_date_epoch w) x.1 y.1 same.1 in
     (sym first.2 ∙ ap day_number same.0 ∙ second.2, told.0)
 
--- and the second
+-- and the same second
 pub seconds_told : (zone : TimeZone) (date : Bool) (m n : Option Moment) (a b : Moment) (v w : List Variable) (part : List ℕ)
     → time_part date true m a zone v ≡ Some part → time_part date true n b zone w ≡ Some part
     → AreOfOneSecond zone m n

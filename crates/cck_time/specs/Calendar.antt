@@ -11,7 +11,7 @@ pub record CivilDate : Type 0 where
   pub month : ℕ
   pub day : ℕ
 
--- the year, the month and the day of a date of the library
+-- the year, the month and the day of a `jiff` date
 abbrev pub civil_date : Date → CivilDate
 civil_date d = record { year = d.year; month = d.month; day = d.day }
 

@@ -2,7 +2,7 @@
 use Rattle.std.specs.Prelude.{true, false}
 use Rattle.cck_time.specs.declared.config.PreprocessorCacheModeConfig.{PreprocessorCacheModeConfig}
 
--- the defaults, with the mode switched on
+-- the defaults, with the mode on
 abbrev pub activated : PreprocessorCacheModeConfig
 activated = record {
   use_preprocessor_cache_mode = true;

@@ -1,4 +1,4 @@
--- what a file's text can show at a moment, in a zone
+-- what the time macros of a file show at a call time, in a zone
 use Rattle.std.specs.Prelude.{◌≡◌, ℕ, ◌&&◌, Bool, true, false, ℤ, pos, neg_ℤ, ◌+ℤ◌, int_le, List, [], ◌++◌, Option, Some, None, option_map, codes, if◌then◌else◌}
 use Rattle.std.specs.Option.{option_and_then}
 use Rattle.std.specs.Int.{w32, w64, cast_unsigned, to_le_bytes, int_div_euclid}
@@ -10,11 +10,11 @@ use Rattle.jiff.specs.Types.{TimeZone}
 use Rattle.jiff.specs.Words.{nanos_of_seconds, offset_at}
 use Rattle.cck_time.specs.Calendar.{CivilDate, date_of_day}
 
--- so many nanoseconds since 1970-01-01T00:00:00Z are an instant: it has a civil time in every zone
+-- whether n nanoseconds since 1970-01-01T00:00:00Z are an instant, which has a civil time in every zone
 abbrev pub is_instant : ℤ → Bool
 is_instant n = int_le (neg_ℤ (pos 377_705_023_201_000_000_000)) n && int_le n (pos 253_402_207_200_999_999_999)
 
--- the nanoseconds of a moment, if it is an instant
+-- the nanoseconds of a time, if it is an instant
 abbrev pub instant_nanos : Moment → Option ℤ
 instant_nanos t = if is_instant (nanos_of t) then Some (nanos_of t) else None
 
@@ -33,7 +33,7 @@ local_second zone n = int_div_euclid (local_nanos zone n) (pos 1_000_000_000)
 abbrev pub local_date : TimeZone → ℤ → Option CivilDate
 local_date zone n = date_of_day (local_day zone n)
 
--- a name between the bytes that set apart what follows
+-- a name between bytes that separate what follows from what precedes
 unfoldable pub delimiter : List ℕ → List ℕ
 delimiter name = delimiter_bytes name
 
@@ -51,18 +51,18 @@ i64_bytes n = to_le_bytes w64 (cast_unsigned w64 n)
 abbrev pub date_bytes : CivilDate → List ℕ
 date_bytes d = i32_bytes d.year ++ u32_bytes d.month ++ u32_bytes d.day
 
--- what a compiler is told to show in place of the date, if it is told so
+-- the value that a compiler shows in place of the date, if the variable is set
 abbrev pub source_date_epoch : List Variable → Option (List ℕ)
 source_date_epoch variables = first_value variables (codes "SOURCE_DATE_EPOCH")
 
--- the date at the moment, where the text shows it
+-- the date at the call time, if the text shows it
 unfoldable pub date_part : Bool → Moment → TimeZone → List Variable → Option (List ℕ)
 date_part false moment zone variables = Some []
 date_part true moment zone variables =
     option_map (λ d. delimiter (codes "date") ++ date_bytes d ++ framed_option (source_date_epoch variables))
     (option_and_then (local_date zone) (instant_nanos moment))
 
--- the second at which the file was modified, where the text shows it
+-- the second at which the file was modified, if the text shows it
 unfoldable pub stamp_part : Bool → Option Moment → TimeZone → Option (List ℕ)
 stamp_part false modified zone = Some []
 stamp_part true modified zone =
@@ -75,13 +75,13 @@ time_part date timestamp modified moment zone variables =
     option_and_then (λ d. option_map (λ s. d ++ s) (stamp_part timestamp modified zone))
     (date_part date moment zone variables)
 
--- both are known, and fall into one local second
+-- both are known, and of the same local second
 abbrev pub AreOfOneSecond : TimeZone → Option Moment → Option Moment → Type 0
 AreOfOneSecond zone (Some t) (Some u) = local_second zone (nanos_of t) ≡ local_second zone (nanos_of u)
 AreOfOneSecond zone (Some t) None = ⊥
 AreOfOneSecond zone None u = ⊥
 
--- what was put behind the old bytes, if it was there to be put
+-- the bytes were appended to the old ones, or there were none to append
 abbrev pub IsAppended : List ℕ → List ℕ → Bool → Option (List ℕ) → Type 0
 IsAppended old new true (Some bytes) = new ≡ old ++ bytes
 IsAppended old new true None = ⊥

@@ -1,4 +1,4 @@
-//! What the calls on entries are refused for.
+//! The errors of calls on entries.
 ghost use Rattle.std.specs.Prelude.{◌≡◌};
 ghost use Rattle.cck_time.specs.declared.error.Error.TheVariants.{Memory};
 
@@ -6,7 +6,7 @@ use cck_digest::UtilError;
 use std::alloc::{AllocError, AllocFailed};
 use thiserror::Error;
 
-/// Why a call on an entry, or on what it records, gave no answer.
+/// The error of a call on an entry, or on what it records.
 ///
 /// Upstream's `preprocessor_cache::Error`.
 #[derive(Debug, Clone, Copy, PartialEq, Eq, Error)]
@@ -14,13 +14,13 @@ pub enum Error {
     /// A file can't be read, or a writer failed.
     #[error("{0}")]
     Io(UtilError),
-    /// The bytes have the first byte of an entry and are no entry.
+    /// The first byte is that of an entry, but the bytes are no entry.
     #[error("a preprocessor cache entry is damaged")]
     Deserialization,
-    /// The first byte names another format.
+    /// The first byte is the number of another format.
     #[error("Unknown preprocessor cache entry format {0:x}")]
     UnknownFormat(u8),
-    /// A growth of memory was refused.
+    /// Memory is lacking.
     #[error("out of memory")]
     Memory,
 }

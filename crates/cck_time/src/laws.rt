@@ -10,8 +10,9 @@ ghost use Rattle.cck_time.specs.TimePart.{AreOfOneSecond, date_bytes, i64_bytes,
 
 use crate::{Error, PreprocessorCacheModeConfig};
 
-/// The date of a day is the one date of the calendar whose day it is: what is found has the day,
-/// each date is found by its day, and each day from -9999-01-01 to 9999-12-31 has one.
+/// The date of a day is the only date of the calendar with this day number. A date that is found
+/// has the day number, each date is found by its day number, and each day from -9999-01-01 to
+/// 9999-12-31 has a date.
 pub fn dates_of_days()
     ensures day { (day : ℤ) (d : CivilDate) → date_of_day day ≡ Some d →
         IsInCalendar d × (day_number d ≡ day) }
@@ -20,8 +21,8 @@ pub fn dates_of_days()
         (d : CivilDate) × (date_of_day day ≡ Some d) }
 {}
 
-/// There is a time part exactly where each time that it needs is an instant of `jiff`: the moment
-/// for a date, and for a timestamp a modification time that is known.
+/// There is a time part exactly if each time that it needs is an instant of `jiff`. A date needs
+/// the call time; a timestamp needs a modification time, which must be known.
 pub fn parts_exist()
     ensures { (date timestamp : Bool) (modified : Option Moment) (moment : Moment)
         (zone : TimeZone) (variables : List Variable) →
@@ -30,23 +31,24 @@ pub fn parts_exist()
         × (IsTrue timestamp → IsSomeAnd modified (λ t. IsTimestampNanos (nanos_of t)))) }
 {}
 
-/// Dates of one zone that are written alike are of one local day.
+/// If the bytes of two dates in one zone are equal, the dates are of the same local day.
 pub fn one_day()
     ensures { (zone : TimeZone) (m n : ℤ) (a b : CivilDate) →
         local_date zone m ≡ Some a → local_date zone n ≡ Some b →
         date_bytes a ≡ date_bytes b → local_day zone m ≡ local_day zone n }
 {}
 
-/// Two instants whose seconds in a zone are written alike have one local second.
+/// If the bytes of two instants' local seconds in one zone are equal, the local seconds are equal.
 pub fn one_second()
     ensures { (zone : TimeZone) (m n : ℤ) → is_instant m ≡ true → is_instant n ≡ true →
         i64_bytes (local_second zone m) ≡ i64_bytes (local_second zone n) →
         local_second zone m ≡ local_second zone n }
 {}
 
-/// Equal time parts of one zone and of equal flags, whatever else they were made for, tell what
-/// they show: with a date the local day of the moment, and the `SOURCE_DATE_EPOCH` or that there is
-/// none; and with a timestamp that both modification times are known and of one local second.
+/// If two time parts in one zone and for equal flags are equal, the macros show the same, whatever
+/// else the parts were computed from. With a date, the local days of the call times are equal, and
+/// so are the values of `SOURCE_DATE_EPOCH`, or neither has one. With a timestamp, both
+/// modification times are known and of the same local second.
 pub fn equal_parts_tell()
     ensures days { (zone : TimeZone) (timestamp : Bool) (m n : Option Moment) (a b : Moment)
         (v w : List Variable) (part : List ℕ) →
@@ -61,8 +63,8 @@ pub fn equal_parts_tell()
         AreOfOneSecond zone m n }
 {}
 
-/// Options are equal exactly if each of them is, and refusals exactly if they are the same, with the
-/// same cause.
+/// `==` holds of options exactly if each of them is equal, and of errors exactly if they are the
+/// same, with the same cause.
 pub fn equality_is_exact()
     ensures options { (a b : PreprocessorCacheModeConfig) →
         IsTrue (⟦<PreprocessorCacheModeConfig as PartialEq>⟧.eq a b) ↔ (a ≡ b) }

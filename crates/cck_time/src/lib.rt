@@ -1,17 +1,16 @@
-//! What a file's text can show at a moment, in a zone, and the options of the preprocessor cache
-//! mode.
+//! What the time macros of a file show at a call time, in a zone; and the options of the
+//! preprocessor cache mode.
 //!
-//! A source file that holds `__DATE__` or `__TIMESTAMP__` is compiled to something else on another
-//! day, or once it was modified, though its text is the same. A digest that is recorded of such a
-//! file is therefore not of its text alone: it goes on with the file's *time part*, the bytes that
-//! stand for what these macros show. Equal parts show the same.
+//! A source file with `__DATE__` or `__TIMESTAMP__` is compiled to a different object on another
+//! day, or after it was modified, although its text is the same. The recorded digest of such a file
+//! is therefore not of its text alone: the file's *time part* is hashed after the text. These bytes
+//! encode what the macros show: if two time parts are equal, the macros show the same.
 //!
-//! - [`local_time_part`] makes the time part of a file, for a moment, a time zone and the variables
-//!   of the environment, all handed in.
-//! - [`PreprocessorCacheModeConfig`] has the options, and [`Error`] the refusals of calls on
-//!   entries.
-//! - [`laws`] has what the definitions say beyond what they compute: equal parts tell the day, the
-//!   second and `SOURCE_DATE_EPOCH`, each day has one date, and when there is a part.
+//! - [`local_time_part`] returns the time part of a file, for a call time, a time zone and the
+//!   variables of the environment, which are all passed.
+//! - [`PreprocessorCacheModeConfig`] has the options, and [`Error`] the errors of calls on entries.
+//! - [`laws`] has what is proved of the definitions alone: equal time parts have the same day,
+//!   second and `SOURCE_DATE_EPOCH`; each day has one date; and when there is a time part.
 //!
 //! ```rust
 //! // One hour east of UTC, 23:00:00 of 1 January 1970 in UTC is midnight of 2 January.

@@ -1,4 +1,4 @@
-//! The time part of a file: what its text can show at a moment, in a zone.
+//! The time part of a file: what its time macros show at a call time, in a zone.
 ghost use Rattle.std.specs.Prelude.{◌≡◌, ◌++◌, codes, IfOk, IfErr, OnOk, Some, map, option_map};
 ghost use Rattle.cck_digest.specs.Frames.{framed_option, length_bytes};
 ghost use Rattle.cck_path.specs.Bytes.{variables_of};
@@ -12,7 +12,7 @@ use jiff::civil::Date;
 use jiff::tz::TimeZone;
 use std::alloc::Global;
 
-// The instant of a moment, if it lies in `jiff`'s range.
+// Returns the instant of the time `moment`, if it is in `jiff`'s range.
 fn instant_of(moment: Timestamp) -> Option<jiff::Timestamp>
     ensures { option_map (λ t. t.nanosecond) result ≡ instant_nanos moment }
 {
@@ -20,7 +20,7 @@ fn instant_of(moment: Timestamp) -> Option<jiff::Timestamp>
     jiff::Timestamp::from_nanosecond(nanos).ok()
 }
 
-// What the zone's calendar shows at the instant.
+// Returns the date in the zone at the instant.
 fn date_at(zone: &TimeZone<'_>, instant: jiff::Timestamp) -> Date
     ensures { local_date (plain_zone zone.now) instant.nanosecond
         ≡ Some (civil_date result) }
@@ -28,7 +28,7 @@ fn date_at(zone: &TimeZone<'_>, instant: jiff::Timestamp) -> Date
     zone.to_datetime(instant).date()
 }
 
-// The second that a clock in the zone shows at the instant, counted from 1970-01-01T00:00:00.
+// Returns the civil second in the zone at the instant, counted from 1970-01-01T00:00:00.
 fn second_at(zone: &TimeZone<'_>, instant: jiff::Timestamp) -> i64
     ensures { result ≡ local_second (plain_zone zone.now) instant.nanosecond }
 {
@@ -132,7 +132,7 @@ fn put_second(part: &mut Vec<u8>, second: i64) -> Result<(), Error>
     Ok(())
 }
 
-// Puts the date's part, and answers whether there is one.
+// Appends the date's part, and returns whether there is one.
 #[tactic(auto, unfolding(crate::specs::TimePart::date_part))]
 fn put_date_part(
     part: &mut Vec<u8>,
@@ -156,7 +156,7 @@ fn put_date_part(
     Ok(true)
 }
 
-// Puts the modification's part, and answers whether there is one.
+// Appends the modification's part, and returns whether there is one.
 #[tactic(auto, unfolding(crate::specs::TimePart::stamp_part))]
 fn put_stamp_part(
     part: &mut Vec<u8>,
@@ -181,22 +181,23 @@ fn put_stamp_part(
     Ok(true)
 }
 
-/// The time part of a file: the bytes that stand for what its text can show at the moment, in the
-/// zone, where it holds a `__DATE__` (`date`) or a `__TIMESTAMP__` (`timestamp`).
+/// Returns the time part of a file: bytes that encode what its time macros show at the call time
+/// `moment`, in the zone. `date` says that the text has a `__DATE__`, and `timestamp` that it has a
+/// `__TIMESTAMP__`.
 ///
-/// For a date these are the delimiter `date`, the civil year (an `i32`), month and day (`u32` each,
-/// from 1), lowest byte first, of the moment in the zone, and then, as compilers show it in place
-/// of the date, the value of the first variable `SOURCE_DATE_EPOCH`: a byte 1, its length in 8 bytes,
-/// lowest byte first, and the value, or a byte 0 where there is no such variable. For a timestamp
-/// they are the delimiter `timestamp` and the civil second in the zone at which the file was last
-/// modified (an `i64`), counted from 1970-01-01T00:00:00 without a zone and rounded down. With
-/// neither there are no bytes.
+/// For a date the bytes are the delimiter `date`; the civil year (an `i32`), month and day (`u32`
+/// each, from 1) of the call time in the zone, lowest byte first; and the value of the first
+/// variable `SOURCE_DATE_EPOCH`, because compilers show it in place of the date. The value is
+/// written as a byte 1, its length in 8 bytes, lowest byte first, and the value; without such a
+/// variable a byte 0 is written. For a timestamp the bytes are the delimiter `timestamp` and the
+/// civil second in the zone at which the file was last modified (an `i64`), counted from
+/// 1970-01-01T00:00:00 without a zone and rounded down. With neither there are no bytes.
 ///
-/// There is no part (`None`) exactly where a time that is needed is missing or outside `jiff`'s
-/// range of instants, from -9999-01-02T01:59:59Z to 9999-12-30T22:00:00.999999999Z. The moment is
-/// needed for a date alone, the modification time for a timestamp alone.
+/// Returns `None` exactly if a time that is needed is missing or outside `jiff`'s range of
+/// instants, from -9999-01-02T01:59:59Z to 9999-12-30T22:00:00.999999999Z. The call time is needed
+/// for a date alone, the modification time for a timestamp alone.
 ///
-/// It is refused only as [`Error::Memory`].
+/// The only error is [`Error::Memory`].
 #[tactic(auto, unfolding(crate::specs::TimePart::time_part))]
 pub fn local_time_part(
     alloc: Global,

@@ -1,4 +1,4 @@
--- Equal material is of equal parts.
+-- Equal key materials have equal parts.
 use Rattle.std.proofs.Common.{◌≡◌, ◌↔◌, ℕ, List, [], ◌∷◌, ◌++◌, Bool, true, false, Option, Some, find, refl, sym, ap, ◌∙◌, arith, append_assoc, append-nil}
 use Rattle.std.specs.Str.{bytes_eq}
 use Rattle.cck_digest.specs.Frames.{frame, framed_list, framed_option}
@@ -56,7 +56,7 @@ variable_reads_back v w s t e =
     let values = frame_reads_back (v.1) (w.1) s t names.1 in
     (pair_from_parts v w names.0 values.0, values.1)
 
--- the material, each part before all that follows it
+-- the key material, nested to the right
 material-nested : (p : KeyParts) → material p ≡ frame cache_version ++ (frame p.compiler_digest ++ ((flag_byte p.plusplus ∷ []) ++ (frame (language_name p.language)
     ++ (framed_list frame p.arguments ++ (framed_list frame p.extra_hashes ++ (framed_option p.assembler_digest
     ++ (framed_list variable_frames p.variables ++ frame p.output)))))))

@@ -1,4 +1,4 @@
--- Names of wrappers, places of compilers, and calls on files in turn.
+-- Names of wrappers, paths of compilers, and two calls on files, one after the other.
 use Rattle.std.proofs.Common.{◌≡◌, ◌≢◌, ◌↔◌, ℕ, suc, ◌+◌, ◌<◌, ◌≤◌, ◌⊎◌, inl, inr, List, [], ◌∷◌, length, drop, get_or, Bool, true, false, not, ◌&&◌, cond, Option, None, Some, Result, Ok, Err, IfOk, codes, map, Bor, refl, sym, ap, ◌∙◌, arith, nat_eq, IsTrue, Contains}
 use Rattle.std.specs.Bool.{Decides}
 use Rattle.std.specs.Char.{to_ascii_lowercase}
@@ -33,7 +33,7 @@ same_test true false P h d = sym (d.1 (h.0 refl))
 same_test false true P h d = h.1 (d.0 refl)
 same_test false false P h d = refl
 
--- two calls in turn: what follows from both, or a fault in one of them
+-- two calls, one after the other: what follows from both, or a fault in one of them
 pub in_turn : {P Q S : Type 0} (a b c : ℕ) → a ≤ b → b ≤ c → P ⊎ Rose a b → Q ⊎ Rose b c → (P → Q → S) → S ⊎ Rose a c
 in_turn a b c h k (inl p) (inl q) f = inl (f p q)
 in_turn a b c h k (inl p) (inr r) f = inr (rose_earlier a b c h r)
@@ -46,12 +46,12 @@ not_canonical x HasFault OtherKind other r = inl (sym (ap leads_if r))
 not_canonical x HasFault Fault other r = inr r
 not_canonical x HasFault Memory other r = absurd (other refl)
 
--- where nothing stands
+-- a path that does not exist
 pub nothing_stands : (m : FileMap) (p : Path) → stands_at m p ≡ false → false ≡ is_compiler m p
 unfolding is_compiler
 nothing_stands m p e = sym (ap (λ b. b && not (leads_to_wrapper m p)) e)
 
--- where something stands
+-- a path that exists
 pub stands : (m n : FileMap) (p : Path) (leads : Bool) → n ≡ m → stands_at m p ≡ true → leads ≡ leads_to_wrapper n p → not leads ≡ is_compiler m p
 unfolding is_compiler
 stands m n p leads same e h = ap not (h ∙ ap (λ k. leads_to_wrapper k p) same) ∙ sym (ap (λ b. b && not (leads_to_wrapper m p)) e)
@@ -66,7 +66,7 @@ pub at_root : (m : FileMap) (p : Path) (leads : Bool) → has_root p ≡ true �
 unfolding is_settled
 at_root m p leads e h = ap not h ∙ sym (ap (λ b. b && not (leads_to_wrapper m p)) e)
 
--- what follows from an answer
+-- what follows from a result
 pub if_ok : {X E : Type 0} {P Q : X → Type 0} (r : Result X E) → IfOk r P → ((x : X) → P x → Q x) → IfOk r Q
 if_ok (Ok x) h f = f x h
 if_ok (Err e) h f = h
@@ -117,7 +117,7 @@ first_found m n executable variables paths same are other =
 
 -- at one of the parts
 module _ (m : FileMap) (name : List ℕ) (parts : List (Bor (List ℕ))) (i : ℕ) (d : Bor (List ℕ)) (path : List ℕ) where
-  -- a compiler stands there
+  -- this path is a compiler's
   pub stands_here : i < length parts → path ≡ join_path (get_or parts i d).now name → true ≡ is_compiler m (components path)
       → find (λ q. is_compiler m (components q)) (map (λ part. join_path part.now name) (drop i parts)) ≡ Some path
   stands_here within is e =
@@ -125,13 +125,13 @@ module _ (m : FileMap) (name : List ℕ) (parts : List (Bor (List ℕ))) (i : �
       (get_or_default parts i d (get_or parts i d) within) (ap (λ q. is_compiler m (components q)) (sym is) ∙ sym e)
       ∙ ap Some (sym is)
 
-  -- none stands there
+  -- this path is not a compiler's
   pub stands_later : i < length parts → path ≡ join_path (get_or parts i d).now name → false ≡ is_compiler m (components path)
       → find (λ q. is_compiler m (components q)) (map (λ part. join_path part.now name) (drop i parts)) ≡ find (λ q. is_compiler m (components q)) (map (λ part. join_path part.now name) (drop (i + 1) parts))
   stands_later within is e =
       found_later (λ q. is_compiler m (components q)) (λ part. join_path part.now name) parts i (get_or parts i d) within
       (get_or_default parts i d (get_or parts i d) within) (ap (λ q. is_compiler m (components q)) (sym is) ∙ sym e)
 
--- one of the others
+-- one of the remaining parts
 pub contains_later : {X : Type 0} (x : X) (xs : List X) (y : X) → Contains xs y → Contains (x ∷ xs) y
 contains_later x xs y (k, within, is) = (suc k, omega (arith, within), is)

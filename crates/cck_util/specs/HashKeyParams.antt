@@ -1,11 +1,11 @@
--- what a `HashKeyParams` says
+-- the value of a `HashKeyParams`
 use Rattle.std.specs.Prelude.{map, string_bytes}
 use Rattle.std.specs.Option.{option_map}
 use Rattle.cck_path.specs.Bytes.{lists_of, variables_of}
 use Rattle.cck_util.specs.Key.{Params}
 use Rattle.cck_util.specs.declared.key.HashKeyParams.TheInside.{Inside}
 
--- what its fields say, without where it lies in memory
+-- the values of its fields, without their addresses
 abbrev pub params_of : Inside → Params
 params_of p = record {
   compiler_digest = p.compiler_digest.now;

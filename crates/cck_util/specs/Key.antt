@@ -9,7 +9,7 @@ use Rattle.cck_util.specs.Language.{language_name}
 use Rattle.cck_util.specs.Variables.{object_variables, variable_frames}
 use Rattle.cck_util.specs.declared.language.Language.{Language}
 
--- what a caller hands in for a key
+-- what a caller passes for a key
 pub record Params : Type 0 where
   pub compiler_digest : List ℕ
   pub language : Language
@@ -21,7 +21,7 @@ pub record Params : Type 0 where
   pub basedirs : List (List ℕ)
   pub assembler_digest : Option (List ℕ)
 
--- these parts, and no other is set
+-- these parts, with no other set
 abbrev pub plain_params : List ℕ → Language → List (List ℕ) → List ℕ → Params
 plain_params compiler_digest language arguments preprocessor_output = record {
   compiler_digest = compiler_digest;
@@ -35,7 +35,7 @@ plain_params compiler_digest language arguments preprocessor_output = record {
   assembler_digest = None;
 }
 
--- what enters a key
+-- what is hashed for a key
 pub record KeyParts : Type 0 where
   pub compiler_digest : List ℕ
   pub plusplus : Bool
@@ -46,8 +46,8 @@ pub record KeyParts : Type 0 where
   pub variables : List Variable
   pub output : List ℕ
 
--- what of the handed in enters the key: the arguments and the text without the base directories, of the variables those
--- that change what a compiler writes, and all else whole
+-- the part of what is passed that is hashed: the arguments and the text without the base directories, the variables
+-- that change a compiler's output, and everything else as it is passed
 abbrev pub key_parts : Params → KeyParts
 key_parts p = record {
   compiler_digest = p.compiler_digest;
@@ -79,6 +79,6 @@ material p =
     ++ framed_list variable_frames p.variables
     ++ frame p.output
 
--- the key, by this hash
+-- the key, with this hash function
 abbrev pub object_key : (List ℕ → List ℕ) → Params → List ℕ
 object_key hash p = digest_text hash (material (key_parts p))

@@ -22,7 +22,7 @@ language_name ObjectiveCxxPreprocessed = codes "objc++Preprocessed"
 language_name Cuda = codes "cuda"
 language_name Hip = codes "hip"
 
--- whether the C preprocessor goes over an input in the language first
+-- whether an input in the language is preprocessed by the C preprocessor first
 abbrev pub is_preprocessed_first : Language → Bool
 is_preprocessed_first Assembler = false
 is_preprocessed_first CPreprocessed = false
@@ -31,7 +31,7 @@ is_preprocessed_first ObjectiveCPreprocessed = false
 is_preprocessed_first ObjectiveCxxPreprocessed = false
 is_preprocessed_first _ = true
 
--- the answer to a text: the language that it names, and an error exactly if it names none
+-- the result for a text: the language that it names, or an error exactly if it names none
 abbrev pub NamesLanguage : List ℕ → Result Language UnknownLanguage → Type 0
 NamesLanguage name answer =
     MatchResult answer (λ language. language_name language ≡ name) (λ _. (language : Language) → language_name language ≢ name)

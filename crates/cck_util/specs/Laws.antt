@@ -1,14 +1,14 @@
--- what key material and keys tell
+-- what equal key materials and equal keys mean
 use Rattle.std.specs.Prelude.{◌≡◌, ◌↔◌, ℕ, List, map}
 use Rattle.cck_strip.specs.Argument.{stripped_argument}
 use Rattle.cck_strip.specs.Text.{stripped_text}
 use Rattle.cck_util.specs.Key.{KeyParts, Params, material, object_key}
 
--- equal material is of equal parts, and the other way round
+-- two key materials are equal exactly if their parts are equal
 abbrev pub MaterialTellsParts : Type 0
 MaterialTellsParts = (p q : KeyParts) → material p ≡ material q ↔ (p ≡ q)
 
--- Arguments and texts that are equal without their base directories give equal keys, all else being equal.
+-- If arguments and texts are equal without their base directories, and all else is equal, then the keys are equal.
 abbrev pub EqualWithoutBasedirs : Type 0
 EqualWithoutBasedirs =
     (hash : List ℕ → List ℕ) (p : Params) (basedirs arguments : List (List ℕ)) (output : List ℕ)

@@ -1,4 +1,4 @@
--- wrappers, and the compiler behind them
+-- wrappers, and the compilers that they wrap
 use Rattle.std.specs.Prelude.{ℕ, ◌==◌, ◌&&◌, ◌||◌, List, [], ◌∷◌, ◌++◌, length, take, Bool, false, not, if◌then◌else◌, Option, None, Some, Result, Ok, Err, codes, filter, map}
 use Rattle.std.specs.List.{find, list_any, slice_split}
 use Rattle.std.specs.Option.{option_map_or, unwrap_or}
@@ -14,7 +14,7 @@ use Rattle.cck_path.specs.Variables.{Variable, first_value}
 abbrev pub wrapper_names : List (List ℕ)
 wrapper_names = codes "ccache" ∷ codes "sccache" ∷ []
 
--- the name begins so, in any ASCII case
+-- the name begins with these bytes, in any ASCII case
 abbrev pub begins_with : List ℕ → List ℕ → Bool
 begins_with name beginning = str_eq_ignore_ascii_case (take (length beginning) name) beginning
 
@@ -30,7 +30,7 @@ is_wrapper_name name = list_any (is_program name) wrapper_names
 abbrev pub is_wrapper : Path → Bool
 is_wrapper p = option_map_or is_wrapper_name (file_name_of p) false
 
--- the canonical path is a wrapper's; without a canonical path it isn't
+-- whether a canonical path is a wrapper's; false for an error
 abbrev pub leads_if : Result Path FileError → Bool
 leads_if (Ok p) = is_wrapper p
 leads_if (Err e) = false
@@ -51,17 +51,17 @@ has_wrapper_component path = list_any is_wrapper_component (components path)
 unfoldable pub kept_parts : List ℕ → List (List ℕ)
 kept_parts path = filter (λ part. not (has_wrapper_component part)) (slice_split (λ c. c == 58) path)
 
--- where a program of this name may stand, by a search path
+-- the paths at which a program of this name is looked up, from a search path
 abbrev pub places : Option (List ℕ) → Option (List ℕ) → List (List ℕ)
 places None path = []
 places (Some name) None = []
 places (Some name) (Some path) = map (λ part. join_path part name) (kept_parts path)
 
--- where the executable's file name may stand, by the first `PATH`
+-- the paths at which the executable's file name is looked up, from the first `PATH`
 abbrev pub candidates : List ℕ → List Variable → List (List ℕ)
 candidates executable variables = places (file_name_of (components executable)) (first_value variables (codes "PATH"))
 
--- something stands there, and it doesn't lead to a wrapper
+-- the path exists and doesn't lead to a wrapper
 unfoldable pub is_compiler : FileMap → Path → Bool
 is_compiler m p = stands_at m p && not (leads_to_wrapper m p)
 
@@ -69,12 +69,13 @@ is_compiler m p = stands_at m p && not (leads_to_wrapper m p)
 unfoldable pub is_settled : FileMap → Path → Bool
 is_settled m p = has_root p && not (leads_to_wrapper m p)
 
--- the compiler that is found in the executable's place: none where that is settled, else the first candidate that is one
+-- the compiler that replaces the executable: none if the executable is settled, otherwise the first candidate that is
+-- a compiler
 unfoldable pub found : FileMap → List ℕ → List Variable → Option (List ℕ)
 found m executable variables =
     if is_settled m (components executable) then None
     else find (λ path. is_compiler m (components path)) (candidates executable variables)
 
--- the path of the compiler that the executable means
+-- the path of the compiler that the executable names
 abbrev pub resolved : FileMap → List ℕ → List Variable → List ℕ
 resolved m executable variables = unwrap_or (found m executable variables) executable

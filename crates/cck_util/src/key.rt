@@ -12,16 +12,16 @@ use cck_strip::strip_basedirs;
 use std::alloc::Global;
 use std::marker::Model;
 
-/// The version of the key material, fed into it. It is raised where equal inputs come to have
-/// another material.
+/// The version of the key material, and part of it. It is raised when the key material of equal
+/// inputs changes.
 ///
 /// Upstream's `CACHE_VERSION`.
 pub const CACHE_VERSION: &[u8] = b"14";
 
-/// What the key of an object is made of.
+/// The parts of which the key of an object is made.
 ///
 /// Upstream's `HashKeyParams`. Parts that are not set are empty, false or `None`. Neither `new` nor
-/// the calls that set a part take memory.
+/// the calls that set a part allocate memory.
 ///
 /// ```rust
 /// let key = HashKeyParams::new(digest, Language::C, &arguments, text)
@@ -52,7 +52,7 @@ impl<'a> Model for HashKeyParams<'a> {
 }
 
 impl<'a> HashKeyParams<'a> {
-    /// These parts, and no other is set.
+    /// Returns these parts, with no other part set.
     pub fn new(
         compiler_digest: &'a str,
         language: Language,
@@ -75,7 +75,7 @@ impl<'a> HashKeyParams<'a> {
         }
     }
 
-    /// Sets the digest texts of the further files that the compiler reads.
+    /// Sets the hex digests of the extra files, which the compiler reads too.
     pub fn with_extra_hashes(mut self, extra_hashes: &'a [String]) -> HashKeyParams<'a>
         ensures { result ≡ record self.entry { extra_hashes = map string_bytes extra_hashes.now } }
     {
@@ -83,8 +83,8 @@ impl<'a> HashKeyParams<'a> {
         self
     }
 
-    /// Sets the variables of the environment, as pairs of a name and a value. Those that change
-    /// what a compiler writes enter the key, in this order.
+    /// Sets the variables of the environment, as pairs of a name and a value. Those that change a
+    /// compiler's output are part of the key, in this order.
     pub fn with_env_vars(mut self, env_vars: &'a [(Vec<u8>, Vec<u8>)]) -> HashKeyParams<'a>
         ensures { result ≡ record self.entry { env_vars = variables_of env_vars.now } }
     {
@@ -92,7 +92,7 @@ impl<'a> HashKeyParams<'a> {
         self
     }
 
-    /// Sets whether the compiler takes its inputs for C++.
+    /// Sets whether the compiler treats its inputs as C++.
     pub fn with_plusplus(mut self, plusplus: bool) -> HashKeyParams<'a>
         ensures { result ≡ record self.entry { plusplus = plusplus } }
     {
@@ -100,8 +100,8 @@ impl<'a> HashKeyParams<'a> {
         self
     }
 
-    /// Sets the base directories, which are cut out of the arguments and the text, so that
-    /// checkouts in several places can share a key.
+    /// Sets the base directories. They are cut out of the arguments and the text, so that checkouts
+    /// in different directories can share a key.
     pub fn with_basedirs(mut self, basedirs: &'a [Vec<u8>]) -> HashKeyParams<'a>
         ensures { result ≡ record self.entry { basedirs = lists_of basedirs.now } }
     {
@@ -109,7 +109,7 @@ impl<'a> HashKeyParams<'a> {
         self
     }
 
-    /// Sets the digest text of an assembler that the compiler runs, or that there is none.
+    /// Sets the hex digest of the assembler that the compiler runs, or `None` where it runs none.
     pub fn with_assembler_digest(mut self, assembler_digest: Option<&'a str>) -> HashKeyParams<'a>
         ensures { result ≡ record self.entry { assembler_digest = option_map (λ d. d.now) assembler_digest.entry } }
     {
@@ -117,17 +117,18 @@ impl<'a> HashKeyParams<'a> {
         self
     }
 
-    /// The key of these parts: the digest text of the key material.
+    /// Returns the key of these parts: the hex digest of the key material.
     ///
-    /// The material is, in this order: a frame of [`CACHE_VERSION`]; of the compiler's digest text;
-    /// the byte 1 for C++ and else 0; a frame of the language's name; the list of the arguments
-    /// without the base directories; the list of the digest texts of the further files; that of the
-    /// assembler, as an option; the list of the variables that enter the key, each as a frame of its
-    /// name and one of its value; and a frame of the text without the base directories. A frame is 8
-    /// bytes of length, with the lowest first, and the bytes; a list is 8 such bytes of its count and
-    /// what is written of each item, in order; an option is a byte 0, or a byte 1 and a frame.
+    /// The key material is, in this order: a frame of [`CACHE_VERSION`]; a frame of the compiler's
+    /// hex digest; the byte 1 for C++ and otherwise 0; a frame of the language's name; the list of
+    /// the arguments without the base directories; the list of the hex digests of the extra files;
+    /// the hex digest of the assembler, as an option; the list of the variables that are part of
+    /// the key, each as a frame of its name and one of its value; and a frame of the text without
+    /// the base directories. A frame is a length in 8 bytes, lowest byte first, and the bytes. A
+    /// list is its count in 8 such bytes, then each item, in order; an item is a frame where
+    /// nothing else is said. An option is a byte 0, or a byte 1 and a frame.
     ///
-    /// It is refused only for lack of memory, as [`UtilError::Memory`].
+    /// The only error is [`UtilError::Memory`].
     #[tactic(auto, unfolding(crate::specs::Key::material))]
     pub fn compute<H: HashState>(&self, alloc: Global) -> Result<String, UtilError>
         ensures key { IfOk result (λ key. string_bytes key ≡ object_key H.hash self.now) }

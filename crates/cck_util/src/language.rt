@@ -1,4 +1,4 @@
-//! The languages of a compilation, and their names.
+//! The languages of compiler inputs, and their names.
 ghost use Rattle.std.specs.Prelude.{◌≡◌};
 ghost use Rattle.cck_util.specs.Language.{NamesLanguage, is_preprocessed_first, language_name};
 
@@ -12,29 +12,29 @@ use thiserror::Error;
 pub enum Language {
     /// Assembly.
     Assembler,
-    /// Assembly that the C preprocessor goes over first.
+    /// Assembly that is preprocessed by the C preprocessor first.
     AssemblerToPreprocess,
     /// C.
     C,
     /// A C header.
     CHeader,
-    /// C after its preprocessing.
+    /// C that is already preprocessed.
     CPreprocessed,
     /// C++.
     Cxx,
     /// A C++ header.
     CxxHeader,
-    /// C++ after its preprocessing.
+    /// C++ that is already preprocessed.
     CxxPreprocessed,
-    /// A header that doesn't say whether it is of C or of C++.
+    /// A header of either C or C++.
     GenericHeader,
     /// Objective-C.
     ObjectiveC,
-    /// Objective-C after its preprocessing.
+    /// Objective-C that is already preprocessed.
     ObjectiveCPreprocessed,
     /// Objective-C++.
     ObjectiveCxx,
-    /// Objective-C++ after its preprocessing.
+    /// Objective-C++ that is already preprocessed.
     ObjectiveCxxPreprocessed,
     /// CUDA.
     Cuda,
@@ -42,7 +42,7 @@ pub enum Language {
     Hip,
 }
 
-/// A text that is no language's name.
+/// The error for a text that is no language's name.
 #[derive(Debug, Copy, Clone, PartialEq, Eq, Error)]
 #[error("no language has this name")]
 pub struct UnknownLanguage;
@@ -67,7 +67,7 @@ impl Language {
         Language::Hip,
     ];
 
-    /// The name of the language, as it stands in a key. No two languages share one.
+    /// Returns the name of the language, as it is part of a key. No two languages share a name.
     ///
     /// Upstream's `Language::as_str`.
     pub fn as_str(&self) -> &'static str
@@ -92,7 +92,8 @@ impl Language {
         }
     }
 
-    /// Whether the C preprocessor goes over an input in this language before it is compiled.
+    /// Returns whether an input in this language is preprocessed by the C preprocessor before it is
+    /// compiled.
     ///
     /// Upstream's `Language::needs_c_preprocessing`.
     pub fn needs_c_preprocessing(&self) -> bool
@@ -109,7 +110,8 @@ impl Language {
     }
 }
 
-/// The language of a name, exactly as [`Language::as_str`] writes it.
+/// The language of a name that is exactly as [`Language::as_str`] returns it. The error is
+/// [`UnknownLanguage`], for any other text.
 impl FromStr for Language {
     type Err = UnknownLanguage;
 

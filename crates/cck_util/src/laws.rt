@@ -1,5 +1,4 @@
-//! Laws about the definitions: what they say beyond what they compute. Each is the contract of a
-//! function that does nothing.
+//! Laws about the definitions. Each is the contract of a function that does nothing.
 ghost use Rattle.std.specs.Prelude.{◌≡◌, ◌↔◌, IsTrue, count_by};
 ghost use Rattle.cck_util.specs.Key.{cache_version};
 ghost use Rattle.cck_util.specs.Laws.{EqualWithoutBasedirs, MaterialTellsParts};
@@ -16,21 +15,21 @@ pub use cck_strip::laws::{
     arguments_have_cuts, cuts_are_unique, cuts_exist, stripped_by_any_cuts, texts_have_cuts,
 };
 
-/// Equal key material is of equal parts, and the other way round.
+/// Two key materials are equal exactly if their parts are equal.
 ///
-/// Each length and each count stands before what it is of, so no two lists of parts share a
-/// material.
+/// Each length and each count is written before its bytes or items, so different parts never have
+/// the same key material.
 pub fn material_tells_parts()
     ensures { MaterialTellsParts }
 {}
 
-/// Arguments and texts that are equal once the base directories are cut out give equal keys, all
-/// other parts being equal: so two checkouts share a key.
+/// If arguments and texts are equal after their base directories are cut out, and all other parts
+/// are equal, then the keys are equal. So two checkouts share a key.
 pub fn equal_without_basedirs()
     ensures { EqualWithoutBasedirs }
 {}
 
-/// Languages are equal exactly if they are the same, and so are errors for names of none.
+/// `==` holds exactly if two languages are the same, and exactly if two [`UnknownLanguage`] are.
 pub fn equality_is_exact()
     ensures languages { (a b : Language) → IsTrue (⟦<Language as PartialEq>⟧.eq a b) ↔ (a ≡ b) }
     ensures unknown { (a b : UnknownLanguage) →
@@ -43,7 +42,7 @@ pub fn each_language_once()
         count_by (⟦<Language as PartialEq>⟧.eq language) Language.ALL ≡ 1 }
 {}
 
-/// [`CACHE_VERSION`] is the version that the key material names.
+/// [`CACHE_VERSION`] is the version in the definition of the key material.
 pub fn version_in_the_material()
     ensures { CACHE_VERSION.now ≡ cache_version }
 {}

@@ -1,8 +1,8 @@
 //! The keys of objects, after sccache's `src/util.rs` and `HashKeyParams`.
 //!
-//! The key of an object is the digest text of its *key material*: the digest of the compiler, what
-//! it is told to do, and the text that the preprocessor printed. [`HashKeyParams`] gathers these
-//! parts, and [`HashKeyParams::compute`] gives the key, for any hash function.
+//! The key of an object is the hex digest of its *key material*: the compiler's hex digest, its
+//! arguments and variables, the preprocessed text, and a few other parts. [`HashKeyParams`]
+//! collects these parts. [`HashKeyParams::compute`] returns the key, for any hash function.
 //!
 //! ```rust
 //! let key = HashKeyParams::new(digest, Language::C, &arguments, text)
@@ -10,17 +10,18 @@
 //!     .compute::<Sha256State>(alloc)?;
 //! ```
 //!
-//! - [`Language`] is the language of an input, and has the name that stands in the key; a text that
-//!   is none's is an [`UnknownLanguage`]. [`CACHE_VERSION`] stands in the key too.
-//! - [`hash_text_list`], [`hash_option`], [`hash_variable_list`] and [`hash_request_variables`] feed
-//!   single parts to a digest, so that the bytes tell where each ends.
-//! - [`resolve_compiler_avoiding_wrapper`] finds the compiler behind a wrapper such as `ccache`.
-//! - [`laws`] has what the definitions say beyond what they compute.
+//! - [`Language`] is the language of an input, whose name is part of the key. The error for a text
+//!   that names no language is [`UnknownLanguage`]. [`CACHE_VERSION`] is part of the key too.
+//! - [`hash_text_list`], [`hash_option`], [`hash_variable_list`] and [`hash_request_variables`]
+//!   feed single parts to a digest, so that the end of each is known from the bytes.
+//! - [`resolve_compiler_avoiding_wrapper`] finds the compiler that a wrapper such as `ccache`
+//!   wraps.
+//! - [`laws`] has what is proved of the definitions alone.
 //!
-//! What this stands on is passed on: digests of `cck_digest`, base directories cut out by
-//! `cck_strip`, paths, byte texts and times of `cck_path`, the interface to files of `cck_files`,
-//! and the digests of files of `cck_file_digest`. So each type of this repository that a call takes
-//! or returns has its name here.
+//! Names of the crates below are exported again: digests of `cck_digest`, the removal of base
+//! directories of `cck_strip`, paths, byte texts and times of `cck_path`, the interface to files of
+//! `cck_files`, and the digests of files of `cck_file_digest`. So each type of this repository that
+//! a call takes or returns has its name here.
 #![tactic(auto)]
 
 mod frames;

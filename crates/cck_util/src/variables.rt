@@ -1,4 +1,4 @@
-//! The variables of the environment that change what a compiler writes.
+//! The variables of the environment that change a compiler's output.
 ghost use Rattle.std.specs.Prelude.{◌≡◌, ℕ, List, ◌++◌, length, map};
 ghost use Rattle.std.specs.List.{list_any};
 ghost use Rattle.std.specs.Str.{bytes_eq};
@@ -8,8 +8,8 @@ ghost use Rattle.cck_util.specs.Variables.{object_variables, request_variables, 
 
 use cck_digest::{Digest, HashState, hash_len_prefixed, hash_length};
 
-// The names of the variables that stand in the key of a request. Those of an object's key are the
-// first ones; in the others a preprocessor finds folders of included files.
+// The names of the variables that are part of the preprocessor key. The first are also part of an
+// object's key; the others list the preprocessor's include directories.
 const REQUEST_VARIABLES: [&[u8]; 12] = [
     b"SCCACHE_C_CUSTOM_CACHE_BUSTER",
     b"MACOSX_DEPLOYMENT_TARGET",
@@ -25,10 +25,10 @@ const REQUEST_VARIABLES: [&[u8]; 12] = [
     b"OBJCPLUS_INCLUDE_PATH",
 ];
 
-// How many of these stand in an object's key.
+// The number of these that are part of an object's key.
 const OBJECT_VARIABLES: usize = 7;
 
-// Whether the name is one of these, byte for byte.
+// Returns whether the name is one of these, byte for byte.
 fn is_one_of(name: &[u8], names: &[&[u8]]) -> bool
     ensures { result ≡ list_any (bytes_eq name.now) (map (λ n. n.now) names.now) }
 {
@@ -40,7 +40,7 @@ fn is_one_of(name: &[u8], names: &[&[u8]]) -> bool
     false
 }
 
-// How many of the variables have one of these names.
+// Returns the number of variables that have one of these names.
 fn count_named(variables: &[(Vec<u8>, Vec<u8>)], names: &[&[u8]]) -> usize
     ensures { result ≡ length (variables_named (map (λ n. n.now) names.now) (variables_of variables.now)) }
 {
@@ -53,9 +53,8 @@ fn count_named(variables: &[(Vec<u8>, Vec<u8>)], names: &[&[u8]]) -> usize
     count
 }
 
-/// Feeds the count of the variables that have one of these names, and of each, in their order, a
-/// frame of its name and one of its value. A name that comes twice is fed twice. It takes no
-/// memory.
+/// Feeds the count of the variables that have one of these names, then for each, in order, a frame
+/// of its name and one of its value. A name that occurs twice is fed twice. It takes no memory.
 pub fn hash_variable_list<H: HashState>(
     digest: &mut Digest<H>,
     variables: &[(Vec<u8>, Vec<u8>)],
@@ -74,7 +73,7 @@ pub fn hash_variable_list<H: HashState>(
     }
 }
 
-// Feeds the variables that stand in an object's key.
+// Feeds the variables that are part of an object's key.
 pub(crate) fn hash_object_variables<H: HashState>(
     digest: &mut Digest<H>,
     variables: &[(Vec<u8>, Vec<u8>)],
@@ -86,8 +85,8 @@ pub(crate) fn hash_object_variables<H: HashState>(
     hash_variable_list(digest, variables, &REQUEST_VARIABLES[..OBJECT_VARIABLES]);
 }
 
-/// Feeds the variables that stand in the key of a request, as [`hash_variable_list`] does: those of
-/// an object's key, and those in which a preprocessor finds folders of included files. It takes no
+/// Feeds the variables that are part of the preprocessor key, as [`hash_variable_list`] does: those
+/// of an object's key, and those that list the preprocessor's include directories. It takes no
 /// memory.
 pub fn hash_request_variables<H: HashState>(
     digest: &mut Digest<H>,

@@ -1,4 +1,4 @@
-//! Compilers that stand behind wrappers.
+//! Finds compilers that are called through wrappers.
 ghost use Rattle.std.specs.Prelude.{◌≡◌, ◌∷◌, map, IfOk, IsOkUnless, IfSome, Contains, ◌⊎◌, true};
 ghost use Rattle.std.specs.List.{find};
 ghost use Rattle.std.specs.Option.{option_map};
@@ -16,22 +16,21 @@ use cck_files::Files;
 use cck_path::{Component, Components, file_name, first_value, is_absolute, join_path};
 use std::alloc::Global;
 
-/// The path of the compiler that `executable` means, without a wrapper such as `ccache` in between.
+/// Returns the path of the compiler that `executable` names, past a wrapper such as `ccache`.
 ///
 /// A path *leads to a wrapper* if the file name of its canonical path is `ccache` or `sccache`, or
-/// begins with one of these and a `.`, in any ASCII case. Without a canonical path, or where asking
-/// for it meets a fault, it doesn't.
+/// begins with one of these and a `.`, in any ASCII case. If there is no canonical path, or the
+/// call for it meets a fault, the path doesn't lead to a wrapper.
 ///
-/// The answer is `executable` itself where it is absolute and doesn't lead to a wrapper. Otherwise
-/// its file name is looked up in the folders of the first variable `PATH`, in order and without
-/// those that have a component `ccache` or `sccache`. The folders stand between the `:` of its
-/// value, and for an empty one the name is looked up alone. The answer is the first of these paths
-/// at which something stands and that doesn't lead to a wrapper. Where there is none, or no file
-/// name, or no variable `PATH`, it is `executable` too. Where the count of faults rose the answer
-/// may be another of these paths at which something stands, or `executable`.
+/// The result is `executable` itself if it is absolute and doesn't lead to a wrapper. Otherwise its
+/// file name is looked up in the directories of the first variable `PATH`, in order, except those
+/// that have a component `ccache` or `sccache`. The value is split at each `:`; for an empty part
+/// the name is looked up alone. The result is the first of these paths that exists and doesn't lead
+/// to a wrapper. If there is none, or no file name, or no variable `PATH`, the result is
+/// `executable` too. If the count of faults rose, the result may be another of these paths that
+/// exists, or `executable`.
 ///
-/// Upstream's `util::resolve_compiler_avoiding_wrapper`. It is refused only for lack of memory, as
-/// [`UtilError::Memory`].
+/// Upstream's `util::resolve_compiler_avoiding_wrapper`. The only error is [`UtilError::Memory`].
 pub fn resolve_compiler_avoiding_wrapper<F: Files>(
     alloc: Global,
     files: &mut F,
@@ -56,7 +55,7 @@ pub fn resolve_compiler_avoiding_wrapper<F: Files>(
     }
 }
 
-// The compiler that takes the executable's place, if one does.
+// Returns the path that replaces the executable, if there is one.
 fn find_compiler<F: Files>(
     alloc: Global,
     files: &mut F,
@@ -88,7 +87,7 @@ fn find_compiler<F: Files>(
     first_compiler(alloc, files, &parts, name)
 }
 
-// Whether a path is absolute and doesn't lead to a wrapper.
+// Returns whether a path is absolute and doesn't lead to a wrapper.
 fn is_settled<F: Files>(alloc: Global, files: &mut F, path: &[u8]) -> Result<bool, UtilError>
     ensures keeps { Keeps F.file_map F.faults F.is_quiet files.old files.new }
     ensures answer { IfOk result (λ settled.
@@ -103,7 +102,7 @@ fn is_settled<F: Files>(alloc: Global, files: &mut F, path: &[u8]) -> Result<boo
     Ok(!leads)
 }
 
-// The parts of a search path that are no wrapper's.
+// Returns the parts of a search path that have no wrapper's component.
 fn kept_parts(alloc: Global, path: &[u8]) -> Result<Vec<&[u8]>, UtilError>
     ensures parts { IfOk result (λ parts.
         map (λ part. part.now) parts.items ≡ kept_parts path.now) }
@@ -116,14 +115,14 @@ fn kept_parts(alloc: Global, path: &[u8]) -> Result<Vec<&[u8]>, UtilError>
     )
 }
 
-// Whether a path has a component `ccache` or `sccache`.
+// Returns whether a path has a component `ccache` or `sccache`.
 fn has_wrapper_component(path: &[u8]) -> bool
     ensures { result ≡ has_wrapper_component path.now }
 {
     Components::new(path).any(|component| is_wrapper_component(component))
 }
 
-// Whether a component is `ccache` or `sccache`.
+// Returns whether a component is `ccache` or `sccache`.
 fn is_wrapper_component(component: Component<'_>) -> bool
     ensures { result ≡ is_wrapper_component (component_of component.entry) }
 {
@@ -133,7 +132,7 @@ fn is_wrapper_component(component: Component<'_>) -> bool
     }
 }
 
-// The first of the parts, joined with a name, at which a compiler stands.
+// Returns the first of the parts, joined with the name, that is the path of a compiler.
 fn first_compiler<F: Files>(
     alloc: Global,
     files: &mut F,
@@ -161,7 +160,7 @@ fn first_compiler<F: Files>(
     Ok(None)
 }
 
-// Whether something stands at a path that doesn't lead to a wrapper.
+// Returns whether a path exists and doesn't lead to a wrapper.
 fn is_compiler<F: Files>(alloc: Global, files: &mut F, path: &[u8]) -> Result<bool, UtilError>
     ensures keeps { Keeps F.file_map F.faults F.is_quiet files.old files.new }
     ensures answer { IfOk result (λ compiler.
@@ -178,7 +177,7 @@ fn is_compiler<F: Files>(alloc: Global, files: &mut F, path: &[u8]) -> Result<bo
     Ok(!leads)
 }
 
-// Whether a path leads to a wrapper.
+// Returns whether a path leads to a wrapper.
 fn leads_to_wrapper<F: Files>(alloc: Global, files: &mut F, path: &[u8]) -> Result<bool, UtilError>
     ensures keeps { Keeps F.file_map F.faults F.is_quiet files.old files.new }
     ensures answer { IfOk result (λ leads.
@@ -195,14 +194,14 @@ fn leads_to_wrapper<F: Files>(alloc: Global, files: &mut F, path: &[u8]) -> Resu
     }
 }
 
-// Whether the file name of a path is a wrapper's.
+// Returns whether the file name of a path is a wrapper's.
 fn is_wrapper(path: &[u8]) -> bool
     ensures { result ≡ is_wrapper (components path.now) }
 {
     file_name(path).is_some_and(|name| is_wrapper_name(name))
 }
 
-// Whether a file name is a wrapper's.
+// Returns whether a file name is a wrapper's.
 #[tactic(auto, unfolding(crate::specs::Wrapper::is_wrapper_name, crate::specs::Wrapper::is_program))]
 fn is_wrapper_name(name: &[u8]) -> bool
     ensures { result ≡ is_wrapper_name name.now }
@@ -213,7 +212,7 @@ fn is_wrapper_name(name: &[u8]) -> bool
         || begins_with(name, b"sccache.")
 }
 
-// Whether a name begins so, in any ASCII case.
+// Returns whether a name begins with these bytes, in any ASCII case.
 fn begins_with(name: &[u8], beginning: &[u8]) -> bool
     ensures { result ≡ begins_with name.now beginning.now }
 {
@@ -223,7 +222,7 @@ fn begins_with(name: &[u8], beginning: &[u8]) -> bool
     }
 }
 
-// Whether two names are the same in any ASCII case.
+// Returns whether two names are equal in any ASCII case.
 fn is_same_name(a: &[u8], b: &[u8]) -> bool
     ensures { result ≡ str_eq_ignore_ascii_case a.now b.now }
 {

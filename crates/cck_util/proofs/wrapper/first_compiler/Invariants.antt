@@ -6,7 +6,7 @@ use Rattle.cck_path.specs.Text.{join_path}
 use Rattle.cck_util.specs.Wrapper.{is_compiler}
 use Rattle.cck_util.proofs.wrapper.first_compiler.Given as goal
 
--- the parts that are still to come decide the answer
+-- the result depends on the remaining parts alone
 abbrev pub invariant-loop-part : goal.invariant-loop-part
 invariant-loop-part g l = let F = g.F.Files in record {
   kept : Keeps {F = g.row.F.Denot} F.file_map F.faults F.is_quiet l.fn.files l.files;

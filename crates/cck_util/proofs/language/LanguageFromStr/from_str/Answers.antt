@@ -8,7 +8,7 @@ loop-language-preserved c =
     let other = other_text c.as_str.result.now c.args.name.now c.if-eq.ensures in
     below_more _ _ c.loop-language.invariant (rw c.as_str.ensures at other)
 
--- each language stands in the list
+-- each language is in the list
 pub returns : goal.returns
 returns c =
     let seen = c.loop-language.invariant in
