@@ -13,7 +13,7 @@ HEX_DIGITS = b"0123456789abcdefABCDEF"
 
 
 def unescape(text):
-    """`unescaped`: the bytes that a text stands for; an error for the first fault in it."""
+    """`unescaped`: the bytes that a text means; an error for the first fault in it."""
     found = []
     at = 0
     while True:
