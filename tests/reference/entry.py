@@ -69,7 +69,7 @@ class Reader:
         self.data = data
 
     def take(self, count):
-        """A number of bytes from the front; damaged where fewer are left."""
+        """The first `count` bytes that are left; damaged where fewer are left."""
         if count > len(self.data):
             raise Refused("Deserialization")
         taken, self.data = self.data[:count], self.data[count:]

@@ -95,7 +95,7 @@ class MapFiles:
         return Metadata(node.kind, len(node.contents), node.modified, node.changed)
 
     def read_at(self, path, offset, size):
-        """`IsRead`, as one call on files: at most a number of bytes of the contents from an offset on."""
+        """`IsRead`, as one call on files: at most `size` bytes of the contents from an offset on."""
         self.call_or_fault()
         node, _ = self.place_at(path)
         if node.kind != FILE:

@@ -157,7 +157,7 @@ def equal_changes():
 
 
 def chosen_changes(changes, count, seed):
-    """A number of the changes, by a seed, in their order; 0 is for all."""
+    """`count` of the changes, by a seed, in their order; 0 is for all."""
     if count == 0 or count >= len(changes):
         return changes
     places = sorted(random.Random(seed).sample(range(len(changes)), count))

@@ -29,7 +29,7 @@ class Failed(Exception):
 
 
 class Failures:
-    """Which calls of one kind fail: some pass, a number after them fail, and all others pass."""
+    """Which calls of one kind fail: some pass, then some fail, and all others pass."""
 
     def __init__(self, passing=0, failing=0):
         self.passing = passing

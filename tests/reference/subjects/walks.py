@@ -41,7 +41,7 @@ def all_texts(pieces, count):
 
 
 def some_texts(pieces, count, state):
-    """A number of texts of up to 23 pieces, which a generator of numbers chooses."""
+    """`count` texts of up to 23 pieces, which a generator of numbers chooses."""
     for _ in range(count):
         text = b""
         for _ in range(state % 24):
