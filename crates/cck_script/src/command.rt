@@ -56,14 +56,14 @@ pub enum Command {
     Clear,
     /// A call.
     Compile {
-        /// The moment of the call.
+        /// The time of the call.
         moment: Timestamp,
         /// The arguments, of which the first is the input.
         arguments: Vec<Vec<u8>>,
     },
     /// A call that may not return a stored key.
     Recache {
-        /// The moment of the call.
+        /// The time of the call.
         moment: Timestamp,
         /// The arguments, of which the first is the input.
         arguments: Vec<Vec<u8>>,
