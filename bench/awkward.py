@@ -35,7 +35,7 @@ TEXTS = {
 
 
 def fill(file, unit, size):
-    """Writes a unit again and again, up to so many bytes."""
+    """Writes a unit again and again, up to `size` bytes."""
     while size > 0:
         file.write(unit[:size])
         size -= len(unit)
@@ -47,7 +47,7 @@ def header_lines(numbers):
 
 
 def text_script(file, name, size):
-    """A script of about so many bytes: the headers that the text names, an input of it, and a call."""
+    """A script of about `size` bytes: the headers that the text names, an input of it, and a call."""
     unit = TEXTS[name]()
     headers = NAMES if "names" in name else 1
     file.write(b"basedir /w/\n")
@@ -63,7 +63,7 @@ def raw_text(file, name, size):
 
 
 def lines_of(count, line):
-    """So many lines, and a call of a small input."""
+    """`count` lines, and a call of a small input."""
     return itertools.chain((line % number for number in range(count)), [INPUT + b"int x;\n", CALL])
 
 
@@ -73,23 +73,23 @@ def one_line(count, begin, unit):
 
 
 def included(count):
-    """So many headers and an input that names each, and two calls, of which the second one is a hit."""
+    """`count` headers and an input that names each, and two calls, of which the second one is a hit."""
     text = b"".join(map(marker, range(count))).replace(b"\n", b"\\n")
     return itertools.chain(header_lines(range(count)), [INPUT + text + b"\n", CALL, CALL])
 
 
 def of_size(size):
-    """A script of so many bytes with one input of harmless lines."""
+    """A script of `size` bytes with one input of harmless lines."""
     return [INPUT, HARMLESS.replace(b"\n", b"\\n") * (size // (len(HARMLESS) + 1)), b"\n", CALL]
 
 
 def length_prefixed(data):
-    """Bytes behind their length."""
+    """Bytes after their length."""
     return len(data).to_bytes(8, "little") + data
 
 
 def entry(results, includes, path):
-    """The text of an entry of so many results of so many includes each, of paths of one length."""
+    """The text of an entry of `results` results of `includes` includes each, of paths of one length."""
     tail = length_prefixed(b"0" * 64) + bytes(8) + bytes(2)
     parts = [b"\2" + results.to_bytes(8, "little")]
     for number in range(results):
@@ -181,18 +181,18 @@ def scripts_table(what, words, path):
 
 
 def empty_includes(count):
-    """The text of an entry with a result of so many includes, which take as few bytes as can be."""
+    """The text of an entry with a result of `count` includes, which take as few bytes as can be."""
     return b"\2" + (1).to_bytes(8, "little") + bytes(8) + count.to_bytes(8, "little") + bytes(26 * count)
 
 
 def empty_results(count):
-    """The text of an entry with so many results without includes, of keys of eight bytes."""
+    """The text of an entry with `count` results without includes, of keys of eight bytes."""
     results = (length_prefixed(b"%08d" % number) + bytes(8) for number in range(count))
     return b"\2" + count.to_bytes(8, "little") + b"".join(results)
 
 
 def one_include(size):
-    """The text of an entry with one include of so long a path that the text has so many bytes."""
+    """The text of an entry with one include, whose path is so long that the text has `size` bytes."""
     return entry(1, 1, size - len(entry(1, 1, 1)) + 1)
 
 

@@ -46,7 +46,7 @@ def instructions(words, path):
 
 
 def written(folder, name, parts):
-    """Writes these parts to a file of the folder, and returns its path."""
+    """Writes these parts to a file of the directory, and returns its path."""
     path = os.path.join(folder, name)
     with open(path, "wb") as file:
         file.writelines(parts)

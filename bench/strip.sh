@@ -2,7 +2,7 @@
 # Times strip_basedirs over two texts of 64 MB, all system headers as gcc -E leaves them and one
 # translation unit as users have it, beside one copy of the text and one search of it, and prints a
 # table for each. One of the base directories is /usr/include/linux/ (sparse) or /usr/include/
-# (dense), or none stands in the text (absent). They share a beginning of some bytes, or only their
+# (dense), or none is in the text (absent). They share a beginning of some bytes, or only their
 # first byte (others). Beside it texts of `/` alone with a base directory of 32768 times `/`, and
 # strip_basedirs_from_arg on 100 arguments with 1000 base directories. Where valgrind is there, the
 # instructions of each on 4 MB of the text are counted in runs of their own.

@@ -2,7 +2,7 @@
 # Times process_preprocessed_file over two texts of 64 MB, system headers as gcc -E leaves them and
 # one with a marker at every other line, and over two of 40000 markers each, of different names in
 # rising and in falling order. Beside it Markers and one search of the kit's memchr for each line's end
-# in the same bytes. All files that they name stand in memory, and each is recorded once. It prints a
+# in the same bytes. All files that they name are in memory, and each is recorded once. It prints a
 # table for each text. Instructions and allocations are those of the first 4 MB.
 #
 #     bench/walk.sh [FOLDER]

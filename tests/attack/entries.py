@@ -57,7 +57,7 @@ class Places(Reader):
         self.whole, self.numbers, self.times, self.parts = whole, [], [], []
 
     def at(self):
-        """Where the reader stands in the text."""
+        """The place of the reader in the text."""
         return self.whole - len(self.data)
 
     def number(self):
@@ -100,7 +100,7 @@ class TextMaker:
         return self.random.random() < probability
 
     def any_bytes(self, count):
-        """So many bytes, or one byte as often."""
+        """`count` bytes, or one byte as often."""
         if self.chance(0.5):
             return self.random.randbytes(count)
         return bytes([self.random.randrange(256)]) * count
@@ -110,7 +110,7 @@ class TextMaker:
         return self.random.choice(GREAT_LENGTHS if self.chance(0.0005) else LENGTHS)
 
     def utf8(self):
-        """A text in UTF-8, mostly, of letters and of what stands at a boundary."""
+        """A text in UTF-8, mostly, of letters and of what is at a boundary."""
         parts = [b"a" * self.length()]
         while self.chance(0.4):
             parts.append(self.random.choice(UTF8))

@@ -1,11 +1,11 @@
 #!/bin/sh
-# Attacks the readers of entries: builds the program of tests/attack/entries and hands it the texts
+# Attacks the readers of entries: builds the program of tests/attack/entries and passes it the texts
 # that tests/attack/entries.py makes, which compares what it says with the reference.
 #
 #     tests/attack/entries.sh [--seed S] [--count N] [--from K] [--jobs J]
 #
 # N texts are made, in blocks of 10000, from the block K on, by J processes. A difference is printed
-# with its text, in hexadecimal digits. The program is made in the folder that CCK_ATTACK names, by
+# with its text, in hexadecimal digits. The program is made in the directory that CCK_ATTACK names, by
 # default a new one below /tmp, and is kept where that folder has it already.
 set -e
 here=$(cd "$(dirname "$0")" && pwd)

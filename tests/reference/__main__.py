@@ -1,4 +1,4 @@
-"""The commands: `python3 -m reference COMMAND ..`, in the folder tests."""
+"""The commands: `python3 -m reference COMMAND ..`, in the directory tests."""
 import importlib
 import sys
 

@@ -100,7 +100,7 @@ def flag_or_variable(arguments, flag, variables, name):
 
 
 def library_folder(arguments, variables):
-    """The first folder of device libraries that an argument or a variable names."""
+    """The first directory of device libraries that an argument or a variable names."""
     name = b"HIP_DEVICE_LIB_PATH"
     folder = flag_or_variable(arguments, b"--hip-device-lib-path=", variables, name)
     if folder is not None:
@@ -112,7 +112,7 @@ def library_folder(arguments, variables):
 
 
 def libraries(files, folder):
-    """The children of a folder with the extension `bc`, in path order; none where it can't be listed.
+    """The children of a directory with the extension `bc`, in path order; none where it can't be listed.
 
     A fault is an error.
     """

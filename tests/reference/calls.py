@@ -72,12 +72,12 @@ class Answer:
 
 
 def number_of(error):
-    """`number_of`: the number of a refusal of a call."""
+    """`number_of`: the number of an error of a call."""
     return NUMBERS[error.name]
 
 
 def executable_text(files, executable, version):
-    """`executable_text`: the digest text of an executable, or of that and the compiler's version."""
+    """`executable_text`: the hex digest of an executable, or of that and the compiler's version."""
     text = text_at(files, executable)
     return text if version is None else digest_text(text + version)
 
@@ -185,7 +185,7 @@ def text_of(call):
 
 
 def recorded_of(call, conditions, text):
-    """The files that the text names, with their recorded digests; None where the text is refused."""
+    """The files that the text names, with their recorded digests; None where the walk refuses the text."""
     context = Context(call.files, input_path(call), call.cwd, setting_of(call, conditions))
     return walk(context, text)
 
@@ -209,7 +209,7 @@ def plain_key(call, conditions, extra_hashes, text):
 
 
 def put_result(call, store, asked_under, key, recorded):
-    """`OwnPair`: puts the entry of this one result. What fails here changes nothing in the answer."""
+    """`OwnPair`: puts the entry of this one result. What fails here changes nothing in the result."""
     named = [(digest, path) for path, digest in recorded]
     try:
         entry = add_result({}, call.files, call.moment, key, named)
@@ -219,7 +219,7 @@ def put_result(call, store, asked_under, key, recorded):
 
 
 def generate_hash_key(call, conditions, store):
-    """`Step`: the answer of one call, and what it leaves in the store."""
+    """`Step`: the result of one call, and what it leaves in the store."""
     extra_hashes = refused_as("Extra", hash_all, call.files, call.hasher.arguments.extra_hash_files)
     asked_under = preprocessor_key_of(call, conditions, extra_hashes)
     if asked_under is not None and not call.recache:

@@ -17,7 +17,7 @@ class WrongLine(Exception):
 
 
 def undo(rest):
-    """The bytes that an escaped text stands for."""
+    """The bytes that an escaped text means."""
     try:
         return unescape(rest.encode("latin-1"))
     except Refused:

@@ -342,7 +342,7 @@ def changed_tree(change):
 
 
 def all_changes(modules):
-    """The changes of several modules. Those of one name are told apart by a number after it."""
+    """The changes of several modules. Those of one name are distinguished by a number after it."""
     changes, seen = [], {}
     for module in modules:
         for change in changes_of(module):

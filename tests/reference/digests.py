@@ -1,4 +1,4 @@
-"""Digest texts, and the forms in which bytes are fed to a hash function."""
+"""Hex digests, and the forms in which bytes are fed to a hash function."""
 import hashlib
 
 

@@ -69,7 +69,7 @@ class Reader:
         self.data = data
 
     def take(self, count):
-        """So many bytes from the front; damaged where fewer are left."""
+        """The first `count` bytes that are left; damaged where fewer are left."""
         if count > len(self.data):
             raise Refused("Deserialization")
         taken, self.data = self.data[:count], self.data[count:]
@@ -139,12 +139,12 @@ def include_count(entry):
 
 
 def is_before(time, moment):
-    """`is_before`: a time is known and before the moment."""
+    """`is_before`: a time is known and before the call time."""
     return time is not None and time < moment
 
 
 def include_of(files, path, digest, moment):
-    """`include_of`: what is recorded of a file: both times if both are before the moment, else none."""
+    """`include_of`: what is recorded of a file: both times if both are before the call time, else none."""
     try:
         metadata = call_files(files.metadata, path)
     except Refused as error:

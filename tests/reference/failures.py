@@ -87,7 +87,7 @@ class Runs:
         self.told = b""
 
     def make(self, call, store):
-        """The answer of one call."""
+        """The result of one call."""
         return run_calls([call], self.conditions, store)[0]
 
     def is_own(self, pairs, place):

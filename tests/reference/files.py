@@ -95,7 +95,7 @@ class MapFiles:
         return Metadata(node.kind, len(node.contents), node.modified, node.changed)
 
     def read_at(self, path, offset, size):
-        """`IsRead`, as one call on files: at most so many bytes of the contents from an offset on."""
+        """`IsRead`, as one call on files: at most `size` bytes of the contents from an offset on."""
         self.call_or_fault()
         node, _ = self.place_at(path)
         if node.kind != FILE:
@@ -103,7 +103,7 @@ class MapFiles:
         return node.contents[offset : offset + size]
 
     def read_dir(self, path):
-        """`IsListing`, as one call on files: the last names of a folder's direct children."""
+        """`IsListing`, as one call on files: the last names of a directory's direct children."""
         self.call_or_fault()
         node, _ = self.place_at(path)
         if node.kind != FOLDER:
@@ -152,14 +152,14 @@ def read_pieces(files, path):
 
 
 def sorted_names(files, path):
-    """`child_names`: the last names of a folder's direct children, in order."""
+    """`child_names`: the last names of a directory's direct children, in order."""
     return sorted(call_files(files.read_dir, path))
 
 
 def folder_material(files, path, relative, level):
-    """The material of what is `reached` from a folder: a delimiter and the contents of each file.
+    """The key material of what is `reached` from a directory: a delimiter and the contents of each file.
 
-    `relative` is the folder's path relative to the one that was given, which has level 1.
+    `relative` is the directory's path relative to the one that was given, which has level 1.
     """
     if level > GREATEST_LEVEL:
         raise Refused("TooDeep")
@@ -178,7 +178,7 @@ def folder_material(files, path, relative, level):
 
 
 def digest_material(files, path):
-    """`digest_material`: the bytes whose digest text is that of what is at a path."""
+    """`digest_material`: the bytes whose hex digest is that of what is at a path."""
     kind = kind_at(files, path)
     if kind == FILE:
         return read_pieces(files, path)
@@ -188,10 +188,10 @@ def digest_material(files, path):
 
 
 def text_at(files, path):
-    """`text_at`: the digest text of what is at a path, a regular file or a folder."""
+    """`text_at`: the hex digest of what is at a path, a regular file or a directory."""
     return digest_text(digest_material(files, path))
 
 
 def hash_all(files, paths):
-    """`texts`: the digest texts of several paths in order; the error of the first that has none."""
+    """`texts`: the hex digests of several paths in order; the error of the first that has none."""
     return [text_at(files, path) for path in paths]

@@ -95,11 +95,11 @@ class World:
         self.files.put(undo(path), node)
 
     def dir(self, rest):
-        """A folder without times."""
+        """A directory without times."""
         self.files.put(undo(rest), Node(FOLDER))
 
     def other(self, rest):
-        """What is neither a regular file nor a folder."""
+        """What is neither a regular file nor a directory."""
         self.files.put(undo(rest), Node(OTHER))
 
     def link(self, rest):

@@ -50,7 +50,7 @@ INCLUDE_PATHS = {
 
 @dataclasses.dataclass
 class Params:
-    """`Params`: what a caller hands in for a key; `plain_params` where nothing more is set."""
+    """`Params`: what a caller passes for a key; `plain_params` where nothing more is set."""
 
     compiler_digest: bytes
     language: bytes
@@ -93,7 +93,7 @@ def variable_frames(variable):
 
 
 def key_material(params):
-    """`material` of `key_parts`: the bytes whose digest text is the key of an object."""
+    """`material` of `key_parts`: the bytes whose hex digest is the key of an object."""
     return b"".join(
         [
             frame(CACHE_VERSION),
@@ -110,5 +110,5 @@ def key_material(params):
 
 
 def object_key(params):
-    """`object_key`: the digest text of the material."""
+    """`object_key`: the hex digest of the key material."""
     return digest_text(key_material(params))

@@ -93,7 +93,7 @@ def check_without_change(notes):
 
 
 def name_of_code(code):
-    """A function as a change names it: its module, and its name with those that it stands in."""
+    """A function as a change names it: its module, and its name with those that it is in."""
     name = code.co_qualname.replace(".<locals>", "")
     parts = [part for part in name.split(".") if not part.startswith("<")]
     return ".".join([pathlib.Path(code.co_filename).stem] + parts)
@@ -111,7 +111,7 @@ def called_by_files():
 
 
 def is_function(change):
-    """Whether a change stands in a function, and not in what is done when its module is imported."""
+    """Whether a change is in a function, and not in what is done when its module is imported."""
     name = change.function.split(".")[-1]
     return change.function != "module" and not name[0].isupper()
 
@@ -157,7 +157,7 @@ def equal_changes():
 
 
 def chosen_changes(changes, count, seed):
-    """So many of the changes, by a seed, in their order; 0 is for all."""
+    """`count` of the changes, by a seed, in their order; 0 is for all."""
     if count == 0 or count >= len(changes):
         return changes
     places = sorted(random.Random(seed).sample(range(len(changes)), count))

@@ -36,7 +36,7 @@ def hashed_directory(config, cwd):
 
 
 def preprocessor_material(parts, config, input_digest):
-    """`preprocessor_material`: the bytes whose digest text is the preprocessor key."""
+    """`preprocessor_material`: the bytes whose hex digest is the preprocessor key."""
     variables = variables_named(OBJECT_VARIABLES | INCLUDE_PATHS, parts.variables)
     return b"".join(
         [
@@ -60,7 +60,7 @@ def preprocessor_material(parts, config, input_digest):
 
 
 def preprocessor_key(parts, files, setting):
-    """`preprocessor_key`: the digest text of the material, or None without a recorded digest."""
+    """`preprocessor_key`: the hex digest of the key material, or None without a recorded digest."""
     input_digest = recorded_digest(files, parts.input_file, setting)
     if input_digest is None:
         return None

@@ -89,7 +89,7 @@ def each_call(lines):
 
 
 def run_lines(lines):
-    """`Ran`: the lines of the answers of a script's calls."""
+    """`Ran`: the lines of the results of a script's calls."""
     conditions, store = conditions_of(lines), armed_by(lines)
     answers = (run_calls([call], conditions, store)[0] for call in each_call(lines))
     return b"".join(map(answer_line, answers))

@@ -1,4 +1,4 @@
-"""What is recorded of a file: the digest text of its contents, and of its times where they count."""
+"""What is recorded of a file: the hex digest of its contents, and of its times where they count."""
 import dataclasses
 
 from .digests import delimiter, digest_text, framed_option
@@ -31,7 +31,7 @@ def activated():
 
 @dataclasses.dataclass
 class Setting:
-    """`Setting`: how files are judged: the options, the moment, the zone and the variables."""
+    """`Setting`: how files are judged: the options, the call time, the zone and the variables."""
 
     moment: int
     zone: int
@@ -65,7 +65,7 @@ def source_date_epoch(variables):
 
 
 def date_part(with_date, moment, zone, variables):
-    """`date_part`: the bytes for a text with a date; None where the moment is no instant."""
+    """`date_part`: the bytes for a text with a date; None where the call time is no instant."""
     if not with_date:
         return b""
     if not is_instant(moment):

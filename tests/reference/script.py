@@ -35,7 +35,7 @@ class Line:
 
 
 def undone(text):
-    """The bytes that a word or a TEXT stands for."""
+    """The bytes that a word or a TEXT means."""
     try:
         return unescape(text)
     except Refused:

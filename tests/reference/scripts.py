@@ -167,7 +167,7 @@ class ScriptMaker:
         return self.content()
 
     def file_time(self):
-        """A time of a file in a line: mostly before the moment of the next call."""
+        """A time of a file in a line: mostly before the time of the next call."""
         kind = self.random.random()
         if kind < 0.06:
             return b"-"
@@ -208,7 +208,7 @@ class ScriptMaker:
         return b"var " + self.word(name) + b" " + self.text(value)
 
     def call_line(self):
-        """A call; its moment is mostly that of the call before or later."""
+        """A call; its time is mostly that of the call before or later."""
         kind = self.random.random()
         if kind < 0.1:
             self.now = self.any_time()
@@ -358,7 +358,7 @@ class Damages:
 
 
 def damaged_script(random):
-    """A script without a wrong line, behind one to four damages."""
+    """A script without a wrong line, after one to four damages."""
     maker, damages = ScriptMaker(random), Damages(random)
     lines = maker.lines() + [b""]
     for _ in range(random.choice([1, 1, 1, 2, 3, 4])):

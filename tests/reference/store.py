@@ -4,7 +4,7 @@ from .errors import Refused
 
 
 class MapStore:
-    """`State`: the pairs that a store holds, its count of setbacks, and which calls are armed."""
+    """`State`: the pairs that a store holds, its count of store failures, and which calls are armed."""
 
     def __init__(self):
         self.pairs = {}
@@ -21,7 +21,7 @@ class MapStore:
         self.forgetting = n
 
     def fail_at(self, n):
-        """The nth of the following calls fails, and hands out and puts nothing; 0 disarms."""
+        """The nth of the following calls fails, and returns and puts nothing; 0 disarms."""
         self.armed.one = n
 
     def fail_after(self, n):
@@ -29,7 +29,7 @@ class MapStore:
         self.armed.onward = n
 
     def set_back(self):
-        """`more`: one setback more."""
+        """`more`: one more store failure."""
         self.setbacks += 1
 
     def call(self):
@@ -56,7 +56,7 @@ class MapStore:
 
 
 class EmptyStore:
-    """The store that keeps nothing: its count of setbacks."""
+    """The store that keeps nothing: its count of store failures."""
 
     def __init__(self):
         self.setbacks = 0
@@ -66,6 +66,6 @@ class EmptyStore:
         return None
 
     def put(self, key, data):
-        """A put fails, which is a setback."""
+        """A put fails, which is a store failure."""
         self.setbacks += 1
         raise Refused("Fault")

@@ -13,7 +13,7 @@ HEX_DIGITS = b"0123456789abcdefABCDEF"
 
 
 def unescape(text):
-    """`unescaped`: the bytes that a text stands for; an error for the first fault in it."""
+    """`unescaped`: the bytes that a text means; an error for the first fault in it."""
     found = []
     at = 0
     while True:
@@ -33,7 +33,7 @@ def escape_at(text, at):
 
 
 def letter_value(letter):
-    """`letter_value`: the byte that a letter after `\\` stands for."""
+    """`letter_value`: the byte that a letter after `\\` means."""
     if letter == b"":
         raise Refused("IncompleteEscape")
     if letter not in LETTER_VALUES:
@@ -42,7 +42,7 @@ def letter_value(letter):
 
 
 def hex_value(digits):
-    """`hex_value`: the byte that the digits after `\\x` stand for."""
+    """`hex_value`: the byte that the digits after `\\x` mean."""
     if len(digits) < 2:
         raise Refused("IncompleteHex")
     if digits[0] not in HEX_DIGITS or digits[1] not in HEX_DIGITS:

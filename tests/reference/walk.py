@@ -17,7 +17,7 @@ REFUSED = "refused"
 
 @dataclasses.dataclass
 class Context:
-    """`context_in`: what a caller hands in: files, the input, the working directory, the setting."""
+    """`context_in`: what a caller passes: files, the input, the working directory, the setting."""
 
     files: object
     input_file: bytes
@@ -35,7 +35,7 @@ def is_looked_for(name, is_system, config):
 
 
 def is_good_time(time, moment):
-    """A time is not known, or is before the moment."""
+    """A time is not known, or is before the call time."""
     return time is None or time < moment
 
 

@@ -3,8 +3,8 @@ use std::alloc::Global;
 use std::io;
 use std::io::{Read, Write};
 
-/// Which calls fail: the first `passing` pass, so many after them as `failing` says fail, and all
-/// others pass.
+/// Which calls fail: the first `passing` calls pass, the next `failing` calls fail, and all others
+/// pass.
 #[derive(Debug, Clone, Copy)]
 pub struct Failures {
     /// How many calls pass before the first one that fails.
@@ -22,7 +22,7 @@ impl Failures {
         }
     }
 
-    /// So many calls pass, and all later ones fail.
+    /// The first `passing` calls pass, and all later ones fail.
     pub fn after(passing: u64) -> Failures {
         Failures {
             passing,
@@ -44,7 +44,7 @@ impl Failures {
     }
 }
 
-/// Reads its bytes `step` at a time, and fails where it is told to.
+/// Reads its bytes `step` at a time. The reads that `reads` names fail.
 #[derive(Drop)]
 pub struct FailReader<'a> {
     /// The bytes that are left.
@@ -70,7 +70,8 @@ impl Read for FailReader<'_> {
     }
 }
 
-/// Keeps what is written, `step` bytes at a time, and fails where it is told to.
+/// Keeps what is written, `step` bytes at a time. The writes and flushes that `writes` and
+/// `flushes` name fail.
 #[derive(Drop)]
 pub struct FailWriter {
     /// What was written.
@@ -86,8 +87,8 @@ pub struct FailWriter {
 }
 
 impl FailWriter {
-    /// Nothing was written. A write takes all that it is given; so many writes pass, and all later
-    /// ones fail.
+    /// A writer to which nothing was written. A write takes all that it is given. The first
+    /// `passing` writes pass, and all later ones fail.
     pub fn new(alloc: Global, passing: u64) -> FailWriter {
         FailWriter {
             written: Vec::new(alloc),

@@ -20,7 +20,7 @@ unfolding executable_text text_at digest_material whole opening
 text_there hash files p here =
     ap (λ node. option_map (λ text. text) (option_map (digest_text hash) (material_of (whole_part files.nodes p node)))) here
 
--- the digest text is that of the executable's two bytes
+-- the hex digest is that of the executable's two bytes
 pub first_digest : (hash : Bytes → Bytes) (files : FileMap) (digest : Bytes) → AreFiles [] files
     → executable_text hash None files (components executable_path) ≡ Some digest → digest ≡ digest_text hash (codes "cc")
 first_digest hash files digest are e =

@@ -39,6 +39,6 @@ zip_joined R [] more (y ∷ ys) others p q = absurd p
 zip_joined R (x ∷ xs) more [] others p q = absurd p
 zip_joined R (x ∷ xs) more (y ∷ ys) others p q = (p.0, zip_joined R xs more ys others p.1 q)
 
--- what was pushed stands behind the others
+-- the pushed item is after the others
 pub zip_pushed : {A B : Type 0} (R : A → B → Type 0) (xs : List A) (ys news : List B) (o : Option A) (x : A) (y : B) → Some x ≡ o → news ≡ ys ++ y ∷ [] → AllZip R xs ys → R x y → AllZip R (xs ++ option_to_list o) news
 zip_pushed R xs ys news o x y is new all one = rw (← is, new) (zip_joined R xs (x ∷ []) ys (y ∷ []) all (one, tt))

@@ -94,7 +94,7 @@ only_call old made olds (new ∷ []) items rest n one held is e =
 pub compiler_in : (hash : Bytes → Bytes) (zone known : ℤ) (c : CCompiler MiniCompiler) → known ≡ zone → IsRunCompiler hash known c → IsRunCompiler hash zone c
 compiler_in hash zone known c e of = subst (λ z. IsRunCompiler hash z c) e of
 
--- a call leaves the files and the variables what they are
+-- a call changes neither the files nor the variables
 pub after_call : (c : CCompiler MiniCompiler) (asked : script.AskedCall) (old new : Call MiniCompiler FileState) (s : Surroundings) → IsReady c asked old
     → AreNamesOf old.vars.items s.names.keys → IsCallAfter old new → AreAfter asked.earlier (record s { files = new.files; variables = new.vars })
 after_call c asked old new s ready named after =
@@ -128,7 +128,7 @@ module _ (hash : Bytes → Bytes) (zone : ℤ) (w : World ℤ) where
         ∙ ap (λ l. a ++ l) (sym (flat_map-append answer_line front.answers back.answers));
   }
 
--- the store of a script holds nothing at first
+-- the store of a script is empty at first
 none_held : (hash : Bytes → Bytes) (zone : Offset) (lines : List Line) → IsEmpty (run_world hash zone lines) map_store (armed_by lines)
 none_held hash zone lines k bytes held = cc
 

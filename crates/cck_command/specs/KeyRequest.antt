@@ -3,7 +3,7 @@ use Rattle.std.specs.Prelude.{map, string_bytes}
 use Rattle.cck_command.specs.Request.{KeyCommand}
 use Rattle.cck_command.specs.declared.request.KeyRequest.TheInside.{Inside}
 
--- what its fields say, without where it lies in memory
+-- the values of its fields, without its address in memory
 abbrev pub request_of : Inside → KeyCommand
 request_of r = record {
   compiler_digest = r.compiler_digest.now;

@@ -26,7 +26,7 @@ pub record IsRunCompiler (hash : Bytes → Bytes) (zone : ℤ) (c : CCompiler Mi
   pub executable : c.executable.items ≡ executable_path
   pub executable_digest : string_bytes c.executable_digest ≡ digest_text hash (codes "cc")
 
--- this call asks for what a script asks for, of this compiler, and no call on its files meets a fault
+-- this call is what a script asks for, with this compiler, and no call on its files fails
 pub record IsReady (c : CCompiler MiniCompiler) (asked : script.AskedCall) (made : Call MiniCompiler FileState) : Type 0 where
   pub zone_is : made.hasher.compiler.zone_offset ≡ c.compiler.zone_offset
   pub executable : made.hasher.executable.items ≡ c.executable.items
@@ -40,7 +40,8 @@ pub record IsReady (c : CCompiler MiniCompiler) (asked : script.AskedCall) (made
   pub no_fault : made.files.faults ≡ 0
   pub unarmed : IsUnarmed made.files.armed
 
--- these calls were made one after another, in a zone of this offset, from one store to the other, and their answers are printed behind what was there
+-- these calls were made one after another, in a zone with this offset, from the store `start` to the store `end`, and
+-- their lines were appended to `before`
 pub record AreMade (hash : Bytes → Bytes) (zone : ℤ) (w : World ℤ) (asked : List script.AskedCall) (start end : State) (before after : Bytes) : Type 0 where
   pub done : List (Done ℤ)
   pub answers : List Answer

@@ -18,7 +18,7 @@ language_of input = if ends_with nat_eq input (codes ".i") then language.CPrepro
 abbrev pub outputs : List Output
 outputs = record { name = codes "obj"; path = codes "out.o"; optional = false } ∷ []
 
--- a command line that says no more than an input and arguments
+-- a command line with an input and arguments, and nothing else
 abbrev pub compilation_of : Bytes → List Bytes → Arguments
 compilation_of input arguments = record {
   input = input;
@@ -43,7 +43,7 @@ compilation_of input arguments = record {
   too_hard_for_preprocessor_cache_mode = None;
 }
 
--- what a command line comes to: its first argument is the input
+-- what a command line is parsed as: its first argument is the input
 abbrev pub parsed : List Bytes → Parsed
 parsed [] = NotCompilation
 parsed (input ∷ arguments) = Compilation (compilation_of input arguments)

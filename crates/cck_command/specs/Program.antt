@@ -11,20 +11,20 @@ use Rattle.cck_command.specs.Run.{Ran, wrong_text}
 use Rattle.cck_command.specs.declared.status.Status.{Status}
 use Rattle.cck_command.specs.declared.status.Status.TheVariants.{Done, Usage}
 
--- for words that ask for nothing
+-- printed for words that ask for nothing
 abbrev pub usage_line : List ℕ
 usage_line = codes "cck: usage: cck key DIGEST LANGUAGE [ARG..] | cck run" ++ 10 ∷ []
 
--- where input, output or memory failed
+-- printed where input, output or memory failed
 abbrev pub refused_line : List ℕ
 refused_line = codes "cck: refused" ++ 10 ∷ []
 
--- for a key that is asked for, where the input is this text
+-- printed for a key that is asked for, where the input is this text
 abbrev pub key_line : (List ℕ → List ℕ) → KeyCommand → List ℕ → List ℕ
 key_line hash request text =
     object_key hash (plain_params request.compiler_digest request.language request.arguments text) ++ 10 ∷ []
 
--- this is printed in whole for these words and this input, where it is known, before an end with this status
+-- this is the whole output for these words and this input, where it is known, and the program ends with this status
 pub record IsOutput (hash : Bytes → Bytes) (words : List Bytes) (input : Option Bytes) (status : Status) (text : Bytes) : Type 0 where
   pub usage : AskNothing words → (status ≡ Usage) × (text ≡ usage_line)
   pub key : (request : KeyCommand) → words ≡ words_of request → (status ≡ Done) × IfSome input (λ read. text ≡ key_line hash request read)
@@ -35,8 +35,8 @@ pub record IsOutput (hash : Bytes → Bytes) (words : List Bytes) (input : Optio
 abbrev pub IsSomeOutput : (Bytes → Bytes) → List Bytes → Option Bytes → Bytes → Type 0
 IsSomeOutput hash words input text = (status : Status) × IsOutput hash words input status text
 
--- what a writer holds where input, output or memory failed: a beginning of the refused line more, or, where the writer failed, a beginning of
--- an output and then a beginning of the refused line
+-- what a writer holds after input, output or memory failed: what it held, and a prefix of the refused line; or, where the writer failed,
+-- a prefix of an output and then a prefix of the refused line
 abbrev pub IsCutShort : (Bytes → Type 0) → Option Bytes → Option Bytes → Type 0
 IsCutShort Output old new =
     AppendsBeginning old new refused_line ⊎ ((text : Bytes) × Output text × (m n : ℕ) × Appends old new (take m text ++ take n refused_line))

@@ -1,4 +1,4 @@
--- what `run` makes of a script
+-- what `run` prints for a script
 use Rattle.std.specs.Prelude.{◌≡◌, ℕ, ℤ, ◌++◌, List, [], ◌∷◌, Bool, true, false, codes}
 use Rattle.std.specs.Fmt.{decimal}
 use Rattle.std.specs.List.{AllZip, flat_map}
@@ -26,9 +26,9 @@ use Rattle.c_cache_keys.specs.declared.call.CacheControl.{CacheControl}
 use Rattle.c_cache_keys.specs.declared.call.CacheControl.TheVariants.{Default, ForceRecache}
 use Rattle.cck_command.specs.MiniCompiler.{mini_compiler, parsed}
 
--- ---- answers
+-- ---- results of calls
 
--- the number of a refusal
+-- the number of an error
 abbrev pub error_number : Why → ℕ
 error_number Memory = 1
 error_number Extra = 2
@@ -41,7 +41,7 @@ error_number NoText = 6
 error_number TextFault = 6
 error_number Marker = 7
 
--- the line of an answer: a stored key, a fresh one, or a refusal
+-- the line for the result of a call: a stored key, a computed key, or an error
 abbrev pub answer_line : Answer → Bytes
 answer_line (Keyed key false) = codes "hit " ++ key ++ 10 ∷ []
 answer_line (Keyed key true) = codes "miss " ++ key ++ 10 ∷ []
@@ -53,7 +53,7 @@ abbrev pub control_of : Bool → CacheControl
 control_of true = ForceRecache
 control_of false = Default
 
--- a call that was made is the one that a script asks for, in a zone of this offset, and no call on its files met a fault
+-- a call that was made is the one that a script asks for, in a zone with this offset, and no call on its files failed
 pub record IsDone (hash : Bytes → Bytes) (zone : ℤ) (asked : script.AskedCall) (done : Done ℤ) : Type 0 where
   pub compiler : done.call.request.compiler ≡ zone
   pub executable : done.call.request.executable ≡ executable_path
@@ -68,7 +68,7 @@ pub record IsDone (hash : Bytes → Bytes) (zone : ℤ) (asked : script.AskedCal
 
 -- ---- the run
 
--- what the keys of these lines are made by, beside the calls
+-- what the keys of these lines depend on besides the calls
 abbrev pub run_world : (Bytes → Bytes) → Offset → List Line → World ℤ
 run_world hash zone lines = world_of hash mini_compiler (fixed_zone zone) activated (basedirs_of lines)
 
@@ -76,10 +76,10 @@ run_world hash zone lines = world_of hash mini_compiler (fixed_zone zone) activa
 abbrev pub armed_by : List Line → State
 armed_by lines = record new_state { forget = unwrap_or (forget_of lines) 0; armed = record new_armed { one = unwrap_or (fail_of lines) 0 } }
 
--- This is printed for a run over the calls of these lines, and the headline holds of all of them: under the premises each key is its
--- call's plain key, and under none of them each stored key that matches is answered. That a script meets the premises is not said: the
--- small compiler breaks `PrintsAgain` on some. It reads an included file by its joined path, and what is recorded of it is the file at
--- the normal path, which is another one where the name has a `..` in it.
+-- This is printed for a run over the calls of these lines. The headline holds for all of them: under the premises each key is its call's
+-- plain key, and without them each stored key that matches is returned. It is not said that a script meets the premises: the small
+-- compiler violates `PrintsAgain` on some scripts. It reads an included file at its joined path, but the file at the normal path is
+-- recorded. The two paths differ where the name has a `..` in it.
 pub record Ran (hash : Bytes → Bytes) (lines : List Line) (printed : Bytes) : Type 0 where
   pub zone : Offset
   pub zone_is : zone.seconds ≡ zone_of lines

@@ -1,4 +1,4 @@
-//! The lines that answers and wrong scripts are printed as.
+//! The lines that are printed for the results of calls and for wrong scripts.
 ghost use Rattle.std.specs.Prelude.{◌≡◌, ◌++◌, IfOk, OnOk, map, string_bytes};
 ghost use Rattle.std.specs.List.{flat_map};
 ghost use Rattle.c_cache_keys.specs.Call.{Keyed, Refused};
@@ -9,8 +9,10 @@ use crate::failed::Failed;
 use c_cache_keys::{HashResult, KeyError};
 use std::alloc::Global;
 
-/// Puts the lines of answers behind the others, in their order: `hit KEY` for a stored key,
-/// `miss KEY` for a fresh one, and `error N` for a refusal of the number N.
+/// Appends one line for each result of a call, in their order: `hit KEY` for a stored key,
+/// `miss KEY` for a computed key, and `error N` for an error with the number N.
+///
+/// [`Failed`] is returned for lack of memory; what was appended is then unspecified.
 pub fn add_answer_lines(
     alloc: Global,
     lines: &mut Vec<u8>,
@@ -28,7 +30,7 @@ pub fn add_answer_lines(
     Ok(())
 }
 
-// Puts the line of a key behind the others.
+// Appends the line of a key.
 fn push_key(lines: &mut Vec<u8>, found: &HashResult) -> Result<(), Failed>
     ensures { OnOk result
         (lines.new.items ≡ lines.old.items ++ answer_line (Keyed (string_bytes found.now.key) found.now.is_locally_preprocessed)) }
@@ -43,7 +45,7 @@ fn push_key(lines: &mut Vec<u8>, found: &HashResult) -> Result<(), Failed>
     Ok(())
 }
 
-// Puts the line of a refusal behind the others.
+// Appends the line of an error.
 fn push_error(alloc: Global, lines: &mut Vec<u8>, error: KeyError) -> Result<(), Failed>
     ensures { OnOk result
         (lines.new.items ≡ lines.old.items ++ answer_line (Refused (why_of error))) }
@@ -54,7 +56,9 @@ fn push_error(alloc: Global, lines: &mut Vec<u8>, error: KeyError) -> Result<(),
     Ok(())
 }
 
-/// The line for a script whose first wrong line has this number: `cck: line N`.
+/// Returns the line for a script whose first wrong line has this number: `cck: line N`.
+///
+/// [`Failed`] is returned for lack of memory.
 pub fn wrong_text(alloc: Global, number: u64) -> Result<String, Failed>
     ensures { IfOk result (λ line. string_bytes line ≡ wrong_text number) }
 {

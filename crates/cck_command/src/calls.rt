@@ -22,10 +22,10 @@ use cck_script::{
 use cck_util::HashState;
 use std::alloc::Global;
 
-/// The compiler of a script whose zone has this offset, in seconds east of UTC, with the digest of
-/// its executable as it is before any line.
+/// Returns the compiler of a script whose zone has this offset, in seconds east of UTC. Its digest
+/// is that of the executable before any line of the script.
 ///
-/// It is refused for lack of memory.
+/// [`Failed`] is returned for lack of memory.
 pub fn compiler_of<H: HashState>(
     alloc: Global,
     zone_offset: i32,
@@ -38,11 +38,11 @@ pub fn compiler_of<H: HashState>(
     Ok(CCompiler::new::<H, MapFiles>(alloc, compiler, executable, &mut files)?)
 }
 
-/// The calls that a script asks for, in their order, each over files and variables of its own, as
-/// they are at its line, and ready for [`run_calls`](c_cache_keys::run_calls). No call on the files
-/// is armed to fail.
+/// Returns the calls that a script asks for, in their order, ready for
+/// [`run_calls`](c_cache_keys::run_calls). Each has its own files and variables, as they are at its
+/// line. No call on the files is armed to fail.
 ///
-/// It is refused for lack of memory.
+/// [`Failed`] is returned for lack of memory.
 pub fn ready_calls(
     alloc: Global,
     compiler: &CCompiler<MiniCompiler>,
@@ -59,7 +59,7 @@ pub fn ready_calls(
     Ok(calls)
 }
 
-// Puts the call that a line asks for behind the others, if it asks for one.
+// Appends the call that a line asks for, if any.
 fn push_call(
     alloc: Global,
     compiler: &CCompiler<MiniCompiler>,
@@ -115,7 +115,7 @@ pub(crate) fn ready_call(
     })
 }
 
-// Whether a stored result may be answered.
+// Whether the call may return a stored key.
 fn control_of(is_recache: bool) -> CacheControl
     ensures { result ≡ control_of is_recache }
 {

@@ -1,4 +1,4 @@
-//! Why the program is refused.
+//! The error of the program.
 use c_cache_keys::KeyError;
 use cck_util::UtilError;
 use std::alloc::{AllocError, AllocFailed};

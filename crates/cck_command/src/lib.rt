@@ -1,32 +1,32 @@
-//! What the program `cck` does with its words, its reader and its writer.
+//! The program `cck`: what it reads and writes for the words of its command line.
 //!
-//! [`engine`] is the whole program, over any reader, any writer and any hash function, so that it
-//! can be called where there is no process. The words say what is asked for, and a [`Status`] how
-//! that ended:
+//! [`engine`] is the whole program. It is generic over the reader, the writer and the hash
+//! function, so it can be called without a process. The words select what is done, and the returned
+//! [`Status`] says how it ended:
 //!
 //! | words | what is read | what is written |
 //! |---|---|---|
-//! | `key DIGEST LANGUAGE [ARG..]` | a preprocessed text | the key of the object that a compiler with this digest makes of it |
-//! | `run` | a script ([`cck_script`]) | the answer of each call, on a line of its own; or `cck: line N`, the number of the first wrong line |
+//! | `key DIGEST LANGUAGE [ARG..]` | a preprocessed text | the key of the object that a compiler with this digest makes of the text |
+//! | `run` | a script ([`cck_script`]) | one line for each call, with its key or its error; or `cck: line N`, where N is the number of the first wrong line |
 //! | any others | nothing | the usage line |
 //!
-//! A key is made by [`HashKeyParams::compute`](cck_util::HashKeyParams::compute), of the digest,
-//! the language, the arguments and the text alone. The calls of a script are made by
-//! [`run_calls`](c_cache_keys::run_calls), one after another, over files and variables in memory
-//! that follow the script line by line, on one store in memory that holds nothing at first. Their
-//! compiler is [`MiniCompiler`], whose preprocessor is [`cck_mini::print_input`].
+//! A key is computed by [`HashKeyParams::compute`](cck_util::HashKeyParams::compute) from the
+//! digest, the language, the arguments and the text alone. The calls of a script are made one after
+//! another by [`run_calls`](c_cache_keys::run_calls). Their files and variables are in memory and
+//! follow the script line by line. They share one store, which is in memory and empty at first.
+//! Their compiler is [`MiniCompiler`], whose preprocessor is [`cck_mini::print_input`].
 //!
-//! The calls of a script can be had as values too, by [`ready_calls`], each with files of its own:
-//! then calls on the files can be armed to fail before [`run_calls`](c_cache_keys::run_calls) makes
-//! them.
+//! [`ready_calls`] returns the calls of a script as values, each with its own files. Calls on these
+//! files can then be armed to fail before [`run_calls`](c_cache_keys::run_calls) makes the calls.
 //!
-//! The promise of [`engine`] is about each byte: on a reader and a writer that tell their bytes,
-//! what is written is exactly the key of all that was read, by its definition, or the lines of the
-//! answers of a run over the calls that the script's lines ask for. The headline of
-//! [`c_cache_keys`] holds of these calls: if they meet its premises, each printed key is the plain
-//! key of its call; and each stored key that matches is printed as a hit, by a call that may use
-//! the store and isn't refused for lack of memory. [`Status::Refused`] is left out: it says that
-//! input, output or memory failed, and [`refuse`] has then tried once to say so.
+//! The contract of [`engine`] fixes each byte that is written, for a reader and a writer whose
+//! bytes are known. `key` writes the key of all that was read, by its definition, and an LF. `run`
+//! writes the lines of a run over the calls that the script's lines ask for. The theorem
+//! [`laws::headline`](c_cache_keys::laws::headline) holds for these calls: if they meet its
+//! premises, each printed key is the plain key of its call. With or without the premises, each
+//! stored key that matches is printed as a hit, if its call may use the store and doesn't fail for
+//! lack of memory. All this excludes [`Status::Refused`]: input, output or memory then failed, and
+//! [`refuse`] tried once to say so.
 //!
 //! ```rust
 //! let mut words = Vec::new(alloc);

@@ -98,7 +98,7 @@ impl CCompilerImpl for MiniCompiler {
     }
 }
 
-// A command line of this input and these arguments.
+// The parsed form of a command line with this input and these arguments.
 fn parsed_arguments(
     alloc: Global,
     input: &[u8],

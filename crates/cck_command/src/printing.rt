@@ -1,4 +1,4 @@
-//! Bytes written, and what stays of them after an error.
+//! Writing bytes, and what is written after an error.
 ghost use Rattle.std.specs.Prelude.{OnErr, OnOk};
 ghost use Rattle.std.specs.Io.KnownBytes.{Appends};
 ghost use Rattle.cck_command.specs.Printing.{AppendsBeginning};
@@ -6,8 +6,10 @@ ghost use Rattle.cck_command.specs.Printing.{AppendsBeginning};
 use crate::failed::Failed;
 use std::io::{ErrorKind, Write};
 
-/// Writes all of these bytes, through to where the writer keeps them. A beginning of them is written
-/// in any case, which may be none or all after an error.
+/// Writes all of these bytes and flushes the writer. An interrupted write is tried again.
+///
+/// [`Failed`] is returned if a write or the flush failed, or if a write took no bytes. A prefix of
+/// the bytes is then written, which may be empty or all of them.
 pub fn print<W: Write>(writer: &mut W, bytes: &[u8]) -> Result<(), Failed>
     ensures whole { OnOk result (Appends (W.contents writer.old) (W.contents writer.new) bytes.now) }
     ensures begun { AppendsBeginning (W.contents writer.old) (W.contents writer.new) bytes.now }
@@ -19,7 +21,7 @@ pub fn print<W: Write>(writer: &mut W, bytes: &[u8]) -> Result<(), Failed>
     }
 }
 
-// Writes all of these bytes. It does what `write_all` does, whose contract leaves open what is
+// Writes all of these bytes, as `write_all` does. The contract of `write_all` doesn't say what is
 // written after an error.
 fn write_bytes<W: Write>(writer: &mut W, bytes: &[u8]) -> Result<(), Failed>
     ensures whole { OnOk result (Appends (W.contents writer.old) (W.contents writer.new) bytes.now) }

@@ -25,14 +25,14 @@ const USAGE: &[u8] = b"cck: usage: cck key DIGEST LANGUAGE [ARG..] | cck run\n";
 
 const REFUSED: &[u8] = b"cck: refused\n";
 
-// What the program prints, and how it then ends.
+// What the program prints, and the status that it then returns.
 #[derive(Drop)]
 struct Output {
     status: Status,
     text: CowSlice<'static, u8>,
 }
 
-// Reads all there is: its key is printed.
+// Reads a text to its end. The output is its key.
 fn key_output<H: HashState, R: Read>(
     alloc: Global,
     request: &KeyRequest<'_>,
@@ -52,8 +52,8 @@ fn key_output<H: HashState, R: Read>(
     })
 }
 
-// Reads all there is as a script: the lines of its calls' answers are printed, or the number of its
-// first wrong line, with nothing run.
+// Reads a script to its end. The output is one line for each of its calls. If a line is wrong, the
+// output is the number of the first such line, and no call is made.
 fn run_output<H: HashState, R: Read>(alloc: Global, reader: &mut R) -> Result<Output, Failed>
     ensures ended { IfOk result (λ output. output.status ≢ Status.Refused) }
     ensures wrong { IfOk result (λ output. IfSome (R.remaining reader.old) (λ input. IfSome (wrong_line input) (λ number.
@@ -81,7 +81,7 @@ fn run_output<H: HashState, R: Read>(alloc: Global, reader: &mut R) -> Result<Ou
     }
 }
 
-// What is printed for these words. The words are judged before anything is read.
+// The output for these words. The words are checked before anything is read.
 fn output_of<H: HashState, R: Read>(
     alloc: Global,
     words: &[String],
@@ -104,8 +104,10 @@ fn output_of<H: HashState, R: Read>(
     }
 }
 
-/// Tries once to say that input, output or memory failed, whether or not that can be written. A
-/// beginning of the line `cck: refused` is written, which may be none or all of it.
+/// Tries once to write the line `cck: refused`, which says that input, output or memory failed.
+///
+/// [`Status::Refused`] is returned whether or not the line could be written. A prefix of the line
+/// is written, which may be empty or the whole line.
 pub fn refuse<W: Write>(writer: &mut W) -> Status
     ensures status { result ≡ Status.Refused }
     ensures begun { AppendsBeginning (W.contents writer.old) (W.contents writer.new) refused_line }
@@ -114,22 +116,24 @@ pub fn refuse<W: Write>(writer: &mut W) -> Status
     Status::Refused
 }
 
-/// Runs the program on these words, which don't name the program, and writes all that it prints.
+/// Runs the program on these words, without the program's name, and writes its output.
 ///
-/// - Words that ask for nothing: the usage line and [`Status::Usage`], with nothing read.
-/// - `key DIGEST LANGUAGE [ARG..]`: the reader is read to its end, and the key of the text that it
-///   gave and a line's end are written, with [`Status::Done`]. No read is tried again.
-/// - `run`: the reader is read to its end as a script. If a line is wrong, `cck: line N` with the
-///   number of the first such line is written, with [`Status::Usage`], and nothing is run. Else its
-///   calls are made in their order, and one line per call is written, with [`Status::Done`]:
-///   `hit KEY` for a stored key, `miss KEY` for a fresh one, `error N` for a refusal.
+/// - Words that are neither of the two commands below: nothing is read, the usage line is written,
+///   and [`Status::Usage`] is returned.
+/// - `key DIGEST LANGUAGE [ARG..]`: a text is read to the reader's end. Its key and an LF are
+///   written, and [`Status::Done`] is returned. No read is tried again.
+/// - `run`: a script is read to the reader's end. If a line is wrong, `cck: line N` with the number
+///   of the first such line is written, [`Status::Usage`] is returned, and no call is made. Else
+///   its calls are made in their order, one line per call is written, and [`Status::Done`] is
+///   returned. The line is `hit KEY` for a stored key, `miss KEY` for a computed key, and `error N`
+///   for an error with the number N ([`KeyError::number`](c_cache_keys::KeyError::number)).
 ///   If the calls meet the premises of [`laws::headline`](c_cache_keys::laws::headline), each
-///   printed key is the plain key of its call; and whether they do or not, each stored key that
-///   matches is printed as a hit, by a call that may use the store and isn't `error 1`.
-/// - Where a read, a write or a growth of memory outside a call failed: [`Status::Refused`], after
-///   one try to write `cck: refused`. All that is printed is made before anything is written, so
-///   what is written is then a beginning of that line, or a beginning of what would have been
-///   printed with a beginning of that line after it. How much was read is not said.
+///   printed key is the plain key of its call. Whether they do or not, each stored key that matches
+///   is printed as a hit, if its call may use the store and isn't printed as `error 1`.
+/// - If a read, a write or an allocation outside a call failed, [`Status::Refused`] is returned,
+///   after one try to write `cck: refused`. The whole output is made before anything is written.
+///   So what is written is a prefix of that line, or a prefix of the output and then a prefix of
+///   that line. How much was read is unspecified.
 pub fn engine<H: HashState, R: Read, W: Write>(
     alloc: Global,
     words: &[String],

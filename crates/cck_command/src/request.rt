@@ -6,7 +6,7 @@ use cck_util::{Language, UtilError};
 use std::alloc::Global;
 use std::marker::Model;
 
-/// The key that a command line asks for, but for the text that is read.
+/// The key that a command line asks for, without the text that is read.
 #[derive(Drop)]
 pub struct KeyRequest<'a> {
     /// The compiler's digest.
@@ -28,8 +28,8 @@ impl<'a> Model for KeyRequest<'a> {
 }
 
 impl<'a> KeyRequest<'a> {
-    /// What these words ask for: `key`, a digest, the name of a language, and arguments. `None`
-    /// exactly if they are no such words.
+    /// Returns what these words ask for. They are `key`, a digest, the name of a language, and
+    /// arguments; `None` is returned exactly if they don't have this form.
     pub fn from_words(words: &'a [String]) -> Option<KeyRequest<'a>>
         ensures some { IfSome result (λ request. map string_bytes words.now ≡ words_of request) }
         ensures none { IfNone result (AskNoKey (map string_bytes words.now)) }
@@ -49,7 +49,7 @@ impl<'a> KeyRequest<'a> {
     }
 }
 
-/// Whether these words ask for a run of the script that is read: `run` alone.
+/// Whether these words are `run` alone, which asks for a run of the script that is read.
 pub fn asks_to_run(words: &[String]) -> bool
     ensures { MatchBool result (map string_bytes words.now ≡ run_words) (map string_bytes words.now ≢ run_words) }
 {
@@ -59,7 +59,7 @@ pub fn asks_to_run(words: &[String]) -> bool
     command.as_str() == "run"
 }
 
-/// The words as bytes. It is refused only for lack of memory, as [`UtilError::Memory`].
+/// Returns the bytes of each word. The only error is [`UtilError::Memory`].
 pub fn bytes_of(alloc: Global, words: &[String]) -> Result<Vec<Vec<u8>>, UtilError>
     ensures bytes { IfOk result (λ all. map (λ bytes. bytes.items) all.items ≡ map string_bytes words.now) }
     ensures refused { IsOkUnless result UtilError.Memory }

@@ -28,14 +28,15 @@ use cck_util::HashState;
 use jiff::tz::{Offset, TimeZone};
 use std::alloc::Global;
 
-/// Makes the calls of a script in their order, on a store that holds nothing at first, and answers
-/// the lines of their answers.
+/// Makes the calls of a script in their order, on a store that is empty at first. Returns one line
+/// for each call, as [`add_answer_lines`] writes it.
 ///
-/// There is one map of files and one list of variables, which follow the script line by line, and
-/// each call is made over them as they are at its line.
+/// One map of files and one list of variables follow the script line by line. Each call is made
+/// over them as they are at its line.
 ///
-/// The headline holds of all these calls, since the store holds nothing at first: [`run_calls`]
-/// promises it of the one call of a line alone.
+/// The theorem [`laws::headline`](c_cache_keys::laws::headline) holds for all these calls together,
+/// since the store is empty at first. The contract of [`run_calls`] gives it only for the one call
+/// of a line.
 pub fn run_script<H: HashState>(alloc: Global, script: &Script) -> Result<Vec<u8>, Failed>
     ensures { IfOk result (λ printed. Ran H.hash (lines_of script.now) printed.items) }
 {
@@ -63,7 +64,7 @@ pub fn run_script<H: HashState>(alloc: Global, script: &Script) -> Result<Vec<u8
     Ok(printed)
 }
 
-// What all calls of a run are made under.
+// What is the same for all calls of a run.
 #[derive(Drop)]
 struct Setting {
     compiler: CCompiler<MiniCompiler>,
@@ -71,7 +72,8 @@ struct Setting {
     basedirs: Vec<Vec<u8>>,
 }
 
-// Makes the call that a line asks for, if it asks for one, and then does what the line says.
+// Makes the call that a line asks for, if any, and then applies the line to the files and
+// variables.
 fn follow_line<H: HashState>(
     alloc: Global,
     setting: &Setting,
@@ -95,8 +97,8 @@ fn follow_line<H: HashState>(
     Ok(after)
 }
 
-// Makes a call over these files and variables, prints its answer behind the others, and gives the
-// files and variables back.
+// Makes a call over these files and variables and appends its line to `printed`. Returns the files
+// and variables.
 fn make_call<H: HashState>(
     alloc: Global,
     setting: &Setting,
@@ -129,7 +131,7 @@ fn make_call<H: HashState>(
         &mut calls,
     )?;
     add_answer_lines(alloc, printed, &answers)?;
-    // There is the one call that was put.
+    // `calls` holds the one call that was pushed.
     let Some(made) = calls.pop() else {
         return Err(Failed);
     };
@@ -141,7 +143,9 @@ fn make_call<H: HashState>(
     })
 }
 
-/// The zone of an offset of so many seconds east of UTC, less than a day.
+/// Returns the zone with a fixed offset of `seconds` seconds east of UTC, less than a day.
+///
+/// [`Failed`] is returned for an offset that [`Offset::from_seconds`] rejects.
 pub fn zone_at(seconds: i32) -> Result<TimeZone<'static>, Failed>
     ensures { IfOk result (λ zone. (offset : PlainOffset) × (offset.seconds ≡ seconds)
         × (plain_zone zone ≡ fixed_zone offset)) }
@@ -152,7 +156,7 @@ pub fn zone_at(seconds: i32) -> Result<TimeZone<'static>, Failed>
     }
 }
 
-// A store that holds nothing, with these calls armed.
+// An empty store that forgets and fails at these calls.
 fn store_of(alloc: Global, forget_at: Option<u64>, fail_at: Option<u64>) -> MapStore
     ensures { result ≡ record new_state {
       forget = unwrap_or forget_at 0;

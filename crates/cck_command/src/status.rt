@@ -14,7 +14,7 @@ pub enum Status {
 }
 
 impl Status {
-    /// The exit status: 0, 1 or 2, as the variants stand.
+    /// The exit status: 0 for [`Status::Done`], 1 for [`Status::Refused`], 2 for [`Status::Usage`].
     pub fn code(self) -> u8
         ensures { result ≡ status_code self }
     {

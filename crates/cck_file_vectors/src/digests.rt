@@ -1,4 +1,4 @@
-//! Digests of files and of folders, contents of files, and the compilers behind wrappers.
+//! Digests of files and of directories, contents of files, and the compilers that wrappers run.
 use crate::cases::Cases;
 use crate::shown::{write_names, write_texts};
 use cck_cases::{CaseError, Value};

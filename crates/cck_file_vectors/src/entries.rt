@@ -71,7 +71,8 @@ fn read<'a>(cases: &'a mut Cases, bytes: &[u8]) -> Result<Value<'a>, CaseError> 
     show(cases)
 }
 
-// Whether a view of these bytes has as many results and includes, or is refused as they are.
+// Whether a view of these bytes has the same numbers of results and includes as the entry, or the
+// same error.
 fn is_viewed_alike(
     alloc: Global,
     bytes: &[u8],

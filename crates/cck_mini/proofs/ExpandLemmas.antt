@@ -29,7 +29,7 @@ unfolding expanded
 piece_found m [] value n e p h = absurd (omega arith)
 piece_found m (b ∷ bs) value n e p h = ap (λ found. piece_or found (b ∷ expanded_behind m 0 bs) (λ k. expanded_behind m k bs)) e ∙ ap (λ t. value ++ t) (skipped_one m n b bs p ∙ ap (λ t. expanded_behind m 0 t) (tail_range (b ∷ bs) n))
 
--- bytes at which no macro stands are kept
+-- bytes at which no macro begins are kept
 plain_bytes : (m : Macros) (size : ℕ) (text : Bytes) → size ≤ length text → ((place : ℕ) → place < size → macro_at m (drop place text) ≡ None)
     → expanded m text ≡ take size text ++ expanded m (drop size text)
 unfolding expanded
@@ -39,7 +39,7 @@ plain_bytes m (suc size) (b ∷ bs) within none =
     ap (λ found. piece_or found (b ∷ expanded_behind m 0 bs) (λ k. expanded_behind m k bs)) (none 0 (omega arith))
     ∙ ap (λ t. b ∷ t) (plain_bytes m size bs (omega arith) (λ place l. none (suc place) (omega arith)))
 
--- where no two underscores stand, no macro does
+-- no macro begins where no two underscores are
 no_macro : (m : Macros) (text : Bytes) (place : ℕ) → (OccursAt text (codes "__") place → ⊥) → macro_at m (drop place text) ≡ None
 unfolding macro_at
 no_macro m text place free = rw (miss (codes "__DATE__") refl (omega arith), miss (codes "__TIME__") refl (omega arith), miss (codes "__TIMESTAMP__") refl (omega arith)) refl
@@ -50,7 +50,7 @@ no_macro m text place free = rw (miss (codes "__DATE__") refl (omega arith), mis
         free (OccursAt-from_part text (codes "__") place (omega (arith, ap length is, length-append word (drop (length word) (drop place text)), length-drop place text))
         (ap (take 2) is ∙ take-append-le 2 word (drop (length word) (drop place text)) long ∙ begins)))
 
--- a word that stands behind the first byte stands in the text without it
+-- a word after the first byte is in the text without that byte
 pub occurs_behind : (text word : Bytes) (place : ℕ) → 0 < place → OccursAt text word place → OccursAt (take (length text - 1) (drop 1 text)) word (place - 1)
 occurs_behind text word place some at =
     rw (← tail_range text 1) (record {

@@ -9,7 +9,7 @@ use Rattle.cck_mini.specs.Refusal.{IsPrintRefusal}
 use Rattle.cck_mini.specs.declared.error.PrintError.{PrintError}
 use Rattle.cck_mini.specs.declared.error.PrintError.TheVariants.{Fault, Failed, Memory}
 
--- what was put behind a text makes both
+-- a text and what was appended to it make both
 pub both_done : (front out : Bytes) (rest : Option Bytes) → IsSomeAnd rest (λ text. out ≡ front ++ text) → both (Some front) rest ≡ Some out
 both_done front out None h = absurd h
 both_done front out (Some text) h = ap Some (sym h)

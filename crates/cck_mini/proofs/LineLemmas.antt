@@ -3,7 +3,7 @@ use Rattle.std.proofs.Common.{◌≡◌, ◌++◌, append_assoc, refl, ap, sym, 
 use Rattle.cck_path.specs.Bytes.{Bytes}
 use Rattle.cck_mini.specs.Printed.{both}
 
--- what is printed so far stands behind what stood there before, and the whole text is that and the text of what is left
+-- what is printed so far is after what was there before, and the whole text is that and the text of what is left
 pub record IsSoFar (whole : Option Bytes) (before out : Bytes) (left : Option Bytes) : Type 0 where
   pub so_far : Bytes
   pub is_out : out ≡ before ++ so_far

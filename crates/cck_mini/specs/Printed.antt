@@ -12,25 +12,25 @@ use Rattle.cck_path.specs.Timestamp.{Moment}
 
 -- ---- macros
 
--- what the three macros stand for in one file
+-- the texts of the three macros in one file
 pub record Macros : Type 0 where
   pub date : Bytes
   pub time : Bytes
   pub timestamp : Bytes
 
--- the text of the macro that stands at the front, and how long the macro is
+-- the text of the macro at the front, and how long the macro is
 unfoldable pub macro_at : Macros → Bytes → Option (Bytes × ℕ)
 macro_at m text =
     if starts_with nat_eq text (codes "__DATE__") then Some (m.date, 8)
     else (if starts_with nat_eq text (codes "__TIME__") then Some (m.time, 8)
     else (if starts_with nat_eq text (codes "__TIMESTAMP__") then Some (m.timestamp, 13) else None))
 
--- what the macro stands for before the text behind it, or else the text here
+-- the text of the macro and then the text after it, or else the text here
 abbrev pub piece_or : Option (Bytes × ℕ) → Bytes → (ℕ → Bytes) → Bytes
 piece_or None here behind = here
 piece_or (Some r) here behind = r.0 ++ behind (r.1 - 1)
 
--- the text with its macros replaced, where its first bytes, so many, belong to a macro that was replaced
+-- the text with its macros replaced, where a number of its first bytes belong to a macro that was replaced
 abbrev pub expanded_behind : Macros → ℕ → Bytes → Bytes
 expanded_behind m skip [] = []
 expanded_behind m (suc skip) (b ∷ bs) = expanded_behind m skip bs
@@ -45,7 +45,7 @@ abbrev pub second_of : ℤ → Option Moment → Bytes
 second_of zone None = codes "?"
 second_of zone (Some t) = signed_decimal (t.seconds +ℤ zone)
 
--- what the macros stand for at a moment, in a file that was modified at this time
+-- the texts of the macros at a call time, in a file that was modified at this time
 unfoldable pub macros_of : ℤ → Moment → Option Moment → Macros
 macros_of zone moment modified = record {
   date = signed_decimal (int_div_euclid (moment.seconds +ℤ zone) (pos 86400));
@@ -79,7 +79,7 @@ unfoldable pub include_name : Bytes → Option Bytes
 include_name line =
     if starts_with nat_eq line (codes "#include \"") then quoted (position is_quote (drop 10 line)) (drop 10 line) else None
 
--- the line marker `# N "PATH"` with what stands behind it
+-- the line marker `# N "PATH"` with what is after it
 unfoldable pub marker : ℕ → Bytes → Bytes → Bytes
 marker n path flag = codes "# " ++ decimal n ++ codes " \"" ++ path ++ codes "\"" ++ flag ++ 10 ∷ []
 
@@ -101,14 +101,14 @@ text_if (Err e) = None
 unfoldable pub text_at : FileMap → Bytes → Option FileText
 text_at map path = text_if (file_at map (components path))
 
--- an included file between its markers, of which the last has the number of the line behind the inclusion
+-- an included file between its markers, of which the last has the number of the line after the inclusion
 unfoldable pub included_text : Macros → Bytes → Bytes → ℕ → Bytes → Bytes
 included_text m contents name n path =
     marker 1 name (codes " 1") ++ expanded m contents ++ (if is_empty_or_ends_in_lf contents then [] else 10 ∷ []) ++ marker n path (codes " 2")
 
 -- ---- the whole text
 
--- two texts, one behind the other, if both exist
+-- two texts, one after the other, if both exist
 abbrev pub both : Option Bytes → Option Bytes → Option Bytes
 both None rest = None
 both (Some text) None = None
@@ -124,7 +124,7 @@ module _ (zone : ℤ) (moment : Moment) (map : FileMap) (folder path : Bytes) wh
   line_text m None line n = Some (expanded m line.0 ++ line.1)
   line_text m (Some name) line n = included (join_path folder name) n (text_at map (join_path folder name))
 
-  -- what lines are printed as, where n is the number of the line behind the first of them
+  -- what lines are printed as, where n is the number of the line after the first of them
   abbrev pub lines_text : Macros → ℕ → List (Bytes × Bytes) → Option Bytes
   lines_text m n [] = Some []
   lines_text m n (line ∷ lines) = both (line_text m (include_name line.0) line n) (lines_text m (n + 1) lines)
@@ -133,6 +133,6 @@ module _ (zone : ℤ) (moment : Moment) (map : FileMap) (folder path : Bytes) wh
   input_text None = None
   input_text (Some file) = both (Some (marker 1 path [])) (lines_text (macros_of zone moment file.1) 2 (lines_in file.0))
 
--- what is printed at a moment for an input in a folder, if it and all that it includes are regular files
+-- what is printed at a call time for an input in a directory, if it and all that it includes are regular files
 unfoldable pub printed : ℤ → Moment → FileMap → Bytes → Bytes → Option Bytes
 printed zone moment map folder input = input_text zone moment map folder (join_path folder input) (text_at map (join_path folder input))

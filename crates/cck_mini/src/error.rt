@@ -16,7 +16,7 @@ pub enum PrintError {
     /// The input, or a file that it includes, is no regular file.
     #[error("the input or what it includes is no regular file")]
     Failed,
-    /// A growth of memory was refused.
+    /// An allocation failed.
     #[error("out of memory")]
     Memory,
 }
@@ -37,7 +37,7 @@ impl<T: Drop> From<AllocFailed<T>> for PrintError {
     }
 }
 
-// A lack of memory and a fault stay what they are, and else there is no regular file.
+// A lack of memory and a fault keep their variants. Any other error means no regular file.
 pub(crate) fn print_error(error: FileError) -> PrintError
     ensures { result ≡ print_error error }
 {

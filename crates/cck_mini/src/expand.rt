@@ -16,16 +16,16 @@ struct Piece<'a> {
     rest: &'a [u8],
 }
 
-// What a macro stands for, and how long its name is.
+// The text of a macro, and how long its name is.
 #[derive(Clone, Copy)]
 struct Found<'a> {
     text: &'a [u8],
     length: usize,
 }
 
-/// Prints a text behind `out`, with its macros replaced from left to right.
+/// Appends a text to `out`, with its macros replaced from left to right.
 ///
-/// It is refused only for lack of memory, as [`PrintError::Memory`].
+/// The only error is [`PrintError::Memory`].
 pub(crate) fn expand(out: &mut Vec<u8>, macros: &Macros, text: &[u8]) -> Result<(), PrintError>
     ensures text { OnOk result
         (out.new.items ≡ out.old.items ++ expanded (macros_seen macros.now) text.now) }
@@ -41,7 +41,7 @@ pub(crate) fn expand(out: &mut Vec<u8>, macros: &Macros, text: &[u8]) -> Result<
 }
 
 // What is printed for the front of a text: a macro's text, or the bytes before the next place where
-// a macro may stand.
+// a macro may be.
 fn next_piece<'a>(macros: &'a Macros, left: &'a [u8]) -> Piece<'a>
     requires { 0 < length left.now }
     ensures text { expanded (macros_seen macros.now) left.now
@@ -64,7 +64,7 @@ fn next_piece<'a>(macros: &'a Macros, left: &'a [u8]) -> Piece<'a>
 }
 
 // How many bytes there are from the first one on before two underscores, with which each macro
-// begins. What stands at the first byte doesn't matter.
+// begins. Two underscores at the first byte don't count.
 fn plain_size(left: &[u8]) -> usize
     requires { 0 < length left.now }
     ensures some { 0 < result }
@@ -77,7 +77,7 @@ fn plain_size(left: &[u8]) -> usize
     }
 }
 
-// The macro that stands at the front.
+// The macro at the front.
 #[tactic(auto, unfolding(crate::specs::Printed::macro_at))]
 fn macro_at<'a>(macros: &'a Macros, left: &[u8]) -> Option<Found<'a>>
     ensures value { option_map (λ r. (r.text.now, r.length)) result

@@ -21,8 +21,9 @@ pub(crate) struct FileText {
 
 /// Reads the regular file at a path.
 ///
-/// It is refused as [`PrintError::Failed`] exactly where there is none, as [`PrintError::Fault`]
-/// only where the count of faults rose, and as [`PrintError::Memory`].
+/// [`PrintError::Failed`] is returned only where no regular file is at the path,
+/// [`PrintError::Fault`] only where the count of faults rose, and [`PrintError::Memory`] for lack
+/// of memory. A file is returned only where one is at the path.
 pub(crate) fn read_file<F: Files>(
     alloc: Global,
     files: &mut F,

@@ -1,11 +1,11 @@
 //! The text that a small preprocessor prints.
 //!
-//! It knows `#include "NAME"` on a line of its own, one level deep, and three macros: `__DATE__`,
-//! which stands for the local day, `__TIME__`, for the local second, both of a given moment, and
-//! `__TIMESTAMP__`, for the local second at which the file was modified that holds it. Days and
+//! It knows `#include "NAME"` on a line of its own, one level deep, and three macros. `__DATE__`
+//! gives the local day of the call time, and `__TIME__` its local second. `__TIMESTAMP__` gives the
+//! local second at which the file that holds it was modified. Days and
 //! seconds are counted from 1970-01-01T00:00:00 in the zone and printed in decimal; `?` is printed
 //! where the file has no time of modification. It prints line markers as a C preprocessor does.
-//! [`print_input`] gives the text, or a [`PrintError`] that says why there is none.
+//! [`print_input`] returns the text, or a [`PrintError`] with the cause.
 //!
 //! ```rust
 //! // `/w/a.c` holds `#include "h.h"` and `int x;`, and `/w/h.h` holds `int y1;`, each with its LF.

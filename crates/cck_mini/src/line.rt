@@ -5,14 +5,14 @@ ghost use Rattle.cck_mini.specs.Printed.{include_name, is_empty_or_ends_in_lf, i
 
 use memchr::memchr;
 
-/// A line without its LF, the LF if there is one, and the text behind it.
+/// A line without its LF, the LF if there is one, and the text after it.
 #[derive(Clone, Copy)]
 pub(crate) struct Line<'a> {
     /// The line without its LF.
     pub(crate) front: &'a [u8],
     /// The LF, or nothing.
     pub(crate) ending: &'a [u8],
-    /// The text behind the line.
+    /// The text after the line.
     pub(crate) rest: &'a [u8],
 }
 

@@ -1,4 +1,4 @@
-//! What the macros stand for.
+//! The texts of the macros.
 ghost use Rattle.std.specs.Prelude.{◌≡◌, ◌+ℤ◌, IfOk, IsOkUnless, pos, string_bytes};
 ghost use Rattle.std.specs.Fmt.{signed_decimal};
 ghost use Rattle.std.specs.Int.{int_div_euclid};
@@ -11,21 +11,21 @@ use std::alloc::Global;
 
 const SECONDS_IN_A_DAY: i128 = 86_400;
 
-/// What the three macros stand for in one file.
+/// The texts of the three macros in one file.
 #[derive(Debug, Drop)]
 pub(crate) struct Macros {
-    /// What `__DATE__` stands for.
+    /// The text of `__DATE__`.
     pub(crate) date: String,
-    /// What `__TIME__` stands for.
+    /// The text of `__TIME__`.
     pub(crate) time: String,
-    /// What `__TIMESTAMP__` stands for.
+    /// The text of `__TIMESTAMP__`.
     pub(crate) timestamp: String,
 }
 
-/// What the macros stand for at a moment, in a file that was modified at this time, in a zone of so
-/// many seconds east of UTC.
+/// Returns the texts of the macros at a call time, in a file that was modified at this time, in a
+/// zone with an offset in seconds east of UTC.
 ///
-/// It is refused only for lack of memory, as [`PrintError::Memory`].
+/// The only error is [`PrintError::Memory`].
 #[tactic(auto, unfolding(crate::specs::Printed::macros_of))]
 pub(crate) fn macros_for(
     alloc: Global,

@@ -16,19 +16,19 @@ use cck_path::{Timestamp, join_path};
 use itoa::Buffer;
 use std::alloc::Global;
 
-/// The text that is printed at a moment for an input in the folder `cwd`, in a zone of so many
-/// seconds east of UTC.
+/// Returns the text that is printed at the call time `moment` for an input in the directory `cwd`.
+/// The zone's offset is in seconds east of UTC.
 ///
-/// It begins with the marker `# 1 "IN"`, where IN is the input as seen from `cwd`. A line
-/// `#include "NAME"` is printed as the file of that name, as seen from `cwd`, between markers; an
-/// inclusion within an included file stays as it stands. In all other lines, and in what is
-/// included, the macros are replaced.
+/// The text begins with the marker `# 1 "IN"`, where IN is the input as seen from `cwd`. A line
+/// `#include "NAME"` is printed as the file of that name, as seen from `cwd`, between markers. An
+/// inclusion within an included file is not followed. In all other lines, and in included files,
+/// the macros are replaced.
 ///
-/// It is refused as
+/// Errors:
 ///
-/// - [`PrintError::Failed`] exactly where the input or a file that it includes is no regular file,
+/// - [`PrintError::Failed`] only where the input or a file that it includes is no regular file,
 /// - [`PrintError::Fault`] only where the count of faults rose,
-/// - [`PrintError::Memory`].
+/// - [`PrintError::Memory`] for lack of memory.
 pub fn print_input<F: Files>(
     alloc: Global,
     files: &mut F,
@@ -57,8 +57,8 @@ pub fn print_input<F: Files>(
     Ok(out)
 }
 
-// What is asked for: a zone and a moment, the working directory from which names are seen, and the
-// input's path.
+// What is asked for: a zone and a call time, the working directory from which names are seen, and
+// the input's path.
 #[derive(Debug, Clone, Copy)]
 struct Job<'a> {
     zone_offset: i32,
@@ -67,7 +67,7 @@ struct Job<'a> {
     path: &'a [u8],
 }
 
-// Prints the lines of an input behind what is printed so far.
+// Appends the lines of an input to what is printed so far.
 fn print_lines<F: Files>(
     alloc: Global,
     files: &mut F,
@@ -94,7 +94,7 @@ fn print_lines<F: Files>(
     Ok(())
 }
 
-// Prints one line, where the line behind it has this number.
+// Prints one line, where the line after it has this number.
 fn print_line<F: Files>(
     alloc: Global,
     files: &mut F,

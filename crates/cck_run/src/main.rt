@@ -3,9 +3,9 @@
 //! `cck key DIGEST LANGUAGE [ARG..]` reads a preprocessed text from standard input and prints the
 //! key of the object that a compiler with this digest makes of it. `cck run` reads a script of
 //! calls from standard input, makes them in their order over files and a store in memory, and
-//! prints the answer of each on a line of its own. All that is printed, errors too, goes to
-//! standard output. `main` only hands the words and the standard streams to [`engine`], which is
-//! what the theorems speak of.
+//! prints one line for each, with its key or its error. All that is printed, errors too, goes to
+//! standard output. `main` only passes the words and the standard streams to [`engine`], which is
+//! what the theorems are about.
 #![tactic(auto)]
 
 use cck_command::{engine, refuse};

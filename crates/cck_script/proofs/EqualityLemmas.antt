@@ -1,4 +1,4 @@
--- The tests of equality tell whether two commands say the same, and whether two refusals are one.
+-- `==` decides whether two commands say the same, and whether two errors are the same.
 use Rattle.std.proofs.Common.{◌≡◌, ℕ, refl, ap}
 use Rattle.std.proofs.lemmas.Bool.Decides.{Decides-and, Decides-eqb, Decides-int_eq, Decides-like}
 use Rattle.std.specs.Cmp.Lexicographic.{bytes_decides}

@@ -1,4 +1,4 @@
--- Files, as one line more says what stands at a path.
+-- Files after a line that says what is at a path.
 use Rattle.std.proofs.Common.{◌≡◌, List, [], ◌∷◌, refl, ap, sym, ◌∙◌, Bool, true, false, Option, Some, None, cond}
 use Rattle.std.specs.FinMap as finite
 use Rattle.std.specs.Option.{option_map, unwrap_or}
@@ -12,7 +12,7 @@ use Rattle.cck_script.specs.Surroundings.{AreFiles, executable, executable_path,
 use Rattle.cck_script.specs.Lines.{Line}
 use Rattle.cck_script.specs.Script.{first_or}
 
--- what a line that names a path puts over what stood there
+-- the node after a line that names a path, or else the node before it
 abbrev over : Path → Path → Option FileNode → Option FileNode → Option FileNode
 over p named new old = cond (eq_by_cmp path_cmp p named) new old
 

@@ -1,4 +1,4 @@
--- What the last line says that speaks, line by line.
+-- The value of the last line that has one, line by line.
 use Rattle.std.proofs.Common.{◌≡◌, ℕ, ◌<◌, ◌+◌, List, [], ◌∷◌, ◌++◌, append_assoc, refl, ap, sym, ◌∙◌, drop, get_or, length, map, reverse, Option, Some, None}
 use Rattle.std.proofs.lemmas.List.{append-nil, at_drop_more, reverse-append}
 use Rattle.std.specs.List.{cons_option, filter_map}
@@ -17,7 +17,7 @@ pub left_more : (items : List Command) (i : ℕ) (item : Command) → i < length
     → map line_of (drop i items) ≡ line_of item ∷ map line_of (drop (i + 1) items)
 left_more items i item lt at = at_drop_more (map line_of) items i item lt ∙ ap (λ c. line_of c ∷ map line_of (drop (i + 1) items)) (sym at)
 
--- what a line says stands, unless a later one speaks
+-- the value of a line counts, unless a later line has one
 pub last_more : {A : Type 0} (all other next : A) (says : Line → Option A) (items : List Command) (i : ℕ) (item : Command) → i < length items → item ≡ get_or items i item
     → all ≡ last_or other says (map line_of (drop i items)) → next ≡ unwrap_or (says (line_of item)) other → all ≡ last_or next says (map line_of (drop (i + 1) items))
 last_more all other next says items i item lt at h e =

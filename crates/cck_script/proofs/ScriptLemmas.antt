@@ -7,7 +7,7 @@ use Rattle.cck_script.specs.Script.{line_in, wrong_from}
 use Rattle.cck_script.specs.Words.{cut}
 use Rattle.cck_script.proofs.WordLemmas.{parts_left, split_cut}
 
--- what the lines are that are left behind an LF, if there is one
+-- the lines that are left after an LF, if there is one
 abbrev pub readings_left : Option Bytes → List Reading
 readings_left rest = map read (parts_left 10 rest)
 
@@ -20,7 +20,7 @@ pub wrong_here : (w : Option ℕ) (n : ℕ) (s front : Bytes) (rest : Option Byt
     → w ≡ wrong_from n (readings_left (Some s)) → w ≡ Some n
 wrong_here w n s front rest e here h = h ∙ ap (wrong_from n) (readings_next s front rest e ∙ ap (λ r. r ∷ readings_left rest) (sym here))
 
--- behind a line that isn't wrong, lines are counted from one more
+-- after a line that isn't wrong, lines are counted from one more
 pub skipped_here : (w : Option ℕ) (n : ℕ) (s front : Bytes) (rest : Option Bytes) → (front, rest) ≡ cut 10 s → Skipped ≡ read front
     → w ≡ wrong_from n (readings_left (Some s)) → w ≡ wrong_from (n + 1) (readings_left rest)
 skipped_here w n s front rest e here h = h ∙ ap (wrong_from n) (readings_next s front rest e ∙ ap (λ r. r ∷ readings_left rest) (sym here))

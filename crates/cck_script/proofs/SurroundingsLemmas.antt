@@ -1,4 +1,4 @@
--- Files and variables, as one line more is followed.
+-- Files and variables after one more line.
 use Rattle.std.proofs.Common.{ℕ, Option, ◌≡◌, List, [], ◌∷◌, refl, ◌∙◌, ap, Result, Ok, Err, OnOk, false, Some, None}
 use Rattle.std.specs.Global.{Vec}
 use Rattle.cck_files.specs.FileMap.{FileNode}
@@ -16,7 +16,7 @@ use Rattle.cck_script.specs.declared.surroundings.Surroundings.{Surroundings}
 use Rattle.cck_script.proofs.FileLemmas.{files_gone, files_put, files_stay}
 use Rattle.cck_script.proofs.VariableLemmas.{variable_set, variables_stay}
 
--- a line that puts a file or a folder
+-- a line that puts a file or a directory
 after_put : (lines : List Line) (line : Line) (old new : Surroundings) (named : Bytes) (n : FileNode)
     → place_said line ≡ Some (named, Some n) → variable_said line ≡ None → is_clear line ≡ false → AreAfter lines old
     → new.files ≡ record old.files { files = with_place old.files.files (components named) n (normal (components named)) } → new.variables ≡ old.variables → new.names ≡ old.names
@@ -79,7 +79,7 @@ after_other lines line old no_place no_variable go_on are = record {
   names_are = are.names_are;
 }
 
--- the same of a call that may have been refused
+-- the same of a call that may have returned an error
 pub put_ok : {X E : Type 0} (r : Result X E) (line : Line) (old new : Surroundings) (named : Bytes) (n : FileNode)
     → place_said line ≡ Some (named, Some n) → variable_said line ≡ None → is_clear line ≡ false
     → OnOk r (new.files ≡ record old.files { files = with_place old.files.files (components named) n (normal (components named)) }) → new.variables ≡ old.variables → new.names ≡ old.names

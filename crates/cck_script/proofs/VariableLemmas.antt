@@ -117,11 +117,11 @@ module _ (vs : List (Vec ℕ × Vec ℕ)) (names keys : List (Vec ℕ)) (name : 
 
 -- ---- the variables after some lines, as one more is set
 
--- a name stands among others
+-- a name is among others
 abbrev named : Bytes → List Bytes → Bool
 named n ns = list_any (bytes_eq n) ns
 
--- no name stands twice
+-- no name occurs twice
 abbrev AreDistinct : List Bytes → Type 0
 AreDistinct [] = Unit {0}
 AreDistinct (n ∷ ns) = (named n ns ≡ false) × AreDistinct ns

@@ -7,12 +7,12 @@ use Rattle.std.proofs.lemmas.List.{map-append}
 use Rattle.cck_path.specs.Bytes.{Bytes, lists_of}
 use Rattle.cck_script.specs.Words.{cut, cut_at, word, with_rest, next_word, with_word, all_words}
 
--- the parts that are left behind a separator, if there is one
+-- the parts that are left after a separator, if there is one
 abbrev pub parts_left : ℕ → Option Bytes → List Bytes
 parts_left c None = []
 parts_left c (Some s) = slice_split (λ b. b == c) s
 
--- how much is left: one more than the bytes behind a separator
+-- how much is left: one more than the bytes after a separator
 abbrev pub left_size : Option Bytes → ℕ
 left_size None = 0
 left_size (Some s) = length s + 1
@@ -33,7 +33,7 @@ module _ (c : ℕ) where
   split_if s true e = slice_split_first is_end s 0 (ltb-true _ _ e)
   split_if s false e = none_split s (ltb-false _ _ e)
 
-  -- a text is its first part, and the parts behind the first separator
+  -- a text is its first part, and the parts after the first separator
   pub split_cut : (s : List ℕ) → slice_split is_end s ≡ (cut c s).0 ∷ parts_left c ((cut c s).1)
   unfolding cut
   split_cut s = split_if s (nat_lt (position_or_len is_end s) (length s)) refl
@@ -42,7 +42,7 @@ module _ (c : ℕ) where
   cut_falls s true e = let h = ltb-true _ _ e in simp length-drop (omega arith)
   cut_falls s false e = omega arith
 
-  -- less is left behind a part than before it
+  -- less is left after a part than before it
   pub rest_falls : (s : List ℕ) → left_size ((cut c s).1) < left_size (Some s)
   unfolding cut
   rest_falls s = cut_falls s (nat_lt (position_or_len is_end s) (length s)) refl
@@ -52,7 +52,7 @@ abbrev pub put_before : List Bytes → Option (List Bytes) → Option (List Byte
 put_before front None = None
 put_before front (Some ws) = Some (front ++ ws)
 
--- the words of what is left behind a space, if there is one
+-- the words of what is left after a space, if there is one
 abbrev pub words_left : Option Bytes → Option (List Bytes)
 words_left rest = all_words (parts_left 32 rest)
 
@@ -92,7 +92,7 @@ pub words_none : (front : List Bytes) (whole : Option (List Bytes)) (s : Bytes) 
 unfolding next_word
 words_none front whole s h e = h ∙ ap (put_before front) (words_next s ∙ no_more (word ((cut 32 s).0)) ((cut 32 s).1) _ e)
 
--- less is left behind a word than before it
+-- less is left after a word than before it
 pub words_fall : (s w : Bytes) (r : Option Bytes) → next_word (Some s) ≡ Some (w, r) → left_size r < left_size (Some s)
 unfolding next_word
 words_fall s w r e = let p = rest_of (word ((cut 32 s).0)) ((cut 32 s).1) w r e in rw (← p) (rest_falls 32 s)
@@ -108,6 +108,6 @@ pub words_pushed : (items after : List (Vec ℕ)) (more : Vec ℕ) (whole : Opti
 words_pushed items after more whole s r a h e =
     words_more (lists_of items) whole s more.items r h e ∙ ap (λ f. put_before f (words_left r)) (sym (map-append (λ (v : Vec ℕ). v.items) items (more ∷ [])) ∙ ap lists_of (sym a))
 
--- less is left behind a part, as it is cut off, than before it
+-- less is left after a part that was cut off than before it
 pub cut_less : (c : ℕ) (s front : Bytes) (rest : Option Bytes) → (front, rest) ≡ cut c s → left_size rest < left_size (Some s)
 cut_less c s front rest e = rw (ap (λ (p : Bytes × Option Bytes). left_size p.1) e) (rest_falls c s)

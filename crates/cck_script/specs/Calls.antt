@@ -19,7 +19,7 @@ call_said earlier (Compile moment arguments) = Some (record { moment = moment; a
 call_said earlier (Recache moment arguments) = Some (record { moment = moment; arguments = arguments; is_recache = true; earlier = earlier })
 call_said earlier _ = None
 
--- the calls of lines that stand behind other ones
+-- the calls of lines that follow other lines
 abbrev pub asked_behind : List Line → List Line → List AskedCall
 asked_behind earlier [] = []
 asked_behind earlier (line ∷ lines) = option_to_list (call_said earlier line) ++ asked_behind (line ∷ earlier) lines
@@ -28,6 +28,6 @@ asked_behind earlier (line ∷ lines) = option_to_list (call_said earlier line) 
 abbrev pub asked_calls : List Line → List AskedCall
 asked_calls lines = asked_behind [] lines
 
--- what the program has of a call, behind these lines
+-- what the program's value of a call says, after these lines
 abbrev pub call_behind : List Line → ScriptCall → AskedCall
 call_behind earlier c = record { moment = c.moment; arguments = lists_of c.arguments.now; is_recache = c.is_recache; earlier = earlier }

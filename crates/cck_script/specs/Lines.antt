@@ -7,7 +7,7 @@ use Rattle.cck_path.specs.Timestamp.{Moment}
 use Rattle.cck_script.specs.Numbers.{file_time, ordinal, time, zone_offset}
 use Rattle.cck_script.specs.Words.{and_then, last_text, next_word, words}
 
--- what a line says; the words behind a moment are the arguments of a call, the input first
+-- what a line says; the words after a call time are the arguments of a call, the input first
 pub data Line : Type 0 where
   Zone : ℤ → Line
   Basedir : Bytes → Line
@@ -67,7 +67,7 @@ gone_line rest = and_then (next_word rest) (λ path. ended path.1 (Gone path.0))
 abbrev pub variable_line : Option Bytes → Option Line
 variable_line rest = and_then (next_word rest) (λ name. option_map (Variable name.0) (last_text name.1))
 
--- `MOMENT INPUT ARG..`, behind `compile` and `recache`
+-- `MOMENT INPUT ARG..`, after `compile` and `recache`
 abbrev pub call_line : Option Bytes → Option (Moment × List Bytes)
 call_line rest = and_then (next_word rest) (λ w. and_then (time w.0) (λ moment. option_map (λ arguments. (moment, arguments)) (words w.1)))
 

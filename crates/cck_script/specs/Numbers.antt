@@ -12,7 +12,7 @@ abbrev pub are_digits : List ℕ → Bool
 are_digits [] = true
 are_digits (b ∷ bs) = is_digit b && are_digits bs
 
--- the number that decimal digits write behind a number
+-- the number that decimal digits write after the digits of a number
 abbrev pub number_behind : ℕ → List ℕ → ℕ
 number_behind n [] = n
 number_behind n (b ∷ bs) = number_behind (n * 10 + (b - 48)) bs
@@ -56,7 +56,7 @@ ordinal text = from_one (magnitude text)
 unfoldable pub zone_offset : List ℕ → Option ℤ
 zone_offset text = integer 86399 86399 text
 
--- the moment of so many nanoseconds, from -2^63 to 2^63 - 1
+-- the time at a number of nanoseconds, from -2^63 to 2^63 - 1
 unfoldable pub time : List ℕ → Option Moment
 time text = option_map moment_of_nanos (integer (2 ^ 63) (2 ^ 63 - 1) text)
 

@@ -6,7 +6,7 @@ use Rattle.cck_script.specs.Lines.{Line, Zone, Basedir, StoreForget, StoreFail, 
 use Rattle.cck_script.specs.declared.error.ScriptError.{ScriptError}
 use Rattle.cck_script.specs.declared.error.ScriptError.TheVariants as error
 
--- what the lines of a text are. Each ends with an LF, or with the text; so a text that ends with an LF has an empty line behind it, which is
+-- what the lines of a text are. Each ends with an LF, or with the text. So a text that ends with an LF has an empty line after it, which is
 -- skipped as each empty line is
 abbrev pub readings : Bytes → List Reading
 readings text = map read (slice_split (λ b. b == 10) text)
@@ -31,17 +31,17 @@ line_in (Says line) = Some line
 unfoldable pub lines_said : Bytes → List Line
 lines_said text = filter_map line_in (readings text)
 
--- a refusal: a wrong line, before which none is wrong, or lack of memory
+-- an error: a wrong line, before which none is wrong, or lack of memory
 abbrev pub IsScriptRefusal : Bytes → ScriptError → Type 0
 IsScriptRefusal text error.Memory = Unit {0}
 IsScriptRefusal text (error.Line n) = wrong_line text ≡ Some n
 
--- what the first of these lines says that speaks, and else what is given
+-- the value of the first of these lines that has one, or else the given value
 abbrev pub first_or : {A : Type 0} → A → (Line → Option A) → List Line → A
 first_or other says [] = other
 first_or other says (line ∷ lines) = unwrap_or (says line) (first_or other says lines)
 
--- what the last of these lines says that speaks, and else what is given
+-- the value of the last of these lines that has one, or else the given value
 abbrev pub last_or : {A : Type 0} → A → (Line → Option A) → List Line → A
 last_or other says lines = first_or other says (reverse lines)
 

@@ -1,4 +1,4 @@
--- what stands and holds after the first lines of a script: files and variables
+-- the files and variables after the first lines of a script
 use Rattle.std.specs.Prelude.{◌≡◌, ℕ, pos, List, [], ◌∷◌, ◌++◌, map, codes, is_some, Bool, true, false, if◌then◌else◌, Option, Some, None}
 use Rattle.std.specs.FinMap as finite
 use Rattle.std.specs.Global.{Vec}
@@ -17,13 +17,13 @@ use Rattle.cck_script.specs.Lines.{Line, File, Folder, Gone, Variable, Clear}
 use Rattle.cck_script.specs.Script.{first_or}
 use Rattle.cck_script.specs.declared.surroundings.Surroundings.{Surroundings}
 
--- ---- what stands at a path. Lines are given from the last to the first
+-- ---- the node at a path. Lines are given from the last to the first
 
 -- a regular file with these contents and times
 abbrev pub file_node : Bytes → Option Moment → Option Moment → FileNode
 file_node contents modified changed = record { kind = kind.File; contents = contents; modified = modified; changed = changed }
 
--- the first moment of 1970
+-- 1970-01-01T00:00:00Z
 abbrev pub epoch : Moment
 epoch = record { seconds = pos 0; nanoseconds = 0 }
 
@@ -31,19 +31,19 @@ epoch = record { seconds = pos 0; nanoseconds = 0 }
 abbrev pub executable : FileNode
 executable = file_node (codes "cc") (Some epoch) (Some epoch)
 
--- the path at which it stands
+-- its path
 abbrev pub executable_path : Bytes
 executable_path = codes "/usr/bin/cc"
 
--- the folder in which calls are made
+-- the directory in which calls are made
 abbrev pub working_directory : Bytes
 working_directory = codes "/w"
 
--- what stands at a path before any line
+-- the node at a path before any line
 abbrev pub stands_first : Path → Option FileNode
 stands_first p = if eq_by_cmp path_cmp p (components executable_path) then Some executable else None
 
--- the path that a line names, and what stands there after it
+-- the path that a line names, and the node there after the line
 abbrev pub place_said : Line → Option (Bytes × Option FileNode)
 place_said (File path modified changed contents) = Some (path, Some (file_node contents modified changed))
 place_said (Folder path) = Some (path, Some (record { kind = kind.Folder; contents = []; modified = None; changed = None }))
@@ -54,7 +54,7 @@ abbrev pub if_names : Path → Option (Bytes × Option FileNode) → Option (Opt
 if_names p None = None
 if_names p (Some place) = if eq_by_cmp path_cmp p (components place.0) then Some place.1 else None
 
--- what stands at a path after these lines: what the last one says that names it, and else what stood there before any line
+-- the node at a path after these lines: what the last line says that names the path, or else what was there before any line
 unfoldable pub stands : List Line → Path → Option FileNode
 stands lines p = first_or (stands_first p) (λ line. if_names p (place_said line)) lines
 
@@ -87,7 +87,7 @@ if_same name (Some set) = if bytes_eq set.0 name then Some set.1 else None
 abbrev pub sets : Bytes → Line → Bool
 sets name line = is_some (if_same name (variable_said line))
 
--- the name that a line brings in behind others, if no earlier line has it
+-- the name that a line sets, if no earlier line sets it
 abbrev pub new_name : Option NamedValue → List Line → List Bytes
 new_name None earlier = []
 new_name (Some set) earlier = if list_any (sets set.0) earlier then [] else set.0 ∷ []
@@ -122,7 +122,7 @@ pub record AreAfter (lines : List Line) (after : Surroundings) : Type 0 where
   pub variables_are : variables_of after.variables.items ≡ variables lines
   pub names_are : AreNamesOf after.variables.items after.names.keys
 
--- variables with one that is set: in the place of the first of its name, and else behind them
+-- variables after one is set: in the place of the first of its name, or else after the others
 abbrev pub with_variable : Bytes → Bytes → List NamedValue → List NamedValue
 with_variable name value [] = (name, value) ∷ []
 with_variable name value (v ∷ vs) = if bytes_eq v.0 name then (v.0, value) ∷ vs else v ∷ with_variable name value vs

@@ -1,10 +1,10 @@
--- the words of a line and the text behind them
+-- the words of a line and the text after them
 use Rattle.std.specs.Prelude.{ℕ, ◌+◌, ◌==◌, List, [], ◌∷◌, Bool, true, false, if◌then◌else◌, take, drop, position, Option, Some, None, Ok, Err}
 use Rattle.std.specs.List.{slice_split}
 use Rattle.cck_path.specs.Bytes.{Bytes}
 use Rattle.cck_path.specs.Escape.{Meaning, unescaped}
 
--- what an escaped text stands for, if it stands for anything
+-- the text that an escaped text means, if its escapes are right
 abbrev pub text_of : Meaning → Option Bytes
 text_of (Ok text) = Some text
 text_of (Err e) = None
@@ -13,7 +13,7 @@ abbrev pub is_nil : {X : Type 0} → List X → Bool
 is_nil [] = true
 is_nil (x ∷ xs) = false
 
--- a word: not empty, and its escapes are undone
+-- a word: not empty, and unescaped
 unfoldable pub word : Bytes → Option Bytes
 word part = if is_nil part then None else text_of (unescaped part)
 
@@ -21,7 +21,7 @@ abbrev pub cut_at : Option ℕ → Bytes → Bytes × Option Bytes
 cut_at None s = (s, None)
 cut_at (Some i) s = (take i s, Some (drop (i + 1) s))
 
--- what stands before the first separator, and what stands behind it if there is one
+-- what is before the first separator, and what is after it if there is one
 unfoldable pub cut : ℕ → Bytes → Bytes × Option Bytes
 cut separator s = cut_at (position (λ b. b == separator) s) s
 
@@ -37,7 +37,7 @@ abbrev pub and_then : {A B : Type 0} → Option A → (A → Option B) → Optio
 and_then None go = None
 and_then (Some x) go = go x
 
--- the next word, and what is left of the line behind its space
+-- the next word, and what is left of the line after its space
 unfoldable pub next_word : Option Bytes → Option (Bytes × Option Bytes)
 next_word None = None
 next_word (Some s) = word_in (cut 32 s)

@@ -12,17 +12,16 @@ use cck_path::Timestamp;
 /// working directory is [`WORKING_DIRECTORY`](crate::WORKING_DIRECTORY).
 #[derive(Debug, Clone, Copy)]
 pub struct ScriptCall<'a> {
-    /// Its moment.
+    /// Its call time.
     pub moment: Timestamp,
     /// Its arguments, the input first.
     pub arguments: &'a [Vec<u8>],
-    /// Whether it may not be answered from the store.
+    /// Whether it may not return a stored key.
     pub is_recache: bool,
 }
 
 impl Command {
-    /// The call that the line asks for: one for each line `compile` or `recache`, and none for any
-    /// other.
+    /// Returns the call that a line `compile` or `recache` asks for, and `None` for any other line.
     pub fn call(&self) -> Option<ScriptCall<'_>>
         ensures { (earlier : List Line) →
             option_map (call_behind earlier) result ≡ call_said earlier (line_of self.now) }

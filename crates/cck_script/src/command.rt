@@ -1,7 +1,7 @@
 //! What the lines of a script say.
 use cck_path::Timestamp;
 
-/// What a line of a script says. Escapes in words and texts are undone.
+/// What a line of a script says. Words and texts are unescaped.
 #[derive(Debug, PartialEq, Eq, Drop)]
 pub enum Command {
     /// The run's zone.
@@ -24,7 +24,7 @@ pub enum Command {
         /// Which call, counted from 1 over gets and puts.
         call: u64,
     },
-    /// A regular file stands at the path.
+    /// A regular file is at the path.
     File {
         /// The path.
         path: Vec<u8>,
@@ -35,12 +35,12 @@ pub enum Command {
         /// Its contents.
         contents: Vec<u8>,
     },
-    /// A folder without times stands at the path.
+    /// A directory without times is at the path.
     Folder {
         /// The path.
         path: Vec<u8>,
     },
-    /// Nothing stands at the path.
+    /// Nothing is at the path.
     Gone {
         /// The path.
         path: Vec<u8>,
@@ -56,14 +56,14 @@ pub enum Command {
     Clear,
     /// A call.
     Compile {
-        /// The moment of the call.
+        /// The time of the call.
         moment: Timestamp,
         /// The arguments, of which the first is the input.
         arguments: Vec<Vec<u8>>,
     },
-    /// A call that may not be answered from the store.
+    /// A call that may not return a stored key.
     Recache {
-        /// The moment of the call.
+        /// The time of the call.
         moment: Timestamp,
         /// The arguments, of which the first is the input.
         arguments: Vec<Vec<u8>>,

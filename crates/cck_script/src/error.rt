@@ -8,7 +8,7 @@ use thiserror::Error;
 /// Why a text is no script.
 #[derive(Debug, Clone, Copy, PartialEq, Eq, Error)]
 pub enum ScriptError {
-    /// A growth of memory was refused.
+    /// An allocation failed.
     #[error("out of memory")]
     Memory,
     /// The line of this number is wrong, and no earlier one is. Every line counts, from 1, a

@@ -5,7 +5,7 @@ ghost use Rattle.cck_script.specs.Surroundings.{executable_path, working_directo
 
 use crate::{Command, EXECUTABLE, ScriptError, WORKING_DIRECTORY};
 
-/// Commands are equal exactly if they say the same, and refusals exactly if they are the same.
+/// Commands are equal exactly if they say the same, and errors exactly if they are the same.
 pub fn equality_is_exact()
     ensures commands { (a b : Command) →
         IsTrue (⟦<Command as PartialEq>⟧.eq a b) ↔ (line_of a ≡ line_of b) }

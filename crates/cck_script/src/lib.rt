@@ -1,12 +1,12 @@
-//! Scripts: what is to be compiled, over which files and variables, line by line.
+//! Scripts, which say line by line what is compiled, over which files and variables.
 //!
 //! A script is a text of lines. Some lines put files or set variables, and a line `compile` or
 //! `recache` asks for a call over the files and variables as they then are. [`Script::parse`] reads
-//! a text once, and tells the number of the first wrong line. [`Script::options`] are what holds
-//! for the whole run ([`RunOptions`]). [`Surroundings`] are files and variables that follow a
-//! script line by line: a call ([`Command::call`], a [`ScriptCall`]) is made over them as they are
-//! at its line, so that one map of files does for all calls. They begin with [`first_files`]: the
-//! compiler at [`EXECUTABLE`], and the working directory is [`WORKING_DIRECTORY`].
+//! a text once; its error has the number of the first wrong line. [`Script::options`] returns what
+//! holds for the whole run ([`RunOptions`]). [`Surroundings`] are files and variables that follow a
+//! script line by line. A call ([`Command::call`], a [`ScriptCall`]) is made over them as they are
+//! at its line, so one map of files is enough for all calls. They begin with [`first_files`], which
+//! has the compiler at [`EXECUTABLE`]. The working directory is [`WORKING_DIRECTORY`].
 //!
 //! | line | meaning |
 //! |---|---|
@@ -15,16 +15,17 @@
 //! | `store forget N` | the store drops all that it holds at the start of its Nth get or put |
 //! | `store fail N` | the Nth get or put of the store fails |
 //! | `file PATH MODIFIED CHANGED TEXT` | a regular file with this text and these times, or `-` for no time |
-//! | `dir PATH` | a folder without times |
-//! | `gone PATH` | nothing stands at this path alone |
+//! | `dir PATH` | a directory without times |
+//! | `gone PATH` | nothing is at this path; other paths stay |
 //! | `var NAME TEXT` | a variable: a new name comes last, a known one keeps its place |
 //! | `clear` | no variables |
 //! | `compile MOMENT INPUT ARG..` | a call |
-//! | `recache MOMENT INPUT ARG..` | a call that may not be answered from the store |
+//! | `recache MOMENT INPUT ARG..` | a call that may not return a stored key |
 //!
-//! Words stand behind one space each. TEXT is all that follows its space, and empty where the line
-//! ends before. Words and TEXT are undone by [`cck_path::ascii_unescape_default`]. Times are whole
-//! nanoseconds that fit an `i64`. Empty lines and those that begin with `#` are skipped.
+//! One space is before each word but the first. TEXT is all that follows its space; it is empty
+//! where the line ends before the space. Words and TEXT are unescaped by
+//! [`cck_path::ascii_unescape_default`]. MOMENT is a call time. Times are whole nanoseconds that
+//! fit an `i64`. Empty lines and those that begin with `#` are skipped.
 //!
 //! ```rust
 //! let text = b"file /w/a.c 1 1 int x;\\n\nvar HOME /h\ncompile 5000000000 a.c -O2\n";

@@ -83,7 +83,8 @@ pub(crate) fn zone_offset(text: &[u8]) -> Option<i32>
     Some(seconds as i32)
 }
 
-/// The moment of so many nanoseconds since 1970-01-01T00:00:00Z, which fit an `i64`.
+/// Returns the time at a number of nanoseconds since 1970-01-01T00:00:00Z. It is `None` if the text
+/// is no such number or if it doesn't fit an `i64`.
 #[tactic(auto, unfolding(crate::specs::Numbers::time))]
 pub(crate) fn time(text: &[u8]) -> Option<Timestamp>
     ensures { result ≡ time text.now }
@@ -92,7 +93,7 @@ pub(crate) fn time(text: &[u8]) -> Option<Timestamp>
     Some(Timestamp::from_nanos(nanos))
 }
 
-/// The time of a file, or no time for a lone `-`.
+/// Returns the time of a file, or no time for a lone `-`.
 #[tactic(auto, unfolding(crate::specs::Numbers::file_time))]
 pub(crate) fn file_time(text: &[u8]) -> Option<Option<Timestamp>>
     ensures { result ≡ file_time text.now }

@@ -18,7 +18,7 @@ pub struct Script {
     commands: Vec<Command>,
 }
 
-/// What holds for the whole run of a script, wherever its line stands.
+/// What holds for the whole run of a script, wherever its line is.
 #[derive(Debug, Drop)]
 pub struct RunOptions {
     /// The offset of the zone, in seconds east of UTC: less than a day. It is 0 where no line says
@@ -35,8 +35,9 @@ pub struct RunOptions {
 impl Script {
     /// Reads a script.
     ///
-    /// It is refused as [`ScriptError::Line`] exactly where a line is wrong, with the number of the
-    /// first wrong one, and as [`ScriptError::Memory`].
+    /// [`ScriptError::Line`] is returned only if a line is wrong, with the number of the first
+    /// wrong line. [`ScriptError::Memory`] is returned for lack of memory. A script that is
+    /// returned has no wrong line.
     pub fn parse(alloc: Global, text: &[u8]) -> Result<Script, ScriptError>
         ensures { MatchResult result
             (λ script. (wrong_line text.now ≡ None) × (lines_of script ≡ lines_said text.now))
@@ -58,17 +59,17 @@ impl Script {
         Ok(Script { commands })
     }
 
-    /// What its lines say, in order: one command for each line that isn't skipped.
+    /// Returns what its lines say, in order: one command for each line that isn't skipped.
     pub fn commands(&self) -> &[Command]
         ensures { map line_of result.now ≡ lines_of self.now }
     {
         &self.commands
     }
 
-    /// What holds for the whole run. Of several lines `zone`, `store forget` or `store fail` the
-    /// last one counts.
+    /// Returns what holds for the whole run. Of several lines `zone`, `store forget` or
+    /// `store fail` the last one counts.
     ///
-    /// It is refused only for lack of memory, as [`UtilError::Memory`].
+    /// The only error is [`UtilError::Memory`].
     pub fn options(&self, alloc: Global) -> Result<RunOptions, UtilError>
         ensures zone { IfOk result (λ o. o.zone_offset ≡ zone_of (lines_of self.now)) }
         ensures basedirs { IfOk result (λ o.
@@ -91,7 +92,7 @@ impl Script {
 }
 
 impl RunOptions {
-    // Takes in what one line more says.
+    // Applies the next line.
     fn take_in(&mut self, alloc: Global, command: &Command) -> Result<(), UtilError>
         ensures zone { OnOk result (self.new.zone_offset
             ≡ unwrap_or (zone_said (line_of command.now)) self.old.zone_offset) }

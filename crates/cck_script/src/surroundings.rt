@@ -1,4 +1,4 @@
-//! What stands and holds where a call is made: files and variables.
+//! The files and variables that a call is made over.
 ghost use Rattle.std.specs.Prelude.{◌≡◌, ◌∷◌, [], List, IfOk, IsOkUnless, OnOk};
 ghost use Rattle.cck_files.specs.ArmedCalls.{IsUnarmed};
 ghost use Rattle.cck_files.specs.FileState.{with_place};
@@ -15,19 +15,19 @@ use cck_path::{FileKind, Timestamp};
 use indexmap::IndexSet;
 use std::alloc::Global;
 
-/// The path of the compiler's executable, which stands there before any line.
+/// The path of the compiler's executable, which is there before any line.
 pub const EXECUTABLE: &[u8] = b"/usr/bin/cc";
 
 /// The working directory of every call.
 pub const WORKING_DIRECTORY: &[u8] = b"/w";
 
-// What stands at the executable's path before any line.
+// The contents of the executable before any line.
 const EXECUTABLE_CONTENTS: &[u8] = b"cc";
 
-/// The files before any line: [`EXECUTABLE`] alone, with the contents `cc` and both times at
-/// 1970-01-01T00:00:00Z. No call on them is armed to fail.
+/// Returns the files before any line: [`EXECUTABLE`] alone, with the contents `cc` and both times
+/// at 1970-01-01T00:00:00Z. No call on them is armed to fail.
 ///
-/// It is refused only for lack of memory, as [`UtilError::Memory`].
+/// The only error is [`UtilError::Memory`].
 pub fn first_files(alloc: Global) -> Result<MapFiles, UtilError>
     ensures files { IfOk result (λ files. AreFiles [] files.files) }
     ensures quiet { IfOk result (λ files. (files.faults ≡ 0) × IsUnarmed files.armed) }
@@ -48,23 +48,24 @@ pub fn first_files(alloc: Global) -> Result<MapFiles, UtilError>
 
 /// The files and variables after the first lines of a script.
 ///
-/// A path has what the last of the lines says that names it, and the executable's path else what it
-/// has at first. Each path leads to itself, without its `.` and `..`. A variable stands where it
-/// was set first since the last line `clear`, with the value that it was given last.
+/// The node at a path is given by the last line that names the path. If no line names the
+/// executable's path, the executable is there as at first. The canonical path of each path is the
+/// path itself without its `.` and `..`. A variable has the place where it was set first since the
+/// last line `clear`, and the value that it was given last.
 #[derive(Debug, Drop)]
 pub struct Surroundings {
     /// The files, on which no call is armed to fail.
     pub files: MapFiles,
     /// The variables.
     pub variables: Vec<(Vec<u8>, Vec<u8>)>,
-    /// Their names, in the same order: a look-up gives the place of a name in the list.
+    /// The names of the variables, in the same order, so that a name's place is found by a look-up.
     pub names: IndexSet<Vec<u8>>,
 }
 
 impl Surroundings {
-    /// The files and variables before any line: those of [`first_files`], and none.
+    /// Returns the files and variables before any line: those of [`first_files`], and no variables.
     ///
-    /// It is refused only for lack of memory, as [`UtilError::Memory`].
+    /// The only error is [`UtilError::Memory`].
     pub fn new(alloc: Global) -> Result<Surroundings, UtilError>
         ensures first { IfOk result (AreAfter []) }
         ensures refused { IsOkUnless result UtilError.Memory }
@@ -76,11 +77,10 @@ impl Surroundings {
         })
     }
 
-    /// Does what one line more says. A line that asks for a call, or that holds for the whole run,
-    /// changes nothing here.
+    /// Applies the next line. A line that asks for a call, or that holds for the whole run, changes
+    /// nothing here.
     ///
-    /// It is refused only for lack of memory, as [`UtilError::Memory`]; what it has done then is
-    /// open.
+    /// The only error is [`UtilError::Memory`]; what was changed is then unspecified.
     pub fn follow(&mut self, alloc: Global, command: &Command) -> Result<(), UtilError>
         ensures after { OnOk result ((lines : List Line) → AreAfter lines self.old
             → AreAfter (line_of command.now ∷ lines) self.new) }
@@ -111,7 +111,7 @@ impl Surroundings {
             }
             Command::Clear => {
                 self.variables.clear();
-                // A set that is emptied goes over all places of its table, and each time anew.
+                // Clearing a set visits its whole table each time.
                 self.names = IndexSet::new(alloc);
                 Ok(())
             }
@@ -137,7 +137,7 @@ pub fn copy_variables(
     Ok(copy)
 }
 
-// Sets the regular file at a path, in place of what stands there.
+// Puts a regular file at a path, in place of the node there.
 fn put_file(
     alloc: Global,
     files: &mut MapFiles,

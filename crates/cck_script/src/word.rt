@@ -10,25 +10,25 @@ use cck_path::ascii_unescape_default;
 use memchr::memchr;
 use std::alloc::{AllocError, Global};
 
-/// A word, and what is left of its line where a space stands behind it.
+/// A word, and what is left of its line if a space is after the word.
 #[derive(Drop)]
 pub(crate) struct Taken<'a> {
-    /// The word, undone.
+    /// The word, unescaped.
     pub(crate) word: Vec<u8>,
-    /// What stands behind the space.
+    /// What is after the space.
     pub(crate) rest: Option<&'a [u8]>,
 }
 
-/// The first part of a text, and what stands behind the separator that ends it.
+/// The first part of a text, and what is after the separator that ends it.
 #[derive(Clone, Copy)]
 pub(crate) struct Part<'a> {
     /// The part.
     pub(crate) front: &'a [u8],
-    /// What stands behind the separator, where there is one.
+    /// What is after the separator, if there is one.
     pub(crate) rest: Option<&'a [u8]>,
 }
 
-/// What stands before the first separator of a text, and what stands behind it.
+/// Returns what is before the first separator of a text, and what is after it.
 #[tactic(auto, unfolding(crate::specs::Words::cut))]
 pub(crate) fn cut(separator: u8, text: &[u8]) -> Part<'_>
     ensures { (result.front.now, option_map (λ r. r.now) result.rest) ≡ cut separator text.now }
@@ -52,7 +52,7 @@ fn find(separator: u8, text: &[u8]) -> Option<usize>
     memchr(separator, text)
 }
 
-// What an escaped text stands for, if it stands for one.
+// The text that an escaped text means; `None` if an escape in it is wrong.
 fn undone(alloc: Global, text: &[u8]) -> Result<Option<Vec<u8>>, AllocError>
     ensures { IfOk result (λ found. option_map (λ v. v.items) found
         ≡ text_of (unescaped text.now)) }
@@ -64,7 +64,7 @@ fn undone(alloc: Global, text: &[u8]) -> Result<Option<Vec<u8>>, AllocError>
     }
 }
 
-// The word that a part stands for, if it stands for one.
+// The word that a part means; `None` if the part is empty or an escape in it is wrong.
 #[tactic(auto, unfolding(crate::specs::Words::word))]
 fn word(alloc: Global, part: &[u8]) -> Result<Option<Vec<u8>>, AllocError>
     ensures { IfOk result (λ found. option_map (λ v. v.items) found ≡ word part.now) }
@@ -75,8 +75,8 @@ fn word(alloc: Global, part: &[u8]) -> Result<Option<Vec<u8>>, AllocError>
     undone(alloc, part)
 }
 
-/// The next word of what is left of a line. There is none where nothing is left, and where it is
-/// empty or an escape in it is wrong.
+/// Returns the next word of what is left of a line. It is `None` if nothing is left, and if the
+/// word is empty or an escape in it is wrong.
 #[tactic(auto, unfolding(crate::specs::Words::next_word))]
 pub(crate) fn next_word<'a>(
     alloc: Global,
@@ -99,8 +99,8 @@ pub(crate) fn next_word<'a>(
     }
 }
 
-/// The text that is left of a line, which is empty where nothing is left. There is none where an
-/// escape in it is wrong.
+/// Returns the text that is left of a line, which is empty if nothing is left. It is `None` if an
+/// escape in the text is wrong.
 #[tactic(auto, unfolding(crate::specs::Words::last_text))]
 pub(crate) fn last_text(alloc: Global, rest: Option<&[u8]>) -> Result<Option<Vec<u8>>, AllocError>
     ensures { IfOk result (λ found. option_map (λ v. v.items) found
@@ -112,8 +112,8 @@ pub(crate) fn last_text(alloc: Global, rest: Option<&[u8]>) -> Result<Option<Vec
     }
 }
 
-/// All words that are left of a line. There are none where nothing is left, and where one of them
-/// is empty or an escape in it is wrong.
+/// Returns all words that are left of a line. It is `None` if nothing is left, and if one of the
+/// words is empty or an escape in it is wrong.
 #[tactic(auto, unfolding(crate::specs::Words::words))]
 pub(crate) fn words(alloc: Global, rest: Option<&[u8]>) -> Result<Option<Vec<Vec<u8>>>, AllocError>
     ensures { IfOk result (λ found. option_map (λ ws. lists_of ws.items) found

@@ -25,7 +25,7 @@ pub record Fixed : Type 0 where
   pub assembler : Option Bytes
   pub parsed : Parsed
 
--- what each command line comes to
+-- what each command line is parsed as
 abbrev pub parsed_as : Reading → Arguments → Option Bytes → Parsed
 parsed_as reading.Compilation arguments detail = compilation arguments
 parsed_as reading.CannotCache arguments detail = cannot_cache (codes "-E") detail

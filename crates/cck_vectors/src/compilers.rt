@@ -53,7 +53,7 @@ pub(crate) fn call<'a>(
     }
 }
 
-// The family of the compiler and the digest text of its executable.
+// The family of the compiler and the hex digest of its executable.
 fn new_compiler<'a>(request: &Request, files: &mut MapFiles) -> Result<Value<'a>, CaseError> {
     let alloc = request.alloc;
     let compiler = held(request.hasher.compiler.copy(alloc))?;
@@ -78,7 +78,7 @@ fn compiler_of(request: &mut Request) -> Result<CCompiler<FixedCompiler>, CaseEr
     })
 }
 
-// What the command line comes to: all that it says, or the further files alone.
+// What the command line is parsed as: all that it says, or the extra files alone.
 fn parse<'a>(
     request: &mut Request,
     given: &Given,

@@ -39,7 +39,7 @@ pub(crate) struct FixedCompiler {
     pub(crate) plusplus: bool,
     /// The version, if there is one.
     pub(crate) version: Option<String>,
-    /// The digest text of the assembler, if there is one.
+    /// The hex digest of the assembler, if there is one.
     pub(crate) assembler: Option<String>,
     /// What each command line is parsed into.
     pub(crate) reading: Reading,

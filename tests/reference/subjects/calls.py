@@ -160,7 +160,7 @@ class NotingFiles:
 
 
 def known(table, name):
-    """What a name stands for in a table, which there must be."""
+    """What a name means in a table, which there must be."""
     if name not in table:
         raise WrongLine
     return table[name]
@@ -377,7 +377,7 @@ def call_run_calls(subject, rest, made):
 
 
 def call_new_compiler(subject, rest, made):
-    """`new_compiler`: the family of the compiler and the digest text of its executable."""
+    """`new_compiler`: the family of the compiler and the hex digest of its executable."""
     compiler = subject.compiler
     digest = executable_text(subject.world.files, subject.executable, compiler.version)
     return known(KINDS, compiler.kind) + b" " + digest
@@ -394,7 +394,7 @@ def parsed(subject):
 
 
 def call_parse(subject, rest, made):
-    """`parse`: all that the command line comes to."""
+    """`parse`: all that the command line is parsed as."""
     arguments = parsed(subject)
     if isinstance(arguments, bytes):
         return arguments
@@ -402,7 +402,7 @@ def call_parse(subject, rest, made):
 
 
 def call_parsed_files(subject, rest, made):
-    """`parsed_files`: the further files of what the command line comes to."""
+    """`parsed_files`: the extra files of what the command line is parsed as."""
     arguments = parsed(subject)
     if isinstance(arguments, bytes):
         return arguments

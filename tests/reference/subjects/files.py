@@ -239,12 +239,12 @@ def call_put_made(subject, rest, made):
 
 
 def call_file_digest(subject, rest, made):
-    """`file_digest PATH` and `reader_digest PATH`: the digest text of what is there."""
+    """`file_digest PATH` and `reader_digest PATH`: the hex digest of what is there."""
     return text_at(subject.world.files, made.text(rest))
 
 
 def call_hash_all(subject, rest, made):
-    """`hash_all`: a line for each of `paths`, its digest text."""
+    """`hash_all`: a line for each of `paths`, its hex digest."""
     return lines(hash_all(subject.world.files, subject.paths))
 
 
@@ -275,7 +275,7 @@ def call_watched_digest(subject, rest, made):
 
 
 def call_sorted_names(subject, rest, made):
-    """`sorted_names PATH`: the names of a folder's children, in order."""
+    """`sorted_names PATH`: the names of a directory's children, in order."""
     try:
         return lines(sorted_names(subject.world.files, made.text(rest)))
     except Refused as error:
@@ -445,7 +445,7 @@ def call_entry_bytes(subject, rest, made):
 
 
 def call_entry_bytes_digest(subject, rest, made):
-    """`entry_bytes_digest`: the digest text of the entry's text."""
+    """`entry_bytes_digest`: the hex digest of the entry's text."""
     return digest_text(entry_bytes(subject.entry))
 
 

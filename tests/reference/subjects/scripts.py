@@ -28,7 +28,7 @@ class Failed(Exception):
 
 
 class Failures:
-    """Which calls of one kind fail: some pass, so many after them fail, and all others pass."""
+    """Which calls of one kind fail: some pass, then some fail, and all others pass."""
 
     def __init__(self, passing=0, failing=0):
         self.passing = passing
@@ -211,7 +211,7 @@ def surroundings_at(lines, before):
 
 
 def runs_text(runs):
-    """What is told of runs under failures."""
+    """What is said of runs under failures."""
     text = f"{runs.count} failures: {runs.seen['hits']} hits, {runs.seen['misses']} misses"
     for number in range(1, 8):
         if runs.seen[number]:
@@ -283,7 +283,7 @@ class Subject(BaseSubject):
         return True
 
     def call(self, name, rest, made):
-        """The result of the call, or its digest text."""
+        """The result of the call, or its hex digest."""
         try:
             result = super().call(name, rest, made)
         except Refused as error:

@@ -76,7 +76,7 @@ class Streams:
 
 
 def fed(feeding):
-    """A call that gives the digest text of `base` and of what it feeds."""
+    """A call that gives the hex digest of `base` and of what it feeds."""
 
     def call(subject, rest, made):
         return digests.digest_text(subject.given.base + feeding(subject, made.text(rest)))
@@ -105,7 +105,7 @@ def fed_variable_list(subject, data):
 
 
 def fed_request_variables(subject, data):
-    """The variables that stand in the key of a request."""
+    """The variables that are in the key of a request."""
     return framed_variables(subject, key.OBJECT_VARIABLES | key.INCLUDE_PATHS)
 
 
@@ -120,12 +120,12 @@ def call_read_to_end(subject, rest, made):
 
 
 def call_reader_sync(subject, rest, made):
-    """`reader_sync TEXT`: the digest text of all that is read."""
+    """`reader_sync TEXT`: the hex digest of all that is read."""
     return digests.digest_text(b"".join(subject.streams.read_all(made.text(rest))))
 
 
 def call_reader_sync_with(subject, rest, made):
-    """`reader_sync_with TEXT`: each piece and a `|`, and then the digest text."""
+    """`reader_sync_with TEXT`: each piece and a `|`, and then the hex digest."""
     pieces = subject.streams.read_all(made.text(rest))
     shown = b"".join(piece + b"|" for piece in pieces)
     return shown + digests.digest_text(b"".join(pieces))
@@ -144,7 +144,7 @@ def macros(text):
 
 
 def call_reader_sync_time_macros(subject, rest, made):
-    """`reader_sync_time_macros TEXT`: the macros, and the digest text."""
+    """`reader_sync_time_macros TEXT`: the macros, and the hex digest."""
     text = b"".join(subject.streams.read_all(made.text(rest)))
     return macros(text) + b" " + digests.digest_text(text)
 
@@ -218,7 +218,7 @@ def call_strip_count_of(subject, rest, made):
 
 
 def all_of(result):
-    """A call that gives the digest text of the results on all short texts of its letters."""
+    """A call that gives the hex digest of the results on all short texts of its letters."""
 
     def call(subject, rest, made):
         basedirs = subject.given.basedirs

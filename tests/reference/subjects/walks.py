@@ -41,7 +41,7 @@ def all_texts(pieces, count):
 
 
 def some_texts(pieces, count, state):
-    """So many texts of up to 23 pieces, which a generator of numbers chooses."""
+    """`count` texts of up to 23 pieces, which a generator of numbers chooses."""
     for _ in range(count):
         text = b""
         for _ in range(state % 24):
@@ -85,7 +85,7 @@ def line_text(text):
 
 
 def digest_of(results):
-    """The digest text of all results, each with a line feed after it."""
+    """The hex digest of all results, each with a line feed after it."""
     return digest_text(b"".join(result + b"\n" for result in results))
 
 

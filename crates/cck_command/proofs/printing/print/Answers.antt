@@ -5,7 +5,7 @@ use Rattle.std.specs.Io.KnownBytes.{Appends, Keeps}
 use Rattle.cck_command.specs.Printing.{AppendsBeginning}
 use Rattle.cck_command.proofs.printing.print.Goals as goal
 
--- all of the bytes are a beginning of them, and a flush keeps what is written
+-- all of the bytes are a prefix of them, and a flush keeps what is written
 all_kept : (old mid new : Option (List ℕ)) (bytes : List ℕ) → Appends old mid bytes → Keeps mid new → AppendsBeginning old new bytes
 all_kept old mid new bytes whole kept =
     (length bytes, subst (Appends old new) (sym (take_all (length bytes) bytes (omega arith))) (Appends-kept old mid new bytes whole kept))

@@ -8,7 +8,7 @@ use Rattle.cck_command.proofs.printing.write_bytes.Goals.{in-Ok, in-Err+else-ne}
 abbrev IsWritten : Option (List ℕ) → Option (List ℕ) → List ℕ → ℕ → Type 0
 IsWritten old new bytes written = record { within : written ≤ length bytes; written : Appends old new (take written bytes) }
 
--- one write took so many bytes of the rest
+-- one write took the first bytes of the rest
 written_more : (old mid new : Option (List ℕ)) (bytes : List ℕ) (written taken : ℕ) → IsWritten old mid bytes written
     → taken ≤ length (take (length bytes - written) (drop written bytes)) → Appends mid new (take taken (take (length bytes - written) (drop written bytes)))
     → IsWritten old new bytes (written + taken)
