@@ -143,7 +143,7 @@ fn make_call<H: HashState>(
     })
 }
 
-/// Returns the zone with a fixed offset of `seconds` seconds east of UTC, less than a day.
+/// Returns the zone with a fixed offset of `seconds` seconds east of UTC.
 ///
 /// [`Failed`] is returned for an offset that [`Offset::from_seconds`] rejects.
 pub fn zone_at(seconds: i32) -> Result<TimeZone<'static>, Failed>
