@@ -1,12 +1,12 @@
 -- Each error has its cause.
 use Rattle.std.proofs.Common.{◌≡◌, inl, inr, sym, subst, Some, None, Ok, Err}
 use Rattle.cck_path.specs.Bytes.{Bytes}
-use Rattle.cck_store.specs.Store.{Handed, Store, StoreLaws}
+use Rattle.cck_store.specs.Store.{Returned, Store, StoreLaws}
 use Rattle.cck_store.specs.declared.store.StoreError.TheVariants as store
 use Rattle.c_cache_keys.proofs.Stepped.{failed_miss}
-use Rattle.c_cache_keys.proofs.Stored.{not_refused}
+use Rattle.c_cache_keys.proofs.Stored.{not_failed}
 use Rattle.c_cache_keys.specs.Call.{Call, Fault, Refused, Why, Memory, Extra, ExtraFault, Input, InputFault, Store as StoreFails, Damaged, NoText, TextFault, Marker}
-use Rattle.c_cache_keys.specs.Hits.{Cause, RefusalsHaveCauses}
+use Rattle.c_cache_keys.specs.Hits.{Cause, ErrorsHaveCauses}
 use Rattle.c_cache_keys.specs.Keys.{preprocessor_key_of}
 use Rattle.c_cache_keys.specs.Step.{Asked, Asks, Ends, Failed, Gives, Hit, Makes, Miss, ReadsAs, Step, StopsMaking, StopsOpening, asked, gives, made, stopped, stops}
 use Rattle.c_cache_keys.specs.World.{World}
@@ -45,7 +45,7 @@ module _ {V S : Type 0} (w : World V) (st : Store S) (laws : StoreLaws st) where
   -- the cause of an error while a key is computed doesn't depend on the state of the store
   makes_cause : (c : Call V) (F : Type 0) (z s t : S) (why : Why) → (F → ⊥) → Makes w st c F s (Refused why) t → Cause w st c z t why
   makes_cause c F z s t why no_fault (stops v cause is same) = subst (Cause w st c z t) (same_why (sym is)) (making_cause c F z t v no_fault cause)
-  makes_cause c F z s t why no_fault (gives key is-plain quiet is stores) = absurd (not_refused (sym is))
+  makes_cause c F z s t why no_fault (gives key is-plain quiet is stores) = absurd (not_failed (sym is))
 
   bytes_cause : (c : Call V) (F : Type 0) (s t : S) (k x : Bytes) (why : Why) → preprocessor_key_of w c ≡ Some k → st.held s k x → ReadsAs w c F x (Failed why) → Cause w st c s t why
   bytes_cause c F s t k x Memory is-k held h = tt
@@ -59,16 +59,16 @@ module _ {V S : Type 0} (w : World V) (st : Store S) (laws : StoreLaws st) where
   bytes_cause c F s t k x TextFault is-k held h = h
   bytes_cause c F s t k x Marker is-k held h = absurd h
 
-  handed_cause : (c : Call V) (F : Type 0) (s t : S) (k : Bytes) (why : Why) (a : Handed) → preprocessor_key_of w c ≡ Some k → st.got s k a t → Gives w c F a (Failed why) → Cause w st c s t why
-  handed_cause c F s t k why (Err store.Fault) is-k got given = subst (Cause w st c s t) (sym (failed_same given)) (laws.got_error s t k store.Fault got)
-  handed_cause c F s t k why (Err store.Memory) is-k got given = subst (Cause w st c s t) (sym (failed_same given)) tt
-  handed_cause c F s t k why (Ok None) is-k got given = absurd (failed_miss given)
-  handed_cause c F s t k why (Ok (Some x)) is-k got given = bytes_cause c F s t k x why is-k (laws.got_some s t k x got) given
+  returned_cause : (c : Call V) (F : Type 0) (s t : S) (k : Bytes) (why : Why) (a : Returned) → preprocessor_key_of w c ≡ Some k → st.got s k a t → Gives w c F a (Failed why) → Cause w st c s t why
+  returned_cause c F s t k why (Err store.Fault) is-k got given = subst (Cause w st c s t) (sym (failed_same given)) (laws.got_error s t k store.Fault got)
+  returned_cause c F s t k why (Err store.Memory) is-k got given = subst (Cause w st c s t) (sym (failed_same given)) tt
+  returned_cause c F s t k why (Ok None) is-k got given = absurd (failed_miss given)
+  returned_cause c F s t k why (Ok (Some x)) is-k got given = bytes_cause c F s t k x why is-k (laws.got_some s t k x got) given
 
   ends_cause : (c : Call V) (F : Type 0) (s t mid : S) (k : Bytes) (why : Why) (o : Asked) → (F → ⊥) → preprocessor_key_of w c ≡ Some k → Asks w st c F k s o mid → Ends w st c F o mid (Refused why) t → Cause w st c s t why
-  ends_cause c F s t mid k why (Hit key) no_fault is-k asks ends = absurd (not_refused (sym ends.0))
+  ends_cause c F s t mid k why (Hit key) no_fault is-k asks ends = absurd (not_failed (sym ends.0))
   ends_cause c F s t mid k why (Failed v) no_fault is-k asks ends =
-      subst (λ z. Cause w st c s z why) (sym ends.1) (subst (Cause w st c s mid) (same_why (sym ends.0)) (handed_cause c F s mid k v asks.answer is-k asks.got asks.gives))
+      subst (λ z. Cause w st c s z why) (sym ends.1) (subst (Cause w st c s mid) (same_why (sym ends.0)) (returned_cause c F s mid k v asks.answer is-k asks.got asks.gives))
   ends_cause c F s t mid k why Miss no_fault is-k asks ends = makes_cause c F s mid t why no_fault ends
 
   cause_any : (c : Call V) (F : Type 0) (s t : S) (why : Why) → (F → ⊥) → Step w st c F s (Refused why) t → Cause w st c s t why
@@ -76,5 +76,5 @@ module _ {V S : Type 0} (w : World V) (st : Store S) (laws : StoreLaws st) where
   cause_any c F s t why no_fault (made opened not makes) = makes_cause c F s s t why no_fault makes
   cause_any c F s t why no_fault (asked opened k is-k control o mid asks ends) = ends_cause c F s t mid k why o no_fault is-k asks ends
 
-  pub refusals_have_causes : RefusalsHaveCauses w st
-  refusals_have_causes d s t why no_fault step = cause_any d.call (Fault d) s t why no_fault step
+  pub errors_have_causes : ErrorsHaveCauses w st
+  errors_have_causes d s t why no_fault step = cause_any d.call (Fault d) s t why no_fault step

@@ -9,14 +9,14 @@ use Rattle.cck_files.specs.FileMap.{FileNode, file_at, folder_at}
 use Rattle.cck_markers.specs.Marks.{Mark, Name, Refusal, Malformed}
 use Rattle.cck_path.specs.Bytes.{Bytes}
 use Rattle.cck_path.specs.Path.{Path, components, path_cmp, path_cmp_total}
-use Rattle.cck_walk.specs.Decided.{Accepts, Decided, Digests, IsRefused, Outcome, Passes, Records, Refuses, after, decided, is_known, is_passed, outcome, path_outcome, standing_outcome}
+use Rattle.cck_walk.specs.Decided.{Accepts, Decided, Digests, IsRefused, Outcome, Passes, Records, Refuses, after, decided, is_known, is_passed, outcome, path_outcome, judgement_outcome}
 use Rattle.cck_walk.specs.Decided as decision
-use Rattle.cck_walk.specs.Standing.{Standing, Folder, Regular, Bad, standing_at}
+use Rattle.cck_walk.specs.Judgement.{Judgement, Folder, Regular, Bad, judgement_at}
 use Rattle.cck_path.proofs.TestLemmas.{tied}
 use Rattle.c_cache_keys.proofs.Elements.{first_in, later_in, none_in, one_of}
 use Rattle.c_cache_keys.proofs.NameTests.{passed_for, taken_for}
 use Rattle.c_cache_keys.proofs.PathEntries.{path_itself}
-use Rattle.c_cache_keys.proofs.Standings.{IsRegular, folder_or_file, standing_bad, standing_folder, standing_regular}
+use Rattle.c_cache_keys.proofs.Judgements.{IsRegular, folder_or_file, judgement_bad, judgement_folder, judgement_regular}
 use Rattle.c_cache_keys.specs.Call.{Call}
 use Rattle.c_cache_keys.specs.Walk.{MarksDecide, IsGood, IsLooked, Verdict, input_path, path_of}
 use Rattle.c_cache_keys.specs.Walked.{verdict_of, walk_context}
@@ -41,14 +41,14 @@ module _ {V : Type 0} (w : World V) (c : Call V) where
     refuses : IsLooked w c name system → (IsGood w c (path_of c name) → ⊥) → o ≡ Refuses → Does held name system o
 
   module _ (held : Digests) (name : Bytes) (system : Bool) where
-    by_standing : IsLooked w c name system → get held (path_of c name) ≡ None → (s : Standing) → standing_at (setting w c) c.files (path_of c name) ≡ s
-        → (o : Outcome) → o ≡ standing_outcome (path_of c name) s → Does held name system o
-    by_standing looked none Folder stands o is = of_folder (standing_folder w c (path_of c name) stands) is
-    by_standing looked none (Regular digest) stands o is = records digest looked none (standing_regular w c (path_of c name) digest stands) is
-    by_standing looked none Bad stands o is = refuses looked (standing_bad w c (path_of c name) stands) is
+    by_judgement : IsLooked w c name system → get held (path_of c name) ≡ None → (s : Judgement) → judgement_at (setting w c) c.files (path_of c name) ≡ s
+        → (o : Outcome) → o ≡ judgement_outcome (path_of c name) s → Does held name system o
+    by_judgement looked none Folder stands o is = of_folder (judgement_folder w c (path_of c name) stands) is
+    by_judgement looked none (Regular digest) stands o is = records digest looked none (judgement_regular w c (path_of c name) digest stands) is
+    by_judgement looked none Bad stands o is = refuses looked (judgement_bad w c (path_of c name) stands) is
 
     by_path : (b : Bool) → is_known (walk_context w c) held (path_of c name) ≡ b → is_passed w.config.skip_system_headers name system ≡ false
-        → (o : Outcome) → o ≡ (if b then Passes else standing_outcome (path_of c name) (standing_at (setting w c) c.files (path_of c name))) → Does held name system o
+        → (o : Outcome) → o ≡ (if b then Passes else judgement_outcome (path_of c name) (judgement_at (setting w c) c.files (path_of c name))) → Does held name system o
     unfolding is_known
     by_path true is passed o does =
         let p = path_of c name in
@@ -60,14 +60,14 @@ module _ {V : Type 0} (w : World V) (c : Call V) where
         let p = path_of c name in
         let parts = or_parts (is_some (get held p)) (eq_by_cmp path_cmp p (components (input_path c))) is in
         let (some, angled, wanted) = taken_for w.config.skip_system_headers name system passed in
-        by_standing
+        by_judgement
         (record {
           some = some;
           not_angled = angled;
           wanted = wanted;
           other = λ e. false≢true (sym parts.1 ∙ ap (eq_by_cmp path_cmp p) (sym e) ∙ path_itself p);
         })
-        (is_missing (get held p) parts.0) (standing_at (setting w c) c.files p) refl o does
+        (is_missing (get held p) parts.0) (judgement_at (setting w c) c.files p) refl o does
 
     by_test : (b : Bool) → is_passed w.config.skip_system_headers name system ≡ b
         → (o : Outcome) → o ≡ (if b then Passes else path_outcome (walk_context w c) held (path_of c name)) → Does held name system o
@@ -149,8 +149,8 @@ module _ {V : Type 0} (w : World V) (c : Call V) where
     pub from : (p : Path) (digest : Bytes) → get digests p ≡ Some digest → (get held p ≡ Some digest) ⊎ (IsMeant marks p × IsRegular w c p digest)
     pub all : (p : Path) (n : FileNode) → IsMeant marks p → file_at c.files p ≡ Ok n → (digest : Bytes) × (get digests p ≡ Some digest)
 
-  not_refused : (digests : Digests) → IsRefused ≡ Accepts digests → ⊥
-  not_refused digests h = cc
+  not_failed : (digests : Digests) → IsRefused ≡ Accepts digests → ⊥
+  not_failed digests h = cc
 
   not_malformed : (digests : Digests) → decision.Errs ≡ Accepts digests → ⊥
   not_malformed digests h = cc
@@ -225,7 +225,7 @@ module _ {V : Type 0} (w : World V) (c : Call V) where
         passes (λ n looked file. absurd (folder_or_file w c (path_of c name) n at file)) (others held (ap (λ e. decided (walk_context w c) (after held e) marks) (sym is) ∙ h))
     name_gathers others o (records digest looked none one is) h =
         adds digest looked none one (others (insert held (path_of c name) digest) (ap (λ e. decided (walk_context w c) (after held e) marks) (sym is) ∙ h))
-    name_gathers others o (refuses looked bad is) h = absurd (not_refused digests (ap (λ e. decided (walk_context w c) (after held e) marks) (sym is) ∙ h))
+    name_gathers others o (refuses looked bad is) h = absurd (not_failed digests (ap (λ e. decided (walk_context w c) (after held e) marks) (sym is) ∙ h))
 
   pub gathers : (marks : List Mark) (held digests : Digests) → decided (walk_context w c) (Some held) marks ≡ Accepts digests → AreGathered marks held digests
   unfolding decided
@@ -236,7 +236,7 @@ module _ {V : Type 0} (w : World V) (c : Call V) where
         from = λ p digest at. inl (ap (λ m. get m p) same ∙ at);
         all = λ p n meant file. absurd (none_in _ meant.2);
       }
-  gathers (Refusal ∷ marks) held digests h = absurd (not_refused digests h)
+  gathers (Refusal ∷ marks) held digests h = absurd (not_failed digests h)
   gathers (Malformed ∷ marks) held digests h = absurd (not_malformed digests h)
   gathers (Name name system ∷ marks) held digests h =
       name_gathers held digests name system marks (λ more. gathers marks more digests) (outcome (walk_context w c) held name system) (happens held name system) h

@@ -17,7 +17,7 @@ use Rattle.cck_path.specs.Path.{Path, components}
 use Rattle.cck_path.specs.Text.{path_text}
 use Rattle.c_cache_keys.proofs.Elements.{each_passes, only_one}
 use Rattle.c_cache_keys.proofs.Includes.{components-meant, entries-added, gathered_each, include_here, match_known, same_ok}
-use Rattle.c_cache_keys.proofs.KeySame.{cwd_told, input_known, key_known, material_same, path_told, plain_same, used_prints}
+use Rattle.c_cache_keys.proofs.KeySame.{cwd_is_determined, input_known, key_known, material_same, path_is_determined, plain_same, used_prints}
 use Rattle.c_cache_keys.proofs.RecordedSame.{recorded_same}
 use Rattle.c_cache_keys.specs.Call.{Call}
 use Rattle.c_cache_keys.specs.Keys.{input_recorded, key_material, plain_key, preprocessor_key_of, printed, request_parts, uses_cache}
@@ -60,7 +60,7 @@ module _ {V : Type 0} (w : World V) (size : HasSize w.hash) (calls : List (Call 
   same_cwd k is-c is-d parts = by w.config.hash_working_directory refl
     where
       by : (b : Bool) → w.config.hash_working_directory ≡ b → c.request.cwd ≡ d.request.cwd
-      by true on = cwd_told w c.request d.request (input_path c) (input_path d) parts on
+      by true on = cwd_is_determined w c.request d.request (input_path c) (input_path d) parts on
       by false off = ap (λ q. q.cwd) (premises.requests off c d k in_first in_second is-c is-d)
 
   -- what follows from one preprocessor key
@@ -84,7 +84,7 @@ module _ {V : Type 0} (w : World V) (size : HasSize w.hash) (calls : List (Call 
   input_same r agree digest-c digest-d =
       let (n, file-n, rec-n) = input_known w c r digest-c in
       let (o, file-o, rec-o) = input_known w d r digest-d in
-      go n o file-n rec-n (ap (λ path. file_at d.files (components path)) (path_told w c.request d.request (input_path c) (input_path d) agree.parts) ∙ file-o) rec-o
+      go n o file-n rec-n (ap (λ path. file_at d.files (components path)) (path_is_determined w c.request d.request (input_path c) (input_path d) agree.parts) ∙ file-o) rec-o
     where
       go : (n o : FileNode) → file_at c.files (components (input_path c)) ≡ Ok n → recorded (setting w c) n ≡ Some r → file_at d.files (components (input_path c)) ≡ Ok o → recorded (setting w d) o ≡ Some r → InputSame
       go n o file-n rec-n file-o rec-o =

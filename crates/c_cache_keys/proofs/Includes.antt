@@ -15,7 +15,7 @@ use Rattle.cck_entry.proofs.LawLemmas.{added_to_all_or_nothing}
 use Rattle.cck_entry.specs.Entry.{added, is_over}
 use Rattle.cck_files.proofs.FileLemmas.{kind_of_file}
 use Rattle.cck_files.specs.FileMap.{FileMap, FileNode, contents_of_kind, file_at, file_in, metadata_at, metadata_in, metadata_of}
-use Rattle.cck_include.specs.Gathered.{Digested, all_of, gathered, include_at, include_of, include_said}
+use Rattle.cck_include.specs.Gathered.{Digested, all_of, gathered, include_at, include_of, include_of_metadata}
 use Rattle.cck_include.specs.Include.{Include}
 use Rattle.cck_include.specs.Matching.{file_matches, is_digest, matches, times_accept}
 use Rattle.cck_include.specs.Recorded.{recorded}
@@ -42,9 +42,9 @@ components-meant cwd name =
     ap (λ p. components (path_text (normal p))) (sym (components-join cwd name)) ∙ components-normal (join_path cwd name) ∙ ap normal (components-join cwd name)
 
 -- the metadata of a regular file
-said_of : (o : Option FileNode) (n : FileNode) → file_in o ≡ Ok n → metadata_in o ≡ Ok (metadata_of n) × (n.kind ≡ File)
-said_of None n e = absurd cc
-said_of (Some m) n e = let (same, kind) = kind_of_file m n m.kind refl e in (ap (λ v. Ok (metadata_of v)) same, kind)
+days_and_seconds_of : (o : Option FileNode) (n : FileNode) → file_in o ≡ Ok n → metadata_in o ≡ Ok (metadata_of n) × (n.kind ≡ File)
+days_and_seconds_of None n e = absurd cc
+days_and_seconds_of (Some m) n e = let (same, kind) = kind_of_file m n m.kind refl e in (ap (λ v. Ok (metadata_of v)) same, kind)
 
 size_of : (n : FileNode) (k : FileKind) → n.kind ≡ k → k ≡ File → (metadata_of n).len ≡ length n.contents
 size_of n File is e = ap (λ k. length (contents_of_kind k n.contents)) is
@@ -56,8 +56,8 @@ pub include_here : (files : FileMap) (moment : Moment) (d : Digested) (p : Path)
     → (include_at files moment d ≡ Some (include_of moment d (metadata_of n))) × ((include_of moment d (metadata_of n)).size ≡ length n.contents)
 unfolding file_at metadata_at
 include_here files moment d p n is file =
-    let (said, kind) = said_of (get files.nodes p) n file in
-    (ap (λ q. include_said moment d (metadata_in (get files.nodes q))) is ∙ ap (include_said moment d) said, size_of n n.kind refl kind)
+    let (said, kind) = days_and_seconds_of (get files.nodes p) n file in
+    (ap (λ q. include_of_metadata moment d (metadata_in (get files.nodes q))) is ∙ ap (include_of_metadata moment d) said, size_of n n.kind refl kind)
 
 -- ---- lists of what is recorded
 

@@ -34,9 +34,9 @@ both_some : {A B C : Type 0} (f : A → B → C) (o : Option A) (p : Option B) (
 both_some f None p c e = absurd (none-some _ e)
 both_some f (Some a) p c e = let (b, is, same) = mapped_some (f a) p c e in (a, b, refl, is, same)
 
-told_some : {X : Type 0} (r : Result X FileError) (x : X) → told r ≡ Some x → r ≡ Ok x
-told_some (Ok y) x e = ap (λ v. Ok v) (same_Some y x e)
-told_some (Err v) x e = absurd (none-some _ e)
+ok_of_some : {X : Type 0} (r : Result X FileError) (x : X) → told r ≡ Some x → r ≡ Ok x
+ok_of_some (Ok y) x e = ap (λ v. Ok v) (same_Some y x e)
+ok_of_some (Err v) x e = absurd (none-some _ e)
 
 of_both_same : {A B C : Type 0} (f g : A → B → C) → ((a : A) (b : B) → f a b ≡ g a b) → (o : Option A) (p : Option B) → of_both f o p ≡ of_both g o p
 of_both_same f g same None p = refl
@@ -91,7 +91,7 @@ module _ {V : Type 0} (w : World V) where
   unfolding input_recorded input_file
   input_known c r e =
       let (n, is, digest) = from_and_then (recorded (setting w c)) (input_file w c) r e in
-      (n, told_some (file_at c.files (components (input_path c))) n is, digest)
+      (n, ok_of_some (file_at c.files (components (input_path c))) n is, digest)
 
   -- where a cache is used, a preprocessor is needed
   pub used_prints : (q : Request V) → uses_cache w q ≡ true → is_preprocessed q ≡ true
@@ -110,20 +110,20 @@ module _ {V : Type 0} (w : World V) where
       (used, parts, is-xs ∙ ap Some extra ∙ sym is-ys, λ none. (none-some _ (sym none ∙ is-xs)), r, is-r, is-s ∙ ap Some (sym recorded))
 
   -- equal parts are of one input path,
-  pub path_told : (p q : Request V) (i j : Bytes) → request_parts w p i ≡ request_parts w q j → i ≡ j
+  pub path_is_determined : (p q : Request V) (i j : Bytes) → request_parts w p i ≡ request_parts w q j → i ≡ j
   unfolding request_parts
-  path_told p q i j same = ap (λ parts. parts.input_file) same
+  path_is_determined p q i j same = ap (λ parts. parts.input_file) same
 
   -- and of one working directory, where it is part of the key
-  pub cwd_told : (p q : Request V) (i j : Bytes) → request_parts w p i ≡ request_parts w q j → w.config.hash_working_directory ≡ true → p.cwd ≡ q.cwd
+  pub cwd_is_determined : (p q : Request V) (i j : Bytes) → request_parts w p i ≡ request_parts w q j → w.config.hash_working_directory ≡ true → p.cwd ≡ q.cwd
   unfolding request_parts
-  cwd_told p q i j same on =
+  cwd_is_determined p q i j same on =
       same_Some p.cwd q.cwd
       (ap (λ b. cond b (Some p.cwd) None) (sym on) ∙ ap (λ parts. parts.directory) same ∙ ap (λ b. cond b (Some q.cwd) None) on)
 
-  needs_told : (p q : Request V) (i j : Bytes) → request_parts w p i ≡ request_parts w q j → is_preprocessed p ≡ is_preprocessed q
+  needs_is_determined : (p q : Request V) (i j : Bytes) → request_parts w p i ≡ request_parts w q j → is_preprocessed p ≡ is_preprocessed q
   unfolding request_parts
-  needs_told p q i j same = ap (λ parts. is_preprocessed_first parts.language) same
+  needs_is_determined p q i j same = ap (λ parts. is_preprocessed_first parts.language) same
 
   -- the parts that are hashed for the plain key
   abbrev parts_of_key : List Bytes → Bytes → RequestParts → KeyParts
@@ -162,7 +162,7 @@ module _ {V : Type 0} (w : World V) where
   unfolding plain_key
   plain_same c d text needs agree is is' =
       let here : text_of w c ≡ Some text = text_printed c text needs is in
-      let there : text_of w d ≡ Some text = text_printed d text (sym (needs_told c.request d.request (input_path c) (input_path d) agree.parts) ∙ needs) is' in
+      let there : text_of w d ≡ Some text = text_printed d text (sym (needs_is_determined c.request d.request (input_path c) (input_path d) agree.parts) ∙ needs) is' in
       ap₂ (of_both (λ es t. object_key w.hash (params w c.request es t))) agree.extra (here ∙ sym there)
       ∙ of_both_same (λ es t. object_key w.hash (params w c.request es t)) (λ es t. object_key w.hash (params w d.request es t))
       (λ es t. same_key c d es t agree.parts) (extra_texts w d) (text_of w d)

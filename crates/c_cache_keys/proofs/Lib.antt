@@ -20,7 +20,7 @@ pub mod ReasonExamples
 pub mod Reasons
 pub mod RecordedSame
 pub mod Runs
-pub mod Standings
+pub mod Judgements
 pub mod Stepped
 pub mod Stored
 pub mod TimeExamples

@@ -47,7 +47,7 @@ module _ (c : Context) where
       before = [];
       name = codes "missing.h";
       is_system = false;
-      behind = [];
+      following = [];
       marks = missing_header_marks;
       held = empty;
       undecided = refl;

@@ -10,7 +10,7 @@ use Rattle.std.proofs.lemmas.Option.{same_Some}
 use Rattle.cck_compiler.specs.Seen.{IsPrinted}
 use Rattle.cck_digest.specs.declared.error.FileError.{FileError}
 use Rattle.cck_digest.specs.declared.error.FileError.TheVariants as file
-use Rattle.cck_files.specs.Calls.{IsRefusalOrMemory}
+use Rattle.cck_files.specs.Calls.{IsErrorOrMemory}
 use Rattle.cck_files.specs.FileMap.{FileNode, contents_at, file_at}
 use Rattle.cck_include.specs.Gathered.{Digested, all_of, gathered, include_at}
 use Rattle.cck_include.specs.Include.{Include}
@@ -35,7 +35,7 @@ use Rattle.c_cache_keys.proofs.Opened.{some_none}
 use Rattle.c_cache_keys.specs.Call.{Call, Refused, Memory}
 use Rattle.c_cache_keys.specs.Hasher.{IsPrintedFor, IsPut, made_of}
 use Rattle.c_cache_keys.specs.Keys.{extra_texts, input_file, is_preprocessed, key_material, params, plain_key, preprocessor_key_of, printed, text_of, told, uses_cache}
-use Rattle.c_cache_keys.specs.Refusals.{input_refusal, text_refusal}
+use Rattle.c_cache_keys.specs.Refusals.{input_error, text_error}
 use Rattle.c_cache_keys.specs.Seen.{why_of}
 use Rattle.c_cache_keys.specs.Step.{AreOwnIncludes, Makes, NotErring, NothingNew, StopsMaking, gives, stops}
 use Rattle.c_cache_keys.specs.Walk.{Accepted, AreRecorded, MarksDecide, Errs, IsNamed, IsRecorded, NotAccepted, Verdict, Walk, input_path}
@@ -149,22 +149,22 @@ module _ {V S : Type 0} (w : World V) (st : Store S) (c : Call V) (F : Type 0) w
       finished s r (object_key w.hash (params w c.request xs contents)) (is_plain xs contents extra (no_preprocessor contents n needs (ap told file) same))
       (quiet_without none) (inr (nothing_new none)) is unless
 
-  pub stop_input : (s : S) (e : FileError) → is_preprocessed c.request ≡ false → IsRefusalOrMemory (contents_at c.files (components (input_path c))) F e
-      → Makes w st c F s (made_of (Err (input_refusal e))) s
+  pub stop_input : (s : S) (e : FileError) → is_preprocessed c.request ≡ false → IsErrorOrMemory (contents_at c.files (components (input_path c))) F e
+      → Makes w st c F s (made_of (Err (input_error e))) s
   unfolding contents_at input_file file_at
-  stop_input s e needs h = stops (why_of (input_refusal e)) (why e h) refl refl
+  stop_input s e needs h = stops (why_of (input_error e)) (why e h) refl refl
     where
       no_file : (e : FileError) → contents_at c.files (components (input_path c)) ≡ Err e → input_file w c ≡ None
       no_file e is = ap told (found_without_contents (get c.files.nodes (components (input_path c))) e is)
 
-      why : (e : FileError) → IsRefusalOrMemory (contents_at c.files (components (input_path c))) F e → StopsMaking w c F (why_of (input_refusal e))
+      why : (e : FileError) → IsErrorOrMemory (contents_at c.files (components (input_path c))) F e → StopsMaking w c F (why_of (input_error e))
       why file.NotFound h = (needs, no_file file.NotFound h)
       why file.OtherKind h = (needs, no_file file.OtherKind h)
       why file.Fault h = (needs, h)
       why file.Memory h = tt
 
   pub stop_text : (s : S) (e : PreprocessError) (prints : Option Bytes) → is_preprocessed c.request ≡ true → prints ≡ printed w c → IsPrinted prints F (Err e)
-      → Makes w st c F s (made_of (Err (text_refusal e))) s
+      → Makes w st c F s (made_of (Err (text_error e))) s
   stop_text s text.Fault prints needs same h = stops _ (needs, h) refl refl
   stop_text s text.Failed prints needs same h = stops _ (needs, sym same ∙ h) refl refl
   stop_text s text.Memory prints needs same h = stop_memory s key.Memory refl

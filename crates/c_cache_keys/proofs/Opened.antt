@@ -9,13 +9,13 @@ use Rattle.cck_digest.specs.declared.error.FileError.{FileError}
 use Rattle.cck_digest.specs.declared.error.FileError.TheVariants as file
 use Rattle.cck_digest.specs.declared.error.UtilError.{UtilError}
 use Rattle.cck_digest.specs.declared.error.UtilError.TheVariants as util
-use Rattle.cck_file_digest.proofs.MaterialLemmas.{refused_told}
-use Rattle.cck_file_digest.specs.FileDigest.{IsFirstRefusal, paths_of, text_and, text_at, texts}
+use Rattle.cck_file_digest.proofs.MaterialLemmas.{no_material_of_error}
+use Rattle.cck_file_digest.specs.FileDigest.{IsFirstError, paths_of, text_and, text_at, texts}
 use Rattle.cck_file_digest.specs.FolderText.{digest_material}
-use Rattle.cck_file_digest.specs.Refusals.{IsDigestRefusal}
+use Rattle.cck_file_digest.specs.Refusals.{IsDigestError}
 use Rattle.cck_files.specs.FileMap.{FileMap, FileNode, file_at}
 use Rattle.cck_include.specs.Recorded.{recorded}
-use Rattle.cck_include.specs.Refusal.{IsIoRefusal}
+use Rattle.cck_include.specs.Refusal.{IsIoError}
 use Rattle.cck_key_error.specs.declared.key_error.KeyError.{KeyError}
 use Rattle.cck_key_error.specs.declared.key_error.KeyError.TheVariants as key
 use Rattle.cck_path.specs.Bytes.{Bytes, lists_of}
@@ -24,9 +24,9 @@ use Rattle.cck_preprocessor_key.specs.PreprocessorKey.{preprocessor_material}
 use Rattle.cck_time.specs.declared.error.Error.{Error}
 use Rattle.cck_time.specs.declared.error.Error.TheVariants as entry
 use Rattle.c_cache_keys.specs.Call.{Call}
-use Rattle.c_cache_keys.specs.Hasher.{IsInputRefusal, IsKeyOfInput, IsOpening}
+use Rattle.c_cache_keys.specs.Hasher.{IsInputError, IsKeyOfInput, IsOpening}
 use Rattle.c_cache_keys.specs.Keys.{extra_texts, input_file, input_recorded, is_direct, is_preprocessed, key_material, preprocessor_key_of, request_parts, told, uses_cache}
-use Rattle.c_cache_keys.specs.Refusals.{extra_refusal, key_refusal}
+use Rattle.c_cache_keys.specs.Refusals.{extra_error, key_error_of}
 use Rattle.c_cache_keys.specs.Seen.{why_of}
 use Rattle.c_cache_keys.specs.Step.{StopsOpening}
 use Rattle.c_cache_keys.specs.Walk.{input_path}
@@ -67,14 +67,14 @@ module _ (hash : Bytes → Bytes) (files : FileMap) (F : Type 0) where
       by (Some t) = refl
 
 module _ {V : Type 0} (w : World V) (c : Call V) (F : Type 0) where
-  stop_extra : (e : UtilError) (p : Path) → (text_at w.hash c.files p ≡ None → extra_texts w c ≡ None) → IsDigestRefusal c.files p F e → StopsOpening w c F (why_of (extra_refusal e))
+  stop_extra : (e : UtilError) (p : Path) → (text_at w.hash c.files p ≡ None → extra_texts w c ≡ None) → IsDigestError c.files p F e → StopsOpening w c F (why_of (extra_error e))
   stop_extra util.Memory p none h = tt
   stop_extra util.Read p none h = absurd h
-  stop_extra (util.File file.NotFound) p none h = none (no_text w.hash c.files F p (refused_told c.files p (util.File file.NotFound) (λ same. cc) h))
-  stop_extra (util.File file.OtherKind) p none h = none (no_text w.hash c.files F p (refused_told c.files p (util.File file.OtherKind) (λ same. cc) h))
+  stop_extra (util.File file.NotFound) p none h = none (no_text w.hash c.files F p (no_material_of_error c.files p (util.File file.NotFound) (λ same. cc) h))
+  stop_extra (util.File file.OtherKind) p none h = none (no_text w.hash c.files F p (no_material_of_error c.files p (util.File file.OtherKind) (λ same. cc) h))
   stop_extra (util.File file.Fault) p none h = h
   stop_extra (util.File file.Memory) p none h = absurd h
-  stop_extra util.TooDeep p none h = none (no_text w.hash c.files F p (refused_told c.files p util.TooDeep (λ same. cc) h))
+  stop_extra util.TooDeep p none h = none (no_text w.hash c.files F p (no_material_of_error c.files p util.TooDeep (λ same. cc) h))
   stop_extra util.TooLong p none h = absurd h
   stop_extra util.Write p none h = absurd h
   stop_extra util.IncompleteEscape p none h = absurd h
@@ -82,9 +82,9 @@ module _ {V : Type 0} (w : World V) (c : Call V) (F : Type 0) where
   stop_extra util.IncompleteHex p none h = absurd h
   stop_extra util.InvalidHex p none h = absurd h
 
-  pub extra_refused : (e : UtilError) → IsFirstRefusal w.hash c.files (map components c.request.arguments.extra_hash_files) F e → StopsOpening w c F (why_of (extra_refusal e))
+  pub extra_failed : (e : UtilError) → IsFirstError w.hash c.files (map components c.request.arguments.extra_hash_files) F e → StopsOpening w c F (why_of (extra_error e))
   unfolding extra_texts
-  extra_refused e r =
+  extra_failed e r =
       stop_extra e (slice_index_or (map components c.request.arguments.extra_hash_files) r.at [])
       (texts_none w.hash c.files F (map components c.request.arguments.extra_hash_files) r.at r.within) r.cause
 
@@ -96,26 +96,26 @@ module _ {V : Type 0} (w : World V) (c : Call V) (F : Type 0) where
   key_of_input xs k (Ok n) is h = (n, ap told (sym is), h)
   key_of_input xs k (Err e) is h = absurd h
 
-  pub input_refused : (e : Error) → IsIoRefusal (file_at c.files (components (input_path c))) F e → IsInputRefusal w c F (key_refusal e)
-  input_refused entry.Memory h = tt
-  input_refused (entry.Io (util.File e)) h = h
-  input_refused (entry.Io util.Memory) h = absurd h
-  input_refused (entry.Io util.Read) h = absurd h
-  input_refused (entry.Io util.TooDeep) h = absurd h
-  input_refused (entry.Io util.TooLong) h = absurd h
-  input_refused (entry.Io util.Write) h = absurd h
-  input_refused (entry.Io util.IncompleteEscape) h = absurd h
-  input_refused (entry.Io util.InvalidEscape) h = absurd h
-  input_refused (entry.Io util.IncompleteHex) h = absurd h
-  input_refused (entry.Io util.InvalidHex) h = absurd h
-  input_refused entry.Deserialization h = absurd h
-  input_refused (entry.UnknownFormat byte) h = absurd h
+  pub input_failed : (e : Error) → IsIoError (file_at c.files (components (input_path c))) F e → IsInputError w c F (key_error_of e)
+  input_failed entry.Memory h = tt
+  input_failed (entry.Io (util.File e)) h = h
+  input_failed (entry.Io util.Memory) h = absurd h
+  input_failed (entry.Io util.Read) h = absurd h
+  input_failed (entry.Io util.TooDeep) h = absurd h
+  input_failed (entry.Io util.TooLong) h = absurd h
+  input_failed (entry.Io util.Write) h = absurd h
+  input_failed (entry.Io util.IncompleteEscape) h = absurd h
+  input_failed (entry.Io util.InvalidEscape) h = absurd h
+  input_failed (entry.Io util.IncompleteHex) h = absurd h
+  input_failed (entry.Io util.InvalidHex) h = absurd h
+  input_failed entry.Deserialization h = absurd h
+  input_failed (entry.UnknownFormat byte) h = absurd h
 
   no_input : (e : FileError) → file_at c.files (components (input_path c)) ≡ Err e → input_file w c ≡ None
   unfolding input_file
   no_input e is = ap told is
 
-  pub stop_input : (e : KeyError) (xs : List Bytes) → uses_cache w c.request ≡ true → extra_texts w c ≡ Some xs → IsInputRefusal w c F e → StopsOpening w c F (why_of e)
+  pub stop_input : (e : KeyError) (xs : List Bytes) → uses_cache w c.request ≡ true → extra_texts w c ≡ Some xs → IsInputError w c F e → StopsOpening w c F (why_of e)
   stop_input key.Memory xs used extra h = tt
   stop_input (key.Extra e) xs used extra h = absurd h
   stop_input (key.Input (util.File file.NotFound)) xs used extra h = (some_none extra, used, no_input file.NotFound h)

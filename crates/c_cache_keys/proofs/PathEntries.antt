@@ -27,13 +27,13 @@ module _ {X : Type 0} where
       subst (λ f. Contains (e ∷ es) f) (λ i. (path i, value i)) (first_in e es)
   found_or_later p x e es false is rest h = later_in e (p, x) es (rest h)
 
-  found_stands : (p : Path) (x : X) (es : List (Path × X)) → find path_cmp p es ≡ Some x → Contains es (p, x)
-  found_stands p x [] h = absurd (none-some _ h)
-  found_stands p x (e ∷ es) h = found_or_later p x e es (eq_by_cmp path_cmp p e.0) refl (found_stands p x es) h
+  found_exists : (p : Path) (x : X) (es : List (Path × X)) → find path_cmp p es ≡ Some x → Contains es (p, x)
+  found_exists p x [] h = absurd (none-some _ h)
+  found_exists p x (e ∷ es) h = found_or_later p x e es (eq_by_cmp path_cmp p e.0) refl (found_exists p x es) h
 
   -- a path with a value is among the entries
   pub entry_of : (m : FinMap path_cmp X) (p : Path) (x : X) → get m p ≡ Some x → Contains (entries m) (p, x)
-  entry_of m p x h = found_stands p x (entries m) (sym (get-entries m p) ∙ h)
+  entry_of m p x h = found_exists p x (entries m) (sym (get-entries m p) ∙ h)
 
   below : (p : Path) (es : List (Path × X)) → T (below_all path_cmp p es) → (e : Path × X) → Contains es e → path_cmp p e.0 ≡ Less
   below p [] h e at = absurd (none_in e at)
@@ -43,19 +43,19 @@ module _ {X : Type 0} where
         | inr more ↦ below p es (T_parts (is_lt (path_cmp p f.0)) (below_all path_cmp p es) h).1 e more
       ]
 
-  stands_found : (e : Path × X) (es : List (Path × X)) → T (is_sorted path_cmp es) → Contains es e → find path_cmp e.0 es ≡ Some e.1
-  stands_found e [] h at = absurd (none_in e at)
-  stands_found e (f ∷ es) h at =
+  exists_found : (e : Path × X) (es : List (Path × X)) → T (is_sorted path_cmp es) → Contains es e → find path_cmp e.0 es ≡ Some e.1
+  exists_found e [] h at = absurd (none_in e at)
+  exists_found e (f ∷ es) h at =
       elim (one_of f e es at) [
         | inl is ↦ (let own : f ≡ e = is in subst (λ (g : Path × X). find path_cmp g.0 (f ∷ es) ≡ Some g.1) own (ap (λ b. cond b (Some f.1) (find path_cmp f.0 es)) (path_itself f.0)))
         | inr more ↦
             ap (λ b. cond b (Some f.1) (find path_cmp e.0 es)) (higher f.0 e.0 (below f.0 es (T_parts (below_all path_cmp f.0 es) (is_sorted path_cmp es) h).0 e more))
-            ∙ stands_found e es (T_parts (below_all path_cmp f.0 es) (is_sorted path_cmp es) h).1 more
+            ∙ exists_found e es (T_parts (below_all path_cmp f.0 es) (is_sorted path_cmp es) h).1 more
       ]
 
   -- an entry's path has its value
   pub of_entry : (m : FinMap path_cmp X) (e : Path × X) → Contains (entries m) e → get m e.0 ≡ Some e.1
-  of_entry m e at = get-entries m e.0 ∙ stands_found e (entries m) (entries_sorted m) at
+  of_entry m e at = get-entries m e.0 ∙ exists_found e (entries m) (entries_sorted m) at
 
   -- each element of the resulting list comes from an entry
   pub made_from : {Y : Type 0} (f : Path × X → Y) (es : List (Path × X)) (y : Y) → Contains (map f es) y → (e : Path × X) × Contains es e × (f e ≡ y)

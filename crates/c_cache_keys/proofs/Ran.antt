@@ -8,7 +8,7 @@ use Rattle.cck_files.specs.FileMap.{FileMap}
 use Rattle.cck_files.proofs.CallsLemmas.{keeps_itself}
 use Rattle.cck_key_error.specs.declared.key_error.KeyError.{KeyError}
 use Rattle.cck_store.specs.Store.{Store}
-use Rattle.c_cache_keys.specs.Calls.{AreAnswered, IsAfter, IsAnswered, done_all}
+use Rattle.c_cache_keys.specs.Calls.{AreReturned, IsAfter, IsReturned, done_all}
 use Rattle.c_cache_keys.specs.Seen.{answer_of}
 use Rattle.c_cache_keys.specs.Step.{Run}
 use Rattle.c_cache_keys.specs.World.{World}
@@ -18,43 +18,43 @@ use Rattle.c_cache_keys.specs.declared.calls.Call.{Call}
 module _ {I F V : Type 0} (value : I → V) (file_map : F → FileMap) (faults : F → ℕ) where
   module _ {S : Type 0} (w : World V) (st : Store S) where
     -- one more call was made
-    pub answered_more : (i : ℕ) (olds news : List (Call I F)) (rs : List (Result HashResult KeyError)) (v : Call I F) (f : F) (r : Result HashResult KeyError) (s mid t : S)
-        → i < length olds → drop i news ≡ drop i olds → AreAnswered value file_map faults w st s (take i olds) (take i news) rs mid
-        → IsAnswered value file_map faults w st mid (get_or news i v) (record (get_or news i v) { files = f }) r t
-        → AreAnswered value file_map faults w st s (take (suc i) olds) (take (suc i) (set news i (record (get_or news i v) { files = f }))) (rs ++ r ∷ []) t
-    answered_more zero [] news rs v f r s mid t l same made next = absurd (omega (l, arith))
-    answered_more zero (o ∷ olds) [] rs v f r s mid t l same made next = absurd cc
-    answered_more zero (o ∷ olds) (n ∷ news) (x ∷ rs) v f r s mid t l same made next = absurd made
-    answered_more zero (o ∷ olds) (n ∷ news) [] v f r s mid t l same made next =
+    pub returned_more : (i : ℕ) (olds news : List (Call I F)) (rs : List (Result HashResult KeyError)) (v : Call I F) (f : F) (r : Result HashResult KeyError) (s mid t : S)
+        → i < length olds → drop i news ≡ drop i olds → AreReturned value file_map faults w st s (take i olds) (take i news) rs mid
+        → IsReturned value file_map faults w st mid (get_or news i v) (record (get_or news i v) { files = f }) r t
+        → AreReturned value file_map faults w st s (take (suc i) olds) (take (suc i) (set news i (record (get_or news i v) { files = f }))) (rs ++ r ∷ []) t
+    returned_more zero [] news rs v f r s mid t l same made next = absurd (omega (l, arith))
+    returned_more zero (o ∷ olds) [] rs v f r s mid t l same made next = absurd cc
+    returned_more zero (o ∷ olds) (n ∷ news) (x ∷ rs) v f r s mid t l same made next = absurd made
+    returned_more zero (o ∷ olds) (n ∷ news) [] v f r s mid t l same made next =
         let first : n ≡ o = cc in
-        (t, subst (λ b. IsAnswered value file_map faults w st s b (record n { files = f }) r t) first (subst (λ m. IsAnswered value file_map faults w st m n (record n { files = f }) r t) made next), refl)
-    answered_more (suc i) [] news rs v f r s mid t l same made next = absurd (omega (l, arith))
-    answered_more (suc i) (o ∷ olds) [] rs v f r s mid t l same made next = absurd made
-    answered_more (suc i) (o ∷ olds) (n ∷ news) [] v f r s mid t l same made next = absurd made
-    answered_more (suc i) (o ∷ olds) (n ∷ news) (x ∷ rs) v f r s mid t l same (m, first, rest) next =
-        (m, first, answered_more i olds news rs v f r m mid t (omega (l, arith)) same rest next)
+        (t, subst (λ b. IsReturned value file_map faults w st s b (record n { files = f }) r t) first (subst (λ m. IsReturned value file_map faults w st m n (record n { files = f }) r t) made next), refl)
+    returned_more (suc i) [] news rs v f r s mid t l same made next = absurd (omega (l, arith))
+    returned_more (suc i) (o ∷ olds) [] rs v f r s mid t l same made next = absurd made
+    returned_more (suc i) (o ∷ olds) (n ∷ news) [] v f r s mid t l same made next = absurd made
+    returned_more (suc i) (o ∷ olds) (n ∷ news) (x ∷ rs) v f r s mid t l same (m, first, rest) next =
+        (m, first, returned_more i olds news rs v f r m mid t (omega (l, arith)) same rest next)
 
     -- calls that were made are a run
-    pub run_answered : (olds news : List (Call I F)) (rs : List (Result HashResult KeyError)) (s t : S)
-        → AreAnswered value file_map faults w st s olds news rs t → Run w st s (done_all value file_map faults olds news) (map answer_of rs) t
-    run_answered [] [] [] s t made = made
-    run_answered [] [] (r ∷ rs) s t made = absurd made
-    run_answered [] (n ∷ news) rs s t made = absurd made
-    run_answered (o ∷ olds) [] rs s t made = absurd made
-    run_answered (o ∷ olds) (n ∷ news) [] s t made = absurd made
-    run_answered (o ∷ olds) (n ∷ news) (r ∷ rs) s t (mid, first, rest) = (mid, first.step, run_answered olds news rs mid t rest)
+    pub run_returned : (olds news : List (Call I F)) (rs : List (Result HashResult KeyError)) (s t : S)
+        → AreReturned value file_map faults w st s olds news rs t → Run w st s (done_all value file_map faults olds news) (map answer_of rs) t
+    run_returned [] [] [] s t made = made
+    run_returned [] [] (r ∷ rs) s t made = absurd made
+    run_returned [] (n ∷ news) rs s t made = absurd made
+    run_returned (o ∷ olds) [] rs s t made = absurd made
+    run_returned (o ∷ olds) (n ∷ news) [] s t made = absurd made
+    run_returned (o ∷ olds) (n ∷ news) (r ∷ rs) s t (mid, first, rest) = (mid, first.step, run_returned olds news rs mid t rest)
 
     -- and so they are at the end of the loop
-    pub all_answered : (i : ℕ) (olds news : List (Call I F)) (rs : List (Result HashResult KeyError)) (s t : S) → length olds ≤ i → length news ≡ length olds
-        → AreAnswered value file_map faults w st s (take i olds) (take i news) rs t → AreAnswered value file_map faults w st s olds news rs t
-    all_answered i olds news rs s t past long made =
+    pub all_returned : (i : ℕ) (olds news : List (Call I F)) (rs : List (Result HashResult KeyError)) (s t : S) → length olds ≤ i → length news ≡ length olds
+        → AreReturned value file_map faults w st s (take i olds) (take i news) rs t → AreReturned value file_map faults w st s olds news rs t
+    all_returned i olds news rs s t past long made =
         let all = take_all i olds past in
         let now = take_all i news (omega (arith, long, past)) in
         rw (all, now) at made
 
     pub all_run : (i : ℕ) (olds news : List (Call I F)) (rs : List (Result HashResult KeyError)) (s t : S) → length olds ≤ i → length news ≡ length olds
-        → AreAnswered value file_map faults w st s (take i olds) (take i news) rs t → Run w st s (done_all value file_map faults olds news) (map answer_of rs) t
-    all_run i olds news rs s t past long made = run_answered olds news rs s t (all_answered i olds news rs s t past long made)
+        → AreReturned value file_map faults w st s (take i olds) (take i news) rs t → Run w st s (done_all value file_map faults olds news) (map answer_of rs) t
+    all_run i olds news rs s t past long made = run_returned olds news rs s t (all_returned i olds news rs s t past long made)
 
 -- the calls that are left are unchanged
 pub rest_more : {A : Type 0} (i : ℕ) (olds news : List A) (v : A) → length news ≡ length olds → drop i news ≡ drop i olds → drop (suc i) (set news i v) ≡ drop (suc i) olds

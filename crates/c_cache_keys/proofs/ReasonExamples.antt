@@ -4,8 +4,8 @@ use Rattle.std.specs.Prelude.{is_some}
 use Rattle.std.specs.FinMap.{get}
 use Rattle.cck_digest.specs.declared.error.FileError.TheVariants.{NotFound, OtherKind, Fault}
 use Rattle.cck_digest.specs.declared.error.UtilError.TheVariants as util
-use Rattle.cck_file_digest.specs.FileDigest.{IsFirstRefusal}
-use Rattle.cck_files.specs.FileMap.{file_at, file_in, stands_at}
+use Rattle.cck_file_digest.specs.FileDigest.{IsFirstError}
+use Rattle.cck_files.specs.FileMap.{file_at, file_in, exists_at}
 use Rattle.cck_key_error.specs.declared.key_error.KeyError.TheVariants as refusal
 use Rattle.cck_path.specs.Bytes.{Bytes}
 use Rattle.cck_path.specs.Path.{components}
@@ -23,24 +23,24 @@ module _ {V : Type 0} (w : World V) (c : Call V) (F : Type 0) where
     input_missing = ap file_in nothing
 
     -- and the reason is not that a node of another kind is there
-    input_not_told_as_folder : IsFileReason w c F (refusal.Input (util.File OtherKind)) → ⊥
+    input_is_not_read_as_directory : IsFileReason w c F (refusal.Input (util.File OtherKind)) → ⊥
     unfolding file_at
-    input_not_told_as_folder told =
+    input_is_not_read_as_directory told =
         let apart : Err NotFound ≡ Err OtherKind = sym (ap file_in nothing) ∙ told in
         cc
 
   -- of two extra files the first is missing
   further_file_missing : c.request.arguments.extra_hash_files ≡ codes "/x" ∷ codes "/y" ∷ [] → get c.files.nodes (components (codes "/x")) ≡ None → IsFileReason w c F (refusal.Extra (util.File NotFound))
-  unfolding stands_at
+  unfolding exists_at
   further_file_missing are nothing =
-      let first : IsFirstRefusal w.hash c.files (map components (codes "/x" ∷ codes "/y" ∷ [])) F (util.File NotFound) =
+      let first : IsFirstError w.hash c.files (map components (codes "/x" ∷ codes "/y" ∷ [])) F (util.File NotFound) =
       record {
         at = 0;
         within = omega (arith);
         earlier = refl;
         cause = ap is_some nothing;
       } in
-      (λ e. cc, subst (λ (files : List Bytes). IsFirstRefusal w.hash c.files (map components files) F (util.File NotFound)) (sym are) first)
+      (λ e. cc, subst (λ (files : List Bytes). IsFirstError w.hash c.files (map components files) F (util.File NotFound)) (sym are) first)
 
   -- the reason is a fault only where there was one
   input_fault : IsFileReason w c F (refusal.Input (util.File Fault)) → F

@@ -10,7 +10,7 @@ use Rattle.cck_include.specs.Recorded.{file_time_part, has_date, has_time, has_t
 use Rattle.cck_path.specs.Bytes.{Bytes}
 use Rattle.cck_path.specs.Timestamp.{nanos_of}
 use Rattle.cck_time.specs.TimePart.{AreOfOneSecond, local_day, source_date_epoch, time_part}
-use Rattle.cck_time.proofs.PartLemmas.{days_told, seconds_told}
+use Rattle.cck_time.proofs.PartLemmas.{day_is_determined, second_is_determined}
 use Rattle.c_cache_keys.specs.Call.{Call}
 use Rattle.c_cache_keys.specs.Premises.{IsSameFile}
 use Rattle.c_cache_keys.specs.World.{HasSize, World, setting}
@@ -35,8 +35,8 @@ SameDay w c d =
 abbrev SameSecond : {V : Type 0} → World V → FileNode → FileNode → Type 0
 SameSecond w n o = AreOfOneSecond w.zone n.modified o.modified
 
-abbrev IsTold : {V : Type 0} → World V → Call V → Call V → FileNode → FileNode → Bool → Bool → Type 0
-IsTold w c d n o date timestamp = (date ≡ true → SameDay w c d) × (timestamp ≡ true → SameSecond w n o)
+abbrev IsDetermined : {V : Type 0} → World V → Call V → Call V → FileNode → FileNode → Bool → Bool → Type 0
+IsDetermined w c d n o date timestamp = (date ≡ true → SameDay w c d) × (timestamp ≡ true → SameSecond w n o)
 
 module _ {V : Type 0} (w : World V) (size : HasSize w.hash) where
   -- the same of a call's file, where time macros are not ignored
@@ -49,19 +49,19 @@ module _ {V : Type 0} (w : World V) (size : HasSize w.hash) where
       (ap (λ b. recorded_by w.hash (not b && has_time n.contents) (not b && is_timed n.contents) (digest_text w.hash n.contents) (file_time_part (setting w c) n)) (sym off) ∙ e)
 
   -- equal time parts are of one day, one value of the variable and one second
-  time_told : (date timestamp : Bool) (c d : Call V) (n o : FileNode) (p : Bytes)
+  time_is_determined : (date timestamp : Bool) (c d : Call V) (n o : FileNode) (p : Bytes)
       → time_part date timestamp n.modified c.moment w.zone c.request.env_vars ≡ Some p → time_part date timestamp o.modified d.moment w.zone d.request.env_vars ≡ Some p
-      → IsTold w c d n o date timestamp
-  time_told date timestamp c d n o p e f = (day date e f, second timestamp e f)
+      → IsDetermined w c d n o date timestamp
+  time_is_determined date timestamp c d n o p e f = (day date e f, second timestamp e f)
     where
       day : (b : Bool) → time_part b timestamp n.modified c.moment w.zone c.request.env_vars ≡ Some p → time_part b timestamp o.modified d.moment w.zone d.request.env_vars ≡ Some p
           → b ≡ true → SameDay w c d
-      day true e f h = days_told w.zone timestamp n.modified o.modified c.moment d.moment c.request.env_vars d.request.env_vars p e f
+      day true e f h = day_is_determined w.zone timestamp n.modified o.modified c.moment d.moment c.request.env_vars d.request.env_vars p e f
       day false e f h = absurd cc
 
       second : (b : Bool) → time_part date b n.modified c.moment w.zone c.request.env_vars ≡ Some p → time_part date b o.modified d.moment w.zone d.request.env_vars ≡ Some p
           → b ≡ true → SameSecond w n o
-      second true e f h = seconds_told w.zone date n.modified o.modified c.moment d.moment c.request.env_vars d.request.env_vars p e f
+      second true e f h = second_is_determined w.zone date n.modified o.modified c.moment d.moment c.request.env_vars d.request.env_vars p e f
       second false e f h = absurd cc
 
   -- two files with equal recorded digests, where no two of the strings that are hashed share a digest
@@ -77,13 +77,13 @@ module _ {V : Type 0} (w : World V) (size : HasSize w.hash) where
       let cut = bytes_read_back (digest_text w.hash n.contents) (digest_text w.hash o.contents) rest rest'
       (length-digest_text w.hash size n.contents ∙ sym (length-digest_text w.hash size o.contents)) (sym is ∙ is') in
       let contents : n.contents ≡ o.contents = one_file cut.0 in
-      let facts : is_timed n.contents ≡ true → IsTold w c d n o (has_date n.contents) (has_timestamp n.contents) =
+      let facts : is_timed n.contents ≡ true → IsDetermined w c d n o (has_date n.contents) (has_timestamp n.contents) =
       λ timed.
       let timed' : is_timed o.contents ≡ true = ap is_timed (sym contents) ∙ timed in
       let (p, is-p, text-p) = part timed in
       let (q, is-q, text-q) = part' timed' in
       let same : p ≡ q = one_time p q timed timed' is-p is-q (sym text-p ∙ cut.1 ∙ text-q) in
-      time_told (has_date n.contents) (has_timestamp n.contents) c d n o p is-p
+      time_is_determined (has_date n.contents) (has_timestamp n.contents) c d n o p is-p
       (ap (λ s. time_part (has_date s) (has_timestamp s) o.modified d.moment w.zone d.request.env_vars) contents ∙ is-q ∙ ap Some (sym same))
       in (
         record {

@@ -7,11 +7,11 @@ use Rattle.std.proofs.lemmas.List.Elements.{Contains-append_left, Contains-appen
 use Rattle.cck_path.specs.Bytes.{Bytes}
 use Rattle.cck_entry.specs.Entry.{Entry, EntryText}
 use Rattle.cck_include.specs.Include.{Include}
-use Rattle.cck_store.specs.Store.{Handed, Store, StoreLaws}
+use Rattle.cck_store.specs.Store.{Returned, Store, StoreLaws}
 use Rattle.cck_store.specs.declared.store.StoreError.TheVariants as store
 use Rattle.c_cache_keys.proofs.Elements.{first_in}
 use Rattle.c_cache_keys.proofs.HitPlain.{hit_plain}
-use Rattle.c_cache_keys.proofs.Stored.{run_answers_handed}
+use Rattle.c_cache_keys.proofs.Stored.{run_returns_stored}
 use Rattle.c_cache_keys.specs.Call.{Answer, Call, Damaged, Done, Fault, Keyed, Refused, calls_of}
 use Rattle.c_cache_keys.specs.Keys.{plain_key}
 use Rattle.c_cache_keys.specs.Laws.{FreshIsPlain, Headline, HitIsPlain, IsTransparent, KeepsOldOrOwn, NothingDamaged, Runs, RunsHeadline, RunsJoin, StaysSound, joined_lists}
@@ -107,7 +107,7 @@ module _ {V S : Type 0} (w : World V) (st : Store S) (size : HasSize w.hash) (la
   hit_known : (c : Call V) (F : Type 0) (k key : Bytes) (s mid : S) → Asks w st c F k s (Hit key) mid → Known c s k key
   hit_known c F k key s mid asks = go asks.answer asks.got asks.gives
     where
-      go : (a : Handed) → st.got s k a mid → Gives w c F a (Hit key) → Known c s k key
+      go : (a : Returned) → st.got s k a mid → Gives w c F a (Hit key) → Known c s k key
       go (Err store.Fault) got given = cc
       go (Err store.Memory) got given = cc
       go (Ok None) got given = cc
@@ -144,7 +144,7 @@ module _ {V S : Type 0} (w : World V) (st : Store S) (size : HasSize w.hash) (la
   entry_any earlier c F s t sound (made opened not makes) = not_made c F s t makes
   entry_any earlier c F s t sound (asked opened k is-k control o mid asks ends) = go o asks ends
     where
-      at_bytes : (a : Handed) → st.got s k a mid → Gives w c F a (Failed Damaged) → ⊥
+      at_bytes : (a : Returned) → st.got s k a mid → Gives w c F a (Failed Damaged) → ⊥
       at_bytes (Err store.Fault) got given = cc
       at_bytes (Err store.Memory) got given = cc
       at_bytes (Ok None) got given = cc
@@ -178,7 +178,7 @@ module _ {V S : Type 0} (w : World V) (st : Store S) (size : HasSize w.hash) (la
   transparent s t done answers none run premises = from_sound done [] answers s t (λ k b h. absurd (none k b h)) run premises
 
   pub headline : Headline w st
-  headline s t done answers run = (λ none premises. transparent s t done answers none run premises, run_answers_handed w st s t done answers run)
+  headline s t done answers run = (λ none premises. transparent s t done answers none run premises, run_returns_stored w st s t done answers run)
 
   pub keeps_old_or_own : KeepsOldOrOwn w st
   keeps_old_or_own d s t r step = step_kept d.call (Fault d) s t r step

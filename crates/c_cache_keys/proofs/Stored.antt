@@ -16,15 +16,15 @@ use Rattle.cck_include.specs.Include.{Include}
 use Rattle.cck_include.specs.Recorded.{recorded}
 use Rattle.cck_path.specs.Bytes.{Bytes}
 use Rattle.cck_path.specs.Path.{components}
-use Rattle.cck_store.specs.Store.{Handed, HoldsOnly, Setback, Store, StoreLaws}
+use Rattle.cck_store.specs.Store.{Returned, HoldsOnly, StoreFailure, Store, StoreLaws}
 use Rattle.c_cache_keys.proofs.Elements.{all_pass}
 use Rattle.c_cache_keys.proofs.HitPlain.{components-named}
 use Rattle.c_cache_keys.proofs.Includes.{entries-added, gathered_from, include_here, match_by_digest}
 use Rattle.c_cache_keys.proofs.KeySame.{key_known, material_known}
 use Rattle.c_cache_keys.specs.Call.{Answer, Call, Done, Fault, Keyed, Refused, calls_of, Why, Memory, Extra, ExtraFault, Input, InputFault, Store as StoreFails, Damaged, NoText, TextFault, Marker}
-use Rattle.c_cache_keys.specs.Hits.{FreshIsHeld, HeldIsAnswered, IsAside, SameRecords, StoredIsHit}
+use Rattle.c_cache_keys.specs.Hits.{FreshIsHeld, HeldKeyIsReturned, IsUnrelated, SameRecords, StoredIsHit}
 use Rattle.c_cache_keys.specs.Keys.{input_file, input_recorded, preprocessor_key_of}
-use Rattle.c_cache_keys.specs.Laws.{HandedIsAnswered, RecacheIsFresh, RunAnswersHanded}
+use Rattle.c_cache_keys.specs.Laws.{StoredKeyIsReturned, RecacheIsFresh, RunReturnsStored}
 use Rattle.c_cache_keys.specs.Step.{Asked, Ends, Failed, Gives, Hit, AreOwnIncludes, Makes, Miss, Puts, ReadsAs, Run, Step, Stores, StopsOpening, asked, found, gives, made, matching, stopped, stops}
 use Rattle.c_cache_keys.specs.Walk.{IsNamed}
 use Rattle.c_cache_keys.specs.World.{World, setting}
@@ -36,8 +36,8 @@ pub calm_part : (a b c d : ℕ) → a ≤ b → b ≤ c → c ≤ d → (Rose a 
 calm_part a b c d ab bc cd calm (inl less) = calm (inl (omega arith))
 calm_part a b c d ab bc cd calm (inr top) = calm (inr (omega arith))
 
-pub not_refused : {key : Bytes} {fresh : Bool} {why : Why} → Keyed key fresh ≡ Refused why → ⊥
-not_refused e = cc
+pub not_failed : {key : Bytes} {fresh : Bool} {why : Why} → Keyed key fresh ≡ Refused why → ⊥
+not_failed e = cc
 
 not_fresh : {key other : Bytes} → Keyed key true ≡ Keyed other false → ⊥
 not_fresh e = cc
@@ -111,8 +111,8 @@ module _ {V : Type 0} (w : World V) where
 
 module _ {V S : Type 0} (w : World V) (st : Store S) where
   pub recache_is_fresh : RecacheIsFresh w st
-  recache_is_fresh d s t key again (stopped why cause is same) = absurd (not_refused is)
-  recache_is_fresh d s t key again (made opened not (stops why cause is same)) = absurd (not_refused is)
+  recache_is_fresh d s t key again (stopped why cause is same) = absurd (not_failed is)
+  recache_is_fresh d s t key again (made opened not (stops why cause is same)) = absurd (not_failed is)
   recache_is_fresh d s t key again (made opened not (gives other is-plain quiet is stores)) = absurd (not_fresh (sym is))
   recache_is_fresh d s t key again (asked opened k is-k control o mid asks ends) = absurd (not_both (sym control ∙ again))
 
@@ -121,33 +121,33 @@ module _ {V S : Type 0} (w : World V) (st : Store S) where
   ends_found c F mid t r key o enough ends (inl is) = subst (λ v. Ends w st c F v mid r t) is ends
   ends_found c F mid t r key o enough ends (inr is) = absurd (enough (subst (λ v. Ends w st c F v mid r t) is ends).0)
 
-  handed_found : (c : Call V) (F : Type 0) (mid t : S) (r : Answer) (o : Asked) (handed : Handed) (bytes key : Bytes) (e : Entry) → (F → ⊥) → r ≢ Refused Memory → Gives w c F handed o → Ends w st c F o mid r t
-      → handed ≡ Ok (Some bytes) → EntryText e bytes → found w c e ≡ Some key → (r ≡ Keyed key false) × (t ≡ mid)
-  handed_found c F mid t r o handed bytes key e no_fault enough given ends is text finds =
+  returned_found : (c : Call V) (F : Type 0) (mid t : S) (r : Answer) (o : Asked) (returned : Returned) (bytes key : Bytes) (e : Entry) → (F → ⊥) → r ≢ Refused Memory → Gives w c F returned o → Ends w st c F o mid r t
+      → returned ≡ Ok (Some bytes) → EntryText e bytes → found w c e ≡ Some key → (r ≡ Keyed key false) × (t ≡ mid)
+  returned_found c F mid t r o returned bytes key e no_fault enough given ends is text finds =
       ends_found c F mid t r key o enough ends (reads_found w c F e bytes key o no_fault text finds (subst (λ v. Gives w c F v o) is given))
 
-  handed_any : (c : Call V) (F : Type 0) (s t : S) (k : Bytes) (r : Answer) → c.control ≡ Default → preprocessor_key_of w c ≡ Some k → (F → ⊥) → r ≢ Refused Memory → Step w st c F s r t
-      → (handed : Handed) × (mid : S) × st.got s k handed mid × (o : Asked) × Gives w c F handed o × Ends w st c F o mid r t
-  handed_any c F s t k r control is-k no_fault enough (stopped why cause is same) = absurd (enough (is ∙ ap Refused (not_stopped w c F k why is-k no_fault cause)))
-  handed_any c F s t k r control is-k no_fault enough (made opened not makes) =
+  returned_any : (c : Call V) (F : Type 0) (s t : S) (k : Bytes) (r : Answer) → c.control ≡ Default → preprocessor_key_of w c ≡ Some k → (F → ⊥) → r ≢ Refused Memory → Step w st c F s r t
+      → (returned : Returned) × (mid : S) × st.got s k returned mid × (o : Asked) × Gives w c F returned o × Ends w st c F o mid r t
+  returned_any c F s t k r control is-k no_fault enough (stopped why cause is same) = absurd (enough (is ∙ ap Refused (not_stopped w c F k why is-k no_fault cause)))
+  returned_any c F s t k r control is-k no_fault enough (made opened not makes) =
       absurd (elim not [ inl nothing ↦ none_some nothing is-k | inr again ↦ not_both (sym control ∙ again) ])
-  handed_any c F s t k r control is-k no_fault enough (asked opened k' is-k' control' o mid asks ends) =
+  returned_any c F s t k r control is-k no_fault enough (asked opened k' is-k' control' o mid asks ends) =
       (asks.answer, mid, subst (λ v. st.got s v asks.answer mid) (same_Some k' k (sym is-k' ∙ is-k)) asks.got, o, asks.gives, ends)
 
-  pub handed_is_answered : HandedIsAnswered w st
-  handed_is_answered d s t r step k can =
-      let (handed, mid, got, o, given, ends) = handed_any d.call (Fault d) s t k r can.control can.key can.no_fault can.enough_memory step in
-      (handed, mid, got, λ bytes key e is text finds. handed_found d.call (Fault d) mid t r o handed bytes key e can.no_fault can.enough_memory given ends is text finds)
+  pub stored_key_is_returned : StoredKeyIsReturned w st
+  stored_key_is_returned d s t r step k can =
+      let (returned, mid, got, o, given, ends) = returned_any d.call (Fault d) s t k r can.control can.key can.no_fault can.enough_memory step in
+      (returned, mid, got, λ bytes key e is text finds. returned_found d.call (Fault d) mid t r o returned bytes key e can.no_fault can.enough_memory given ends is text finds)
 
-  pub run_answers_handed : RunAnswersHanded w st
-  run_answers_handed s t [] [] run = run
-  run_answers_handed s t [] (r ∷ answers) run = absurd run
-  run_answers_handed s t (d ∷ done) [] run = absurd run
-  run_answers_handed s t (d ∷ done) (r ∷ answers) run = (run.0, run.1, handed_is_answered d s run.0 r run.1, run_answers_handed run.0 t done answers run.2)
+  pub run_returns_stored : RunReturnsStored w st
+  run_returns_stored s t [] [] run = run
+  run_returns_stored s t [] (r ∷ answers) run = absurd run
+  run_returns_stored s t (d ∷ done) [] run = absurd run
+  run_returns_stored s t (d ∷ done) (r ∷ answers) run = (run.0, run.1, stored_key_is_returned d s run.0 r run.1, run_returns_stored run.0 t done answers run.2)
 
 module _ {V S : Type 0} (w : World V) (st : Store S) (laws : StoreLaws st) where
   abbrev Calm : S → S → Type 0
-  Calm s t = Setback st s t → ⊥
+  Calm s t = StoreFailure st s t → ⊥
 
   -- ---- the count of store failures never falls
 
@@ -187,7 +187,7 @@ module _ {V S : Type 0} (w : World V) (st : Store S) (laws : StoreLaws st) where
 
   makes_held : (c : Call V) (F : Type 0) (s t : S) (k key : Bytes) (includes : List Include) → preprocessor_key_of w c ≡ Some k → AreOwnIncludes w c includes → (F → ⊥) → Calm s t
       → Makes w st c F s (Keyed key true) t → HeldSo c t k key
-  makes_held c F s t k key includes is-k keeps no_fault calm (stops why cause is same) = absurd (not_refused is)
+  makes_held c F s t k key includes is-k keeps no_fault calm (stops why cause is same) = absurd (not_failed is)
   makes_held c F s t k key includes is-k keeps no_fault calm (gives other is-plain quiet is stores) =
       subst (λ v. HeldSo c t k v) (sym (same_key is)) (by stores)
     where
@@ -196,13 +196,13 @@ module _ {V S : Type 0} (w : World V) (st : Store S) (laws : StoreLaws st) where
       by (inr not) = absurd (elim (not.1) [ inl fault ↦ no_fault fault | inr nothing ↦ nothing k includes is-k keeps ])
 
   held_any : (c : Call V) (F : Type 0) (s t : S) (k key : Bytes) (includes : List Include) → preprocessor_key_of w c ≡ Some k → AreOwnIncludes w c includes → (F → ⊥) → Calm s t → Step w st c F s (Keyed key true) t → HeldSo c t k key
-  held_any c F s t k key includes is-k keeps no_fault calm (stopped why cause is same) = absurd (not_refused is)
+  held_any c F s t k key includes is-k keeps no_fault calm (stopped why cause is same) = absurd (not_failed is)
   held_any c F s t k key includes is-k keeps no_fault calm (made opened not makes) = makes_held c F s t k key includes is-k keeps no_fault calm makes
   held_any c F s t k key includes is-k keeps no_fault calm (asked opened k' is-k' control o mid asks ends) = go o ends
     where
       go : (o : Asked) → Ends w st c F o mid (Keyed key true) t → HeldSo c t k key
       go (Hit other) e = absurd (not_fresh e.0)
-      go (Failed why) e = absurd (not_refused e.0)
+      go (Failed why) e = absurd (not_failed e.0)
       go Miss e = makes_held c F mid t k key includes is-k keeps no_fault
           (calm_part _ _ _ _ (laws.got_count s mid k' asks.answer asks.got) (makes_count c F mid t _ e) (le_refl _) calm) e
 
@@ -211,22 +211,22 @@ module _ {V S : Type 0} (w : World V) (st : Store S) (laws : StoreLaws st) where
 
   -- ---- what is returned of what is held
 
-  handed_held : (c : Call V) (F : Type 0) (s mid t : S) (r : Answer) (k bytes : Bytes) (o : Asked) (handed : Handed) → (F → ⊥) → r ≢ Refused Memory → Calm s mid → st.held s k bytes
+  returned_held : (c : Call V) (F : Type 0) (s mid t : S) (r : Answer) (k bytes : Bytes) (o : Asked) (returned : Returned) → (F → ⊥) → r ≢ Refused Memory → Calm s mid → st.held s k bytes
       → ((x : Bytes) → st.held s k x → (e : Entry) × EntryText e x × (key : Bytes) × (found w c e ≡ Some key))
-      → st.got s k handed mid → Gives w c F handed o → Ends w st c F o mid r t
+      → st.got s k returned mid → Gives w c F returned o → Ends w st c F o mid r t
       → (key : Bytes) × (x : Bytes) × (e : Entry) × st.held s k x × EntryText e x × (found w c e ≡ Some key) × (r ≡ Keyed key false)
-  handed_held c F s mid t r k bytes o (Err e) no_fault enough calm held each got given ends = absurd (calm (laws.got_error s mid k e got))
-  handed_held c F s mid t r k bytes o (Ok None) no_fault enough calm held each got given ends = absurd (laws.got_none s mid k got calm bytes held)
-  handed_held c F s mid t r k bytes o (Ok (Some x)) no_fault enough calm held each got given ends =
+  returned_held c F s mid t r k bytes o (Err e) no_fault enough calm held each got given ends = absurd (calm (laws.got_error s mid k e got))
+  returned_held c F s mid t r k bytes o (Ok None) no_fault enough calm held each got given ends = absurd (laws.got_none s mid k got calm bytes held)
+  returned_held c F s mid t r k bytes o (Ok (Some x)) no_fault enough calm held each got given ends =
       let now = laws.got_some s mid k x got in
       let (e, text, key, finds) = each x now in
-      (key, x, e, now, text, finds, (handed_found w st c F mid t r o (Ok (Some x)) x key e no_fault enough given ends refl text finds).0)
+      (key, x, e, now, text, finds, (returned_found w st c F mid t r o (Ok (Some x)) x key e no_fault enough given ends refl text finds).0)
 
-  pub held_is_answered : HeldIsAnswered w st
-  held_is_answered d s t r k bytes can calm held each step =
-      let (handed, mid, got, o, given, ends) = handed_any w st d.call (Fault d) s t k r can.control can.key can.no_fault can.enough_memory step in
-      handed_held d.call (Fault d) s mid t r k bytes o handed can.no_fault can.enough_memory
-      (calm_part _ _ _ _ (le_refl _) (laws.got_count s mid k handed got) (ends_count d.call (Fault d) o mid t r ends) calm) held each got given ends
+  pub held_key_is_returned : HeldKeyIsReturned w st
+  held_key_is_returned d s t r k bytes can calm held each step =
+      let (returned, mid, got, o, given, ends) = returned_any w st d.call (Fault d) s t k r can.control can.key can.no_fault can.enough_memory step in
+      returned_held d.call (Fault d) s mid t r k bytes o returned can.no_fault can.enough_memory
+      (calm_part _ _ _ _ (le_refl _) (laws.got_count s mid k returned got) (ends_count d.call (Fault d) o mid t r ends) calm) held each got given ends
 
   -- ---- what the calls between leave of what is held
 
@@ -243,38 +243,38 @@ module _ {V S : Type 0} (w : World V) (st : Store S) (laws : StoreLaws st) where
         λ x h. elim (laws.put_old s t p.k p.bytes p.answer p.put k x h) [ inl old ↦ only.1 x old | inr is ↦ absurd (apart is.0) ],
       )
 
-  makes_only : (c : Call V) (F : Type 0) (s t : S) (r : Answer) (k b : Bytes) → Calm s t → IsAside w k c r → Makes w st c F s r t → Kept s t k b
-  makes_only c F s t r k b calm aside (stops why cause is same) = same_only s t k b same
-  makes_only c F s t r k b calm aside (gives key is-plain quiet is stores) =
-      elim stores [ inl p ↦ puts_only c key s t k b calm (aside key is) p | inr not ↦ same_only s t k b not.0 ]
+  makes_only : (c : Call V) (F : Type 0) (s t : S) (r : Answer) (k b : Bytes) → Calm s t → IsUnrelated w k c r → Makes w st c F s r t → Kept s t k b
+  makes_only c F s t r k b calm saved (stops why cause is same) = same_only s t k b same
+  makes_only c F s t r k b calm saved (gives key is-plain quiet is stores) =
+      elim stores [ inl p ↦ puts_only c key s t k b calm (saved key is) p | inr not ↦ same_only s t k b not.0 ]
 
-  ends_only : (c : Call V) (F : Type 0) (o : Asked) (s t : S) (r : Answer) (k b : Bytes) → Calm s t → IsAside w k c r → Ends w st c F o s r t → Kept s t k b
-  ends_only c F (Hit key) s t r k b calm aside e = same_only s t k b e.1
-  ends_only c F (Failed why) s t r k b calm aside e = same_only s t k b e.1
-  ends_only c F Miss s t r k b calm aside e = makes_only c F s t r k b calm aside e
+  ends_only : (c : Call V) (F : Type 0) (o : Asked) (s t : S) (r : Answer) (k b : Bytes) → Calm s t → IsUnrelated w k c r → Ends w st c F o s r t → Kept s t k b
+  ends_only c F (Hit key) s t r k b calm saved e = same_only s t k b e.1
+  ends_only c F (Failed why) s t r k b calm saved e = same_only s t k b e.1
+  ends_only c F Miss s t r k b calm saved e = makes_only c F s t r k b calm saved e
 
-  step_only : (c : Call V) (F : Type 0) (s t : S) (r : Answer) (k b : Bytes) → Calm s t → IsAside w k c r → Step w st c F s r t → Kept s t k b
-  step_only c F s t r k b calm aside (stopped why cause is same) = same_only s t k b same
-  step_only c F s t r k b calm aside (made opened not makes) = makes_only c F s t r k b calm aside makes
-  step_only c F s t r k b calm aside (asked opened k' is-k' control o mid asks ends) =
+  step_only : (c : Call V) (F : Type 0) (s t : S) (r : Answer) (k b : Bytes) → Calm s t → IsUnrelated w k c r → Step w st c F s r t → Kept s t k b
+  step_only c F s t r k b calm saved (stopped why cause is same) = same_only s t k b same
+  step_only c F s t r k b calm saved (made opened not makes) = makes_only c F s t r k b calm saved makes
+  step_only c F s t r k b calm saved (asked opened k' is-k' control o mid asks ends) =
       λ only.
       let up = laws.got_count s mid k' asks.answer asks.got in
       let on = ends_count c F o mid t r ends in
-      ends_only c F o mid t r k b (calm_part _ _ _ _ up on (le_refl _) calm) aside ends (
+      ends_only c F o mid t r k b (calm_part _ _ _ _ up on (le_refl _) calm) saved ends (
         laws.got_calm s mid k' asks.answer asks.got (calm_part _ _ _ _ (le_refl _) up on calm) k b only.0,
         λ x h. only.1 x (laws.got_old s mid k' asks.answer asks.got k x h),
       )
 
-  run_only : (calls : List (Done V)) (answers : List Answer) (s t : S) (k b : Bytes) → Calm s t → AllZip (IsAside w k) (calls_of calls) answers → Run w st s calls answers t → Kept s t k b
-  run_only [] [] s t k b calm aside run = same_only s t k b run
-  run_only [] (r ∷ answers) s t k b calm aside run = absurd run
-  run_only (c ∷ calls) [] s t k b calm aside run = absurd run
-  run_only (c ∷ calls) (r ∷ answers) s t k b calm aside run =
+  run_only : (calls : List (Done V)) (answers : List Answer) (s t : S) (k b : Bytes) → Calm s t → AllZip (IsUnrelated w k) (calls_of calls) answers → Run w st s calls answers t → Kept s t k b
+  run_only [] [] s t k b calm saved run = same_only s t k b run
+  run_only [] (r ∷ answers) s t k b calm saved run = absurd run
+  run_only (c ∷ calls) [] s t k b calm saved run = absurd run
+  run_only (c ∷ calls) (r ∷ answers) s t k b calm saved run =
       λ only.
       let up = step_count c.call (Fault c) s run.0 r run.1 in
       let on = run_count calls answers run.0 t run.2 in
-      run_only calls answers run.0 t k b (calm_part _ _ _ _ up on (le_refl _) calm) aside.1 run.2
-      (step_only c.call (Fault c) s run.0 r k b (calm_part _ _ _ _ (le_refl _) up on calm) aside.0 run.1 only)
+      run_only calls answers run.0 t k b (calm_part _ _ _ _ up on (le_refl _) calm) saved.1 run.2
+      (step_only c.call (Fault c) s run.0 r k b (calm_part _ _ _ _ (le_refl _) up on calm) saved.0 run.1 only)
 
   -- ---- the law of hits
 
@@ -298,16 +298,16 @@ module _ {V S : Type 0} (w : World V) (st : Store S) (laws : StoreLaws st) where
       (ap (found_in (matching w d)) (entries-added key includes) ∙ ap (λ b. cond b (Some (key, includes)) None) all)
 
   pub stored_is_hit : StoredIsHit w st
-  stored_is_hit c d between answers s after before t k key includes r is-k keeps no_fault first run aside can same last calm =
+  stored_is_hit c d between answers s after before t k key includes r is-k keeps no_fault first run saved can same last calm =
       let up = step_count c.call (Fault c) s after (Keyed key true) first in
       let mid = run_count between answers after before run in
       let on = step_count d.call (Fault d) before t r last in
       let (own, own-keeps, bytes, text, only) = fresh_is_held c s after k key includes is-k keeps no_fault (calm_part _ _ _ _ (le_refl _) up (le_trans mid on) calm) first in
-      let at = run_only between answers after before k bytes (calm_part _ _ _ _ up mid on calm) aside run only in
+      let at = run_only between answers after before k bytes (calm_part _ _ _ _ up mid on calm) saved run only in
       finish own bytes own-keeps text at (calm_part _ _ _ _ (le_trans up mid) on (le_refl _) calm)
     where
       finish : (own : List Include) (bytes : Bytes) → AreOwnIncludes w c.call own → EntryText (added empty key own) bytes → HoldsOnly st before k bytes → Calm before t → r ≡ Keyed key false
       finish own bytes own-keeps text at inner =
           let finds = own_found c.call d.call key own own-keeps keeps.text (same_Some own-keeps.text keeps.text (sym own-keeps.is_text ∙ keeps.is_text)) same in
-          let (key', x, e, held, text', finds', is) = held_is_answered d before t r k bytes can inner at.0 (λ x h. (added empty key own, subst (EntryText (added empty key own)) (sym (at.1 x h)) text, key, finds)) last in
+          let (key', x, e, held, text', finds', is) = held_key_is_returned d before t r k bytes can inner at.0 (λ x h. (added empty key own, subst (EntryText (added empty key own)) (sym (at.1 x h)) text, key, finds)) last in
           is ∙ ap (λ v. Keyed v false) (same_Some key' key (sym finds' ∙ ap (found w d.call) (same_entry e (added empty key own) bytes (subst (EntryText e) (at.1 x held) text') text) ∙ finds))

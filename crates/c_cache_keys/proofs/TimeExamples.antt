@@ -8,7 +8,7 @@ use Rattle.cck_include.specs.Setting.{Setting}
 use Rattle.cck_path.specs.Bytes.{Bytes}
 use Rattle.cck_path.specs.Timestamp.{Moment, nanos_of}
 use Rattle.cck_path.specs.Variables.{Variable}
-use Rattle.cck_time.proofs.PartLemmas.{days_told, seconds_told}
+use Rattle.cck_time.proofs.PartLemmas.{day_is_determined, second_is_determined}
 use Rattle.cck_time.specs.TimePart.{date_part, local_day, local_second, stamp_part, time_part}
 use Rattle.cck_time.specs.declared.config.PreprocessorCacheModeConfig.{PreprocessorCacheModeConfig}
 use Rattle.jiff.specs.Types.{Fixed, Offset, TimeZone}
@@ -82,10 +82,10 @@ module _ (offset : Offset) (hour : offset.seconds ≡ pos 3600) where
   -- and no two days, and no two seconds, have the same part
   days_apart : (v : List Variable) (m : Option Moment) (part : Bytes) → time_part true false m (moment_at 82799 0) zone v ≡ Some part → time_part true false m (moment_at 82800 0) zone v ≡ Some part → ⊥
   days_apart v m part p q =
-      let days = (days_told zone false m m (moment_at 82799 0) (moment_at 82800 0) v v part p q).0 in
+      let days = (day_is_determined zone false m m (moment_at 82799 0) (moment_at 82800 0) v v part p q).0 in
       apart (pos 0) (pos 1) refl refl (sym late_day ∙ days ∙ next_day)
 
   seconds_apart : (v : List Variable) (a : Moment) (part : Bytes) → time_part false true (Some (moment_at 1 0)) a zone v ≡ Some part → time_part false true (Some (moment_at 2 0)) a zone v ≡ Some part → ⊥
   seconds_apart v a part p q =
-      let seconds = seconds_told zone false (Some (moment_at 1 0)) (Some (moment_at 2 0)) a a v v part p q in
+      let seconds = second_is_determined zone false (Some (moment_at 1 0)) (Some (moment_at 2 0)) a a v v part p q in
       apart (pos 3601) (pos 3602) refl refl (sym first_second ∙ seconds ∙ next_second)

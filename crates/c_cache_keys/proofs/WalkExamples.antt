@@ -150,8 +150,8 @@ module _ {V : Type 0} (w : World V) (c : Call V) (cwd_is : c.request.cwd ≡ cod
       (header_marks, header_text_marks, inl (input_passes, inl (λ _. subst (IsGood w c) (sym header_path) (inr (n, at, old, told)), inl (input_passes, refl))))
 
   -- the header was modified at the call time
-  new_header_refused : (n : FileNode) → get c.files.nodes (in_w (codes "h.h")) ≡ Some n → n.kind ≡ File → n.modified ≡ Some fifth_second → c.moment ≡ fifth_second → Walk w c header_text NotAccepted
-  new_header_refused n at is modified moment =
+  new_header_not_recorded : (n : FileNode) → get c.files.nodes (in_w (codes "h.h")) ≡ Some n → n.kind ≡ File → n.modified ≡ Some fifth_second → c.moment ≡ fifth_second → Walk w c header_text NotAccepted
+  new_header_not_recorded n at is modified moment =
       let not_good : IsGood w c (in_w (codes "h.h")) → ⊥ = λ good. elim good [
         | inl folder ↦ file_no_folder c.files _ n at is folder
         | inr (m, file, old, told) ↦ too_new m.modified c.moment (ap (λ (v : FileNode). v.modified) (sym (this_file c.files _ n m at is file)) ∙ modified) moment old.0
@@ -159,8 +159,8 @@ module _ {V : Type 0} (w : World V) (c : Call V) (cwd_is : c.request.cwd ≡ cod
       (header_marks, header_text_marks, inl (input_passes, inr (header_looked, λ good. not_good (subst (IsGood w c) header_path good), refl)))
 
   -- the header shows the time of day
-  timed_header_refused : w.config.ignore_time_macros ≡ false → (n : FileNode) → get c.files.nodes (in_w (codes "h.h")) ≡ Some n → n.kind ≡ File → n.contents ≡ codes "__TIME__" → Walk w c timed_text NotAccepted
-  timed_header_refused counts n at is shows =
+  timed_header_not_recorded : w.config.ignore_time_macros ≡ false → (n : FileNode) → get c.files.nodes (in_w (codes "h.h")) ≡ Some n → n.kind ≡ File → n.contents ≡ codes "__TIME__" → Walk w c timed_text NotAccepted
+  timed_header_not_recorded counts n at is shows =
       let not_good : IsGood w c (in_w (codes "h.h")) → ⊥ = λ good. elim good [
         | inl folder ↦ file_no_folder c.files _ n at is folder
         | inr (m, file, old, told) ↦ told (time_of_day_not_recorded (setting w c) counts m (ap (λ (v : FileNode). v.contents) (sym (this_file c.files _ n m at is file)) ∙ shows))
@@ -174,8 +174,8 @@ module _ {V : Type 0} (w : World V) (c : Call V) (cwd_is : c.request.cwd ≡ cod
   missing_looked : IsLooked w c (codes "missing.h") false
   missing_looked = looked_at 109 (codes "issing.h") (codes "missing.h") (λ e. omega (arith, e)) missing_path refl refl
 
-  missing_refused : get c.files.nodes (in_w (codes "missing.h")) ≡ None → Walk w c (codes "# 1 \"missing.h\"") NotAccepted
-  missing_refused nothing =
+  missing_not_recorded : get c.files.nodes (in_w (codes "missing.h")) ≡ None → Walk w c (codes "# 1 \"missing.h\"") NotAccepted
+  missing_not_recorded nothing =
       let not_good : IsGood w c (in_w (codes "missing.h")) → ⊥ = λ good. elim good [
         | inl folder ↦ no_folder c.files _ nothing folder
         | inr (m, file, old, told) ↦ no_file c.files _ m nothing file
@@ -194,5 +194,5 @@ module _ {V : Type 0} (w : World V) (c : Call V) (cwd_is : c.request.cwd ≡ cod
   no_quote_errs : Walk w c (codes "#line 1") Errs
   no_quote_errs = (Malformed ∷ [], no_quote_marks, refl)
 
-  inclusion_refused : Walk w c (codes "x .incbin \"f\"") NotAccepted
-  inclusion_refused = (Refusal ∷ [], inclusion_marks, refl)
+  inclusion_not_recorded : Walk w c (codes "x .incbin \"f\"") NotAccepted
+  inclusion_not_recorded = (Refusal ∷ [], inclusion_marks, refl)

@@ -24,7 +24,7 @@ use Rattle.cck_walk.specs.declared.walk.Walk.TheVariants as answer
 use Rattle.c_cache_keys.proofs.Decisions.{AreGathered, IsMeant, gathers, none_regular, one_decision, told}
 use Rattle.c_cache_keys.proofs.Includes.{components-meant}
 use Rattle.c_cache_keys.proofs.PathEntries.{entry_of, made_from, made_in_order, made_of, of_entry}
-use Rattle.c_cache_keys.proofs.Standings.{IsRegular}
+use Rattle.c_cache_keys.proofs.Judgements.{IsRegular}
 use Rattle.c_cache_keys.specs.Call.{Call}
 use Rattle.c_cache_keys.specs.Walk.{AreRecorded, MarksDecide, IsNamed, Verdict, Walk, input_path}
 use Rattle.c_cache_keys.specs.Walked.{IsWalked, VerdictIsDecided, digested_by, digested_of, verdict_of, walk_context}
@@ -43,12 +43,12 @@ same_context w c files moment variables input cwd same-files same-moment same-va
     }
 
 -- an entry as the walk returns it
-abbrev handed : Path × Bytes → Digested
-handed e = (e.1, path_text (e.0))
+abbrev returned : Path × Bytes → Digested
+returned e = (e.1, path_text (e.0))
 
 module _ {V : Type 0} (w : World V) (c : Call V) (text : Bytes) where
-  verdict_told : (d : decision.Decided) → decision.TextDecides (walk_context w c) text d → Walk w c text (verdict_of d)
-  verdict_told d (marks, are, is) = (marks, are, subst (λ e. MarksDecide w c marks (verdict_of e)) is (told w c marks empty (none_regular w c)))
+  verdict_is_walked : (d : decision.Decided) → decision.TextDecides (walk_context w c) text d → Walk w c text (verdict_of d)
+  verdict_is_walked d (marks, are, is) = (marks, are, subst (λ e. MarksDecide w c marks (verdict_of e)) is (told w c marks empty (none_regular w c)))
 
   verdict_decided : (verdict : Verdict) → Walk w c text verdict → (d : decision.Decided) × decision.TextDecides (walk_context w c) text d × (verdict_of d ≡ verdict)
   verdict_decided verdict (marks, are, decides) =
@@ -75,9 +75,9 @@ module _ {V : Type 0} (w : World V) (c : Call V) (text : Bytes) where
 
     are_recorded : AreRecorded w c text (digested_by digests)
     are_recorded = record {
-      ordered = made_in_order handed (λ (d : Digested). components (d.1)) (entries digests) (λ e at. read_back e.0 (of_digest e at).0) (entries_sorted digests);
+      ordered = made_in_order returned (λ (d : Digested). components (d.1)) (entries digests) (λ e at. read_back e.0 (of_digest e at).0) (entries_sorted digests);
       each = λ d at.
-          let (e, from, is) = made_from handed (entries digests) d at in
+          let (e, from, is) = made_from returned (entries digests) d at in
           let (here, (n, file, old, own)) = of_digest e from in
           record {
             path = e.0;
@@ -89,14 +89,14 @@ module _ {V : Type 0} (w : World V) (c : Call V) (text : Bytes) where
           };
       all = λ p n is file.
           let (digest, at) = gathered.all p n (meant_again p is) file in
-          (digest, made_of handed (entries digests) (p, digest) (entry_of digests p digest at));
+          (digest, made_of returned (entries digests) (p, digest) (entry_of digests p digest at));
     }
 
   all_recorded : (digests : Digests) → decision.TextDecides (walk_context w c) text (Accepts digests) → AreRecorded w c text (digested_by digests)
   all_recorded digests (marks, are, is) = are_recorded digests marks are (gathers w c marks empty digests is)
 
-  handed_on : (files : List (Vec ℕ × String Global)) (es : List (Path × Bytes)) → map listed files ≡ map written es → digested_of files ≡ map handed es
-  handed_on files es h = turned_listed files ∙ ap (map turned) h ∙ turned_written es
+  returned_on : (files : List (Vec ℕ × String Global)) (es : List (Path × Bytes)) → map listed files ≡ map written es → digested_of files ≡ map returned es
+  returned_on files es h = turned_listed files ∙ ap (map turned) h ∙ turned_written es
     where
       turned : Bytes × Bytes → Digested
       turned e = (e.1, e.0)
@@ -105,17 +105,17 @@ module _ {V : Type 0} (w : World V) (c : Call V) (text : Bytes) where
       turned_listed [] = refl
       turned_listed (f ∷ files) = ap (λ l. (string_bytes (f.1), f.0.items) ∷ l) (turned_listed files)
 
-      turned_written : (es : List (Path × Bytes)) → map turned (map written es) ≡ map handed es
+      turned_written : (es : List (Path × Bytes)) → map turned (map written es) ≡ map returned es
       turned_written [] = refl
-      turned_written (e ∷ es) = ap (λ l. handed e ∷ l) (turned_written es)
+      turned_written (e ∷ es) = ap (λ l. returned e ∷ l) (turned_written es)
 
   -- the result of a walk
   pub walked : (F : Type 0) (r : Result walk.Walk KeyError) → IsWalk (walk_context w c) F text r → IsWalked w c text F r
   walked F (Ok (answer.Accepted files)) (digests, decides, is) =
-      (verdict_told (Accepts digests) decides, subst (AreRecorded w c text) (sym (handed_on files.items (entries digests) is)) (all_recorded digests decides))
-  walked F (Ok answer.Refused) (inl decides) = inl (verdict_told IsRefused decides)
+      (verdict_is_walked (Accepts digests) decides, subst (AreRecorded w c text) (sym (returned_on files.items (entries digests) is)) (all_recorded digests decides))
+  walked F (Ok answer.Refused) (inl decides) = inl (verdict_is_walked IsRefused decides)
   walked F (Ok answer.Refused) (inr fault) = inr fault.0
-  walked F (Err error.Marker) decides = verdict_told Errs decides
+  walked F (Err error.Marker) decides = verdict_is_walked Errs decides
   walked F (Err error.Memory) h = tt
   walked F (Err (error.Extra e)) h = absurd h
   walked F (Err (error.Input e)) h = absurd h
@@ -132,4 +132,4 @@ walked_over w c text files moment variables input cwd same-files same-moment sam
 
 pub verdict_is_decided : {V : Type 0} (w : World V) → VerdictIsDecided w
 verdict_is_decided w c text =
-    (λ verdict. (verdict_decided w c text verdict, λ (d, decides, is). subst (Walk w c text) is (verdict_told w c text d decides)), all_recorded w c text)
+    (λ verdict. (verdict_decided w c text verdict, λ (d, decides, is). subst (Walk w c text) is (verdict_is_walked w c text d decides)), all_recorded w c text)

@@ -5,7 +5,7 @@ use Rattle.cck_path.specs.Bytes.{Bytes}
 use Rattle.cck_entry.specs.Find.{IsLookup}
 use Rattle.cck_entry.specs.Results.{KeyResult}
 use Rattle.cck_include.specs.Include.{Include}
-use Rattle.cck_store.specs.Store.{Handed, Store}
+use Rattle.cck_store.specs.Store.{Returned, Store}
 use Rattle.cck_store.specs.declared.store.StoreError.TheVariants as store
 use Rattle.c_cache_keys.specs.Call.{Answer, Call, Why, Memory, Extra, ExtraFault, Input, InputFault, Store as StoreFails, Damaged, NoText, TextFault, Marker}
 use Rattle.c_cache_keys.specs.Step.{matching, Asked, Asks, Failed, Gives, Hit, Makes, Miss, ReadsAs, StopsMaking, StopsOpening, gives, stops}
@@ -54,7 +54,7 @@ module _ {V : Type 0} (w : World V) (c : Call V) (F G : Type 0) (more : F → G)
   wide_reads bytes (Failed TextFault) h = h
   wide_reads bytes (Failed Marker) h = h
 
-  wide_gives : (a : Handed) (o : Asked) → Gives w c F a o → Gives w c G a o
+  wide_gives : (a : Returned) (o : Asked) → Gives w c F a o → Gives w c G a o
   wide_gives (Err store.Fault) o h = h
   wide_gives (Err store.Memory) o h = h
   wide_gives (Ok None) o h = h

@@ -44,7 +44,7 @@ use Rattle.c_cache_keys.proofs.Includes.{entries-added, include_here, match_by_d
 use Rattle.c_cache_keys.proofs.WalkExamples.{header_accepted, header_alone, header_named, input_meant}
 use Rattle.c_cache_keys.specs.Call.{Call, Fault, Keyed, calls_of}
 use Rattle.c_cache_keys.specs.Keys.{extra_texts, input_file, input_recorded, is_direct, key_material, of_both, params, plain_key, preprocessor_key_of, printed, request_parts, text_of, told, uses_cache}
-use Rattle.c_cache_keys.specs.Premises.{IsHashed, NoSharedDigest, Premises, PrintsAgain, of_file, of_folder, of_key, of_time}
+use Rattle.c_cache_keys.specs.Premises.{IsHashed, CollisionFree, Premises, DeterministicPreprocessor, of_file, of_folder, of_key, of_time}
 use Rattle.c_cache_keys.specs.Step.{AreOwnIncludes, Hit, Miss, Opened, OwnPair, Step, asked, gives, matching}
 use Rattle.c_cache_keys.specs.Walk.{Accepted, AreRecorded, Errs, IsRecorded, MarksDecide, Walk, input_path}
 use Rattle.c_cache_keys.specs.Witness.{PremisesCanHold, file_of, first_call, included_text, input_text, path_in_w, printed_text, second, second_call, sized, witness_call, witness_done, witness_files, witness_hash, witness_nodes, witness_run, witness_world}
@@ -154,10 +154,10 @@ prints : printed witness_world first_call ≡ Some printed_text
 unfolding printed
 prints = refl
 
-abbrev pub witness_answer : Bytes
-witness_answer = object_key witness_hash (params witness_world first_call.request [] printed_text)
+abbrev pub witness_object_key : Bytes
+witness_object_key = object_key witness_hash (params witness_world first_call.request [] printed_text)
 
-plain_is : plain_key witness_world first_call ≡ Some witness_answer
+plain_is : plain_key witness_world first_call ≡ Some witness_object_key
 unfolding plain_key text_of
 plain_is = ap₂ (of_both (λ extra text. object_key witness_hash (params witness_world first_call.request extra text))) (extra_is (codes "a.o")) prints
 
@@ -192,15 +192,15 @@ of_contents n (inr is) = subst (λ (v : FileNode). hashed_of (digest_text witnes
 of_material : hashed_of witness_key ≡ witness_material
 of_material = ap (λ n. hashed_of (hex_text (sized n))) material_size
 
-told_apart : (object x : Bytes) → IsHashed witness_world (witness_call object) x → hashed_of (digest_text witness_hash x) ≡ x
-told_apart object x (of_file p n file is) =
+material_is_determined : (object x : Bytes) → IsHashed witness_world (witness_call object) x → hashed_of (digest_text witness_hash x) ≡ x
+material_is_determined object x (of_file p n file is) =
     ap (λ v. hashed_of (digest_text witness_hash v)) is ∙ of_contents n (each_file p n file) ∙ sym is
-told_apart object x (of_folder p folder is) = absurd (no_folder p folder)
-told_apart object x (of_time p n file timed is) =
+material_is_determined object x (of_folder p folder is) = absurd (no_folder p folder)
+material_is_determined object x (of_time p n file timed is) =
     let not_timed : is_timed n.contents ≡ false = untimed n (each_file p n file) in
     let both : true ≡ false = sym timed ∙ not_timed in
     absurd cc
-told_apart object x (of_key is) =
+material_is_determined object x (of_key is) =
     let same : witness_material ≡ x = same_Some witness_material x (sym (material_is object) ∙ is) in
     ap (λ v. hashed_of (digest_text witness_hash v)) (sym same) ∙ of_material ∙ same
 
@@ -215,14 +215,14 @@ one_call c at = elim (one_of first_call c (second_call ∷ []) at) [
   | inr last ↦ (codes "b.o", only_one second_call c last)
 ]
 
-no_shared_digest : NoSharedDigest witness_world both_calls
+no_shared_digest : CollisionFree witness_world both_calls
 no_shared_digest c d x y at-c at-d of-c of-d same =
     let (first, is-c) = one_call c at-c in
     let (second, is-d) = one_call d at-d in
-    sym (told_apart first x (subst (λ v. IsHashed witness_world v x) (sym is-c) of-c))
-    ∙ ap hashed_of same ∙ told_apart second y (subst (λ v. IsHashed witness_world v y) (sym is-d) of-d)
+    sym (material_is_determined first x (subst (λ v. IsHashed witness_world v x) (sym is-c) of-c))
+    ∙ ap hashed_of same ∙ material_is_determined second y (subst (λ v. IsHashed witness_world v y) (sym is-d) of-d)
 
-prints_again : PrintsAgain witness_world both_calls
+prints_again : DeterministicPreprocessor witness_world both_calls
 unfolding printed
 prints_again c d text before is no_time walk agree same = is
 
@@ -289,13 +289,13 @@ own_includes = record {
 -- ---- the entry
 
 abbrev witness_entry : Entry
-witness_entry = added empty witness_answer (witness_include ∷ [])
+witness_entry = added empty witness_object_key (witness_include ∷ [])
 
 abbrev only_result : KeyResult
-only_result = (witness_answer, witness_include ∷ [])
+only_result = (witness_object_key, witness_include ∷ [])
 
 entry_is : entries witness_entry ≡ only_result ∷ []
-entry_is = entries-added witness_answer (witness_include ∷ [])
+entry_is = entries-added witness_object_key (witness_include ∷ [])
 
 abbrev witness_bytes : Bytes
 witness_bytes = entry_bytes (only_result ∷ [])
@@ -326,7 +326,7 @@ answer_size : length (material (key_parts (params witness_world first_call.reque
 unfolding params stripped text_site longest_prefix material length_bytes
 answer_size = refl
 
-answer_text : is_utf8 witness_answer ≡ true
+answer_text : is_utf8 witness_object_key ≡ true
 answer_text = ap (λ n. is_utf8 (hex_text (sized n))) answer_size ∙ ascii_text (hex_text (sized 121)) refl
 
 fits_result : FitsResult only_result
@@ -344,7 +344,7 @@ entry_text = record {
   text = ap entry_bytes (sym entry_is);
 }
 
-pub own_pair : OwnPair witness_world first_call witness_answer witness_key witness_bytes
+pub own_pair : OwnPair witness_world first_call witness_object_key witness_key witness_bytes
 own_pair = record { is_key = key_is (codes "a.o"); is_plain = plain_is; includes = witness_include ∷ []; keeps = own_includes; is_text = entry_text }
 
 matched : (object : Bytes) → matching witness_world (witness_call object) witness_include ≡ true
@@ -377,10 +377,10 @@ not_erring text is (marks, are, decide) =
     cc
 
 module _ (F : Type 0) where
-  pub first_step : Step witness_world map_store first_call F new_state (Keyed witness_answer true) holds_entry
+  pub first_step : Step witness_world map_store first_call F new_state (Keyed witness_object_key true) holds_entry
   first_step =
       asked (opened (codes "a.o")) witness_key (key_is (codes "a.o")) refl Miss (after_calls 1 []) (record { answer = Ok None; got = (refl, refl, refl); gives = refl })
-      (gives witness_answer plain_is (λ text asks is errs. absurd (not_erring text is errs)) refl (inl (record {
+      (gives witness_object_key plain_is (λ text asks is errs. absurd (not_erring text is errs)) refl (inl (record {
         k = witness_key;
         bytes = witness_bytes;
         own = own_pair;
@@ -391,10 +391,10 @@ module _ (F : Type 0) where
   found_again : Some witness_bytes ≡ find text_cmp witness_key holds_entry.pairs
   found_again = sym (ap (λ o. cond (is_eq o) (Some witness_bytes) None) (tied_itself nat_list_cmp_total witness_key))
 
-  pub second_step : Step witness_world map_store second_call F holds_entry (Keyed witness_answer false) asked_again
+  pub second_step : Step witness_world map_store second_call F holds_entry (Keyed witness_object_key false) asked_again
   second_step =
       let all : list_all (matching witness_world second_call) (witness_include ∷ []) ≡ true = ap (λ b. b && true) (matched (codes "b.o")) in
-      asked (opened (codes "b.o")) witness_key (key_is (codes "b.o")) refl (Hit witness_answer) asked_again (record {
+      asked (opened (codes "b.o")) witness_key (key_is (codes "b.o")) refl (Hit witness_object_key) asked_again (record {
         answer = Ok (Some witness_bytes);
         got = (refl, found_again, refl);
         gives = (
@@ -426,8 +426,8 @@ premises_can_hold = record {
   is_empty = λ k bytes held. (none-some _ held);
   premises = premises;
   no_fault = no_fault;
-  key = witness_answer;
+  key = witness_object_key;
   end = asked_again;
   run = (holds_entry, first_step (Fault (witness_done first_call)), (asked_again, second_step (Fault (witness_done second_call)), refl));
-  no_setback = no_fault first_call;
+  no_store_failure = no_fault first_call;
 }

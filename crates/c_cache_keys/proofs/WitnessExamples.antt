@@ -5,16 +5,16 @@ use Rattle.cck_include.specs.Recorded.{has_timestamp}
 use Rattle.cck_store.specs.MapLemmas.{map_store_laws}
 use Rattle.cck_store.specs.MapStore.{map_store, new_state}
 use Rattle.c_cache_keys.proofs.Runs.{stays_sound}
-use Rattle.c_cache_keys.proofs.Witness.{extra_is, first_step, holds_entry, input_node, input_read, key_is, no_fault, plain_stamp, same_parts, witness_answer, witness_key, witness_size}
+use Rattle.c_cache_keys.proofs.Witness.{extra_is, first_step, holds_entry, input_node, input_read, key_is, no_fault, plain_stamp, same_parts, witness_object_key, witness_key, witness_size}
 use Rattle.c_cache_keys.specs.Call.{Fault, Keyed}
-use Rattle.c_cache_keys.specs.Hits.{IsAside, SameRecords}
+use Rattle.c_cache_keys.specs.Hits.{IsUnrelated, SameRecords}
 use Rattle.c_cache_keys.specs.Laws.{CanHit}
 use Rattle.c_cache_keys.specs.Premises.{Agree, SameFiles}
 use Rattle.c_cache_keys.specs.Step.{Sound}
 use Rattle.c_cache_keys.specs.Witness.{first_call, printed_text, second_call, witness_done, witness_world}
 
 -- the second call can hit,
-can_hit : CanHit witness_world (witness_done second_call) witness_key (Keyed witness_answer false)
+can_hit : CanHit witness_world (witness_done second_call) witness_key (Keyed witness_object_key false)
 can_hit = record { control = refl; key = key_is (codes "b.o"); no_fault = no_fault second_call; enough_memory = λ e. cc }
 
 -- has the records of the first one,
@@ -22,8 +22,8 @@ same_records : SameRecords witness_world first_call second_call printed_text
 same_records p n named file = (n, file, refl, refl)
 
 -- and puts nothing, so that a third one could hit too
-is_aside : IsAside witness_world witness_key second_call (Keyed witness_answer false)
-is_aside key e = absurd cc
+is_unrelated : IsUnrelated witness_world witness_key second_call (Keyed witness_object_key false)
+is_unrelated key e = absurd cc
 
 -- both agree, on the same files
 agree : Agree witness_world first_call second_call
@@ -56,5 +56,5 @@ same_files = record {
 -- what the store holds between them is the first one's own pair
 sound : Sound witness_world map_store holds_entry (first_call ∷ [])
 sound =
-    stays_sound witness_world map_store witness_size map_store_laws [] (witness_done first_call) new_state holds_entry (Keyed witness_answer true) (λ k bytes held. absurd (none-some _ held))
+    stays_sound witness_world map_store witness_size map_store_laws [] (witness_done first_call) new_state holds_entry (Keyed witness_object_key true) (λ k bytes held. absurd (none-some _ held))
     (first_step (Fault (witness_done first_call)))

@@ -42,16 +42,16 @@ module _ {I F V : Type 0} (value : I → V) (file_map : F → FileMap) (faults :
 
   module _ {S : Type 0} (w : World V) (st : Store S) where
     -- This call had this result, from one store to another: it is a step, an error gives its reason, and a result has the toolchain's key.
-    pub record IsAnswered (s : S) (before after : Call I F) (r : Result HashResult KeyError) (t : S) : Type 0 where
+    pub record IsReturned (s : S) (before after : Call I F) (r : Result HashResult KeyError) (t : S) : Type 0 where
       pub step : Step w st (call_in before) (seen.Fault (done_in before after.files)) s (answer_of r) t
       pub reason : IfErr r (IsReason w st (call_in before) (seen.Fault (done_in before after.files)) s t)
       pub toolchain : IfOk r (λ found. string_bytes found.weak_toolchain_key ≡ toolchain_key before.hasher.executable.items (string_bytes before.hasher.executable_digest))
 
     -- these calls had these results, in order
-    abbrev pub AreAnswered : S → List (Call I F) → List (Call I F) → List (Result HashResult KeyError) → S → Type 0
-    AreAnswered s [] [] [] t = t ≡ s
-    AreAnswered s (o ∷ olds) (n ∷ news) (r ∷ rs) t = (mid : S) × IsAnswered s o n r mid × AreAnswered mid olds news rs t
-    AreAnswered s [] [] (r ∷ rs) t = ⊥
-    AreAnswered s [] (n ∷ news) rs t = ⊥
-    AreAnswered s (o ∷ olds) [] rs t = ⊥
-    AreAnswered s (o ∷ olds) (n ∷ news) [] t = ⊥
+    abbrev pub AreReturned : S → List (Call I F) → List (Call I F) → List (Result HashResult KeyError) → S → Type 0
+    AreReturned s [] [] [] t = t ≡ s
+    AreReturned s (o ∷ olds) (n ∷ news) (r ∷ rs) t = (mid : S) × IsReturned s o n r mid × AreReturned mid olds news rs t
+    AreReturned s [] [] (r ∷ rs) t = ⊥
+    AreReturned s [] (n ∷ news) rs t = ⊥
+    AreReturned s (o ∷ olds) [] rs t = ⊥
+    AreReturned s (o ∷ olds) (n ∷ news) [] t = ⊥

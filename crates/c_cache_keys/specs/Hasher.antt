@@ -63,10 +63,10 @@ IsKeyOfInput w c extra_hashes key =
     × (key ≡ option_map (λ recorded. digest_text w.hash (preprocessor_material (request_parts w c.request (input_path c)) extra_hashes recorded)) (recorded (setting w c) file))
 
 -- why there is no such result: the input is no regular file, there was a fault, or memory is lacking
-abbrev pub IsInputRefusal : {V : Type 0} → World V → Call V → Type 0 → KeyError → Type 0
-IsInputRefusal w c HasFault refusal.Memory = Unit {0}
-IsInputRefusal w c HasFault (refusal.Input e) = IsInputReason w c HasFault e
-IsInputRefusal w c HasFault _ = ⊥
+abbrev pub IsInputError : {V : Type 0} → World V → Call V → Type 0 → KeyError → Type 0
+IsInputError w c HasFault refusal.Memory = Unit {0}
+IsInputError w c HasFault (refusal.Input e) = IsInputReason w c HasFault e
+IsInputError w c HasFault _ = ⊥
 
 -- A text that is printed for this call, the preprocessor key, and the hex digests of the extra files.
 pub record IsPrintedFor {V : Type 0} (w : World V) (c : Call V) (k : Bytes) (extra_hashes : List Bytes) (text : Bytes) : Type 0 where

@@ -8,7 +8,7 @@ use Rattle.cck_include.specs.Include.{Include}
 use Rattle.cck_include.specs.Recorded.{recorded}
 use Rattle.cck_path.specs.Bytes.{Bytes}
 use Rattle.cck_path.specs.Path.{Path}
-use Rattle.cck_store.specs.Store.{HoldsOnly, Setback, Store}
+use Rattle.cck_store.specs.Store.{HoldsOnly, StoreFailure, Store}
 use Rattle.c_cache_keys.specs.Call.{Answer, Call, Done, Fault, Keyed, Refused, calls_of, Why, Memory, Extra, ExtraFault, Input, InputFault, Store as StoreFails, Damaged, NoText, TextFault, Marker}
 use Rattle.c_cache_keys.specs.Keys.{extra_texts, input_file, is_preprocessed, preprocessor_key_of, printed, uses_cache}
 use Rattle.c_cache_keys.specs.Laws.{CanHit}
@@ -23,8 +23,8 @@ SameRecords w c d text =
     → (o : FileNode) × (file_at d.files p ≡ Ok o) × (length o.contents ≡ length n.contents) × (recorded (setting w d) o ≡ recorded (setting w c) n)
 
 -- the call doesn't return a computed key with this preprocessor key
-abbrev pub IsAside : {V : Type 0} → World V → Bytes → Call V → Answer → Type 0
-IsAside w k c r = (key : Bytes) → r ≡ Keyed key true → preprocessor_key_of w c ≢ Some k
+abbrev pub IsUnrelated : {V : Type 0} → World V → Bytes → Call V → Answer → Type 0
+IsUnrelated w k c r = (key : Bytes) → r ≡ Keyed key true → preprocessor_key_of w c ≢ Some k
 
 module _ {V S : Type 0} (w : World V) (st : Store S) where
   -- After a miss the store holds that one result under the call's key, and nothing else there. The conditions are that something can be
@@ -32,14 +32,14 @@ module _ {V S : Type 0} (w : World V) (st : Store S) where
   abbrev pub FreshIsHeld : Type 0
   FreshIsHeld =
       (d : Done V) (s t : S) (k key : Bytes) (includes : List Include) → preprocessor_key_of w d.call ≡ Some k → AreOwnIncludes w d.call includes
-      → (Fault d → ⊥) → (Setback st s t → ⊥) → Step w st d.call (Fault d) s (Keyed key true) t
+      → (Fault d → ⊥) → (StoreFailure st s t → ⊥) → Step w st d.call (Fault d) s (Keyed key true) t
       → (own : List Include) × AreOwnIncludes w d.call own × (bytes : Bytes) × EntryText (added empty key own) bytes × HoldsOnly st t k bytes
 
   -- Let a call be able to hit, and let something be held under its key, all of it entries with a key that matches. If there is no store
   -- failure, the call returns such a key.
-  abbrev pub HeldIsAnswered : Type 0
-  HeldIsAnswered =
-      (d : Done V) (s t : S) (r : Answer) (k bytes : Bytes) → CanHit w d k r → (Setback st s t → ⊥) → st.held s k bytes
+  abbrev pub HeldKeyIsReturned : Type 0
+  HeldKeyIsReturned =
+      (d : Done V) (s t : S) (r : Answer) (k bytes : Bytes) → CanHit w d k r → (StoreFailure st s t → ⊥) → st.held s k bytes
       → ((x : Bytes) → st.held s k x → (e : Entry) × EntryText e x × (key : Bytes) × (found w d.call e ≡ Some key))
       → Step w st d.call (Fault d) s r t
       → (key : Bytes) × (x : Bytes) × (e : Entry) × st.held s k x × EntryText e x × (found w d.call e ≡ Some key) × (r ≡ Keyed key false)
@@ -51,9 +51,9 @@ module _ {V S : Type 0} (w : World V) (st : Store S) where
   StoredIsHit =
       (c d : Done V) (between : List (Done V)) (answers : List Answer) (s after before t : S) (k key : Bytes) (includes : List Include) (r : Answer)
       → preprocessor_key_of w c.call ≡ Some k → (keeps : AreOwnIncludes w c.call includes) → (Fault c → ⊥) → Step w st c.call (Fault c) s (Keyed key true) after
-      → Run w st after between answers before → AllZip (IsAside w k) (calls_of between) answers
+      → Run w st after between answers before → AllZip (IsUnrelated w k) (calls_of between) answers
       → CanHit w d k r → SameRecords w c.call d.call keeps.text → Step w st d.call (Fault d) before r t
-      → (Setback st s t → ⊥)
+      → (StoreFailure st s t → ⊥)
       → r ≡ Keyed key false
 
   -- what is true where a call returns an error and there was no fault
@@ -63,12 +63,12 @@ module _ {V S : Type 0} (w : World V) (st : Store S) where
   Cause c s t ExtraFault = ⊥
   Cause c s t Input = (input_file w c ≡ None) × ((uses_cache w c.request ≡ true) ⊎ (is_preprocessed c.request ≡ false))
   Cause c s t InputFault = ⊥
-  Cause c s t StoreFails = Setback st s t
+  Cause c s t StoreFails = StoreFailure st s t
   Cause c s t Damaged = (k : Bytes) × (bytes : Bytes) × (preprocessor_key_of w c ≡ Some k) × st.held s k bytes × (bytes ≢ []) × ((e : Entry) → EntryText e bytes → ⊥)
   Cause c s t NoText = (is_preprocessed c.request ≡ true) × (printed w c ≡ None)
   Cause c s t TextFault = ⊥
   Cause c s t Marker = (preprocessor_key_of w c ≢ None) × ((text : Bytes) × (printed w c ≡ Some text) × Walk w c text Errs)
 
   -- each error has its cause
-  abbrev pub RefusalsHaveCauses : Type 0
-  RefusalsHaveCauses = (d : Done V) (s t : S) (why : Why) → (Fault d → ⊥) → Step w st d.call (Fault d) s (Refused why) t → Cause d.call s t why
+  abbrev pub ErrorsHaveCauses : Type 0
+  ErrorsHaveCauses = (d : Done V) (s t : S) (why : Why) → (Fault d → ⊥) → Step w st d.call (Fault d) s (Refused why) t → Cause d.call s t why

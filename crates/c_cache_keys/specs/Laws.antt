@@ -3,7 +3,7 @@ use Rattle.std.specs.Prelude.{◌≡◌, ◌≢◌, ◌⊎◌, ◌↔◌, List, 
 use Rattle.std.specs.List.{AllZip}
 use Rattle.cck_path.specs.Bytes.{Bytes}
 use Rattle.cck_entry.specs.Entry.{Entry, EntryText}
-use Rattle.cck_store.specs.Store.{Handed, Store}
+use Rattle.cck_store.specs.Store.{Returned, Store}
 use Rattle.c_cache_keys.specs.Call.{Answer, Call, Damaged, Done, Fault, Keyed, Memory, Refused, calls_of}
 use Rattle.c_cache_keys.specs.Keys.{plain_key, preprocessor_key_of}
 use Rattle.c_cache_keys.specs.Premises.{Premises}
@@ -55,25 +55,25 @@ module _ {V S : Type 0} (w : World V) (st : Store S) where
 
   -- A call that can hit asks the store once, under its key. If the store returns an entry with a key whose included files are all
   -- unchanged, the call returns the greatest such key, as a stored one, and puts nothing. So it does whatever a preprocessor would print.
-  abbrev pub AnswersHanded : Done V → S → Answer → S → Type 0
-  AnswersHanded d s r t =
+  abbrev pub ReturnsStored : Done V → S → Answer → S → Type 0
+  ReturnsStored d s r t =
       (k : Bytes) → CanHit w d k r
-      → (handed : Handed) × (mid : S) × st.got s k handed mid
-      × ((bytes key : Bytes) (e : Entry) → handed ≡ Ok (Some bytes) → EntryText e bytes → found w d.call e ≡ Some key → (r ≡ Keyed key false) × (t ≡ mid))
+      → (returned : Returned) × (mid : S) × st.got s k returned mid
+      × ((bytes key : Bytes) (e : Entry) → returned ≡ Ok (Some bytes) → EntryText e bytes → found w d.call e ≡ Some key → (r ≡ Keyed key false) × (t ≡ mid))
 
-  abbrev pub HandedIsAnswered : Type 0
-  HandedIsAnswered = (d : Done V) (s t : S) (r : Answer) → Step w st d.call (Fault d) s r t → AnswersHanded d s r t
+  abbrev pub StoredKeyIsReturned : Type 0
+  StoredKeyIsReturned = (d : Done V) (s t : S) (r : Answer) → Step w st d.call (Fault d) s r t → ReturnsStored d s r t
 
   -- a run, each of whose calls does so between the same two states as its step
-  abbrev pub AllAnswerHanded : S → List (Done V) → List Answer → S → Type 0
-  AllAnswerHanded s [] [] t = t ≡ s
-  AllAnswerHanded s (d ∷ ds) (r ∷ rs) t = (mid : S) × Step w st d.call (Fault d) s r mid × AnswersHanded d s r mid × AllAnswerHanded mid ds rs t
-  AllAnswerHanded s [] (r ∷ rs) t = ⊥
-  AllAnswerHanded s (d ∷ ds) [] t = ⊥
+  abbrev pub AllReturnStored : S → List (Done V) → List Answer → S → Type 0
+  AllReturnStored s [] [] t = t ≡ s
+  AllReturnStored s (d ∷ ds) (r ∷ rs) t = (mid : S) × Step w st d.call (Fault d) s r mid × ReturnsStored d s r mid × AllReturnStored mid ds rs t
+  AllReturnStored s [] (r ∷ rs) t = ⊥
+  AllReturnStored s (d ∷ ds) [] t = ⊥
 
   -- each run is one of these, whatever the store holds at first
-  abbrev pub RunAnswersHanded : Type 0
-  RunAnswersHanded = (s t : S) (done : List (Done V)) (answers : List Answer) → Run w st s done answers t → AllAnswerHanded s done answers t
+  abbrev pub RunReturnsStored : Type 0
+  RunReturnsStored = (s t : S) (done : List (Done V)) (answers : List Answer) → Run w st s done answers t → AllReturnStored s done answers t
 
   -- The headline. Its first half: every key that a run from an empty store returns, stored or computed, is the plain key of its call. And
   -- no call returns an error because of what the store returned. Its second half: a stored key that matches is returned, whatever a
@@ -84,7 +84,7 @@ module _ {V S : Type 0} (w : World V) (st : Store S) where
   abbrev pub Headline : Type 0
   Headline =
       (s t : S) (done : List (Done V)) (answers : List Answer) → Run w st s done answers t
-      → (IsEmpty w st s → Premises w (calls_of done) → AllZip (IsTransparent w) (calls_of done) answers) × AllAnswerHanded s done answers t
+      → (IsEmpty w st s → Premises w (calls_of done) → AllZip (IsTransparent w) (calls_of done) answers) × AllReturnStored s done answers t
 
   -- several runs on one store, each starting where the one before it ended
   abbrev pub Runs : S → List (List (Done V)) → List (List Answer) → S → Type 0
@@ -97,7 +97,7 @@ module _ {V S : Type 0} (w : World V) (st : Store S) where
   RunsHeadline =
       (s t : S) (runs : List (List (Done V))) (answers : List (List Answer)) → Runs s runs answers t
       → (IsEmpty w st s → Premises w (calls_of (joined_lists runs)) → AllZip (IsTransparent w) (calls_of (joined_lists runs)) (joined_lists answers))
-      × AllAnswerHanded s (joined_lists runs) (joined_lists answers) t
+      × AllReturnStored s (joined_lists runs) (joined_lists answers) t
 
   -- what is held after a call was held before it, or is the call's own pair, whose key was returned as a computed one
   abbrev pub KeepsOldOrOwn : Type 0

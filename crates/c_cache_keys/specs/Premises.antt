@@ -22,12 +22,12 @@ module _ {V : Type 0} (w : World V) where
     of_key : key_material w c ≡ Some x → IsHashed c x
 
   -- two of these that have one digest are equal
-  abbrev pub NoSharedDigest : List (Call V) → Type 0
-  NoSharedDigest calls = (c d : Call V) (x y : Bytes) → Contains calls c → Contains calls d → IsHashed c x → IsHashed d y → digest_text w.hash x ≡ digest_text w.hash y → x ≡ y
+  abbrev pub CollisionFree : List (Call V) → Type 0
+  CollisionFree calls = (c d : Call V) (x y : Bytes) → Contains calls c → Contains calls d → IsHashed c x → IsHashed d y → digest_text w.hash x ≡ digest_text w.hash y → x ≡ y
 
   -- calls with one preprocessor key are of one request
-  abbrev pub OneRequest : List (Call V) → Type 0
-  OneRequest calls = (c d : Call V) (k : Bytes) → Contains calls c → Contains calls d → preprocessor_key_of w c ≡ Some k → preprocessor_key_of w d ≡ Some k → c.request ≡ d.request
+  abbrev pub KeyDeterminesRequest : List (Call V) → Type 0
+  KeyDeterminesRequest calls = (c d : Call V) (k : Bytes) → Contains calls c → Contains calls d → preprocessor_key_of w c ≡ Some k → preprocessor_key_of w d ≡ Some k → c.request ≡ d.request
 
   -- the first call comes before the second
   abbrev pub IsBefore : List (Call V) → Call V → Call V → Type 0
@@ -61,20 +61,20 @@ module _ {V : Type 0} (w : World V) where
   NoTime c = (n : FileNode) → file_at c.files (components (input_path c)) ≡ Ok n → has_time n.contents ≡ false
 
   -- a preprocessor prints the same text again for a later call that agrees with the first one, on the same files
-  abbrev pub PrintsAgain : List (Call V) → Type 0
-  PrintsAgain calls =
+  abbrev pub DeterministicPreprocessor : List (Call V) → Type 0
+  DeterministicPreprocessor calls =
       (c d : Call V) (text : Bytes) → IsBefore calls c d → printed w c ≡ Some text → NoTime c → Walk w c text Accepted
       → Agree c d → SameFiles c d text → printed w d ≡ Some text
 
   -- the options under which a changed file may count as unchanged
-  pub record OptionsOff : Type 0 where
+  pub record StrictOptions : Type 0 where
     pub skip_system_headers : w.config.skip_system_headers ≡ false
     pub ignore_time_macros : w.config.ignore_time_macros ≡ false
     pub file_stat_matches : w.config.file_stat_matches ≡ false
 
   -- All of these, over the calls of a run. One key may be of several requests if it contains the working directory.
   pub record Premises (calls : List (Call V)) : Type 0 where
-    pub hash : NoSharedDigest calls
-    pub requests : w.config.hash_working_directory ≡ false → OneRequest calls
-    pub compiler : PrintsAgain calls
-    pub options : OptionsOff
+    pub hash : CollisionFree calls
+    pub requests : w.config.hash_working_directory ≡ false → KeyDeterminesRequest calls
+    pub compiler : DeterministicPreprocessor calls
+    pub options : StrictOptions

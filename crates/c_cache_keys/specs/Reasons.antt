@@ -3,8 +3,8 @@ use Rattle.std.specs.Prelude.{◌≡◌, ◌≢◌, map, Some, Ok, Err}
 use Rattle.cck_digest.specs.declared.error.UtilError.{UtilError}
 use Rattle.cck_digest.specs.declared.error.UtilError.TheVariants as util
 use Rattle.cck_entry.specs.Entry.{Reads}
-use Rattle.cck_file_digest.specs.FileDigest.{IsFirstRefusal}
-use Rattle.cck_files.specs.Calls.{IsRefusal}
+use Rattle.cck_file_digest.specs.FileDigest.{IsFirstError}
+use Rattle.cck_files.specs.Calls.{IsError}
 use Rattle.cck_files.specs.FileMap.{file_at}
 use Rattle.cck_key_error.specs.declared.key_error.KeyError.{KeyError}
 use Rattle.cck_key_error.specs.declared.key_error.KeyError.TheVariants as refusal
@@ -23,13 +23,13 @@ use Rattle.c_cache_keys.specs.World.{World}
 module _ {V : Type 0} (w : World V) (c : Call V) (F : Type 0) where
   -- why the input can't be read
   abbrev pub IsInputReason : UtilError → Type 0
-  IsInputReason (util.File e) = IsRefusal (file_at c.files (components (input_path c))) F e
+  IsInputReason (util.File e) = IsError (file_at c.files (components (input_path c))) F e
   IsInputReason _ = ⊥
 
   -- the reason of an error that is caused by files: for an extra file it is that of the first one without a digest
   abbrev pub IsFileReason : KeyError → Type 0
   IsFileReason refusal.Memory = Unit {0}
-  IsFileReason (refusal.Extra e) = (e ≢ util.Memory) × IsFirstRefusal w.hash c.files (map components c.request.arguments.extra_hash_files) F e
+  IsFileReason (refusal.Extra e) = (e ≢ util.Memory) × IsFirstError w.hash c.files (map components c.request.arguments.extra_hash_files) F e
   IsFileReason (refusal.Input e) = IsInputReason e
   IsFileReason refusal.Store = ⊥
   IsFileReason (refusal.Entry e) = ⊥

@@ -10,22 +10,22 @@ use Rattle.cck_key_error.specs.declared.preprocess_error.PreprocessError.TheVari
 use Rattle.cck_time.specs.declared.error.Error.{Error}
 use Rattle.cck_time.specs.declared.error.Error.TheVariants as entry
 
-abbrev pub extra_refusal : UtilError → KeyError
-extra_refusal util.Memory = Memory
-extra_refusal other = Extra other
+abbrev pub extra_error : UtilError → KeyError
+extra_error util.Memory = Memory
+extra_error other = Extra other
 
-abbrev pub input_refusal : FileError → KeyError
-input_refusal file.Memory = Memory
-input_refusal other = Input (util.File other)
+abbrev pub input_error : FileError → KeyError
+input_error file.Memory = Memory
+input_error other = Input (util.File other)
 
-abbrev pub key_refusal : Error → KeyError
-key_refusal (entry.Io cause) = Input cause
-key_refusal other = Memory
+abbrev pub key_error_of : Error → KeyError
+key_error_of (entry.Io cause) = Input cause
+key_error_of other = Memory
 
-abbrev pub text_refusal : PreprocessError → KeyError
-text_refusal text.Memory = Memory
-text_refusal other = Preprocess other
+abbrev pub text_error : PreprocessError → KeyError
+text_error text.Memory = Memory
+text_error other = Preprocess other
 
-abbrev pub entry_refusal : Error → KeyError
-entry_refusal entry.Memory = Memory
-entry_refusal other = Entry other
+abbrev pub entry_error : Error → KeyError
+entry_error entry.Memory = Memory
+entry_error other = Entry other

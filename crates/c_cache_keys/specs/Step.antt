@@ -8,7 +8,7 @@ use Rattle.cck_entry.specs.Find.{IsLookup, found_in}
 use Rattle.cck_include.specs.Gathered.{Digested, gathered}
 use Rattle.cck_include.specs.Include.{Include}
 use Rattle.cck_include.specs.Matching.{matches}
-use Rattle.cck_store.specs.Store.{Handed, Store, Stored}
+use Rattle.cck_store.specs.Store.{Returned, Store, Stored}
 use Rattle.cck_store.specs.declared.store.StoreError.TheVariants as store
 use Rattle.c_cache_keys.specs.Call.{Answer, Call, Done, Fault, Keyed, Refused, Why, Memory, Extra, ExtraFault, Input, InputFault, Store as StoreFails, Damaged, NoText, TextFault, Marker}
 use Rattle.c_cache_keys.specs.Keys.{extra_texts, input_file, is_preprocessed, plain_key, preprocessor_key_of, printed, uses_cache}
@@ -38,7 +38,7 @@ ReadsBy test F bytes (Failed NoText) = ⊥
 ReadsBy test F bytes (Failed TextFault) = ⊥
 ReadsBy test F bytes (Failed Marker) = ⊥
 
-abbrev pub GivesBy : (Include → Bool) → Type 0 → Handed → Asked → Type 0
+abbrev pub GivesBy : (Include → Bool) → Type 0 → Returned → Asked → Type 0
 GivesBy test F (Err store.Fault) o = o ≡ Failed StoreFails
 GivesBy test F (Err store.Memory) o = o ≡ Failed Memory
 GivesBy test F (Ok None) o = o ≡ Miss
@@ -46,7 +46,7 @@ GivesBy test F (Ok (Some bytes)) o = ReadsBy test F bytes o
 
 -- the store is asked once, under this key
 pub record AsksBy {S : Type 0} (st : Store S) (test : Include → Bool) (F : Type 0) (k : Bytes) (s : S) (o : Asked) (t : S) : Type 0 where
-  pub answer : Handed
+  pub answer : Returned
   pub got : st.got s k answer t
   pub gives : GivesBy test F answer o
 
@@ -81,7 +81,7 @@ module _ {V : Type 0} (w : World V) where
   abbrev pub ReadsAs : Call V → Type 0 → Bytes → Asked → Type 0
   ReadsAs c = ReadsBy (matching c)
 
-  abbrev pub Gives : Call V → Type 0 → Handed → Asked → Type 0
+  abbrev pub Gives : Call V → Type 0 → Returned → Asked → Type 0
   Gives c = GivesBy (matching c)
 
   -- these included files are recorded of the call: all regular files that its text names, at least one

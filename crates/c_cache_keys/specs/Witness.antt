@@ -11,7 +11,7 @@ use Rattle.cck_path.specs.Path.{Name, Path, Root, path_cmp}
 use Rattle.cck_path.specs.Timestamp.{Moment}
 use Rattle.cck_path.specs.declared.metadata.FileKind.TheVariants.{File}
 use Rattle.cck_store.specs.MapStore.{State, map_store, new_state}
-use Rattle.cck_store.specs.Store.{Setback}
+use Rattle.cck_store.specs.Store.{StoreFailure}
 use Rattle.cck_time.specs.Config.{activated}
 use Rattle.cck_util.specs.declared.language.Language.TheVariants.{C}
 use Rattle.jiff.specs.Types.{UTC}
@@ -136,4 +136,4 @@ pub record PremisesCanHold : Type 0 where
   pub key : Bytes
   pub end : State
   pub run : Run witness_world map_store new_state witness_run (Keyed key true ∷ Keyed key false ∷ []) end
-  pub no_setback : Setback map_store new_state end → ⊥
+  pub no_store_failure : StoreFailure map_store new_state end → ⊥

@@ -2,7 +2,7 @@
 ghost use Rattle.std.specs.Prelude.{◌≡◌, ◌⊎◌, ◌++◌, Some, IfErr, IfOk, IsOkUnless, string_bytes};
 ghost use Rattle.cck_compiler.specs.ExtraFiles.{completed};
 ghost use Rattle.cck_digest.specs.Digest.{digest_text};
-ghost use Rattle.cck_file_digest.specs.Refusals.{IsDigestRefusal};
+ghost use Rattle.cck_file_digest.specs.Refusals.{IsDigestError};
 ghost use Rattle.cck_files.specs.Calls.{Keeps, Rose};
 ghost use Rattle.cck_key_error.specs.KeyError.{IsFileFault};
 ghost use Rattle.cck_path.specs.Bytes.{lists_of, variables_of};
@@ -54,7 +54,7 @@ impl<I: CCompilerImpl> CCompiler<I> {
         ensures digest { IfOk result (λ made.
             executable_text H.hash (I.compiler.version (I.value compiler)) (F.file_map files.old) (components executable.items)
             ≡ Some (string_bytes made.executable_digest)) }
-        ensures refused { IfErr result (λ e. IsDigestRefusal (F.file_map files.old) (components executable.items)
+        ensures refused { IfErr result (λ e. IsDigestError (F.file_map files.old) (components executable.items)
             (Rose (F.faults files.old) (F.faults files.new)) e) }
     {
         let text = Digest::<H>::file(alloc, files, &executable)?;

@@ -4,8 +4,8 @@ ghost use Rattle.std.specs.List.{AllZip};
 ghost use Rattle.cck_path.specs.Bytes.{lists_of};
 ghost use Rattle.jiff.specs.Words.{plain_zone};
 ghost use Rattle.c_cache_keys.specs.Call.{calls_of};
-ghost use Rattle.c_cache_keys.specs.Calls.{AreAnswered, IsAfter, done_all};
-ghost use Rattle.c_cache_keys.specs.Laws.{AllAnswerHanded, IsTransparent};
+ghost use Rattle.c_cache_keys.specs.Calls.{AreReturned, IsAfter, done_all};
+ghost use Rattle.c_cache_keys.specs.Laws.{AllReturnStored, IsTransparent};
 ghost use Rattle.c_cache_keys.specs.Premises.{Premises};
 ghost use Rattle.c_cache_keys.specs.Seen.{answer_of};
 ghost use Rattle.c_cache_keys.specs.Step.{IsEmpty, Run};
@@ -75,9 +75,9 @@ pub fn run_calls<H: HashState, I: CCompilerImpl, F: Files, S: PreprocessorStore>
     basedirs: &[Vec<u8>],
     calls: &mut [Call<I, F>],
 ) -> Result<Vec<Result<HashResult, KeyError>>, UtilError>
-    ensures answered { IfOk result (λ answers.
+    ensures returned { IfOk result (λ answers.
         let w = world_of H.hash I.compiler (plain_zone zone.now) config (lists_of basedirs.now) in
-        AreAnswered I.value F.file_map F.faults w S.store store.old calls.old calls.new answers.items store.new) }
+        AreReturned I.value F.file_map F.faults w S.store store.old calls.old calls.new answers.items store.new) }
     ensures run { IfOk result (λ answers.
         let w = world_of H.hash I.compiler (plain_zone zone.now) config (lists_of basedirs.now) in
         Run w S.store store.old (done_all I.value F.file_map F.faults calls.old calls.new) (map answer_of answers.items) store.new) }
@@ -85,9 +85,9 @@ pub fn run_calls<H: HashState, I: CCompilerImpl, F: Files, S: PreprocessorStore>
         let w = world_of H.hash I.compiler (plain_zone zone.now) config (lists_of basedirs.now) in
         let made = calls_of (done_all I.value F.file_map F.faults calls.old calls.new) in
         IsEmpty w S.store store.old → Premises w made → AllZip (IsTransparent w) made (map answer_of answers.items)) }
-    ensures handed { IfOk result (λ answers.
+    ensures returned { IfOk result (λ answers.
         let w = world_of H.hash I.compiler (plain_zone zone.now) config (lists_of basedirs.now) in
-        AllAnswerHanded w S.store store.old (done_all I.value F.file_map F.faults calls.old calls.new) (map answer_of answers.items) store.new) }
+        AllReturnStored w S.store store.old (done_all I.value F.file_map F.faults calls.old calls.new) (map answer_of answers.items) store.new) }
     ensures each { IfOk result (λ answers. length answers.items ≡ length calls.old) }
     ensures keeps { AllZip (IsAfter F.file_map F.faults F.is_quiet) calls.old calls.new }
     ensures refused { IsOkUnless result UtilError.Memory }

@@ -3,8 +3,8 @@
 ghost use Rattle.std.specs.Prelude.{◌≡◌, ◌↔◌, ℕ, IsTrue, List};
 ghost use Rattle.cck_time.specs.declared.config.PreprocessorCacheModeConfig.{PreprocessorCacheModeConfig};
 ghost use Rattle.jiff.specs.Types.{TimeZone};
-ghost use Rattle.c_cache_keys.specs.Hits.{FreshIsHeld, HeldIsAnswered, RefusalsHaveCauses, StoredIsHit};
-ghost use Rattle.c_cache_keys.specs.Laws.{FreshIsPlain, HandedIsAnswered, Headline, HitIsPlain, KeepsOldOrOwn, NothingDamaged, RecacheIsFresh, RunAnswersHanded, RunsHeadline, RunsJoin, StaysSound};
+ghost use Rattle.c_cache_keys.specs.Hits.{FreshIsHeld, HeldKeyIsReturned, ErrorsHaveCauses, StoredIsHit};
+ghost use Rattle.c_cache_keys.specs.Laws.{FreshIsPlain, StoredKeyIsReturned, Headline, HitIsPlain, KeepsOldOrOwn, NothingDamaged, RecacheIsFresh, RunReturnsStored, RunsHeadline, RunsJoin, StaysSound};
 ghost use Rattle.c_cache_keys.specs.Walked.{VerdictIsDecided};
 ghost use Rattle.c_cache_keys.specs.Witness.{PremisesCanHold};
 ghost use Rattle.c_cache_keys.specs.World.{world_of};
@@ -60,15 +60,15 @@ pub fn runs_headline<H: HashState, I: CCompilerImpl, S: PreprocessorStore>()
 /// A call that can hit asks the store once. If the store returns an entry with a key whose included
 /// files are all unchanged, the call returns the greatest such key and puts nothing. So it does
 /// whatever a preprocessor would print.
-pub fn handed_is_answered<H: HashState, I: CCompilerImpl, S: PreprocessorStore>()
+pub fn stored_key_is_returned<H: HashState, I: CCompilerImpl, S: PreprocessorStore>()
     ensures { (zone : TimeZone) (config : PreprocessorCacheModeConfig) (basedirs : List (List ℕ)) →
-        HandedIsAnswered (world_of H.hash I.compiler zone config basedirs) S.store }
+        StoredKeyIsReturned (world_of H.hash I.compiler zone config basedirs) S.store }
 {}
 
 /// Each call of a run does so, whatever the store holds at first: the second half of the headline.
-pub fn run_answers_handed<H: HashState, I: CCompilerImpl, S: PreprocessorStore>()
+pub fn run_returns_stored<H: HashState, I: CCompilerImpl, S: PreprocessorStore>()
     ensures { (zone : TimeZone) (config : PreprocessorCacheModeConfig) (basedirs : List (List ℕ)) →
-        RunAnswersHanded (world_of H.hash I.compiler zone config basedirs) S.store }
+        RunReturnsStored (world_of H.hash I.compiler zone config basedirs) S.store }
 {}
 
 /// What a store holds after a call it held before, or it is the call's own pair and the call
@@ -94,9 +94,9 @@ pub fn fresh_is_held<H: HashState, I: CCompilerImpl, S: PreprocessorStore>()
 
 /// Let a call be able to hit, and let something be held under its key, all of it entries with a key
 /// that matches. If there is no store failure, the call returns such a key.
-pub fn held_is_answered<H: HashState, I: CCompilerImpl, S: PreprocessorStore>()
+pub fn held_key_is_returned<H: HashState, I: CCompilerImpl, S: PreprocessorStore>()
     ensures { (zone : TimeZone) (config : PreprocessorCacheModeConfig) (basedirs : List (List ℕ)) →
-        HeldIsAnswered (world_of H.hash I.compiler zone config basedirs) S.store }
+        HeldKeyIsReturned (world_of H.hash I.compiler zone config basedirs) S.store }
 {}
 
 /// After a miss of which something can be recorded, a later call that can hit, with the same
@@ -110,9 +110,9 @@ pub fn stored_is_hit<H: HashState, I: CCompilerImpl, S: PreprocessorStore>()
 
 /// Each error without a fault has its cause in the call, or is lack of memory. That of the store
 /// occurs only with a store failure.
-pub fn refusals_have_causes<H: HashState, I: CCompilerImpl, S: PreprocessorStore>()
+pub fn errors_have_causes<H: HashState, I: CCompilerImpl, S: PreprocessorStore>()
     ensures { (zone : TimeZone) (config : PreprocessorCacheModeConfig) (basedirs : List (List ℕ)) →
-        RefusalsHaveCauses (world_of H.hash I.compiler zone config basedirs) S.store }
+        ErrorsHaveCauses (world_of H.hash I.compiler zone config basedirs) S.store }
 {}
 
 /// The verdict on a text is what its marks decide, read once from the front with the digests that

@@ -1,15 +1,15 @@
 //! The error of a call for a key, from the error of a call that it makes. Lack of memory is always
 //! [`KeyError::Memory`].
 ghost use Rattle.std.specs.Prelude.{◌≡◌};
-ghost use Rattle.c_cache_keys.specs.Refusals.{entry_refusal, extra_refusal, input_refusal, key_refusal, text_refusal};
+ghost use Rattle.c_cache_keys.specs.Refusals.{entry_error, extra_error, input_error, key_error_of, text_error};
 
 use cck_compiler::{KeyError, PreprocessError};
 use cck_digest::{FileError, UtilError};
 use cck_time::Error;
 
 /// The error for an extra file without a digest.
-pub(crate) fn extra_refusal(error: UtilError) -> KeyError
-    ensures { result ≡ extra_refusal error }
+pub(crate) fn extra_error(error: UtilError) -> KeyError
+    ensures { result ≡ extra_error error }
 {
     match error {
         UtilError::Memory => KeyError::Memory,
@@ -18,8 +18,8 @@ pub(crate) fn extra_refusal(error: UtilError) -> KeyError
 }
 
 /// The error for an input that can't be read.
-pub(crate) fn input_refusal(error: FileError) -> KeyError
-    ensures { result ≡ input_refusal error }
+pub(crate) fn input_error(error: FileError) -> KeyError
+    ensures { result ≡ input_error error }
 {
     match error {
         FileError::Memory => KeyError::Memory,
@@ -28,8 +28,8 @@ pub(crate) fn input_refusal(error: FileError) -> KeyError
 }
 
 /// The error where there is no preprocessor key, since the input can't be read.
-pub(crate) fn key_refusal(error: Error) -> KeyError
-    ensures { result ≡ key_refusal error }
+pub(crate) fn key_error_of(error: Error) -> KeyError
+    ensures { result ≡ key_error_of error }
 {
     match error {
         Error::Io(cause) => KeyError::Input(cause),
@@ -38,8 +38,8 @@ pub(crate) fn key_refusal(error: Error) -> KeyError
 }
 
 /// The error where there is no preprocessed text.
-pub(crate) fn text_refusal(error: PreprocessError) -> KeyError
-    ensures { result ≡ text_refusal error }
+pub(crate) fn text_error(error: PreprocessError) -> KeyError
+    ensures { result ≡ text_error error }
 {
     match error {
         PreprocessError::Memory => KeyError::Memory,
@@ -48,8 +48,8 @@ pub(crate) fn text_refusal(error: PreprocessError) -> KeyError
 }
 
 /// The error for bytes of a store that are no entry.
-pub(crate) fn entry_refusal(error: Error) -> KeyError
-    ensures { result ≡ entry_refusal error }
+pub(crate) fn entry_error(error: Error) -> KeyError
+    ensures { result ≡ entry_error error }
 {
     match error {
         Error::Memory => KeyError::Memory,

@@ -11,9 +11,9 @@ use Rattle.cck_path.specs.Path.{Path, components}
 use Rattle.cck_script.specs.Surroundings.{AreFiles, executable, executable_path, stands}
 use Rattle.c_cache_keys.specs.CCompiler.{executable_text}
 
-stands_there : stands [] (components executable_path) ≡ Some executable
+exists_there : stands [] (components executable_path) ≡ Some executable
 unfolding stands components
-stands_there = refl
+exists_there = refl
 
 text_there : (hash : Bytes → Bytes) (files : FileMap) (p : Path) → finite.get files.nodes p ≡ Some executable → executable_text hash None files p ≡ Some (digest_text hash (codes "cc"))
 unfolding executable_text text_at digest_material whole opening
@@ -24,5 +24,5 @@ text_there hash files p here =
 pub first_digest : (hash : Bytes → Bytes) (files : FileMap) (digest : Bytes) → AreFiles [] files
     → executable_text hash None files (components executable_path) ≡ Some digest → digest ≡ digest_text hash (codes "cc")
 first_digest hash files digest are e =
-    let there = text_there hash files (components executable_path) (are.nodes (components executable_path) ∙ stands_there) in
+    let there = text_there hash files (components executable_path) (are.nodes (components executable_path) ∙ exists_there) in
     cc

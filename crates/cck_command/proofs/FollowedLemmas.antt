@@ -3,34 +3,34 @@ use Rattle.std.proofs.Common.{◌≡◌, List, [], ◌∷◌, ◌++◌, Option, 
 use Rattle.std.specs.List.{AllZip}
 use Rattle.std.specs.Option.{option_to_list}
 use Rattle.std.proofs.lemmas.List.{append-nil}
-use Rattle.cck_script.specs.Calls.{AskedCall, asked_behind, asked_calls, call_said}
+use Rattle.cck_script.specs.Calls.{ScriptCallValue, calls_after, script_calls, call_of_command}
 use Rattle.cck_script.specs.Lines.{Line}
 use Rattle.cck_script.specs.Surroundings.{AreAfter}
 use Rattle.cck_script.specs.declared.surroundings.Surroundings.{Surroundings}
 
 -- the lines so far were followed, this holds of the calls that they ask for, and the lines that are left ask for the others
-pub record AreFollowed (OfAsked : List AskedCall → Type 0) (lines left : List Line) (now : Surroundings) : Type 0 where
+pub record AreFollowed (OfAsked : List ScriptCallValue → Type 0) (lines left : List Line) (now : Surroundings) : Type 0 where
   pub earlier : List Line
-  pub asked : List AskedCall
+  pub asked : List ScriptCallValue
   pub after : AreAfter earlier now
-  pub split : asked_calls lines ≡ asked ++ asked_behind earlier left
+  pub split : script_calls lines ≡ asked ++ calls_after earlier left
   pub of_asked : OfAsked asked
 
 -- one line more
-pub one_line_more : (OfAsked OfMore : List AskedCall → Type 0) (lines left behind : List Line) (line : Line) (now then : Surroundings) → AreFollowed OfAsked lines left now → left ≡ line ∷ behind
+pub one_line_more : (OfAsked OfMore : List ScriptCallValue → Type 0) (lines left following : List Line) (line : Line) (now then : Surroundings) → AreFollowed OfAsked lines left now → left ≡ line ∷ following
     → ((earlier : List Line) → AreAfter earlier now → AreAfter (line ∷ earlier) then)
-    → ((earlier : List Line) (asked : List AskedCall) → AreAfter earlier now → OfAsked asked → OfMore (asked ++ option_to_list (call_said earlier line))) → AreFollowed OfMore lines behind then
-one_line_more OfAsked OfMore lines left behind line now then so is follow more = record {
+    → ((earlier : List Line) (asked : List ScriptCallValue) → AreAfter earlier now → OfAsked asked → OfMore (asked ++ option_to_list (call_of_command earlier line))) → AreFollowed OfMore lines following then
+one_line_more OfAsked OfMore lines left following line now then so is follow more = record {
   earlier = line ∷ so.earlier;
-  asked = so.asked ++ option_to_list (call_said so.earlier line);
+  asked = so.asked ++ option_to_list (call_of_command so.earlier line);
   after = follow so.earlier so.after;
-  split = so.split ∙ ap (λ l. so.asked ++ asked_behind so.earlier l) is
-      ∙ sym (append_assoc so.asked (option_to_list (call_said so.earlier line)) (asked_behind (line ∷ so.earlier) behind));
+  split = so.split ∙ ap (λ l. so.asked ++ calls_after so.earlier l) is
+      ∙ sym (append_assoc so.asked (option_to_list (call_of_command so.earlier line)) (calls_after (line ∷ so.earlier) following));
   of_asked = more so.earlier so.asked so.after so.of_asked;
 }
 
 -- no line is left: it holds of all calls
-pub all_followed : (OfAsked : List AskedCall → Type 0) (lines : List Line) (now : Surroundings) → AreFollowed OfAsked lines [] now → OfAsked (asked_calls lines)
+pub all_followed : (OfAsked : List ScriptCallValue → Type 0) (lines : List Line) (now : Surroundings) → AreFollowed OfAsked lines [] now → OfAsked (script_calls lines)
 all_followed OfAsked lines now so = rw (so.split ∙ append-nil so.asked) so.of_asked
 
 pub zip_joined : {A B : Type 0} (R : A → B → Type 0) (xs more : List A) (ys others : List B) → AllZip R xs ys → AllZip R more others → AllZip R (xs ++ more) (ys ++ others)

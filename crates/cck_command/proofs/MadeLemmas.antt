@@ -10,7 +10,7 @@ use Rattle.cck_store.specs.MapStore.{State, map_store}
 use Rattle.jiff.specs.Types.{Offset, TimeZone}
 use Rattle.jiff.specs.Words.{fixed_zone}
 use Rattle.cck_files.specs.FileState.{FileState, IsQuiet, fault_count}
-use Rattle.cck_script.specs.Calls.{asked_calls}
+use Rattle.cck_script.specs.Calls.{script_calls}
 use Rattle.cck_script.specs.Calls as script
 use Rattle.cck_script.specs.Lines.{Line}
 use Rattle.cck_script.specs.Script.{basedirs_of, zone_of}
@@ -19,7 +19,7 @@ use Rattle.cck_script.specs.declared.surroundings.Surroundings.{Surroundings}
 use Rattle.cck_time.specs.Config.{activated}
 use Rattle.cck_time.specs.declared.config.PreprocessorCacheModeConfig.{PreprocessorCacheModeConfig}
 use Rattle.c_cache_keys.proofs.Runs.{run_joined, transparent}
-use Rattle.c_cache_keys.proofs.Stored.{run_answers_handed}
+use Rattle.c_cache_keys.proofs.Stored.{run_returns_stored}
 use Rattle.c_cache_keys.specs.Call.{Answer}
 use Rattle.c_cache_keys.specs.Calls.{IsAfter, done_all, done_in}
 use Rattle.c_cache_keys.specs.Step.{IsEmpty, Run}
@@ -29,7 +29,7 @@ use Rattle.c_cache_keys.specs.declared.calls.Call.{Call}
 use Rattle.cck_command.proofs.FollowedLemmas.{zip_joined}
 use Rattle.cck_command.specs.MiniCompiler.{mini_compiler}
 use Rattle.cck_command.specs.Made.{AreMade, IsReady, IsRunCompiler}
-use Rattle.cck_command.specs.Run.{IsDone, Ran, answer_line, armed_by, run_world}
+use Rattle.cck_command.specs.Run.{IsRequested, Ran, result_line, armed_by, run_world}
 use Rattle.cck_command.specs.declared.mini_compiler.MiniCompiler.{MiniCompiler}
 
 -- ---- one call
@@ -37,14 +37,14 @@ use Rattle.cck_command.specs.declared.mini_compiler.MiniCompiler.{MiniCompiler}
 abbrev pub IsCallAfter : Call MiniCompiler FileState → Call MiniCompiler FileState → Type 0
 IsCallAfter = IsAfter (λ (s : FileState). s.files) fault_count IsQuiet
 
-calm : (c : CCompiler MiniCompiler) (asked : script.AskedCall) (old new : Call MiniCompiler FileState) → IsReady c asked old → IsCallAfter old new → (fault_count old.files ≡ 0) × (fault_count new.files ≡ 0)
+calm : (c : CCompiler MiniCompiler) (asked : script.ScriptCallValue) (old new : Call MiniCompiler FileState) → IsReady c asked old → IsCallAfter old new → (fault_count old.files ≡ 0) × (fault_count new.files ≡ 0)
 calm c asked old new ready after =
     let before : fault_count old.files ≡ 0 = rw ready.no_fault refl in
     let room : fault_count old.files + 1 < 2 ^ 64 = rw before (omega arith) in
     (before, after.keeps.stays_calm (ready.unarmed, room) ∙ before)
 
-one_done : (hash : Bytes → Bytes) (zone : ℤ) (c : CCompiler MiniCompiler) (asked : script.AskedCall) (old new : Call MiniCompiler FileState) → IsRunCompiler hash zone c → IsReady c asked old
-    → IsCallAfter old new → IsDone hash zone asked (done_in (λ (m : MiniCompiler). m.zone_offset) (λ s. s.files) fault_count old new.files)
+one_done : (hash : Bytes → Bytes) (zone : ℤ) (c : CCompiler MiniCompiler) (asked : script.ScriptCallValue) (old new : Call MiniCompiler FileState) → IsRunCompiler hash zone c → IsReady c asked old
+    → IsCallAfter old new → IsRequested hash zone asked (done_in (λ (m : MiniCompiler). m.zone_offset) (λ s. s.files) fault_count old new.files)
 one_done hash zone c asked old new of ready after = record {
   compiler = ready.zone_is ∙ of.zone_is;
   executable = ready.executable ∙ of.executable;
@@ -59,11 +59,11 @@ one_done hash zone c asked old new of ready after = record {
 }
 
 -- a call that was ready is the one that was asked for
-pub call_made : (hash : Bytes → Bytes) (zone : ℤ) (plain : TimeZone) (config : PreprocessorCacheModeConfig) (basedirs known : List Bytes) (c : CCompiler MiniCompiler) (asked : script.AskedCall)
+pub call_made : (hash : Bytes → Bytes) (zone : ℤ) (plain : TimeZone) (config : PreprocessorCacheModeConfig) (basedirs known : List Bytes) (c : CCompiler MiniCompiler) (asked : script.ScriptCallValue)
     (old : Call MiniCompiler FileState) (olds news : List (Call MiniCompiler FileState)) (start end : State) (answers : List Answer) (before after : Bytes)
     → config ≡ activated → known ≡ basedirs → IsRunCompiler hash zone c → IsReady c asked old → olds ≡ old ∷ [] → AllZip IsCallAfter olds news
     → Run (world_of hash mini_compiler plain config known) map_store start (done_all (λ (m : MiniCompiler). m.zone_offset) (λ s. s.files) fault_count olds news) answers end
-    → after ≡ before ++ flat_map answer_line answers → AreMade hash zone (world_of hash mini_compiler plain activated basedirs) (asked ∷ []) start end before after
+    → after ≡ before ++ flat_map result_line answers → AreMade hash zone (world_of hash mini_compiler plain activated basedirs) (asked ∷ []) start end before after
 call_made hash zone plain config basedirs known c asked old olds [] start end answers before after p q of ready one is run e = let none = rw one at is in absurd none
 call_made hash zone plain config basedirs known c asked old olds (new ∷ news) start end answers before after p q of ready one is run e =
     let all = rw one at is in
@@ -95,7 +95,7 @@ pub compiler_in : (hash : Bytes → Bytes) (zone known : ℤ) (c : CCompiler Min
 compiler_in hash zone known c e of = subst (λ z. IsRunCompiler hash z c) e of
 
 -- a call changes neither the files nor the variables
-pub after_call : (c : CCompiler MiniCompiler) (asked : script.AskedCall) (old new : Call MiniCompiler FileState) (s : Surroundings) → IsReady c asked old
+pub after_call : (c : CCompiler MiniCompiler) (asked : script.ScriptCallValue) (old new : Call MiniCompiler FileState) (s : Surroundings) → IsReady c asked old
     → AreNamesOf old.vars.items s.names.keys → IsCallAfter old new → AreAfter asked.earlier (record s { files = new.files; variables = new.vars })
 after_call c asked old new s ready named after =
     let none = calm c asked old new ready after in
@@ -117,15 +117,15 @@ module _ (hash : Bytes → Bytes) (zone : ℤ) (w : World ℤ) where
   pub none_made : (s : State) (printed : Bytes) → AreMade hash zone w [] s s printed printed
   none_made s printed = record { done = []; answers = []; calls = tt; run = refl; printed_are = sym (append-nil printed) }
 
-  pub made_joined : (xs ys : List script.AskedCall) (s m t : State) (a b c : Bytes) → AreMade hash zone w xs s m a b → AreMade hash zone w ys m t b c → AreMade hash zone w (xs ++ ys) s t a c
+  pub made_joined : (xs ys : List script.ScriptCallValue) (s m t : State) (a b c : Bytes) → AreMade hash zone w xs s m a b → AreMade hash zone w ys m t b c → AreMade hash zone w (xs ++ ys) s t a c
   made_joined xs ys s m t a b c front back = record {
     done = front.done ++ back.done;
     answers = front.answers ++ back.answers;
-    calls = zip_joined (IsDone hash zone) xs ys front.done back.done front.calls back.calls;
+    calls = zip_joined (IsRequested hash zone) xs ys front.done back.done front.calls back.calls;
     run = run_joined w map_store s m t front.done back.done front.answers back.answers front.run back.run;
-    printed_are = back.printed_are ∙ ap (λ l. l ++ flat_map answer_line back.answers) front.printed_are
-        ∙ append_assoc a (flat_map answer_line front.answers) (flat_map answer_line back.answers)
-        ∙ ap (λ l. a ++ l) (sym (flat_map-append answer_line front.answers back.answers));
+    printed_are = back.printed_are ∙ ap (λ l. l ++ flat_map result_line back.answers) front.printed_are
+        ∙ append_assoc a (flat_map result_line front.answers) (flat_map result_line back.answers)
+        ∙ ap (λ l. a ++ l) (sym (flat_map-append result_line front.answers back.answers));
   }
 
 -- the store of a script is empty at first
@@ -135,7 +135,7 @@ none_held hash zone lines k bytes held = cc
 -- what is printed of a run, where no line is left
 pub ran : (hash : Bytes → Bytes) (lines : List Line) (printed : Bytes) (zone : Offset) (plain : TimeZone) (basedirs : List Bytes) (end : State)
     → HasSize hash → zone.seconds ≡ zone_of lines → plain ≡ fixed_zone zone → basedirs ≡ basedirs_of lines
-    → AreMade hash (zone_of lines) (world_of hash mini_compiler plain activated basedirs) (asked_calls lines) (armed_by lines) end [] printed → Ran hash lines printed
+    → AreMade hash (zone_of lines) (world_of hash mini_compiler plain activated basedirs) (script_calls lines) (armed_by lines) end [] printed → Ran hash lines printed
 ran hash lines printed zone plain basedirs end size is p q made =
     let world = run_world hash zone lines in
     let run : Run world map_store (armed_by lines) made.done made.answers end = rw (p, q) at made.run in
@@ -148,6 +148,6 @@ ran hash lines printed zone plain basedirs end size is p q made =
       calls = made.calls;
       run = run;
       headline = transparent world map_store size map_store_laws (armed_by lines) end made.done made.answers (none_held hash zone lines) run;
-      handed = run_answers_handed world map_store (armed_by lines) end made.done made.answers run;
+      returned = run_returns_stored world map_store (armed_by lines) end made.done made.answers run;
       printed_are = made.printed_are;
     }

@@ -17,7 +17,7 @@ use Rattle.c_cache_keys.specs.declared.c_compiler.CCompiler.{CCompiler}
 use Rattle.c_cache_keys.specs.declared.calls.Call.{Call}
 use Rattle.cck_store.specs.MapStore.{State, map_store}
 use Rattle.cck_command.specs.MiniCompiler.{parsed}
-use Rattle.cck_command.specs.Run.{IsDone, answer_line, control_of}
+use Rattle.cck_command.specs.Run.{IsRequested, result_line, control_of}
 use Rattle.cck_command.specs.declared.mini_compiler.MiniCompiler.{MiniCompiler}
 
 -- the compiler of a run, in a zone of this offset, with the digest of its executable
@@ -27,7 +27,7 @@ pub record IsRunCompiler (hash : Bytes → Bytes) (zone : ℤ) (c : CCompiler Mi
   pub executable_digest : string_bytes c.executable_digest ≡ digest_text hash (codes "cc")
 
 -- this call is what a script asks for, with this compiler, and no call on its files fails
-pub record IsReady (c : CCompiler MiniCompiler) (asked : script.AskedCall) (made : Call MiniCompiler FileState) : Type 0 where
+pub record IsReady (c : CCompiler MiniCompiler) (asked : script.ScriptCallValue) (made : Call MiniCompiler FileState) : Type 0 where
   pub zone_is : made.hasher.compiler.zone_offset ≡ c.compiler.zone_offset
   pub executable : made.hasher.executable.items ≡ c.executable.items
   pub executable_digest : string_bytes made.hasher.executable_digest ≡ string_bytes c.executable_digest
@@ -42,9 +42,9 @@ pub record IsReady (c : CCompiler MiniCompiler) (asked : script.AskedCall) (made
 
 -- these calls were made one after another, in a zone with this offset, from the store `start` to the store `end`, and
 -- their lines were appended to `before`
-pub record AreMade (hash : Bytes → Bytes) (zone : ℤ) (w : World ℤ) (asked : List script.AskedCall) (start end : State) (before after : Bytes) : Type 0 where
+pub record AreMade (hash : Bytes → Bytes) (zone : ℤ) (w : World ℤ) (asked : List script.ScriptCallValue) (start end : State) (before after : Bytes) : Type 0 where
   pub done : List (Done ℤ)
   pub answers : List Answer
-  pub calls : AllZip (IsDone hash zone) asked done
+  pub calls : AllZip (IsRequested hash zone) asked done
   pub run : Run w map_store start done answers end
-  pub printed_are : after ≡ before ++ flat_map answer_line answers
+  pub printed_are : after ≡ before ++ flat_map result_line answers

@@ -14,13 +14,13 @@ abbrev pub words_of : KeyCommand → List (List ℕ)
 words_of request = codes "key" ∷ request.compiler_digest ∷ language_name request.language ∷ request.arguments
 
 -- these words ask for no key
-abbrev pub AskNoKey : List (List ℕ) → Type 0
-AskNoKey words = (request : KeyCommand) → words ≢ words_of request
+abbrev pub IsNoKeyRequest : List (List ℕ) → Type 0
+IsNoKeyRequest words = (request : KeyCommand) → words ≢ words_of request
 
 -- the words that ask for a run of the script that is read
 abbrev pub run_words : List (List ℕ)
 run_words = codes "run" ∷ []
 
 -- these words ask for nothing
-abbrev pub AskNothing : List (List ℕ) → Type 0
-AskNothing words = AskNoKey words × (words ≢ run_words)
+abbrev pub IsUsageError : List (List ℕ) → Type 0
+IsUsageError words = IsNoKeyRequest words × (words ≢ run_words)

@@ -11,14 +11,14 @@ use Rattle.cck_store.specs.MapStore.{State, map_store, new_state}
 use Rattle.jiff.specs.Words.{fixed_zone}
 use Rattle.jiff.specs.Types.{Offset}
 use Rattle.cck_digest.specs.Digest.{digest_text}
-use Rattle.cck_script.specs.Calls.{asked_calls}
+use Rattle.cck_script.specs.Calls.{script_calls}
 use Rattle.cck_script.specs.Surroundings.{AreFiles, executable_path, variables, working_directory}
 use Rattle.cck_script.specs.Calls as script
 use Rattle.cck_script.specs.Lines.{Line}
 use Rattle.cck_script.specs.Script.{basedirs_of, fail_of, forget_of, zone_of}
 use Rattle.cck_time.specs.Config.{activated}
 use Rattle.c_cache_keys.specs.Call.{Answer, Done, Keyed, Refused, calls_of, Why, Memory, Extra, ExtraFault, Input, InputFault, Store, Damaged, NoText, TextFault, Marker}
-use Rattle.c_cache_keys.specs.Laws.{AllAnswerHanded, IsTransparent}
+use Rattle.c_cache_keys.specs.Laws.{AllReturnStored, IsTransparent}
 use Rattle.c_cache_keys.specs.Premises.{Premises}
 use Rattle.c_cache_keys.specs.Step.{Run}
 use Rattle.c_cache_keys.specs.World.{World, world_of}
@@ -42,10 +42,10 @@ error_number TextFault = 6
 error_number Marker = 7
 
 -- the line for the result of a call: a stored key, a computed key, or an error
-abbrev pub answer_line : Answer → Bytes
-answer_line (Keyed key false) = codes "hit " ++ key ++ 10 ∷ []
-answer_line (Keyed key true) = codes "miss " ++ key ++ 10 ∷ []
-answer_line (Refused why) = codes "error " ++ decimal (error_number why) ++ 10 ∷ []
+abbrev pub result_line : Answer → Bytes
+result_line (Keyed key false) = codes "hit " ++ key ++ 10 ∷ []
+result_line (Keyed key true) = codes "miss " ++ key ++ 10 ∷ []
+result_line (Refused why) = codes "error " ++ decimal (error_number why) ++ 10 ∷ []
 
 -- ---- calls
 
@@ -54,7 +54,7 @@ control_of true = ForceRecache
 control_of false = Default
 
 -- a call that was made is the one that a script asks for, in a zone with this offset, and no call on its files failed
-pub record IsDone (hash : Bytes → Bytes) (zone : ℤ) (asked : script.AskedCall) (done : Done ℤ) : Type 0 where
+pub record IsRequested (hash : Bytes → Bytes) (zone : ℤ) (asked : script.ScriptCallValue) (done : Done ℤ) : Type 0 where
   pub compiler : done.call.request.compiler ≡ zone
   pub executable : done.call.request.executable ≡ executable_path
   pub executable_digest : done.call.request.executable_digest ≡ digest_text hash (codes "cc")
@@ -78,7 +78,7 @@ armed_by lines = record new_state { forget = unwrap_or (forget_of lines) 0; arme
 
 -- This is printed for a run over the calls of these lines. The headline holds for all of them: under the premises each key is its call's
 -- plain key, and without them each stored key that matches is returned. It is not said that a script meets the premises: the small
--- compiler violates `PrintsAgain` on some scripts. It reads an included file at its joined path, but the file at the normal path is
+-- compiler violates `DeterministicPreprocessor` on some scripts. It reads an included file at its joined path, but the file at the normal path is
 -- recorded. The two paths differ where the name has a `..` in it.
 pub record Ran (hash : Bytes → Bytes) (lines : List Line) (printed : Bytes) : Type 0 where
   pub zone : Offset
@@ -86,11 +86,11 @@ pub record Ran (hash : Bytes → Bytes) (lines : List Line) (printed : Bytes) : 
   pub done : List (Done ℤ)
   pub answers : List Answer
   pub end : State
-  pub calls : AllZip (IsDone hash (zone_of lines)) (asked_calls lines) done
+  pub calls : AllZip (IsRequested hash (zone_of lines)) (script_calls lines) done
   pub run : Run (run_world hash zone lines) map_store (armed_by lines) done answers end
   pub headline : Premises (run_world hash zone lines) (calls_of done) → AllZip (IsTransparent (run_world hash zone lines)) (calls_of done) answers
-  pub handed : AllAnswerHanded (run_world hash zone lines) map_store (armed_by lines) done answers end
-  pub printed_are : printed ≡ flat_map answer_line answers
+  pub returned : AllReturnStored (run_world hash zone lines) map_store (armed_by lines) done answers end
+  pub printed_are : printed ≡ flat_map result_line answers
 
 -- what is printed for a script whose first wrong line has this number
 abbrev pub wrong_text : ℕ → Bytes

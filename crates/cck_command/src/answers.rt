@@ -3,7 +3,7 @@ ghost use Rattle.std.specs.Prelude.{◌≡◌, ◌++◌, IfOk, OnOk, map, string
 ghost use Rattle.std.specs.List.{flat_map};
 ghost use Rattle.c_cache_keys.specs.Call.{Keyed, Refused};
 ghost use Rattle.c_cache_keys.specs.Seen.{answer_of, why_of};
-ghost use Rattle.cck_command.specs.Run.{answer_line, wrong_text};
+ghost use Rattle.cck_command.specs.Run.{result_line, wrong_text};
 
 use crate::failed::Failed;
 use c_cache_keys::{HashResult, KeyError};
@@ -13,13 +13,13 @@ use std::alloc::Global;
 /// `miss KEY` for a computed key, and `error N` for an error with the number N.
 ///
 /// [`Failed`] is returned for lack of memory; what was appended is then unspecified.
-pub fn add_answer_lines(
+pub fn add_result_lines(
     alloc: Global,
     lines: &mut Vec<u8>,
     answers: &[Result<HashResult, KeyError>],
 ) -> Result<(), Failed>
     ensures { OnOk result (lines.new.items
-        ≡ lines.old.items ++ flat_map answer_line (map answer_of answers.now)) }
+        ≡ lines.old.items ++ flat_map result_line (map answer_of answers.now)) }
 {
     for answer in answers {
         match answer {
@@ -33,7 +33,7 @@ pub fn add_answer_lines(
 // Appends the line of a key.
 fn push_key(lines: &mut Vec<u8>, found: &HashResult) -> Result<(), Failed>
     ensures { OnOk result
-        (lines.new.items ≡ lines.old.items ++ answer_line (Keyed (string_bytes found.now.key) found.now.is_locally_preprocessed)) }
+        (lines.new.items ≡ lines.old.items ++ result_line (Keyed (string_bytes found.now.key) found.now.is_locally_preprocessed)) }
 {
     if found.is_locally_preprocessed {
         lines.extend_from_slice(b"miss ")?;
@@ -48,7 +48,7 @@ fn push_key(lines: &mut Vec<u8>, found: &HashResult) -> Result<(), Failed>
 // Appends the line of an error.
 fn push_error(alloc: Global, lines: &mut Vec<u8>, error: KeyError) -> Result<(), Failed>
     ensures { OnOk result
-        (lines.new.items ≡ lines.old.items ++ answer_line (Refused (why_of error))) }
+        (lines.new.items ≡ lines.old.items ++ result_line (Refused (why_of error))) }
 {
     let number = error.number();
     let line = format!(in alloc; "error {number}\n")?;

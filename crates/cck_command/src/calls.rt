@@ -4,7 +4,7 @@ ghost use Rattle.std.specs.List.{AllZip};
 ghost use Rattle.std.specs.Option.{option_to_list};
 ghost use Rattle.cck_files.specs.ArmedCalls.{IsUnarmed};
 ghost use Rattle.cck_path.specs.Bytes.{variables_of};
-ghost use Rattle.cck_script.specs.Calls.{AskedCall, asked_calls, call_behind, call_said};
+ghost use Rattle.cck_script.specs.Calls.{ScriptCallValue, script_calls, call_after, call_of_command};
 ghost use Rattle.cck_script.specs.Lines.{Line};
 ghost use Rattle.cck_script.specs.Seen.{line_of, lines_of};
 ghost use Rattle.cck_script.specs.Surroundings.{AreAfter, AreFiles, variables};
@@ -48,7 +48,7 @@ pub fn ready_calls(
     compiler: &CCompiler<MiniCompiler>,
     script: &Script,
 ) -> Result<Vec<Call<MiniCompiler, MapFiles>>, Failed>
-    ensures { IfOk result (λ calls. AllZip (IsReady compiler.now) (asked_calls (lines_of script.now)) calls.items) }
+    ensures { IfOk result (λ calls. AllZip (IsReady compiler.now) (script_calls (lines_of script.now)) calls.items) }
 {
     let mut surroundings = Surroundings::new(alloc)?;
     let mut calls = Vec::new(alloc);
@@ -67,9 +67,9 @@ fn push_call(
     command: &Command,
     calls: &mut Vec<Call<MiniCompiler, MapFiles>>,
 ) -> Result<(), Failed>
-    ensures { OnOk result ((earlier : List Line) (asked : List AskedCall) → AreAfter earlier surroundings.now
+    ensures { OnOk result ((earlier : List Line) (asked : List ScriptCallValue) → AreAfter earlier surroundings.now
         → AllZip (IsReady compiler.now) asked calls.old.items
-        → AllZip (IsReady compiler.now) (asked ++ option_to_list (call_said earlier (line_of command.now))) calls.new.items) }
+        → AllZip (IsReady compiler.now) (asked ++ option_to_list (call_of_command earlier (line_of command.now))) calls.new.items) }
 {
     let Some(asked) = command.call() else {
         return Ok(());
@@ -90,7 +90,7 @@ pub(crate) fn ready_call(
 ) -> Result<Call<MiniCompiler, MapFiles>, Failed>
     ensures call { IfOk result (λ ready. (earlier : List Line) → AreFiles earlier files.files
         → files.faults ≡ 0 → IsUnarmed files.armed → variables_of vars.items ≡ variables earlier
-        → IsReady compiler.now (call_behind earlier asked.now) ready) }
+        → IsReady compiler.now (call_after earlier asked.now) ready) }
     ensures vars { IfOk result (λ ready. ready.vars ≡ vars) }
 {
     let mut files = files;

@@ -3,10 +3,10 @@ ghost use Rattle.std.specs.Prelude.{◌≡◌, ◌≢◌, None, IfOk, IfSome, ma
 ghost use Rattle.std.specs.Cow.{cow_slice_items};
 ghost use Rattle.std.specs.Io.KnownBytes.{Appends};
 ghost use Rattle.cck_path.specs.Bytes.{Bytes};
-ghost use Rattle.cck_script.specs.Script.{lines_said, wrong_line};
+ghost use Rattle.cck_script.specs.Script.{commands_of, wrong_line};
 ghost use Rattle.cck_command.specs.Printing.{AppendsBeginning};
-ghost use Rattle.cck_command.specs.Program.{IsCutShort, IsOutput, IsSomeOutput, key_line, refused_line};
-ghost use Rattle.cck_command.specs.Request.{AskNothing};
+ghost use Rattle.cck_command.specs.Program.{IsCutShort, IsOutput, IsSomeOutput, key_line, failed_line};
+ghost use Rattle.cck_command.specs.Request.{IsUsageError};
 ghost use Rattle.cck_command.specs.Run.{Ran, wrong_text};
 
 use crate::answers::wrong_text;
@@ -59,7 +59,7 @@ fn run_output<H: HashState, R: Read>(alloc: Global, reader: &mut R) -> Result<Ou
     ensures wrong { IfOk result (λ output. IfSome (R.remaining reader.old) (λ input. IfSome (wrong_line input) (λ number.
         (output.status ≡ Status.Usage) × (cow_slice_items output.text ≡ wrong_text number)))) }
     ensures ran { IfOk result (λ output. IfSome (R.remaining reader.old) (λ input. wrong_line input ≡ None →
-        (output.status ≡ Status.Done) × Ran H.hash (lines_said input) (cow_slice_items output.text))) }
+        (output.status ≡ Status.Done) × Ran H.hash (commands_of input) (cow_slice_items output.text))) }
 {
     let text = read_all(alloc, reader)?;
     match Script::parse(alloc, &text) {
@@ -90,7 +90,7 @@ fn output_of<H: HashState, R: Read>(
     ensures ended { IfOk result (λ output. output.status ≢ Status.Refused) }
     ensures output { IfOk result (λ output. IsOutput H.hash (map string_bytes words.now) (R.remaining reader.old)
         output.status (cow_slice_items output.text)) }
-    ensures unread { AskNothing (map string_bytes words.now) → reader.new ≡ reader.old }
+    ensures unread { IsUsageError (map string_bytes words.now) → reader.new ≡ reader.old }
 {
     if asks_to_run(words) {
         return run_output::<H, R>(alloc, reader);
@@ -110,7 +110,7 @@ fn output_of<H: HashState, R: Read>(
 /// is written, which may be empty or the whole line.
 pub fn refuse<W: Write>(writer: &mut W) -> Status
     ensures status { result ≡ Status.Refused }
-    ensures begun { AppendsBeginning (W.contents writer.old) (W.contents writer.new) refused_line }
+    ensures begun { AppendsBeginning (W.contents writer.old) (W.contents writer.new) failed_line }
 {
     let _ = print(writer, REFUSED);
     Status::Refused
@@ -146,7 +146,7 @@ pub fn engine<H: HashState, R: Read, W: Write>(
     ensures refused { result ≡ Status.Refused →
         IsCutShort (IsSomeOutput H.hash (map string_bytes words.now) (R.remaining reader.old))
         (W.contents writer.old) (W.contents writer.new) }
-    ensures unread { AskNothing (map string_bytes words.now) → reader.new ≡ reader.old }
+    ensures unread { IsUsageError (map string_bytes words.now) → reader.new ≡ reader.old }
 {
     match output_of::<H, R>(alloc, words, reader) {
         Ok(output) => match print(writer, output.text.as_slice()) {

@@ -1,6 +1,6 @@
 //! What the words of a command line ask for.
 ghost use Rattle.std.specs.Prelude.{◌≡◌, ◌≢◌, IfNone, MatchBool, IfOk, IfSome, IsOkUnless, map, string_bytes};
-ghost use Rattle.cck_command.specs.Request.{AskNoKey, run_words, words_of};
+ghost use Rattle.cck_command.specs.Request.{IsNoKeyRequest, run_words, words_of};
 
 use cck_util::{Language, UtilError};
 use std::alloc::Global;
@@ -32,7 +32,7 @@ impl<'a> KeyRequest<'a> {
     /// arguments; `None` is returned exactly if they don't have this form.
     pub fn from_words(words: &'a [String]) -> Option<KeyRequest<'a>>
         ensures some { IfSome result (λ request. map string_bytes words.now ≡ words_of request) }
-        ensures none { IfNone result (AskNoKey (map string_bytes words.now)) }
+        ensures none { IfNone result (IsNoKeyRequest (map string_bytes words.now)) }
     {
         let [command, compiler_digest, name, arguments @ ..] = words else {
             return None;

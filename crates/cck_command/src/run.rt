@@ -6,7 +6,7 @@ ghost use Rattle.cck_path.specs.Bytes.{lists_of};
 ghost use Rattle.cck_store.specs.MapStore.{new_state};
 ghost use Rattle.jiff.specs.Words.{fixed_zone, plain_zone};
 ghost use Rattle.jiff.specs.Types.{Offset as PlainOffset};
-ghost use Rattle.cck_script.specs.Calls.{call_behind, call_said};
+ghost use Rattle.cck_script.specs.Calls.{call_after, call_of_command};
 ghost use Rattle.cck_script.specs.Lines.{Line};
 ghost use Rattle.cck_script.specs.Seen.{line_of, lines_of};
 ghost use Rattle.cck_script.specs.Surroundings.{AreAfter, AreNamesOf};
@@ -16,7 +16,7 @@ ghost use Rattle.cck_command.specs.MiniCompiler.{mini_compiler};
 ghost use Rattle.cck_command.specs.Run.{Ran};
 ghost use Rattle.cck_command.specs.Made.{AreMade, IsReady, IsRunCompiler};
 
-use crate::answers::add_answer_lines;
+use crate::answers::add_result_lines;
 use crate::calls::{compiler_of, ready_call};
 use crate::failed::Failed;
 use crate::mini_compiler::MiniCompiler;
@@ -29,7 +29,7 @@ use jiff::tz::{Offset, TimeZone};
 use std::alloc::Global;
 
 /// Makes the calls of a script in their order, on a store that is empty at first. Returns one line
-/// for each call, as [`add_answer_lines`] writes it.
+/// for each call, as [`add_result_lines`] writes it.
 ///
 /// One map of files and one list of variables follow the script line by line. Each call is made
 /// over them as they are at its line.
@@ -87,7 +87,7 @@ fn follow_line<H: HashState>(
     ensures made { IfOk result (λ after. (zone : ℤ) (earlier : List Line) → IsRunCompiler H.hash zone setting.now.compiler
         → AreAfter earlier surroundings
         → AreMade H.hash zone (world_of H.hash mini_compiler (plain_zone setting.now.zone) activated (lists_of setting.now.basedirs.items))
-        (option_to_list (call_said earlier (line_of command.now))) store.old store.new printed.old.items printed.new.items) }
+        (option_to_list (call_of_command earlier (line_of command.now))) store.old store.new printed.old.items printed.new.items) }
 {
     let mut after = match command.call() {
         Some(asked) => make_call::<H>(alloc, setting, store, surroundings, &asked, printed)?,
@@ -111,7 +111,7 @@ fn make_call<H: HashState>(
     ensures made { IfOk result (λ after. (zone : ℤ) (earlier : List Line) → IsRunCompiler H.hash zone setting.now.compiler
         → AreAfter earlier surroundings
         → AreMade H.hash zone (world_of H.hash mini_compiler (plain_zone setting.now.zone) activated (lists_of setting.now.basedirs.items))
-        (call_behind earlier asked.now ∷ []) store.old store.new printed.old.items printed.new.items) }
+        (call_after earlier asked.now ∷ []) store.old store.new printed.old.items printed.new.items) }
 {
     let Surroundings {
         files,
@@ -130,7 +130,7 @@ fn make_call<H: HashState>(
         &setting.basedirs,
         &mut calls,
     )?;
-    add_answer_lines(alloc, printed, &answers)?;
+    add_result_lines(alloc, printed, &answers)?;
     // `calls` holds the one call that was pushed.
     let Some(made) = calls.pop() else {
         return Err(Failed);

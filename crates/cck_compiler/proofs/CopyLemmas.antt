@@ -28,26 +28,26 @@ nothing : (o : Output) (os : List Output) → ◌≡◌ {A = List Output} (o ∷
 nothing o os e = cc
 
 -- a name below all names of a list is below the one that is in it after others
-below_one : (name : String Global) (front : List Named) (o : Named) (behind : List Output) (es : List Named)
-    → AllByRecursion (λ y. string_cmp name y ≡ Less) (keys_of es) → map output_of front ++ output_of o ∷ behind ≡ map output_of es
+below_one : (name : String Global) (front : List Named) (o : Named) (following : List Output) (es : List Named)
+    → AllByRecursion (λ y. string_cmp name y ≡ Less) (keys_of es) → map output_of front ++ output_of o ∷ following ≡ map output_of es
     → string_cmp name (o.0) ≡ Less
-below_one name [] o behind [] h e = absurd (nothing _ _ e)
-below_one name [] o behind (x ∷ es) h e =
+below_one name [] o following [] h e = absurd (nothing _ _ e)
+below_one name [] o following (x ∷ es) h e =
     ap (λ (p : Output). slice_cmp nat_cmp (string_bytes name) p.name) (same_first _ _ _ _ e) ∙ h.0
-below_one name (f ∷ front) o behind [] h e = absurd (nothing _ _ e)
-below_one name (f ∷ front) o behind (x ∷ es) h e = below_one name front o behind es h.1 (same_rest _ _ _ _ e)
+below_one name (f ∷ front) o following [] h e = absurd (nothing _ _ e)
+below_one name (f ∷ front) o following (x ∷ es) h e = below_one name front o following es h.1 (same_rest _ _ _ _ e)
 
 -- in a list in order, the names before that of an output are below it
-front_is_below : (front : List Named) (o : Named) (behind : List Output) (es : List Named) → IsStrictlySortedBy string_cmp (keys_of es)
-    → map output_of front ++ output_of o ∷ behind ≡ map output_of es → list_all (λ e. is_lt (string_cmp (e.0) (o.0))) front ≡ true
+front_is_below : (front : List Named) (o : Named) (following : List Output) (es : List Named) → IsStrictlySortedBy string_cmp (keys_of es)
+    → map output_of front ++ output_of o ∷ following ≡ map output_of es → list_all (λ e. is_lt (string_cmp (e.0) (o.0))) front ≡ true
 unfolding IsStrictlySortedBy
-front_is_below [] o behind es h e = refl
-front_is_below (f ∷ front) o behind [] h e = absurd (nothing _ _ e)
-front_is_below (f ∷ front) o behind (x ∷ es) h e =
+front_is_below [] o following es h e = refl
+front_is_below (f ∷ front) o following [] h e = absurd (nothing _ _ e)
+front_is_below (f ∷ front) o following (x ∷ es) h e =
     let rest = same_rest _ _ _ _ e in
     let less : string_cmp (f.0) (o.0) ≡ Less =
-    ap (λ (p : Output). slice_cmp nat_cmp p.name (string_bytes (o.0))) (same_first _ _ _ _ e) ∙ below_one (x.0) front o behind es h.0 rest
-    in rw (less, front_is_below front o behind es h.1 rest) refl
+    ap (λ (p : Output). slice_cmp nat_cmp p.name (string_bytes (o.0))) (same_first _ _ _ _ e) ∙ below_one (x.0) front o following es h.0 rest
+    in rw (less, front_is_below front o following es h.1 rest) refl
 
 -- the copies with another output copied
 pub copied_more : (es copies : List Named) (o : Named) (left : List Named) (name : String Global) (copy : ArtifactDescriptor) → IsStrictlySortedBy string_cmp (keys_of es)

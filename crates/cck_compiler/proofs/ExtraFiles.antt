@@ -9,7 +9,7 @@ use Rattle.std.proofs.lemmas.Str.{IsUtf8-from_is_utf8, is_utf8-from_IsUtf8}
 use Rattle.cck_digest.specs.declared.error.FileError.{FileError}
 use Rattle.cck_digest.specs.declared.error.FileError.TheVariants as file
 use Rattle.cck_file_digest.specs.Folder.{child_names}
-use Rattle.cck_files.specs.Calls.{IsRefusalOrMemory}
+use Rattle.cck_files.specs.Calls.{IsErrorOrMemory}
 use Rattle.cck_files.specs.FileMap.{FileMap, folder_at}
 use Rattle.cck_path.specs.Bytes.{Bytes, variables_of}
 use Rattle.cck_path.specs.Path.{components}
@@ -35,7 +35,7 @@ libraries_listed m folder names there are =
     ∙ ap (λ r. map (join_path folder) (filter is_library (if_folder r (child_names m.nodes (components folder))))) (sym there)
 
 -- there is no directory
-pub no_libraries : (m : FileMap) (folder : Bytes) (HasFault : Type 0) (e : FileError) → e ≢ file.Memory → e ≢ file.Fault → IsRefusalOrMemory (folder_at m (components folder)) HasFault e → libraries m folder ≡ []
+pub no_libraries : (m : FileMap) (folder : Bytes) (HasFault : Type 0) (e : FileError) → e ≢ file.Memory → e ≢ file.Fault → IsErrorOrMemory (folder_at m (components folder)) HasFault e → libraries m folder ≡ []
 unfolding libraries
 no_libraries m folder HasFault file.NotFound h k is = ap (λ r. map (join_path folder) (filter is_library (if_folder r (child_names m.nodes (components folder))))) is
 no_libraries m folder HasFault file.OtherKind h k is = ap (λ r. map (join_path folder) (filter is_library (if_folder r (child_names m.nodes (components folder))))) is

@@ -20,14 +20,14 @@ unfolding named_files
 all_named = refl
 
 -- a flag has precedence over a variable, and the directory itself over the release
-told_by_flag : library_folder (codes "--rocm-path=/r" ∷ codes "--hip-device-lib-path=/d" ∷ []) ((codes "HIP_DEVICE_LIB_PATH", codes "/e") ∷ []) ≡ codes "/d"
+directory_by_flag : library_folder (codes "--rocm-path=/r" ∷ codes "--hip-device-lib-path=/d" ∷ []) ((codes "HIP_DEVICE_LIB_PATH", codes "/e") ∷ []) ≡ codes "/d"
 unfolding chars encode flag_value is_utf8 join_path library_folder text_value
-told_by_flag = refl
+directory_by_flag = refl
 
-told_of_release : library_folder (codes "--rocm-path=/r" ∷ []) [] ≡ codes "/r/amdgcn/bitcode"
+directory_of_release : library_folder (codes "--rocm-path=/r" ∷ []) [] ≡ codes "/r/amdgcn/bitcode"
 unfolding chars encode flag_value is_utf8 join_path library_folder text_value
-told_of_release = refl
+directory_of_release = refl
 
-told_by_none : library_folder [] [] ≡ codes "/opt/rocm/amdgcn/bitcode"
+directory_by_none : library_folder [] [] ≡ codes "/opt/rocm/amdgcn/bitcode"
 unfolding library_folder flag_value text_value
-told_by_none = refl
+directory_by_none = refl

@@ -140,7 +140,7 @@ fn flag_value<'a>(args: &'a [Vec<u8>], flag: &[u8]) -> Option<&'a [u8]>
     ensures { option_map (λ value. value.now) result ≡ flag_value flag.now (lists_of args.now) }
 {
     for arg in args {
-        if let Some(value) = behind_flag(arg, flag) {
+        if let Some(value) = value_after_flag(arg, flag) {
             return Some(value);
         }
     }
@@ -148,7 +148,7 @@ fn flag_value<'a>(args: &'a [Vec<u8>], flag: &[u8]) -> Option<&'a [u8]>
 }
 
 // What follows a flag in an argument, if that is text and begins with it.
-fn behind_flag<'a>(arg: &'a [u8], flag: &[u8]) -> Option<&'a [u8]>
+fn value_after_flag<'a>(arg: &'a [u8], flag: &[u8]) -> Option<&'a [u8]>
     ensures { option_map (λ value. value.now) result
         ≡ (if has_flag flag.now arg.now then Some (drop (length flag.now) arg.now) else None) }
 {

@@ -74,9 +74,9 @@ folds_on takes first mid last [] ys before after = subst (λ s. FoldsTo takes s 
 folds_on takes first mid last (x ∷ xs) ys (next, step, before) after = (next, step, folds_on takes next mid last xs ys before after)
 
 -- a beginning of what comes after other pieces
-pub begun_behind : {S : Type 0} (takes : S → List ℕ → S → Type 0) (first mid last : S) (pieces : List (List ℕ)) (front back : List ℕ)
+pub begun_after : {S : Type 0} (takes : S → List ℕ → S → Type 0) (first mid last : S) (pieces : List (List ℕ)) (front back : List ℕ)
     → FoldsTo takes first pieces mid → front ≡ concatenation pieces → TakesBeginning takes mid back last → TakesBeginning takes first (front ++ back) last
-begun_behind takes first mid last pieces front back before whole (more, rest, after, begun) = (
+begun_after takes first mid last pieces front back before whole (more, rest, after, begun) = (
   pieces ++ more,
   rest,
   folds_on takes first mid last pieces more before after,
@@ -110,18 +110,18 @@ begun_with_piece takes first now later (Some stream) None newer piece (pieces, f
 begun_with_piece takes first now later (Some stream) (Some left) None piece (pieces, folds, small, consumed) more begun = absurd more
 begun_with_piece takes first now later (Some stream) (Some left) (Some rest) piece (pieces, folds, small, consumed) more begun =
     subst (λ bytes. TakesBeginning takes first bytes later) (sym (consumed ∙ ap (λ x. concatenation pieces ++ x) more))
-    (begun_behind takes first now later pieces (concatenation pieces) (piece ++ rest) folds refl (begun_longer takes now later piece rest begun))
+    (begun_after takes first now later pieces (concatenation pieces) (piece ++ rest) folds refl (begun_longer takes now later piece rest begun))
 
 -- what holds in any case holds after an error
-pub after_refusal : {T E : Type 0} (r : Result T E) (P : Type 0) → P → OnErr r P
-after_refusal (Ok x) P p = tt
-after_refusal (Err e) P p = p
+pub after_error : {T E : Type 0} (r : Result T E) (P : Type 0) → P → OnErr r P
+after_error (Ok x) P p = tt
+after_error (Err e) P p = p
 
 -- a vector takes nothing where memory is lacking
-pub vector_refused : {T E : Type 0} (r : Result T E) (before after : Vec ℕ Global) (piece : List ℕ) → after.items ≡ (if is_ok r then before.items ++ piece else before.items)
+pub vector_failed : {T E : Type 0} (r : Result T E) (before after : Vec ℕ Global) (piece : List ℕ) → after.items ≡ (if is_ok r then before.items ++ piece else before.items)
     → OnErr r (TakesBeginning (λ old bytes new. new.items ≡ old.items ++ bytes) before piece after)
-vector_refused (Ok x) before after piece is = tt
-vector_refused (Err e) before after piece is = ([] ∷ [], piece, (after, is ∙ sym (append-nil before.items), refl), refl)
+vector_failed (Ok x) before after piece is = tt
+vector_failed (Err e) before after piece is = ([] ∷ [], piece, (after, is ∙ sym (append-nil before.items), refl), refl)
 
 -- what each piece preserves of a sink and its stream holds of the whole stream
 pub holds_after : {S : Type 0} (takes : S → List ℕ → S → Type 0) (holds : S → List ℕ → Type 0)
@@ -152,8 +152,8 @@ part_taken takes part_takes part taken (piece ∷ pieces) first last (mid, step,
     (part mid, taken first piece mid step, part_taken takes part_takes part taken pieces mid last folds)
 
 -- what a result says of every list with a property, it says of the reader's stream
-pub told_of_stream : {T E : Type 0} (r : Result T E) (known : Option (List ℕ)) (holds : List ℕ → Type 0) (told : T → List ℕ → Type 0)
+pub stream_is_known : {T E : Type 0} (r : Result T E) (known : Option (List ℕ)) (holds : List ℕ → Type 0) (told : T → List ℕ → Type 0)
     → IfOk r (λ x. (fed : List ℕ) → holds fed → told x fed) → IfSome known holds → IfOk r (λ x. IfSome known (told x))
-told_of_stream (Ok x) None holds told says h = tt
-told_of_stream (Ok x) (Some stream) holds told says h = says stream h
-told_of_stream (Err e) known holds told says h = tt
+stream_is_known (Ok x) None holds told says h = tt
+stream_is_known (Ok x) (Some stream) holds told says h = says stream h
+stream_is_known (Err e) known holds told says h = tt

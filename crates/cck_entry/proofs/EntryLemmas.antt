@@ -84,16 +84,16 @@ sorted_from [] front h = refl
 sorted_from (r ∷ rs) front h = and_from _ _ (below_from rs front [] r h.1) (sorted_from rs (front ++ r ∷ []) h.1)
 
 -- in a list in order a key comes after those in front of it
-below_at : (key : List ℕ) (front : List KeyResult) (r : KeyResult) (behind : List KeyResult) → below_all text_cmp key (front ++ r ∷ behind) ≡ true → is_lt (text_cmp key (r.0)) ≡ true
-below_at key [] r behind h = (and_parts _ _ h).0
-below_at key (x ∷ front) r behind h = below_at key front r behind (and_parts _ _ h).1
+below_at : (key : List ℕ) (front : List KeyResult) (r : KeyResult) (following : List KeyResult) → below_all text_cmp key (front ++ r ∷ following) ≡ true → is_lt (text_cmp key (r.0)) ≡ true
+below_at key [] r following h = (and_parts _ _ h).0
+below_at key (x ∷ front) r following h = below_at key front r following (and_parts _ _ h).1
 
-pub after_front : (front : List KeyResult) (r : KeyResult) (behind : List KeyResult) → is_sorted text_cmp (front ++ r ∷ behind) ≡ true → comes_after front (r.0) ≡ true
-after_front [] r behind h = refl
-after_front (x ∷ front) r behind h = and_from _ _ (below_at x.0 front r behind (and_parts _ _ h).0) (after_front front r behind (and_parts _ _ h).1)
+pub after_front : (front : List KeyResult) (r : KeyResult) (following : List KeyResult) → is_sorted text_cmp (front ++ r ∷ following) ≡ true → comes_after front (r.0) ≡ true
+after_front [] r following h = refl
+after_front (x ∷ front) r following h = and_from _ _ (below_at x.0 front r following (and_parts _ _ h).0) (after_front front r following (and_parts _ _ h).1)
 
-pub after_copied : (es : List (String Global × Vec IncludeEntry)) (front : List KeyResult) (r : KeyResult) (behind : List KeyResult) → IsStrictlySortedBy string_cmp (keys_of es) → front ++ r ∷ behind ≡ map result_in es → comes_after front (r.0) ≡ true
-after_copied es front r behind h e = after_front front r behind (ap (is_sorted text_cmp) e ∙ sorted_in es h)
+pub after_copied : (es : List (String Global × Vec IncludeEntry)) (front : List KeyResult) (r : KeyResult) (following : List KeyResult) → IsStrictlySortedBy string_cmp (keys_of es) → front ++ r ∷ following ≡ map result_in es → comes_after front (r.0) ≡ true
+after_copied es front r following h e = after_front front r following (ap (is_sorted text_cmp) e ∙ sorted_in es h)
 
 -- ---- what bytes spell
 

@@ -15,8 +15,8 @@ abbrev with_one : Include → Read → Read
 with_one n read = read >>= λ x. Some (n ∷ x.0, x.1)
 
 -- the bytes after them
-abbrev behind : Read → Option (List ℕ)
-behind read = option_map (λ x. x.1) read
+abbrev following : Read → Option (List ℕ)
+following read = option_map (λ x. x.1) read
 
 next_at : (count i : ℕ) (bytes : List ℕ) (n : Include) (after : List ℕ) → i < count → include_at bytes ≡ Some (n, after)
     → includes_at (count - i) bytes ≡ with_one n (includes_at (count - (i + 1)) after)
@@ -39,23 +39,23 @@ done_at count i bytes le =
 
 -- ---- the bytes after them
 
-same_behind : (n : Include) (read : Read) → behind (with_one n read) ≡ behind read
-same_behind n (Some x) = refl
-same_behind n None = refl
+same_after : (n : Include) (read : Read) → following (with_one n read) ≡ following read
+same_after n (Some x) = refl
+same_after n None = refl
 
 pub skips_on : (count i : ℕ) (bytes : List ℕ) (n : Include) (after : List ℕ) (total : Option (List ℕ)) → i < count → include_at bytes ≡ Some (n, after)
-    → behind (includes_at (count - i) bytes) ≡ total → behind (includes_at (count - (i + 1)) after) ≡ total
+    → following (includes_at (count - i) bytes) ≡ total → following (includes_at (count - (i + 1)) after) ≡ total
 skips_on count i bytes n after total lt h so_far =
-    sym (ap behind (next_at count i bytes n after lt h) ∙ same_behind n (includes_at (count - (i + 1)) after)) ∙ so_far
+    sym (ap following (next_at count i bytes n after lt h) ∙ same_after n (includes_at (count - (i + 1)) after)) ∙ so_far
 
-pub ends : (e : Error) (count i : ℕ) (bytes : List ℕ) (total : Option (List ℕ)) → i < count → Fails e (include_at bytes) → behind (includes_at (count - i) bytes) ≡ total → Fails e total
+pub ends : (e : Error) (count i : ℕ) (bytes : List ℕ) (total : Option (List ℕ)) → i < count → Fails e (include_at bytes) → following (includes_at (count - i) bytes) ≡ total → Fails e total
 ends Memory count i bytes total lt h so_far = tt
-ends Deserialization count i bytes total lt h so_far = sym so_far ∙ ap behind (none_at count i bytes lt h)
+ends Deserialization count i bytes total lt h so_far = sym so_far ∙ ap following (none_at count i bytes lt h)
 ends (Io e) count i bytes total lt h so_far = h
 ends (UnknownFormat b) count i bytes total lt h so_far = h
 
-pub is_behind : (count i : ℕ) (bytes : List ℕ) (total : Option (List ℕ)) → count ≤ i → behind (includes_at (count - i) bytes) ≡ total → total ≡ Some bytes
-is_behind count i bytes total le so_far = sym so_far ∙ ap behind (done_at count i bytes le)
+pub is_after : (count i : ℕ) (bytes : List ℕ) (total : Option (List ℕ)) → count ≤ i → following (includes_at (count - i) bytes) ≡ total → total ≡ Some bytes
+is_after count i bytes total le so_far = sym so_far ∙ ap following (done_at count i bytes le)
 
 -- ---- includes that are known to be readable
 
@@ -83,7 +83,7 @@ pub begun_done : (count i : ℕ) (bytes : List ℕ) → count ≤ i → includes
 begun_done count i bytes le = ap begun (done_at count i bytes le)
 
 -- all of what was skipped
-pub begun_all : (read : Read) (rest : List ℕ) → behind read ≡ Some rest → read ≡ Some (begun read, rest)
+pub begun_all : (read : Read) (rest : List ℕ) → following read ≡ Some rest → read ≡ Some (begun read, rest)
 begun_all (Some x) rest h = let same : x.1 ≡ rest = cc in ap (λ (r : List ℕ). Some (x.0, r)) same
 begun_all None rest h = absurd cc
 

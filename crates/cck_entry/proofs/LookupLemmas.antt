@@ -49,7 +49,7 @@ none_left {A = A} shown m all s a b e (inr risen) = inr risen
 -- ---- the includes of one result
 
 -- all that are left match where the result does
-pub one_misses : (m : Include → Bool) (i : Include) (rest behind all : List Include) (a b c : ℕ) → rest ≡ i ∷ behind → a ≤ b → MayMiss (Rose b c) false (m i) → list_all m rest ≡ list_all m all
+pub one_misses : (m : Include → Bool) (i : Include) (rest following all : List Include) (a b c : ℕ) → rest ≡ i ∷ following → a ≤ b → MayMiss (Rose b c) false (m i) → list_all m rest ≡ list_all m all
     → MayMiss (Rose a c) false (list_all m all)
-one_misses m i rest behind all a b c is le (inl differs) e = inl (sym e ∙ ap (list_all m) is ∙ ap (λ t. t && list_all m behind) differs)
-one_misses m i rest behind all a b c is le (inr risen) e = inr (rose_earlier a b c le risen)
+one_misses m i rest following all a b c is le (inl differs) e = inl (sym e ∙ ap (list_all m) is ∙ ap (λ t. t && list_all m following) differs)
+one_misses m i rest following all a b c is le (inr risen) e = inr (rose_earlier a b c le risen)

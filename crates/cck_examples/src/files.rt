@@ -138,7 +138,7 @@ impl<F: Files> Files for CountedFiles<F> {
 }
 
 // The number of these paths that exist.
-fn count_standing<F: Files>(files: &mut F, paths: &[&[u8]]) -> usize {
+fn count_existing<F: Files>(files: &mut F, paths: &[&[u8]]) -> usize {
     let mut count: usize = 0;
     for path in paths {
         if files.exists(path) {
@@ -164,7 +164,7 @@ fn counted_calls(rt: HostRuntime) -> Result<(), UtilError> {
         files.canonical(alloc, b"/d/x")?.as_slice(),
         b"/d/x".as_slice()
     );
-    assert_eq!(rt; count_standing(&mut files, &[b"/d", b"/d/x", b"/none"]), 2);
+    assert_eq!(rt; count_existing(&mut files, &[b"/d", b"/d/x", b"/none"]), 2);
     assert_eq!(rt; (files.calls, files.reads), (4, 1));
     Ok(())
 }

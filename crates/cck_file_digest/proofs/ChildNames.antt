@@ -8,7 +8,7 @@ use Rattle.std.proofs.lemmas.List.Elements.{filter_map-append}
 use Rattle.cck_path.specs.Path.{Component, Name, Path}
 use Rattle.cck_files.specs.FileMap.{FileNode, Nodes}
 use Rattle.cck_file_digest.specs.Folder.{IsInOrder, child_names, only_name}
-use Rattle.cck_file_digest.specs.FolderText.{behind, if_reached, is_folder_kind, is_reached, reached}
+use Rattle.cck_file_digest.specs.FolderText.{following, if_reached, is_folder_kind, is_reached, reached}
 use Rattle.cck_file_digest.proofs.ChildLemmas.{child_nodes, child_part, reached_children, under}
 
 abbrev only : List (Path × FileNode) → List (List ℕ)
@@ -35,9 +35,9 @@ below m f = all (entries m)
     more None es is h = h
     more (Some x) es is h = (is x refl, h)
 
-    all : (es : List (Path × FileNode)) → AllByRecursion IsBelow (filter_map (λ e. if_reached m f e.1 (behind f e.0)) es)
+    all : (es : List (Path × FileNode)) → AllByRecursion IsBelow (filter_map (λ e. if_reached m f e.1 (following f e.0)) es)
     all [] = tt
-    all (e ∷ es) = more (if_reached m f e.1 (behind f e.0)) (filter_map (λ d. if_reached m f d.1 (behind f d.0)) es) (one e.1 (behind f e.0)) (all es)
+    all (e ∷ es) = more (if_reached m f e.1 (following f e.0)) (filter_map (λ d. if_reached m f d.1 (following f d.0)) es) (one e.1 (following f e.0)) (all es)
 
 -- what is below a child has no single name
 deeper : (n : List ℕ) (es : List (Path × FileNode)) → AllByRecursion IsBelow es → only (map (under (Name n)) es) ≡ []

@@ -9,10 +9,10 @@ use Rattle.cck_digest.specs.declared.error.UtilError.TheVariants as util
 use Rattle.cck_path.specs.Path.{Path}
 use Rattle.cck_path.specs.declared.metadata.FileKind.{FileKind}
 use Rattle.cck_path.specs.declared.metadata.FileKind.TheVariants.{File, Folder, Other}
-use Rattle.cck_files.specs.FileMap.{FileMap, FileNode, Nodes, contents_at, contents_if, contents_in, folder_at, folder_if, folder_in, stands_at}
-use Rattle.cck_file_digest.specs.FolderText.{behind, digest_material, if_reached, is_folder_kind, is_other, is_reached, is_too_deep, material, material_of, opening, piece_of, reached, relative_text, whole, whole_part}
+use Rattle.cck_files.specs.FileMap.{FileMap, FileNode, Nodes, contents_at, contents_if, contents_in, folder_at, folder_if, folder_in, exists_at}
+use Rattle.cck_file_digest.specs.FolderText.{following, digest_material, if_reached, is_folder_kind, is_other, is_reached, is_too_deep, material, material_of, opening, piece_of, reached, relative_text, whole, whole_part}
 use Rattle.cck_file_digest.specs.Laws.{named_piece, named_piece_of}
-use Rattle.cck_file_digest.specs.Refusals.{IsDigestRefusal}
+use Rattle.cck_file_digest.specs.Refusals.{IsDigestError}
 use Rattle.cck_file_digest.proofs.ReachedLemmas.{below}
 
 pub material_of_file : (fm : FileMap) (p : Path) (contents : List ℕ) → contents_at fm p ≡ Ok contents → digest_material fm p ≡ Some contents
@@ -37,7 +37,7 @@ named Other name contents = refl
 
 named_pieces : (m : Nodes) (f : Path) (es : List (Path × FileNode)) → material None (below m f es) ≡ flat_map named_piece (below m f es)
 named_pieces m f [] = refl
-named_pieces m f (e ∷ es) = by (behind f e.0) (named_pieces m f es)
+named_pieces m f (e ∷ es) = by (following f e.0) (named_pieces m f es)
   where
     by : (o : Option Path) → material None (below m f es) ≡ flat_map named_piece (below m f es)
         → material None (cons_option (if_reached m f e.1 o) (below m f es)) ≡ flat_map named_piece (cons_option (if_reached m f e.1 o) (below m f es))
@@ -81,22 +81,22 @@ none_if_deep (x ∷ es) e = ap (λ b. cond (list_any is_other (x ∷ es) || b) N
     or_none true bytes = refl
     or_none false bytes = refl
 
-pub refused_told : (fm : FileMap) (p : Path) (e : UtilError) → e ≢ util.Memory → IsDigestRefusal fm p ⊥ e → digest_material fm p ≡ None
-unfolding stands_at whole digest_material
-refused_told fm p util.Memory other r = absurd (other refl)
-refused_told fm p util.Read other r = absurd r
-refused_told fm p (util.File NotFound) other r = by (get fm.nodes p) r
+pub no_material_of_error : (fm : FileMap) (p : Path) (e : UtilError) → e ≢ util.Memory → IsDigestError fm p ⊥ e → digest_material fm p ≡ None
+unfolding exists_at whole digest_material
+no_material_of_error fm p util.Memory other r = absurd (other refl)
+no_material_of_error fm p util.Read other r = absurd r
+no_material_of_error fm p (util.File NotFound) other r = by (get fm.nodes p) r
   where
     by : (o : Option FileNode) → is_some o ≡ false → material_of (whole_part fm.nodes p o) ≡ None
     by None e = refl
     by (Some node) e = cc
-refused_told fm p (util.File OtherKind) other r = none_if_other (whole fm.nodes p) r
-refused_told fm p (util.File Fault) other r = absurd r
-refused_told fm p (util.File Memory) other r = absurd r
-refused_told fm p util.TooDeep other r = none_if_deep (whole fm.nodes p) r
-refused_told fm p util.TooLong other r = absurd r
-refused_told fm p util.Write other r = absurd r
-refused_told fm p util.IncompleteEscape other r = absurd r
-refused_told fm p util.InvalidEscape other r = absurd r
-refused_told fm p util.IncompleteHex other r = absurd r
-refused_told fm p util.InvalidHex other r = absurd r
+no_material_of_error fm p (util.File OtherKind) other r = none_if_other (whole fm.nodes p) r
+no_material_of_error fm p (util.File Fault) other r = absurd r
+no_material_of_error fm p (util.File Memory) other r = absurd r
+no_material_of_error fm p util.TooDeep other r = none_if_deep (whole fm.nodes p) r
+no_material_of_error fm p util.TooLong other r = absurd r
+no_material_of_error fm p util.Write other r = absurd r
+no_material_of_error fm p util.IncompleteEscape other r = absurd r
+no_material_of_error fm p util.InvalidEscape other r = absurd r
+no_material_of_error fm p util.IncompleteHex other r = absurd r
+no_material_of_error fm p util.InvalidHex other r = absurd r

@@ -115,9 +115,9 @@ sorted m f = (T_parts (below_all [] (reached m f)) (is_sorted path_cmp (reached 
     any_node : FileNode
     any_node = record { kind = File; contents = []; modified = None; changed = None }
 
-pub reached_told : (m : Nodes) (f : Path) → (is_sorted path_cmp (reached m f) ≡ true)
+pub reached_is_sorted : (m : Nodes) (f : Path) → (is_sorted path_cmp (reached m f) ≡ true)
     × ((q : Path) (node : FileNode) → Contains (reached m f) (q, node) ↔ ((get m (f ++ q) ≡ Some node) × LeadsThrough m f q))
-reached_told m f = (true_from_T _ (sorted m f), λ q node. (there q node, back q node))
+reached_is_sorted m f = (true_from_T _ (sorted m f), λ q node. (there q node, back q node))
   where
     both_of : (b : Bool) (o : Option FileNode) (node : FileNode) → cond b o None ≡ Some node → (o ≡ Some node) × (b ≡ true)
     both_of true o node e = (e, refl)

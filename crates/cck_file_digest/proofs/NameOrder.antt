@@ -42,15 +42,15 @@ not_less_nor_same n x h k = elim (slice_cmp nat_cmp n x) as (λ o. slice_cmp nat
   | Greater ↦ λ e f. let back : slice_cmp nat_cmp x n ≡ Less = nat_list_cmp_total.antisymm x n ∙ ap ordering_reverse e in cc (ap is_lt back)
 ] refl k
 
-get_or_behind : {X : Type 0} (x : X) (xs : List X) (k : ℕ) (d : X) → get_or (x ∷ xs) (k + 1) d ≡ get_or xs k d
-get_or_behind x xs k d = rw add-one refl
+get_or_after : {X : Type 0} (x : X) (xs : List X) (k : ℕ) (d : X) → get_or (x ∷ xs) (k + 1) d ≡ get_or xs k d
+get_or_after x xs k d = rw add-one refl
 
 module _ {X : Type 0} (f : X → List ℕ) where
   abbrev Sorted : List X → Type 0
   Sorted xs = IsSortedBy (λ a b. is_lt (slice_cmp nat_cmp (f a) (f b))) xs
 
   sorted_rest : (x : X) (xs : List X) → Sorted (x ∷ xs) → Sorted xs
-  sorted_rest x xs h k d low k<l = rw (← get_or_behind x xs (k + 1) d, ← get_or_behind x xs k d) (h (k + 1) d (omega arith) (omega arith))
+  sorted_rest x xs h k d low k<l = rw (← get_or_after x xs (k + 1) d, ← get_or_after x xs k d) (h (k + 1) d (omega arith) (omega arith))
 
   rises_if : (xs : List X) → Sorted xs → ((n : List ℕ) → count_by (is_same_name n) (map f xs) ≤ 1) → T (rises (map f xs))
   rises_if [] h one = tt

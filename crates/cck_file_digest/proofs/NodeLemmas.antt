@@ -17,11 +17,11 @@ use Rattle.cck_path.specs.declared.metadata.Metadata.{Metadata}
 use Rattle.cck_path.proofs.PartLemmas.{inner_one}
 use Rattle.cck_path.proofs.NormalLemmas.{name_alone}
 use Rattle.cck_files.proofs.FileLemmas.{no_other_kind}
-use Rattle.cck_files.specs.FileMap.{FileMap, FileNode, metadata_at, metadata_in, metadata_of, contents_at, contents_in, contents_if, folder_at, folder_in, folder_if, stands_at}
-use Rattle.cck_files.specs.Calls.{IsRefusal, IsRefusalOrMemory}
+use Rattle.cck_files.specs.FileMap.{FileMap, FileNode, metadata_at, metadata_in, metadata_of, contents_at, contents_in, contents_if, folder_at, folder_in, folder_if, exists_at}
+use Rattle.cck_files.specs.Calls.{IsError, IsErrorOrMemory}
 use Rattle.cck_file_digest.specs.Folder.{IsInOrder, IsFedNodes}
 use Rattle.cck_file_digest.specs.FolderText.{is_folder_kind, is_other, is_other_kind, is_too_deep, name_below, opening, piece_of, material, reached, whole, whole_part}
-use Rattle.cck_file_digest.specs.Refusals.{IsRefusalAt}
+use Rattle.cck_file_digest.specs.Refusals.{IsErrorAt}
 use Rattle.cck_file_digest.proofs.FolderSteps.{other_reached, deep_reached}
 
 -- there is a node of this kind at a path
@@ -39,9 +39,9 @@ at_metadata fm p md kind e k = by (get fm.nodes p) refl e
     by (Some node) g e = let same : metadata_of node ≡ md = cc in record { node = node; here = g; same = ap (λ x. x.kind) same ∙ k }
 
 module _ (fm : FileMap) (p : Path) where
-  pub stands_of : (kind : FileKind) → IsAt fm p kind → stands_at fm p ≡ true
-  unfolding stands_at
-  stands_of kind a = ap is_some a.here
+  pub exists_of : (kind : FileKind) → IsAt fm p kind → exists_at fm p ≡ true
+  unfolding exists_at
+  exists_of kind a = ap is_some a.here
 
   pub folder_of : IsAt fm p Folder → folder_at fm p ≡ Ok tt
   unfolding folder_at
@@ -100,33 +100,33 @@ module _ (fm : FileMap) (p : Path) where
       or_true true = refl
       or_true false = refl
 
-  pub metadata_refused : (level : ℕ) (HasFault : Type 0) (e : FileError) → IsRefusal (metadata_at fm p) HasFault e → IsRefusalAt level fm p HasFault (util_error e)
-  unfolding metadata_at stands_at
-  metadata_refused level HasFault NotFound r = by (get fm.nodes p) r
+  pub metadata_failed : (level : ℕ) (HasFault : Type 0) (e : FileError) → IsError (metadata_at fm p) HasFault e → IsErrorAt level fm p HasFault (util_error e)
+  unfolding metadata_at exists_at
+  metadata_failed level HasFault NotFound r = by (get fm.nodes p) r
     where
       by : (o : Option FileNode) → metadata_in o ≡ Err NotFound → is_some o ≡ false
       by None e = refl
       by (Some node) e = cc
-  metadata_refused level HasFault OtherKind r = absurd (no_other_kind (get fm.nodes p) r)
-  metadata_refused level HasFault Fault r = r
-  metadata_refused level HasFault Memory r = absurd r
+  metadata_failed level HasFault OtherKind r = absurd (no_other_kind (get fm.nodes p) r)
+  metadata_failed level HasFault Fault r = r
+  metadata_failed level HasFault Memory r = absurd r
 
   -- where the map has a result, the only errors are faults and lack of memory
-  only_faults : {X : Type 0} (found : Result X FileError) (v : X) (level : ℕ) (P Q : Type 0) (e : FileError) → found ≡ Ok v → (P → Q) → IsRefusalOrMemory found P e → IsRefusalAt level fm p Q (util_error e)
+  only_faults : {X : Type 0} (found : Result X FileError) (v : X) (level : ℕ) (P Q : Type 0) (e : FileError) → found ≡ Ok v → (P → Q) → IsErrorOrMemory found P e → IsErrorAt level fm p Q (util_error e)
   only_faults found v level P Q NotFound is f r = cc
   only_faults found v level P Q OtherKind is f r = cc
   only_faults found v level P Q Fault is f r = f r
   only_faults found v level P Q Memory is f r = tt
 
-  pub contents_refused : (later : FileMap) (level : ℕ) (P Q : Type 0) (e : FileError) → later ≡ fm → IsAt fm p File → (P → Q) → IsRefusalOrMemory (contents_at later p) P e → IsRefusalAt level fm p Q (util_error e)
-  contents_refused later level P Q e same a f r = only_faults (contents_at later p) a.node.contents level P Q e (ap (λ m. contents_at m p) same ∙ contents_of a) f r
+  pub contents_failed : (later : FileMap) (level : ℕ) (P Q : Type 0) (e : FileError) → later ≡ fm → IsAt fm p File → (P → Q) → IsErrorOrMemory (contents_at later p) P e → IsErrorAt level fm p Q (util_error e)
+  contents_failed later level P Q e same a f r = only_faults (contents_at later p) a.node.contents level P Q e (ap (λ m. contents_at m p) same ∙ contents_of a) f r
 
-  pub listing_refused : (later : FileMap) (level : ℕ) (P Q : Type 0) (e : FileError) → later ≡ fm → IsAt fm p Folder → (P → Q) → IsRefusalOrMemory (folder_at later p) P e → IsRefusalAt level fm p Q (util_error e)
-  listing_refused later level P Q e same a f r = only_faults (folder_at later p) tt level P Q e (ap (λ m. folder_at m p) same ∙ folder_of a) f r
+  pub listing_failed : (later : FileMap) (level : ℕ) (P Q : Type 0) (e : FileError) → later ≡ fm → IsAt fm p Folder → (P → Q) → IsErrorOrMemory (folder_at later p) P e → IsErrorAt level fm p Q (util_error e)
+  listing_failed later level P Q e same a f r = only_faults (folder_at later p) tt level P Q e (ap (λ m. folder_at m p) same ∙ folder_of a) f r
 
   -- an error of a child is an error of its directory
   by_child : (q : Path) (names : List (List ℕ)) (i : ℕ) (level : ℕ) (P Q : Type 0) (e : UtilError) → i < length names → IsInOrder fm.nodes p names → q ≡ p ++ Name (get_or names i []) ∷ []
-      → IsAt fm p Folder → stands_at fm q ≡ true → (P → Q) → IsRefusalAt (level + 1) fm q P e → IsRefusalAt level fm p Q e
+      → IsAt fm p Folder → exists_at fm q ≡ true → (P → Q) → IsErrorAt (level + 1) fm q P e → IsErrorAt level fm p Q e
   by_child q names i level P Q util.Memory here order at a stands f r = tt
   by_child q names i level P Q util.Read here order at a stands f r = r
   by_child q names i level P Q (util.File NotFound) here order at a stands f r = cc
@@ -141,10 +141,10 @@ module _ (fm : FileMap) (p : Path) where
   by_child q names i level P Q util.IncompleteHex here order at a stands f r = r
   by_child q names i level P Q util.InvalidHex here order at a stands f r = r
 
-  pub child_refused : (later : FileMap) (q : Path) (names : List (List ℕ)) (i : ℕ) (level : ℕ) (P Q : Type 0) (e : UtilError) → later ≡ fm → i < length names → IsInOrder fm.nodes p names → q ≡ p ++ Name (get_or names i []) ∷ []
-      → IsAt fm p Folder → stands_at fm q ≡ true → (P → Q) → IsRefusalAt (level + 1) later q P e → IsRefusalAt level fm p Q e
-  child_refused later q names i level P Q e same here order at a stands f r =
-      by_child q names i level P Q e here order at a stands f (subst (λ m. IsRefusalAt (level + 1) m q P e) same r)
+  pub child_failed : (later : FileMap) (q : Path) (names : List (List ℕ)) (i : ℕ) (level : ℕ) (P Q : Type 0) (e : UtilError) → later ≡ fm → i < length names → IsInOrder fm.nodes p names → q ≡ p ++ Name (get_or names i []) ∷ []
+      → IsAt fm p Folder → exists_at fm q ≡ true → (P → Q) → IsErrorAt (level + 1) later q P e → IsErrorAt level fm p Q e
+  child_failed later q names i level P Q e same here order at a stands f r =
+      by_child q names i level P Q e here order at a stands f (subst (λ m. IsErrorAt (level + 1) m q P e) same r)
 
 -- ---- the path of a child
 
@@ -172,6 +172,6 @@ pub child_at : (fm : FileMap) (p q : Path) (name : List ℕ) (names : List (List
 child_at fm p q name names i here order is e =
     e ∙ (ap (λ n. joined p (components n)) is ∙ (ap (joined p) (components-name (get_or names i []) (name_among names i here order.names_only)) ∙ joined_name p (get_or names i [])))
 
-pub child_stands : (fm : FileMap) (p q : Path) (names : List (List ℕ)) (i : ℕ) → i < length names → IsInOrder fm.nodes p names → q ≡ p ++ Name (get_or names i []) ∷ [] → stands_at fm q ≡ true
-unfolding stands_at
-child_stands fm p q names i here order at = ap (λ z. is_some (get fm.nodes z)) at ∙ order.stand i here
+pub child_exists : (fm : FileMap) (p q : Path) (names : List (List ℕ)) (i : ℕ) → i < length names → IsInOrder fm.nodes p names → q ≡ p ++ Name (get_or names i []) ∷ [] → exists_at fm q ≡ true
+unfolding exists_at
+child_exists fm p q names i here order at = ap (λ z. is_some (get fm.nodes z)) at ∙ order.stand i here

@@ -11,7 +11,7 @@ use Rattle.std.proofs.lemmas.Option.{none-some}
 use Rattle.cck_path.specs.Path.{Path, Component, component_cmp, component_cmp_total, component_cmp-IsAntisymmetric, path_cmp, path_cmp_total, path_cmp-IsAntisymmetric}
 use Rattle.cck_files.specs.FileMap.{FileNode, Nodes}
 use Rattle.cck_path.proofs.TestLemmas.{T_and, T_parts, tied, below_all}
-use Rattle.cck_file_digest.specs.FolderText.{behind, is_reached, if_reached, reached}
+use Rattle.cck_file_digest.specs.FolderText.{following, is_reached, if_reached, reached}
 
 module _ (k : Path) (v : FileNode) (e : Path × FileNode) (es : List (Path × FileNode)) where
   abbrev pub Two : Type 0
@@ -46,23 +46,23 @@ path_cmp-append (c ∷ f) a b = ap (λ o. ordering_then o (path_cmp (f ++ a) (f 
 pub same_component : (c d : Component) → eq_by_cmp component_cmp c d ≡ true → c ≡ d
 same_component c d e = component_cmp-IsAntisymmetric c d ((Equal-is (component_cmp c d)).0 e)
 
-pub behind-append : (f a : Path) → behind f (f ++ a) ≡ Some a
-behind-append [] a = refl
-behind-append (c ∷ f) a = ap (λ o. cond (is_eq o) (behind f (f ++ a)) None) (component_itself c) ∙ behind-append f a
+pub following-append : (f a : Path) → following f (f ++ a) ≡ Some a
+following-append [] a = refl
+following-append (c ∷ f) a = ap (λ o. cond (is_eq o) (following f (f ++ a)) None) (component_itself c) ∙ following-append f a
 
-pub behind_some : (f q r : Path) → behind f q ≡ Some r → q ≡ f ++ r
-behind_some [] q r e = cc
-behind_some (c ∷ f) [] r e = cc
-behind_some (c ∷ f) (d ∷ q) r e = elim (eq_by_cmp component_cmp c d) as (λ b. eq_by_cmp component_cmp c d ≡ b → cond b (behind f q) None ≡ Some r → d ∷ q ≡ c ∷ (f ++ r)) [
-  | true ↦ λ p e. let h = behind_some f q r e in let k = same_component c d p in cc
+pub after_some : (f q r : Path) → following f q ≡ Some r → q ≡ f ++ r
+after_some [] q r e = cc
+after_some (c ∷ f) [] r e = cc
+after_some (c ∷ f) (d ∷ q) r e = elim (eq_by_cmp component_cmp c d) as (λ b. eq_by_cmp component_cmp c d ≡ b → cond b (following f q) None ≡ Some r → d ∷ q ≡ c ∷ (f ++ r)) [
+  | true ↦ λ p e. let h = after_some f q r e in let k = same_component c d p in cc
   | false ↦ λ p e. cc
 ] refl e
 
 -- a path that does not begin with f is not equal to one that does
-behind_none : (f a q : Path) → behind f q ≡ None → eq_by_cmp path_cmp (f ++ a) q ≡ false
-behind_none f a q e = elim (path_cmp (f ++ a) q) as (λ o. path_cmp (f ++ a) q ≡ o → is_eq o ≡ false) [
+after_none : (f a q : Path) → following f q ≡ None → eq_by_cmp path_cmp (f ++ a) q ≡ false
+after_none f a q e = elim (path_cmp (f ++ a) q) as (λ o. path_cmp (f ++ a) q ≡ o → is_eq o ≡ false) [
   | Less ↦ λ p. refl
-  | Equal ↦ λ p. let k = path_cmp-IsAntisymmetric (f ++ a) q p in let h = behind-append f a in absurd (none-some _ (sym e ∙ ap (behind f) (sym k) ∙ h))
+  | Equal ↦ λ p. let k = path_cmp-IsAntisymmetric (f ++ a) q p in let h = following-append f a in absurd (none-some _ (sym e ∙ ap (following f) (sym k) ∙ h))
   | Greater ↦ λ p. refl
 ] refl
 
@@ -92,14 +92,14 @@ none_either_way false = refl
 
 module _ (m : Nodes) (f : Path) where
   abbrev pub below : List (Path × FileNode) → List (Path × FileNode)
-  below es = filter_map (λ e. if_reached m f e.1 (behind f e.0)) es
+  below es = filter_map (λ e. if_reached m f e.1 (following f e.0)) es
 
-  find-step : (q : Path) (n : FileNode) (es : List (Path × FileNode)) (a : Path) (o : Option Path) → behind f q ≡ o
+  find-step : (q : Path) (n : FileNode) (es : List (Path × FileNode)) (a : Path) (o : Option Path) → following f q ≡ o
       → find path_cmp a (below es) ≡ cond (is_reached m f a) (find path_cmp (f ++ a) es) None
       → find path_cmp a (cons_option (if_reached m f n o) (below es)) ≡ cond (is_reached m f a) (cond (eq_by_cmp path_cmp (f ++ a) q) (Some n) (find path_cmp (f ++ a) es)) None
-  find-step q n es a None b h = h ∙ ap (λ t. cond (is_reached m f a) (cond t (Some n) (find path_cmp (f ++ a) es)) None) (sym (behind_none f a q b))
+  find-step q n es a None b h = h ∙ ap (λ t. cond (is_reached m f a) (cond t (Some n) (find path_cmp (f ++ a) es)) None) (sym (after_none f a q b))
   find-step q n es a (Some r) b h =
-      let same : eq_by_cmp path_cmp (f ++ a) q ≡ eq_by_cmp path_cmp a r = ap (λ z. eq_by_cmp path_cmp (f ++ a) z) (behind_some f q r b) ∙ ap is_eq (path_cmp-append f a r) in
+      let same : eq_by_cmp path_cmp (f ++ a) q ≡ eq_by_cmp path_cmp a r = ap (λ z. eq_by_cmp path_cmp (f ++ a) z) (after_some f q r b) ∙ ap is_eq (path_cmp-append f a r) in
       find_optional (is_reached m f r) r a n (below es)
       ∙ picked (is_reached m f a) (is_reached m f r) (eq_by_cmp path_cmp a r) _ (find path_cmp (f ++ a) es) n (λ t. ap (is_reached m f) (tied a r t)) h
       ∙ ap (λ t. cond (is_reached m f a) (cond t (Some n) (find path_cmp (f ++ a) es)) None) (sym same)
@@ -108,35 +108,35 @@ module _ (m : Nodes) (f : Path) where
   pub find-below : (es : List (Path × FileNode)) (a : Path)
       → find path_cmp a (below es) ≡ cond (is_reached m f a) (find path_cmp (f ++ a) es) None
   find-below [] a = none_either_way (is_reached m f a)
-  find-below (e ∷ es) a = find-step e.0 e.1 es a (behind f e.0) refl (find-below es a)
+  find-below (e ∷ es) a = find-step e.0 e.1 es a (following f e.0) refl (find-below es a)
 
-  is_lt_behind : (r q : Path) (s : Path) → q ≡ f ++ s → T (is_lt (path_cmp (f ++ r) q)) → T (is_lt (path_cmp r s))
-  is_lt_behind r q s e h = subst (λ o. T (is_lt o)) (ap (path_cmp (f ++ r)) e ∙ path_cmp-append f r s) h
+  is_lt_after : (r q : Path) (s : Path) → q ≡ f ++ s → T (is_lt (path_cmp (f ++ r) q)) → T (is_lt (path_cmp r s))
+  is_lt_after r q s e h = subst (λ o. T (is_lt o)) (ap (path_cmp (f ++ r)) e ∙ path_cmp-append f r s) h
 
-  sorted-step : (r : Path) (v : FileNode) (q : Path) (n : FileNode) (es : List (Path × FileNode)) (o : Option Path) → behind f q ≡ o
+  sorted-step : (r : Path) (v : FileNode) (q : Path) (n : FileNode) (es : List (Path × FileNode)) (o : Option Path) → following f q ≡ o
       → T (is_sorted path_cmp ((f ++ r, v) ∷ (q, n) ∷ es))
       → ((r : Path) (v : FileNode) → T (is_sorted path_cmp ((f ++ r, v) ∷ es)) → T (is_sorted path_cmp ((r, v) ∷ below es)))
       → T (is_sorted path_cmp ((r, v) ∷ cons_option (if_reached m f n o) (below es)))
   sorted-step r v q n es None b h ih = ih r v (skip (f ++ r) v (q, n) es h)
   sorted-step r v q n es (Some s) b h ih =
       let whole : T (is_sorted path_cmp ((r, v) ∷ below es)) = ih r v (skip (f ++ r) v (q, n) es h) in
-      let there : q ≡ f ++ s = behind_some f q s b in
+      let there : q ≡ f ++ s = after_some f q s b in
       let more : T (is_sorted path_cmp ((f ++ s, n) ∷ es)) = subst (λ z. T (is_sorted path_cmp ((z, n) ∷ es))) there (tail_of (f ++ r) v (q, n) es h) in
       elim (is_reached m f s) as (λ t. T (is_sorted path_cmp ((r, v) ∷ cons_option (cond t (Some (s, n)) None) (below es)))) [
-        | true ↦ join r v (s, n) (below es) (is_lt_behind r q s there (lt_of (f ++ r) v (q, n) es h)) whole (ih s n more)
+        | true ↦ join r v (s, n) (below es) (is_lt_after r q s there (lt_of (f ++ r) v (q, n) es h)) whole (ih s n more)
         | false ↦ whole
       ]
 
   sorted-below : (es : List (Path × FileNode)) (r : Path) (v : FileNode) → T (is_sorted path_cmp ((f ++ r, v) ∷ es)) → T (is_sorted path_cmp ((r, v) ∷ below es))
   sorted-below [] r v h = tt
-  sorted-below (e ∷ es) r v h = sorted-step r v e.0 e.1 es (behind f e.0) refl h (sorted-below es)
+  sorted-below (e ∷ es) r v h = sorted-step r v e.0 e.1 es (following f e.0) refl h (sorted-below es)
 
-  front-step : (v : FileNode) (q : Path) (n : FileNode) (es : List (Path × FileNode)) (o : Option Path) → behind f q ≡ o
+  front-step : (v : FileNode) (q : Path) (n : FileNode) (es : List (Path × FileNode)) (o : Option Path) → following f q ≡ o
       → T (is_sorted path_cmp ((q, n) ∷ es)) → T (is_sorted path_cmp (([], v) ∷ below es)) → T (is_sorted path_cmp (([], v) ∷ cons_option (if_reached m f n o) (below es)))
   front-step v q n es None b h whole = whole
   front-step v q n es (Some []) b h whole = whole
   front-step v q n es (Some (c ∷ s)) b h whole =
-      let more : T (is_sorted path_cmp ((f ++ c ∷ s, n) ∷ es)) = subst (λ z. T (is_sorted path_cmp ((z, n) ∷ es))) (behind_some f q (c ∷ s) b) h in
+      let more : T (is_sorted path_cmp ((f ++ c ∷ s, n) ∷ es)) = subst (λ z. T (is_sorted path_cmp ((z, n) ∷ es))) (after_some f q (c ∷ s) b) h in
       elim (is_reached m f (c ∷ s)) as (λ t. T (is_sorted path_cmp (([], v) ∷ cons_option (cond t (Some (c ∷ s, n)) None) (below es)))) [
         | true ↦ join [] v (c ∷ s, n) (below es) tt whole (sorted-below es (c ∷ s) n more)
         | false ↦ whole
@@ -144,7 +144,7 @@ module _ (m : Nodes) (f : Path) where
 
   pub sorted-front : (v : FileNode) (es : List (Path × FileNode)) → T (is_sorted path_cmp es) → T (is_sorted path_cmp (([], v) ∷ below es))
   sorted-front v [] h = tt
-  sorted-front v (e ∷ es) h = front-step v e.0 e.1 es (behind f e.0) refl h (sorted-front v es (sorted_tail e es h))
+  sorted-front v (e ∷ es) h = front-step v e.0 e.1 es (following f e.0) refl h (sorted-front v es (sorted_tail e es h))
 
 -- the node of the map at a path that is reached
 abbrev pub found : Nodes → Path → Path → Option FileNode

@@ -6,7 +6,7 @@ use Rattle.std.proofs.lemmas.List.Elements.{All-nil, All-push}
 use Rattle.std.specs.Result.{result_unwrap_or}
 use Rattle.cck_digest.specs.Stream.{IsPiece, TakesBeginning, concatenation}
 use Rattle.cck_digest.specs.declared.error.FileError.{FileError}
-use Rattle.cck_digest.proofs.StreamLemmas.{begun_behind, begun_longer, holds_after}
+use Rattle.cck_digest.proofs.StreamLemmas.{begun_after, begun_longer, holds_after}
 use Rattle.cck_files.specs.Calls.{IsRead}
 use Rattle.cck_file_digest.specs.Contents.{TakesAll}
 
@@ -83,7 +83,7 @@ module _ {S : Type 0} (takes : S → List ℕ → S → Type 0) where
       let rest : TakesBeginning takes now (drop offset contents) next =
       subst (λ b. TakesBeginning takes now b next) (take-append-drop n (drop offset contents)) (begun_longer takes now next (take n (drop offset contents)) (drop n (drop offset contents)) piece) in
       subst (λ b. TakesBeginning takes first b next) (take-append-drop offset contents)
-      (begun_behind takes first now next pieces (take offset contents) (drop offset contents) folds whole rest)
+      (begun_after takes first now next pieces (take offset contents) (drop offset contents) folds whole rest)
 
   -- what each piece preserves holds of the whole contents
   pub holds_of_contents : (holds : S → List ℕ → Type 0)
@@ -93,13 +93,13 @@ module _ {S : Type 0} (takes : S → List ℕ → S → Type 0) where
       subst (λ c. holds now (fed ++ c)) (sym whole) (holds_after takes holds keeps pieces first now folds fed h)
 
   -- the contents after what was fed before them
-  pub contents_behind : (holds : S → List ℕ → Type 0)
+  pub contents_after : (holds : S → List ℕ → Type 0)
       → ((before : S) (piece : List ℕ) (after : S) → takes before piece after → (fed : List ℕ) → holds before fed → holds after (fed ++ piece))
       → (start first now : S) (front : List ℕ) (found : Result (List ℕ) FileError) → ((fed : List ℕ) → holds start fed → holds first (fed ++ front))
       → IsOkAnd found (λ contents. TakesAll takes first contents now) → IsOkAnd found (λ contents. (fed : List ℕ) → holds start fed → holds now (fed ++ (front ++ contents)))
-  contents_behind holds keeps start first now front (Ok contents) before all = λ fed h.
+  contents_after holds keeps start first now front (Ok contents) before all = λ fed h.
       subst (holds now) (append_assoc fed front contents) (holds_of_contents holds keeps first now contents all (fed ++ front) (before fed h))
-  contents_behind holds keeps start first now front (Err e) before all = absurd all
+  contents_after holds keeps start first now front (Err e) before all = absurd all
 
 -- the items of an empty vector that took the contents are the contents
 pub contents_read : (found : Result (List ℕ) FileError) (empty full : Vec ℕ Global) → empty.items ≡ []

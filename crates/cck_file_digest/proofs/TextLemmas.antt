@@ -8,13 +8,13 @@ use Rattle.std.proofs.lemmas.List.{take_more}
 use Rattle.cck_digest.specs.Digest.{digest_text}
 use Rattle.cck_digest.specs.declared.error.UtilError.{UtilError}
 use Rattle.cck_path.specs.Path.{Path, components}
-use Rattle.cck_files.specs.FileMap.{FileMap, FileNode, stands_at}
+use Rattle.cck_files.specs.FileMap.{FileMap, FileNode, exists_at}
 use Rattle.cck_file_digest.specs.FileDigest.{text_and, text_at, texts}
 use Rattle.cck_file_digest.specs.FolderText.{is_other, is_too_deep, material, material_of, whole, whole_part, digest_material}
 
-pub material_some : (fm : FileMap) (p : Path) → stands_at fm p ≡ true → list_any is_other (whole fm.nodes p) ≡ false → list_any (is_too_deep 1) (whole fm.nodes p) ≡ false
+pub material_some : (fm : FileMap) (p : Path) → exists_at fm p ≡ true → list_any is_other (whole fm.nodes p) ≡ false → list_any (is_too_deep 1) (whole fm.nodes p) ≡ false
     → digest_material fm p ≡ Some (material None (whole fm.nodes p))
-unfolding stands_at whole digest_material
+unfolding exists_at whole digest_material
 material_some fm p stands other deep = by (get fm.nodes p) stands other deep
   where
     given : (a b : Bool) (bytes : List ℕ) → a ≡ false → b ≡ false → cond (a || b) None (Some bytes) ≡ Some bytes

@@ -7,7 +7,7 @@ use Rattle.cck_digest.specs.declared.error.UtilError.{UtilError}
 use Rattle.cck_path.specs.Path.{Path, components}
 use Rattle.cck_files.specs.FileMap.{FileMap}
 use Rattle.cck_file_digest.specs.FolderText.{digest_material}
-use Rattle.cck_file_digest.specs.Refusals.{IsDigestRefusal}
+use Rattle.cck_file_digest.specs.Refusals.{IsDigestError}
 
 -- the hex digest of the node at a path, by this hash function, if it has one
 unfoldable pub text_at : (List ℕ → List ℕ) → FileMap → Path → Option (List ℕ)
@@ -27,8 +27,8 @@ abbrev pub paths_of : List (Vec ℕ Global) → List Path
 paths_of written = map (λ path. components path.items) written
 
 -- an error for one of these paths, where each path before it has a digest
-pub record IsFirstRefusal (hash : List ℕ → List ℕ) (fm : FileMap) (paths : List Path) (HasFault : Type 0) (e : UtilError) : Type 0 where
+pub record IsFirstError (hash : List ℕ → List ℕ) (fm : FileMap) (paths : List Path) (HasFault : Type 0) (e : UtilError) : Type 0 where
   pub at : ℕ
   pub within : at < length paths
   pub earlier : IsSome (texts hash fm (take at paths))
-  pub cause : IsDigestRefusal fm (slice_index_or paths at []) HasFault e
+  pub cause : IsDigestError fm (slice_index_or paths at []) HasFault e

@@ -13,10 +13,10 @@ use Rattle.cck_path.specs.declared.metadata.FileKind.TheVariants.{File, Folder, 
 use Rattle.cck_files.specs.FileMap.{FileMap, FileNode, Nodes}
 
 -- the rest of a path after another, if it begins with that one
-abbrev pub behind : Path → Path → Option Path
-behind [] q = Some q
-behind (c ∷ p) [] = None
-behind (c ∷ p) (d ∷ q) = if eq_by_cmp component_cmp c d then behind p q else None
+abbrev pub following : Path → Path → Option Path
+following [] q = Some q
+following (c ∷ p) [] = None
+following (c ∷ p) (d ∷ q) = if eq_by_cmp component_cmp c d then following p q else None
 
 abbrev pub is_name : Component → Bool
 is_name Root = false
@@ -53,7 +53,7 @@ if_reached m f n (Some rest) = if is_reached m f rest then Some (rest, n) else N
 
 -- what is reached from a directory through directories, by relative paths in path order
 unfoldable pub reached : Nodes → Path → List (Path × FileNode)
-reached m f = filter_map (λ e. if_reached m f e.1 (behind f e.0)) (entries m)
+reached m f = filter_map (λ e. if_reached m f e.1 (following f e.0)) (entries m)
 
 abbrev pub whole_part : Nodes → Path → Option FileNode → List (Path × FileNode)
 whole_part m p None = []

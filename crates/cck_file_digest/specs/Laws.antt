@@ -9,7 +9,7 @@ use Rattle.cck_path.specs.declared.metadata.FileKind.{FileKind}
 use Rattle.cck_path.specs.declared.metadata.FileKind.TheVariants.{File, Folder, Other}
 use Rattle.cck_files.specs.FileMap.{FileMap, FileNode, Nodes, contents_at, folder_at}
 use Rattle.cck_file_digest.specs.FolderText.{digest_material, is_folder, is_name, is_other, is_too_deep, lossy, reached, relative_text}
-use Rattle.cck_file_digest.specs.Refusals.{IsDigestRefusal}
+use Rattle.cck_file_digest.specs.Refusals.{IsDigestError}
 
 -- a relative path of names leads from a directory through directories
 pub record LeadsThrough (m : Nodes) (f q : Path) : Type 0 where
@@ -41,5 +41,5 @@ FolderMaterial = (fm : FileMap) (p : Path) → folder_at fm p ≡ Ok tt
     → digest_material fm p ≡ (if list_any is_other (reached fm.nodes p) || list_any (is_too_deep 1) (reached fm.nodes p) then None else Some (flat_map named_piece (reached fm.nodes p)))
 
 -- where the error is neither a fault nor lack of memory, there is no digest
-abbrev pub RefusalsTell : Type 0
-RefusalsTell = (fm : FileMap) (p : Path) (e : UtilError) → e ≢ UtilError.Memory → IsDigestRefusal fm p ⊥ e → digest_material fm p ≡ None
+abbrev pub ErrorsTellNoMaterial : Type 0
+ErrorsTellNoMaterial = (fm : FileMap) (p : Path) (e : UtilError) → e ≢ UtilError.Memory → IsDigestError fm p ⊥ e → digest_material fm p ≡ None

@@ -4,7 +4,7 @@ ghost use Rattle.std.specs.Result.{result_unwrap_or};
 ghost use Rattle.cck_digest.specs.Stream.{IsPiece, TakesBeginning, buffer_size};
 ghost use Rattle.cck_path.specs.Path.{components};
 ghost use Rattle.cck_files.specs.FileMap.{contents_at};
-ghost use Rattle.cck_files.specs.Calls.{AreCalls, Keeps, IsRefusalOrMemory, Rose};
+ghost use Rattle.cck_files.specs.Calls.{AreCalls, Keeps, IsErrorOrMemory, Rose};
 ghost use Rattle.cck_file_digest.specs.Contents.{TakesAll};
 
 use cck_digest::{FileError, HASH_BUFFER_SIZE, Sink};
@@ -29,7 +29,7 @@ pub(crate) fn feed_contents<F: Files, S: Sink>(
         (result_unwrap_or (contents_at (F.file_map files.old) (components path.now)) []) sink.new) }
     ensures answer { let found = contents_at (F.file_map files.old) (components path.now) in
         MatchResult result (λ _. IsOkAnd found (λ contents. TakesAll S.takes sink.old contents sink.new))
-        (IsRefusalOrMemory found (Rose (F.faults files.old) (F.faults files.new))) }
+        (IsErrorOrMemory found (Rose (F.faults files.old) (F.faults files.new))) }
 {
     let mut offset: u64 = 0;
     loop {
@@ -66,7 +66,7 @@ pub fn feed_file<F: Files, S: Sink>(
         (result_unwrap_or (contents_at (F.file_map files.old) (components path.now)) []) sink.new) }
     ensures answer { let found = contents_at (F.file_map files.old) (components path.now) in
         MatchResult result (λ _. IsOkAnd found (λ contents. TakesAll S.takes sink.old contents sink.new))
-        (IsRefusalOrMemory found (Rose (F.faults files.old) (F.faults files.new))) }
+        (IsErrorOrMemory found (Rose (F.faults files.old) (F.faults files.new))) }
 {
     feed_file_of_size(alloc, files, path, HASH_BUFFER_SIZE as u64, sink)
 }
@@ -87,7 +87,7 @@ pub fn feed_file_of_size<F: Files, S: Sink>(
         (result_unwrap_or (contents_at (F.file_map files.old) (components path.now)) []) sink.new) }
     ensures answer { let found = contents_at (F.file_map files.old) (components path.now) in
         MatchResult result (λ _. IsOkAnd found (λ contents. TakesAll S.takes sink.old contents sink.new))
-        (IsRefusalOrMemory found (Rose (F.faults files.old) (F.faults files.new))) }
+        (IsErrorOrMemory found (Rose (F.faults files.old) (F.faults files.new))) }
 {
     let mut buffer = vec![in alloc; 0u8; room_for(size)]?;
     feed_contents(files, path, &mut buffer, sink)
@@ -114,7 +114,7 @@ pub fn read_contents<F: Files>(
     ensures keeps { Keeps F.file_map F.faults F.is_quiet files.old files.new }
     ensures answer { let found = contents_at (F.file_map files.old) (components path.now) in
         MatchResult result (λ contents. found ≡ Ok contents.items)
-        (IsRefusalOrMemory found (Rose (F.faults files.old) (F.faults files.new))) }
+        (IsErrorOrMemory found (Rose (F.faults files.old) (F.faults files.new))) }
 {
     read_contents_of_size(alloc, files, path, HASH_BUFFER_SIZE as u64)
 }
@@ -130,7 +130,7 @@ pub fn read_contents_of_size<F: Files>(
     ensures keeps { Keeps F.file_map F.faults F.is_quiet files.old files.new }
     ensures answer { let found = contents_at (F.file_map files.old) (components path.now) in
         MatchResult result (λ contents. found ≡ Ok contents.items)
-        (IsRefusalOrMemory found (Rose (F.faults files.old) (F.faults files.new))) }
+        (IsErrorOrMemory found (Rose (F.faults files.old) (F.faults files.new))) }
 {
     let mut contents = Vec::new(alloc);
     feed_file_of_size(alloc, files, path, size, &mut contents)?;

@@ -2,8 +2,8 @@
 ghost use Rattle.std.specs.Prelude.{◌≡◌, Some, map, MatchResult, string_bytes};
 ghost use Rattle.cck_path.specs.Path.{components};
 ghost use Rattle.cck_files.specs.Calls.{Keeps, Rose};
-ghost use Rattle.cck_file_digest.specs.FileDigest.{IsFirstRefusal, paths_of, text_at, texts};
-ghost use Rattle.cck_file_digest.specs.Refusals.{IsDigestRefusal};
+ghost use Rattle.cck_file_digest.specs.FileDigest.{IsFirstError, paths_of, text_at, texts};
+ghost use Rattle.cck_file_digest.specs.Refusals.{IsDigestError};
 
 use crate::folder::feed_node;
 use cck_digest::{Digest, HashState, UtilError, new_hash_buffer};
@@ -38,14 +38,14 @@ pub trait DigestFiles {
         ensures keeps { Keeps F.file_map F.faults F.is_quiet files.old files.new }
         ensures answer { let fm = F.file_map files.old in MatchResult result
             (λ text. text_at hash fm (components path.now) ≡ Some (string_bytes text))
-            (IsDigestRefusal fm (components path.now) (Rose (F.faults files.old) (F.faults files.new))) };
+            (IsDigestError fm (components path.now) (Rose (F.faults files.old) (F.faults files.new))) };
 
     /// The same as [`DigestFiles::file`]. Upstream's `Digest::reader`.
     fn reader<F: Files>(alloc: Global, files: &mut F, path: &[u8]) -> Result<String, UtilError>
         ensures keeps { Keeps F.file_map F.faults F.is_quiet files.old files.new }
         ensures answer { let fm = F.file_map files.old in MatchResult result
             (λ text. text_at hash fm (components path.now) ≡ Some (string_bytes text))
-            (IsDigestRefusal fm (components path.now) (Rose (F.faults files.old) (F.faults files.new))) };
+            (IsDigestError fm (components path.now) (Rose (F.faults files.old) (F.faults files.new))) };
 }
 
 impl<H: HashState> DigestFiles for Digest<H> {
@@ -69,7 +69,7 @@ fn digest_path<H: HashState, F: Files>(
     ensures keeps { Keeps F.file_map F.faults F.is_quiet files.old files.new }
     ensures answer { let fm = F.file_map files.old in MatchResult result
         (λ text. text_at H.hash fm (components path.now) ≡ Some (string_bytes text))
-        (IsDigestRefusal fm (components path.now) (Rose (F.faults files.old) (F.faults files.new))) }
+        (IsDigestError fm (components path.now) (Rose (F.faults files.old) (F.faults files.new))) }
 {
     let mut buffer = new_hash_buffer(alloc)?;
     let mut digest = Digest::<H>::new();
@@ -89,7 +89,7 @@ pub fn hash_all<H: HashState, F: Files>(
     ensures keeps { Keeps F.file_map F.faults F.is_quiet files.old files.new }
     ensures answer { let fm = F.file_map files.old in MatchResult result
         (λ all. texts H.hash fm (paths_of paths.now) ≡ Some (map string_bytes all.items))
-        (IsFirstRefusal H.hash fm (paths_of paths.now) (Rose (F.faults files.old) (F.faults files.new))) }
+        (IsFirstError H.hash fm (paths_of paths.now) (Rose (F.faults files.old) (F.faults files.new))) }
 {
     let mut all = Vec::new(alloc);
     for path in paths {

@@ -3,11 +3,11 @@ ghost use Rattle.std.specs.Prelude.{◌≡◌, ℕ, List, ◌++◌, ◌≤◌, l
 ghost use Rattle.std.specs.Option.{option_copied};
 ghost use Rattle.cck_digest.specs.Stream.{IsPiece};
 ghost use Rattle.cck_path.specs.Path.{components};
-ghost use Rattle.cck_files.specs.FileMap.{contents_at, folder_at, stands_at};
-ghost use Rattle.cck_files.specs.Calls.{Keeps, IsRefusalOrMemory, Rose};
+ghost use Rattle.cck_files.specs.FileMap.{contents_at, folder_at, exists_at};
+ghost use Rattle.cck_files.specs.Calls.{Keeps, IsErrorOrMemory, Rose};
 ghost use Rattle.cck_file_digest.specs.Folder.{IsFedNodes, IsInOrder, child_name, child_names};
 ghost use Rattle.cck_file_digest.specs.FolderText.{lossy, opening, whole};
-ghost use Rattle.cck_file_digest.specs.Refusals.{IsRefusalAt};
+ghost use Rattle.cck_file_digest.specs.Refusals.{IsErrorAt};
 
 use crate::contents::feed_contents;
 use bstr::ByteSlice;
@@ -50,7 +50,7 @@ fn feed_named<H: HashState, F: Files>(
     ensures answer { let found = contents_at (F.file_map files.old) (components path.now) in
         MatchResult result (λ _. IsOkAnd found (λ contents. (fed : List ℕ) → H.holds digest.old fed
         → H.holds digest.new (fed ++ (opening (option_copied name.entry) ++ contents))))
-        (IsRefusalOrMemory found (Rose (F.faults files.old) (F.faults files.new))) }
+        (IsErrorOrMemory found (Rose (F.faults files.old) (F.faults files.new))) }
 {
     feed_name(alloc, name, digest)?;
     feed_contents(files, path, buffer, digest)
@@ -76,7 +76,7 @@ pub fn sorted_names<F: Files>(
         map vec_items names.items ≡ child_names (F.file_map files.old).nodes (components path.now)) }
     ensures answer { MatchResult result
         (λ names. IsInOrder (F.file_map files.old).nodes (components path.now) (map vec_items names.items))
-        (IsRefusalOrMemory (folder_at (F.file_map files.old) (components path.now))
+        (IsErrorOrMemory (folder_at (F.file_map files.old) (components path.now))
         (Rose (F.faults files.old) (F.faults files.new))) }
 {
     let mut names = files.read_dir(alloc, path)?;
@@ -113,9 +113,9 @@ pub(crate) fn feed_node<H: HashState, F: Files>(
     requires level { level ≤ 101 }
     ensures keeps { Keeps F.file_map F.faults F.is_quiet files.old files.new }
     ensures answer { let fm = F.file_map files.old in MatchResult result
-        (λ _. (stands_at fm (components path.now) ≡ true)
+        (λ _. (exists_at fm (components path.now) ≡ true)
         × IsFedNodes H.holds level (option_copied name.entry) (whole fm.nodes (components path.now)) digest.old digest.new)
-        (IsRefusalAt level fm (components path.now) (Rose (F.faults files.old) (F.faults files.new))) }
+        (IsErrorAt level fm (components path.now) (Rose (F.faults files.old) (F.faults files.new))) }
 {
     match files.metadata(path)?.kind {
         FileKind::File => Ok(feed_named(alloc, files, path, name, buffer, digest)?),

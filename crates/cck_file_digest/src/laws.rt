@@ -1,5 +1,5 @@
 //! Laws about the definitions. Each is the contract of a function with an empty body.
-ghost use Rattle.cck_file_digest.specs.Laws.{FileMaterial, FolderMaterial, ReachedTells, RefusalsTell};
+ghost use Rattle.cck_file_digest.specs.Laws.{FileMaterial, FolderMaterial, ReachedTells, ErrorsTellNoMaterial};
 
 /// The nodes that are reached from a directory are exactly those to which a relative path of names
 /// leads through directories. They are in strictly ascending path order, and so each is there once.
@@ -18,6 +18,6 @@ pub fn folder_material()
 {}
 
 /// Where the error is neither a fault nor lack of memory, there is no digest.
-pub fn refusals_tell()
-    ensures { RefusalsTell }
+pub fn errors_tell_no_material()
+    ensures { ErrorsTellNoMaterial }
 {}

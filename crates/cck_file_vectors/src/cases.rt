@@ -23,7 +23,7 @@ pub(crate) struct Cases {
     /// The entry that calls change. It has no results at first.
     pub(crate) entry: PreprocessorCacheEntry,
     /// Files that were put aside. None at first.
-    pub(crate) aside: MapFiles,
+    pub(crate) saved: MapFiles,
 }
 
 // The calls whose lines have no escaped text after their names.
@@ -38,7 +38,7 @@ impl Subject for Cases {
             wanted: Wanted::new(alloc),
             map: PathMap::new(alloc),
             entry: PreprocessorCacheEntry::new(alloc),
-            aside: MapFiles::new(alloc),
+            saved: MapFiles::new(alloc),
         }
     }
 
@@ -48,7 +48,7 @@ impl Subject for Cases {
         self.wanted.begin();
         self.map = PathMap::new(self.alloc);
         self.entry = PreprocessorCacheEntry::new(self.alloc);
-        self.aside = MapFiles::new(self.alloc);
+        self.saved = MapFiles::new(self.alloc);
     }
 
     fn give(&mut self, word: &str, rest: &str) -> Result<bool, CaseError> {

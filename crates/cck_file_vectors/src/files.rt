@@ -13,7 +13,7 @@ pub(crate) enum FileCall {
     Exists,
     Canonical,
     Count,
-    PutAside,
+    Save,
     Swap,
     PutMade,
 }
@@ -25,8 +25,8 @@ pub(crate) const CALLS: [(&str, FileCall); 9] = [
     ("exists", FileCall::Exists),
     ("canonical", FileCall::Canonical),
     ("file_calls", FileCall::Count),
-    ("copy_aside", FileCall::PutAside),
-    ("swap_aside", FileCall::Swap),
+    ("copy_saved", FileCall::Save),
+    ("swap_saved", FileCall::Swap),
     ("put_made", FileCall::PutMade),
 ];
 
@@ -42,8 +42,8 @@ pub(crate) fn call<'a>(
         FileCall::Exists => Ok(Value::Flag(cases.world.files.exists(path))),
         FileCall::Canonical => Ok(Value::Bytes(cases.world.files.canonical(cases.alloc, path)?)),
         FileCall::Count => Ok(Value::Number(cases.world.files.calls())),
-        FileCall::PutAside => put_aside(cases),
-        FileCall::Swap => Ok(swap_aside(cases)),
+        FileCall::Save => save(cases),
+        FileCall::Swap => Ok(swap_saved(cases)),
         FileCall::PutMade => put_made(cases, path),
     }
 }
@@ -75,14 +75,14 @@ fn read_dir<'a>(cases: &'a mut Cases, path: &[u8]) -> Result<Value<'a>, CaseErro
 }
 
 // Puts a copy of the files aside.
-fn put_aside<'a>(cases: &'a mut Cases) -> Result<Value<'a>, CaseError> {
-    cases.aside = cases.world.files.copy(cases.alloc)?;
+fn save<'a>(cases: &'a mut Cases) -> Result<Value<'a>, CaseError> {
+    cases.saved = cases.world.files.copy(cases.alloc)?;
     Ok(Value::Word("copied"))
 }
 
 // Takes the files that were put aside, and puts the others aside.
-fn swap_aside<'a>(cases: &'a mut Cases) -> Value<'a> {
-    swap(&mut cases.world.files, &mut cases.aside);
+fn swap_saved<'a>(cases: &'a mut Cases) -> Value<'a> {
+    swap(&mut cases.world.files, &mut cases.saved);
     Value::Word("swapped")
 }
 

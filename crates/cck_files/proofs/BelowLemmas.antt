@@ -91,8 +91,8 @@ module _ {V : Type 0} (p : Path) (m : FinMap path_cmp V) where
         not_true (is_lt (path_cmp (path_of e) p)) (then_some (is_from p (path_of e)) (get m (path_of e)) (get_or es i e).value there).0
 
     -- from an entry on that is not below the directory, none is of a child
-    pub none_behind : take (length p) (path_of e) ≢ p → (n : List ℕ) (k : ℕ) (d : Entry V) → i ≤ k → k < length es → path_of (get_or es k d) ≢ p ++ Name n ∷ []
-    none_behind other n k d le high same =
+    pub none_after : take (length p) (path_of e) ≢ p → (n : List ℕ) (k : ℕ) (d : Entry V) → i ≤ k → k < length es → path_of (get_or es k d) ≢ p ++ Name n ∷ []
+    none_after other n k d le high same =
         let here = ap path_of (at ∙ get_or_default es i e d low) in
         elim (cases_eq k i) [
           | inl is_here ↦ other (ap (take (length p)) (here ∙ sym (ap (λ j. path_of (get_or es j d)) is_here) ∙ same) ∙ take-append_seam p (Name n ∷ []))

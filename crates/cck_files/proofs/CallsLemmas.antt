@@ -4,7 +4,7 @@ use Rattle.cck_digest.specs.declared.error.FileError.{FileError}
 use Rattle.cck_digest.specs.declared.error.FileError.TheVariants.{NotFound, OtherKind, Fault, Memory}
 use Rattle.cck_files.specs.FileMap.{FileMap}
 use Rattle.cck_path.specs.Path.{Path}
-use Rattle.cck_files.specs.Calls.{AreCalls, Keeps, Rose, IsRefusal, none, one_more}
+use Rattle.cck_files.specs.Calls.{AreCalls, Keeps, Rose, IsError, none, one_more}
 
 module _ {F : Type 0} {file_map : F → FileMap} {faults : F → ℕ} {is_quiet : F → Type 0} where
   pub keeps_itself : (a : F) → Keeps file_map faults is_quiet a a
@@ -46,8 +46,8 @@ pub rose_later : (a b c : ℕ) → b ≤ c → Rose a b → Rose a c
 rose_later a b c h (inl r) = inl (omega (arith, h, r))
 rose_later a b c h (inr r) = inr (omega (arith, h, r))
 
-pub refusal_by : {X : Type 0} (x : Result X FileError) (P Q : Type 0) (e : FileError) → (P → Q) → IsRefusal x P e → IsRefusal x Q e
-refusal_by x P Q NotFound f r = r
-refusal_by x P Q OtherKind f r = r
-refusal_by x P Q Fault f r = f r
-refusal_by x P Q Memory f r = r
+pub error_by : {X : Type 0} (x : Result X FileError) (P Q : Type 0) (e : FileError) → (P → Q) → IsError x P e → IsError x Q e
+error_by x P Q NotFound f r = r
+error_by x P Q OtherKind f r = r
+error_by x P Q Fault f r = f r
+error_by x P Q Memory f r = r

@@ -22,19 +22,19 @@ pub data AreCalls {F : Type 0} (is_call : F → Path → F → Type 0) (At : Pat
   one_more : {after : F} (between : F) (p : Path) → AreCalls is_call At before between → At p → is_call between p after → AreCalls is_call At before after
 
 -- the error of a call: the map's own, or a fault where there was one, or lack of memory where it is possible
-abbrev pub IsRefusalWhere : {X : Type 0} → Result X FileError → Type 0 → Type 0 → FileError → Type 0
-IsRefusalWhere answer HasFault TakesMemory NotFound = answer ≡ Err NotFound
-IsRefusalWhere answer HasFault TakesMemory OtherKind = answer ≡ Err OtherKind
-IsRefusalWhere answer HasFault TakesMemory Fault = HasFault
-IsRefusalWhere answer HasFault TakesMemory Memory = TakesMemory
+abbrev pub IsErrorWhere : {X : Type 0} → Result X FileError → Type 0 → Type 0 → FileError → Type 0
+IsErrorWhere answer HasFault TakesMemory NotFound = answer ≡ Err NotFound
+IsErrorWhere answer HasFault TakesMemory OtherKind = answer ≡ Err OtherKind
+IsErrorWhere answer HasFault TakesMemory Fault = HasFault
+IsErrorWhere answer HasFault TakesMemory Memory = TakesMemory
 
 -- the error of a call that takes no memory
-abbrev pub IsRefusal : {X : Type 0} → Result X FileError → Type 0 → FileError → Type 0
-IsRefusal answer HasFault = IsRefusalWhere answer HasFault ⊥
+abbrev pub IsError : {X : Type 0} → Result X FileError → Type 0 → FileError → Type 0
+IsError answer HasFault = IsErrorWhere answer HasFault ⊥
 
 -- the error of a call that takes memory
-abbrev pub IsRefusalOrMemory : {X : Type 0} → Result X FileError → Type 0 → FileError → Type 0
-IsRefusalOrMemory answer HasFault = IsRefusalWhere answer HasFault (Unit {0})
+abbrev pub IsErrorOrMemory : {X : Type 0} → Result X FileError → Type 0 → FileError → Type 0
+IsErrorOrMemory answer HasFault = IsErrorWhere answer HasFault (Unit {0})
 
 -- n bytes of these contents were read from an offset on, and none of them only at the end
 pub record IsRead (contents : List ℕ) (offset n : ℕ) (buffer : List ℕ) : Type 0 where

@@ -84,8 +84,8 @@ unfoldable pub folder_at : FileMap → Path → Result (Unit {0}) FileError
 folder_at m p = folder_in (get m.nodes p)
 
 -- whether there is a node at a path
-unfoldable pub stands_at : FileMap → Path → Bool
-stands_at m p = is_some (get m.nodes p)
+unfoldable pub exists_at : FileMap → Path → Bool
+exists_at m p = is_some (get m.nodes p)
 
 abbrev pub found_or_not : Option Path → Result Path FileError
 found_or_not None = Err NotFound

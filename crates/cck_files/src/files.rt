@@ -27,8 +27,8 @@ use std::alloc::Global;
 /// Where the cause of one of the first two exists, the call returns an error: that one, or one of
 /// the last two.
 pub trait Files {
-    ghost use Rattle.cck_files.specs.FileMap.{FileMap, metadata_at, contents_at, folder_at, stands_at, canonical_at, IsListing};
-    ghost use Rattle.cck_files.specs.Calls.{Keeps, IsRefusal, IsRefusalOrMemory, IsRead, Rose};
+    ghost use Rattle.cck_files.specs.FileMap.{FileMap, metadata_at, contents_at, folder_at, exists_at, canonical_at, IsListing};
+    ghost use Rattle.cck_files.specs.Calls.{Keeps, IsError, IsErrorOrMemory, IsRead, Rose};
 
     // The nodes and the canonical paths.
     ghost file_map: { Self → FileMap };
@@ -48,7 +48,7 @@ pub trait Files {
         ensures call { is_call self.old (components path.now) self.new }
         ensures answer { let found = metadata_at (file_map self.old) (components path.now) in
             MatchResult result (λ metadata. found ≡ Ok metadata)
-            (IsRefusal found (Rose (faults self.old) (faults self.new))) };
+            (IsError found (Rose (faults self.old) (faults self.new))) };
 
     /// Reads bytes of a regular file, from an offset on, into the beginning of the buffer, and
     /// returns their number. The number may be less than the room. Into a buffer with room it is 0
@@ -60,7 +60,7 @@ pub trait Files {
         ensures call { is_call self.old (components path.now) self.new }
         ensures answer { let found = contents_at (file_map self.old) (components path.now) in
             MatchResult result (λ n. IsOkAnd found (λ contents. IsRead contents offset n buffer.new))
-            (IsRefusal found (Rose (faults self.old) (faults self.new))) };
+            (IsError found (Rose (faults self.old) (faults self.new))) };
 
     /// Returns the last names of a directory's direct children, each once, in any order. A child
     /// whose last component is no name has none.
@@ -69,14 +69,14 @@ pub trait Files {
         ensures call { is_call self.old (components path.now) self.new }
         ensures answer { MatchResult result
             (λ names. IsListing (file_map self.old) (components path.now) (map vec_items names.items))
-            (IsRefusalOrMemory (folder_at (file_map self.old) (components path.now))
+            (IsErrorOrMemory (folder_at (file_map self.old) (components path.now))
             (Rose (faults self.old) (faults self.new))) };
 
     /// Whether a node is at a path. The result is `false` for a fault too. It takes no memory.
     fn exists(&mut self, path: &[u8]) -> bool
         ensures keeps { Keeps file_map faults is_quiet self.old self.new }
         ensures call { is_call self.old (components path.now) self.new }
-        ensures answer { let stands = stands_at (file_map self.old) (components path.now) in
+        ensures answer { let stands = exists_at (file_map self.old) (components path.now) in
             MatchBool result (stands ≡ true)
             ((stands ≡ false) ⊎ Rose (faults self.old) (faults self.new)) };
 
@@ -87,7 +87,7 @@ pub trait Files {
         ensures call { is_call self.old (components path.now) self.new }
         ensures answer { let found = canonical_at (file_map self.old) (components path.now) in
             MatchResult result (λ path. found ≡ Ok (components path.items))
-            (IsRefusalOrMemory found (Rose (faults self.old) (faults self.new))) };
+            (IsErrorOrMemory found (Rose (faults self.old) (faults self.new))) };
 
     // The count has 64 bits.
     ghost faults_fit: { (files : Self) → faults files < 2 ^ 64 };

@@ -13,11 +13,11 @@ use Rattle.cck_time.specs.declared.error.Error.TheVariants as error
 use Rattle.cck_digest.specs.declared.error.FileError.{FileError}
 use Rattle.cck_digest.specs.declared.error.FileError.TheVariants.{NotFound, OtherKind, Fault, Memory}
 use Rattle.cck_files.proofs.FileLemmas.{no_other_kind}
-use Rattle.cck_files.specs.Calls.{IsRefusal}
+use Rattle.cck_files.specs.Calls.{IsError}
 use Rattle.cck_files.specs.FileMap.{FileMap, metadata_at}
 use Rattle.cck_path.specs.Path.{Path, components}
 use Rattle.cck_path.specs.Timestamp.{Moment}
-use Rattle.cck_include.specs.Gathered.{Digested, all_of, digested_in, gathered, include_at, include_said}
+use Rattle.cck_include.specs.Gathered.{Digested, all_of, digested_in, gathered, include_at, include_of_metadata}
 use Rattle.cck_include.specs.Include.{Include}
 use Rattle.cck_include.specs.Refusal.{IsMissing, io_error}
 
@@ -66,8 +66,8 @@ no_other_at files p e = no_other_kind (get files.nodes p) e
 
 -- a file without metadata is missing
 pub missing_one : (files : FileMap) (moment : Moment) (d : Digested) (P : Type 0) (e : FileError)
-    → IsRefusal (metadata_at files (components (d.1))) P e → IsMissing (include_at files moment d ≡ None) P (io_error e)
-missing_one files moment d P NotFound r = ap (include_said moment d) r
+    → IsError (metadata_at files (components (d.1))) P e → IsMissing (include_at files moment d ≡ None) P (io_error e)
+missing_one files moment d P NotFound r = ap (include_of_metadata moment d) r
 missing_one files moment d P OtherKind r = absurd (no_other_at files (components (d.1)) r)
 missing_one files moment d P Fault r = r
 missing_one files moment d P Memory r = absurd r

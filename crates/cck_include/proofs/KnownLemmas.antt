@@ -10,7 +10,7 @@ use Rattle.std.proofs.lemmas.List.{get_or-set_other, get_or-set_same, get_or_app
 use Rattle.std.proofs.lemmas.List.Elements.{All-get_or, All-nil, All-push, All-same, All-set}
 use Rattle.cck_digest.specs.declared.error.FileError.{FileError}
 use Rattle.cck_digest.specs.declared.error.FileError.TheVariants.{NotFound, OtherKind, Fault, Memory}
-use Rattle.cck_files.specs.Calls.{IsRefusal}
+use Rattle.cck_files.specs.Calls.{IsError}
 use Rattle.cck_files.specs.FileMap.{FileMap, metadata_at}
 use Rattle.cck_path.specs.Path.{Path, components, path_cmp, path_cmp_total, path_cmp-IsAntisymmetric}
 use Rattle.cck_path.specs.declared.metadata.Metadata.{Metadata}
@@ -54,8 +54,8 @@ more_found ks k old new set none found q i at = go (cases_lt i (length ks))
     go (inl before) =
         let there : IsPlaceOf q ks i = record { in_range = before; has_path = λ d. ap path_of (sym (get_or_append_left ks (k ∷ []) d i before)) ∙ at.has_path d } in
         kept_found ks old new (path_of k) (length ks) set none found q i there
-    go (inr behind) =
-        let last : i ≡ length ks = omega (arith, behind, at.in_range, length-append ks (k ∷ [])) in
+    go (inr following) =
+        let last : i ≡ length ks = omega (arith, following, at.in_range, length-append ks (k ∷ [])) in
         let same : path_of k ≡ q = ap path_of (sym (get_or_push ks k k i (sym last))) ∙ at.has_path k in
         ap (get new) (sym same) ∙ got old new (path_of k) (length ks) set ∙ ap (λ (n : ℕ). Some n) (sym last)
 
@@ -114,7 +114,7 @@ known_set s files ks places i k now is path own right = (
 )
 
 -- where a call for metadata failed although there is a node, there was a fault
-pub refused : (r : Result Metadata FileError) (P : Type 0) (e : FileError) → IsRefusal r P e → IfOk r (λ _. P)
+pub refused : (r : Result Metadata FileError) (P : Type 0) (e : FileError) → IsError r P e → IfOk r (λ _. P)
 refused (Ok m) P NotFound h = absurd cc
 refused (Ok m) P OtherKind h = absurd cc
 refused (Ok m) P Fault h = h

@@ -9,7 +9,7 @@ use Rattle.cck_digest.specs.Digest.{digest_text}
 use Rattle.cck_files.specs.FileMap.{FileNode}
 use Rattle.cck_path.specs.Timestamp.{Moment, nanos_of}
 use Rattle.cck_path.specs.Variables.{Variable}
-use Rattle.cck_time.proofs.PartLemmas.{days_told, seconds_told}
+use Rattle.cck_time.proofs.PartLemmas.{day_is_determined, second_is_determined}
 use Rattle.cck_time.specs.TimePart.{local_day, source_date_epoch, time_part}
 use Rattle.cck_include.specs.Laws.{AreTold, ShowTheSame, at_moment}
 use Rattle.cck_include.specs.Recorded.{counts_part, file_time_part, has_date, has_time, has_timestamp, is_timed, recorded, recorded_by}
@@ -67,7 +67,7 @@ equal_digests_tell s moment variables n o digest long told e f =
     → (local_day s.zone (nanos_of s.moment) ≡ local_day s.zone (nanos_of moment)) × (source_date_epoch s.variables ≡ source_date_epoch variables) =
     λ counts date.
     let (p, first, second) = parts (counted s.config.ignore_time_macros (is_timed n.contents) counts ∙ ap (λ b. b || has_timestamp n.contents) date) in
-    days_told s.zone (has_timestamp n.contents) n.modified o.modified s.moment moment s.variables variables p
+    day_is_determined s.zone (has_timestamp n.contents) n.modified o.modified s.moment moment s.variables variables p
     (ap (λ b. time_part b (has_timestamp n.contents) n.modified s.moment s.zone s.variables) (sym date) ∙ first)
     (ap (λ b. time_part b (has_timestamp n.contents) o.modified moment s.zone variables) (sym date) ∙ second)
     in
@@ -78,7 +78,7 @@ equal_digests_tell s moment variables n o digest long told e f =
       epoch = λ counts date. (dated counts date).1;
       second = λ counts stamp.
           let (p, first, second) = parts (counted s.config.ignore_time_macros (is_timed n.contents) counts ∙ or_right (has_date n.contents) (has_timestamp n.contents) stamp) in
-          seconds_told s.zone (has_date n.contents) n.modified o.modified s.moment moment s.variables variables p
+          second_is_determined s.zone (has_date n.contents) n.modified o.modified s.moment moment s.variables variables p
           (ap (λ b. time_part (has_date n.contents) b n.modified s.moment s.zone s.variables) (sym stamp) ∙ first)
           (ap (λ b. time_part (has_date n.contents) b o.modified moment s.zone variables) (sym stamp) ∙ second);
     }

@@ -99,5 +99,5 @@ rest_here xs i x within is =
     ap includes_in (drop-cons xs i x within) ∙ (ap (λ z. include_in z ∷ includes_in (drop (suc i) xs)) (sym is) ∙ ap (λ k. include_in x ∷ includes_in (drop k xs)) next)
 
 -- where the first of those that are left matches, the others decide whether all match
-pub all_more : (m : Include → Bool) (i : Include) (rest behind all : List Include) → rest ≡ i ∷ behind → m i ≡ true → list_all m rest ≡ list_all m all → list_all m behind ≡ list_all m all
-all_more m i rest behind all is fits e = sym (ap (list_all m) is ∙ ap (λ b. b && list_all m behind) fits) ∙ e
+pub all_more : (m : Include → Bool) (i : Include) (rest following all : List Include) → rest ≡ i ∷ following → m i ≡ true → list_all m rest ≡ list_all m all → list_all m following ≡ list_all m all
+all_more m i rest following all is fits e = sym (ap (list_all m) is ∙ ap (λ b. b && list_all m following) fits) ∙ e

@@ -8,9 +8,9 @@ use Rattle.cck_digest.specs.Digest.{digest_text}
 use Rattle.cck_digest.specs.declared.error.FileError.{FileError}
 use Rattle.cck_digest.specs.declared.error.FileError.TheVariants.{NotFound, OtherKind, Fault, Memory}
 use Rattle.cck_digest.specs.declared.error.UtilError.TheVariants as util
-use Rattle.cck_files.proofs.CallsLemmas.{refusal_by}
+use Rattle.cck_files.proofs.CallsLemmas.{error_by}
 use Rattle.cck_files.proofs.FileLemmas.{file_with_contents, metadata_of_file, no_file_without_contents, no_file_without_metadata}
-use Rattle.cck_files.specs.Calls.{IsRefusal, IsRefusalOrMemory}
+use Rattle.cck_files.specs.Calls.{IsError, IsErrorOrMemory}
 use Rattle.cck_files.specs.FileMap.{FileMap, FileNode, contents_at, file_at, metadata_at}
 use Rattle.cck_path.specs.Path.{Path}
 use Rattle.cck_path.specs.declared.metadata.Metadata.{Metadata}
@@ -19,7 +19,7 @@ use Rattle.cck_time.specs.declared.error.Error.{Error}
 use Rattle.cck_time.specs.declared.error.Error.TheVariants as error
 use Rattle.cck_include.specs.Recorded.{recorded, recorded_by}
 use Rattle.cck_include.specs.Setting.{Setting}
-use Rattle.cck_include.specs.Refusal.{IsIoRefusal, io_error}
+use Rattle.cck_include.specs.Refusal.{IsIoError, io_error}
 use Rattle.cck_include.specs.Scan.{IsScanOf}
 use Rattle.cck_include.specs.declared.recorded.Scan.{Scan}
 
@@ -35,38 +35,38 @@ ok_by (Ok x) P Q f h = f x h
 ok_by (Err e) P Q f h = h
 
 -- errors
-pub without_metadata : (files : FileMap) (p : Path) (P : Type 0) (e : FileError) → IsRefusal (metadata_at files p) P e → IsIoRefusal (file_at files p) P (io_error e)
+pub without_metadata : (files : FileMap) (p : Path) (P : Type 0) (e : FileError) → IsError (metadata_at files p) P e → IsIoError (file_at files p) P (io_error e)
 without_metadata files p P NotFound r = no_file_without_metadata files p NotFound r
 without_metadata files p P OtherKind r = no_file_without_metadata files p OtherKind r
 without_metadata files p P Fault r = r
 without_metadata files p P Memory r = absurd r
 
-pub without_contents : (files : FileMap) (p : Path) (P Q : Type 0) (e : FileError) → (P → Q) → IsRefusalOrMemory (contents_at files p) P e → IsIoRefusal (file_at files p) Q (io_error e)
+pub without_contents : (files : FileMap) (p : Path) (P Q : Type 0) (e : FileError) → (P → Q) → IsErrorOrMemory (contents_at files p) P e → IsIoError (file_at files p) Q (io_error e)
 without_contents files p P Q NotFound f r = no_file_without_contents files p NotFound r
 without_contents files p P Q OtherKind f r = no_file_without_contents files p OtherKind r
 without_contents files p P Q Fault f r = f r
 without_contents files p P Q Memory f r = tt
 
 -- a fault of a part is a fault of the whole
-refused_by : {X : Type 0} (found : Result X FileError) (P Q : Type 0) (e : Error) → (P → Q) → IsIoRefusal found P e → IsIoRefusal found Q e
-refused_by found P Q error.Memory f h = tt
-refused_by found P Q (error.Io (util.File e)) f h = refusal_by found P Q e f h
-refused_by found P Q (error.Io util.Memory) f h = h
-refused_by found P Q (error.Io util.Read) f h = h
-refused_by found P Q (error.Io util.TooDeep) f h = h
-refused_by found P Q (error.Io util.TooLong) f h = h
-refused_by found P Q (error.Io util.Write) f h = h
-refused_by found P Q (error.Io util.IncompleteEscape) f h = h
-refused_by found P Q (error.Io util.InvalidEscape) f h = h
-refused_by found P Q (error.Io util.IncompleteHex) f h = h
-refused_by found P Q (error.Io util.InvalidHex) f h = h
-refused_by found P Q error.Deserialization f h = h
-refused_by found P Q (error.UnknownFormat byte) f h = h
+error_by_fault : {X : Type 0} (found : Result X FileError) (P Q : Type 0) (e : Error) → (P → Q) → IsIoError found P e → IsIoError found Q e
+error_by_fault found P Q error.Memory f h = tt
+error_by_fault found P Q (error.Io (util.File e)) f h = error_by found P Q e f h
+error_by_fault found P Q (error.Io util.Memory) f h = h
+error_by_fault found P Q (error.Io util.Read) f h = h
+error_by_fault found P Q (error.Io util.TooDeep) f h = h
+error_by_fault found P Q (error.Io util.TooLong) f h = h
+error_by_fault found P Q (error.Io util.Write) f h = h
+error_by_fault found P Q (error.Io util.IncompleteEscape) f h = h
+error_by_fault found P Q (error.Io util.InvalidEscape) f h = h
+error_by_fault found P Q (error.Io util.IncompleteHex) f h = h
+error_by_fault found P Q (error.Io util.InvalidHex) f h = h
+error_by_fault found P Q error.Deserialization f h = h
+error_by_fault found P Q (error.UnknownFormat byte) f h = h
 
-pub answered_by : {X Y : Type 0} (r : Result X Error) (Answer : X → Type 0) (found : Result Y FileError) (P Q : Type 0) → (P → Q)
-    → MatchResult r Answer (IsIoRefusal found P) → MatchResult r Answer (IsIoRefusal found Q)
-answered_by (Ok x) Answer found P Q f h = h
-answered_by (Err e) Answer found P Q f h = refused_by found P Q e f h
+pub returned_by_result : {X Y : Type 0} (r : Result X Error) (Answer : X → Type 0) (found : Result Y FileError) (P Q : Type 0) → (P → Q)
+    → MatchResult r Answer (IsIoError found P) → MatchResult r Answer (IsIoError found Q)
+returned_by_result (Ok x) Answer found P Q f h = h
+returned_by_result (Err e) Answer found P Q f h = error_by_fault found P Q e f h
 
 -- a file that was read
 with_contents : (files : FileMap) (p : Path) (r : Result (List ℕ) FileError) (P : List ℕ → Type 0) → contents_at files p ≡ r → IsOkAnd r P
@@ -96,11 +96,11 @@ pub recorded_counting : (s : Setting) (files : FileMap) (p : Path) (scan : Scan)
     → s.config.ignore_time_macros ≡ false → metadata_at files p ≡ Ok m → IsOkAnd (contents_at files p) (IsScanOf s.hash scan)
     → IfOk r (λ o. option_map string_bytes o ≡ recorded_by s.hash scan.has_time (scan.has_date || scan.has_timestamp) (string_bytes scan.text) (time_part scan.has_date scan.has_timestamp m.modified s.moment s.zone s.variables))
     → IsOkUnless r error.Memory
-    → MatchResult r (λ o. IsOkAnd (file_at files p) (λ n. option_map string_bytes o ≡ recorded s n)) (IsIoRefusal (file_at files p) Q)
+    → MatchResult r (λ o. IsOkAnd (file_at files p) (λ n. option_map string_bytes o ≡ recorded s n)) (IsIoError (file_at files p) Q)
 recorded_counting s files p scan m Q (Ok o) counts known read digest refused =
     let (n, is, told) = with_contents files p (contents_at files p) (IsScanOf s.hash scan) refl read in
     let own = metadata_of_file files p n m is known in
     let modified : m.modified ≡ n.modified = ap (λ (d : Metadata). d.modified) own.0 in
     rw is (counting s n scan (option_map string_bytes o) counts told (rw (← modified) digest))
 recorded_counting s files p scan m Q (Err e) counts known read digest refused =
-    subst (IsIoRefusal (file_at files p) Q) (sym refused) tt
+    subst (IsIoError (file_at files p) Q) (sym refused) tt

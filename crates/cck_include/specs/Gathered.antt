@@ -37,13 +37,13 @@ include_of moment (digest, path) m =
     let keeps = are_before m.modified m.changed moment in
     record { path = path; digest = digest; size = m.len; modified = kept keeps m.modified; changed = kept keeps m.changed }
 
-abbrev pub include_said : Moment → Digested → Result Metadata FileError → Option Include
-include_said moment d (Ok m) = Some (include_of moment d m)
-include_said moment d (Err e) = None
+abbrev pub include_of_metadata : Moment → Digested → Result Metadata FileError → Option Include
+include_of_metadata moment d (Ok m) = Some (include_of moment d m)
+include_of_metadata moment d (Err e) = None
 
 -- the same, if there is a node
 abbrev pub include_at : FileMap → Moment → Digested → Option Include
-include_at files moment d = include_said moment d (metadata_at files (components (d.1)))
+include_at files moment d = include_of_metadata moment d (metadata_at files (components (d.1)))
 
 -- all of them, if none is missing
 abbrev pub all_of : {A : Type 0} → List (Option A) → Option (List A)

@@ -19,13 +19,13 @@ abbrev pub at_moment : Moment → List Variable → Setting → Setting
 at_moment moment variables s = record { hash = s.hash; config = s.config; moment = moment; zone = s.zone; variables = variables }
 
 -- these two have different hex digests if they are different
-abbrev pub IsTold : (List ℕ → List ℕ) → List ℕ → List ℕ → Type 0
-IsTold hash a b = digest_text hash a ≡ digest_text hash b → a ≡ b
+abbrev pub IsDetermined : (List ℕ → List ℕ) → List ℕ → List ℕ → Type 0
+IsDetermined hash a b = digest_text hash a ≡ digest_text hash b → a ≡ b
 
 -- the hash function has no collision between the contents of these two files, nor between their time parts where both count
 pub record AreTold (s t : Setting) (n o : FileNode) : Type 0 where
-  pub contents : IsTold s.hash n.contents o.contents
-  pub parts : (p q : List ℕ) → counts_part s n ≡ true → counts_part t o ≡ true → file_time_part s n ≡ Some p → file_time_part t o ≡ Some q → IsTold s.hash p q
+  pub contents : IsDetermined s.hash n.contents o.contents
+  pub parts : (p q : List ℕ) → counts_part s n ≡ true → counts_part t o ≡ true → file_time_part s n ≡ Some p → file_time_part t o ≡ Some q → IsDetermined s.hash p q
 
 -- Two files show the same text: their contents are the same, and where time macros count, there is no `__TIME__` in them. With a `__DATE__`, the
 -- local day and `SOURCE_DATE_EPOCH` are the same, and with a `__TIMESTAMP__` the local second of modification.

@@ -4,25 +4,25 @@ use Rattle.cck_digest.specs.declared.error.FileError.TheVariants.{NotFound, Othe
 use Rattle.cck_digest.specs.declared.error.FileError.TheVariants as file
 use Rattle.cck_digest.specs.declared.error.FileError.{FileError}
 use Rattle.cck_digest.specs.declared.error.UtilError.TheVariants as util
-use Rattle.cck_files.specs.Calls.{IsRefusal}
+use Rattle.cck_files.specs.Calls.{IsError}
 use Rattle.cck_time.specs.declared.error.Error.{Error}
 use Rattle.cck_time.specs.declared.error.Error.TheVariants.{Io, Deserialization, UnknownFormat, Memory}
 
 -- the error of the map itself, a fault where there was one, or lack of memory
-abbrev pub IsIoRefusal : {X : Type 0} → Result X FileError → Type 0 → Error → Type 0
-IsIoRefusal answer HasFault Memory = Unit {0}
-IsIoRefusal answer HasFault (Io (util.File e)) = IsRefusal answer HasFault e
-IsIoRefusal answer HasFault (Io util.Memory) = ⊥
-IsIoRefusal answer HasFault (Io util.Read) = ⊥
-IsIoRefusal answer HasFault (Io util.TooDeep) = ⊥
-IsIoRefusal answer HasFault (Io util.TooLong) = ⊥
-IsIoRefusal answer HasFault (Io util.Write) = ⊥
-IsIoRefusal answer HasFault (Io util.IncompleteEscape) = ⊥
-IsIoRefusal answer HasFault (Io util.InvalidEscape) = ⊥
-IsIoRefusal answer HasFault (Io util.IncompleteHex) = ⊥
-IsIoRefusal answer HasFault (Io util.InvalidHex) = ⊥
-IsIoRefusal answer HasFault Deserialization = ⊥
-IsIoRefusal answer HasFault (UnknownFormat byte) = ⊥
+abbrev pub IsIoError : {X : Type 0} → Result X FileError → Type 0 → Error → Type 0
+IsIoError answer HasFault Memory = Unit {0}
+IsIoError answer HasFault (Io (util.File e)) = IsError answer HasFault e
+IsIoError answer HasFault (Io util.Memory) = ⊥
+IsIoError answer HasFault (Io util.Read) = ⊥
+IsIoError answer HasFault (Io util.TooDeep) = ⊥
+IsIoError answer HasFault (Io util.TooLong) = ⊥
+IsIoError answer HasFault (Io util.Write) = ⊥
+IsIoError answer HasFault (Io util.IncompleteEscape) = ⊥
+IsIoError answer HasFault (Io util.InvalidEscape) = ⊥
+IsIoError answer HasFault (Io util.IncompleteHex) = ⊥
+IsIoError answer HasFault (Io util.InvalidHex) = ⊥
+IsIoError answer HasFault Deserialization = ⊥
+IsIoError answer HasFault (UnknownFormat byte) = ⊥
 
 -- lack of memory stays lack of memory, and any other error is an error of files
 abbrev pub io_error : FileError → Error

@@ -2,14 +2,14 @@
 ghost use Rattle.std.specs.Prelude.{◌≡◌, ◌||◌, IfOk, IsOkAnd, IsOkUnless, MatchResult, Ok, map, string_bytes};
 ghost use Rattle.std.specs.Option.{option_map};
 ghost use Rattle.cck_digest.specs.Digest.{digest_text};
-ghost use Rattle.cck_files.specs.Calls.{AreCalls, IsRefusalOrMemory, Keeps, Rose};
+ghost use Rattle.cck_files.specs.Calls.{AreCalls, IsErrorOrMemory, Keeps, Rose};
 ghost use Rattle.cck_files.specs.FileMap.{contents_at, file_at, metadata_at};
 ghost use Rattle.cck_path.specs.Bytes.{variables_of};
 ghost use Rattle.cck_path.specs.Path.{components};
 ghost use Rattle.cck_time.specs.TimePart.{time_part};
 ghost use Rattle.jiff.specs.Words.{plain_zone};
 ghost use Rattle.cck_include.specs.Recorded.{recorded, recorded_by};
-ghost use Rattle.cck_include.specs.Refusal.{IsIoRefusal};
+ghost use Rattle.cck_include.specs.Refusal.{IsIoError};
 ghost use Rattle.cck_include.specs.Scan.{IsScanOf};
 ghost use Rattle.cck_include.specs.Setting.{setting_in};
 
@@ -42,7 +42,7 @@ fn read_once<H: HashState, F: Files>(
     ensures calls { AreCalls F.is_call (λ p. p ≡ components path.now) files.old files.new }
     ensures answer { let found = contents_at (F.file_map files.old) (components path.now) in
         MatchResult result (λ scan. IsOkAnd found (IsScanOf H.hash scan))
-        (IsRefusalOrMemory found (Rose (F.faults files.old) (F.faults files.new))) }
+        (IsErrorOrMemory found (Rose (F.faults files.old) (F.faults files.new))) }
 {
     let mut watched = WatchedDigest::<H>::new();
     feed_file_of_size(alloc, files, path, size, &mut watched)?;
@@ -69,7 +69,7 @@ fn contents_text<H: HashState, F: Files>(
     ensures calls { AreCalls F.is_call (λ p. p ≡ components path.now) files.old files.new }
     ensures answer { let found = contents_at (F.file_map files.old) (components path.now) in
         MatchResult result (λ text. IsOkAnd found (λ contents. string_bytes text ≡ digest_text H.hash contents))
-        (IsRefusalOrMemory found (Rose (F.faults files.old) (F.faults files.new))) }
+        (IsErrorOrMemory found (Rose (F.faults files.old) (F.faults files.new))) }
 {
     let mut digest = Digest::<H>::new();
     feed_file_of_size(alloc, files, path, size, &mut digest)?;
@@ -158,7 +158,7 @@ pub fn recorded_digest<H: HashState, F: Files>(
     ensures answer { let found = file_at (F.file_map files.old) (components path.now) in
         MatchResult result (λ digest. IsOkAnd found (λ file. option_map string_bytes digest
         ≡ recorded (setting_in H.hash config moment (plain_zone zone.now) vars.now) file))
-        (IsIoRefusal found (Rose (F.faults files.old) (F.faults files.new))) }
+        (IsIoError found (Rose (F.faults files.old) (F.faults files.new))) }
 {
     let metadata = match files.metadata(path) {
         Ok(metadata) => metadata,
@@ -185,7 +185,7 @@ pub(crate) fn digest_with_metadata<H: HashState, F: Files>(
         metadata_at (F.file_map files.old) (components path.now) ≡ Ok metadata
         → MatchResult result (λ digest. IsOkAnd found (λ file. option_map string_bytes digest
         ≡ recorded (setting_in H.hash config moment (plain_zone zone.now) vars.now) file))
-        (IsIoRefusal found (Rose (F.faults files.old) (F.faults files.new))) }
+        (IsIoError found (Rose (F.faults files.old) (F.faults files.new))) }
 {
     if config.ignore_time_macros {
         return match contents_text::<H, F>(alloc, files, path, metadata.len) {

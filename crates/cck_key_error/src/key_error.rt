@@ -26,7 +26,7 @@ pub enum KeyError {
     #[error("the store failed")]
     Store,
     /// What the store returned is not an entry.
-    #[error("what the store handed out is no entry: {0}")]
+    #[error("what the store returned out is no entry: {0}")]
     Entry(Error),
     /// There is no preprocessed text, for this cause. Lack of memory is [`KeyError::Memory`]
     /// instead.

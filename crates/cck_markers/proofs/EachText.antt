@@ -103,17 +103,17 @@ any_true false true c P h f g k = g refl
 any_true false false c P h f g k = k h
 
 -- what a text that starts with a word is
-pub behind_word : (s word : List ℕ) → starts_with nat_eq s word ≡ true → s ≡ word ++ drop (length word) s
-behind_word s word h = (starts_is Decides-eqb s word (starts_with nat_eq s word) refl).0 h
+pub after_word : (s word : List ℕ) → starts_with nat_eq s word ≡ true → s ≡ word ++ drop (length word) s
+after_word s word h = (starts_is Decides-eqb s word (starts_with nat_eq s word) refl).0 h
 
 -- a marker starts with `#`
 pub marker_starts : (s : List ℕ) → is_marker s ≡ true → (t : List ℕ) × (s ≡ 35 ∷ t)
 unfolding is_marker
 marker_starts s h =
     any_true (starts_with nat_eq s (codes "# ") && _) (starts_with nat_eq s (codes "#pragma GCC pch_preprocess")) (starts_with nat_eq s (codes "#line ")) ((t : List ℕ) × (s ≡ 35 ∷ t)) h
-    (λ e. (_, behind_word s (codes "# ") (and_parts _ _ e).0))
-    (λ e. (_, behind_word s (codes "#pragma GCC pch_preprocess") e))
-    (λ e. (_, behind_word s (codes "#line ") e))
+    (λ e. (_, after_word s (codes "# ") (and_parts _ _ e).0))
+    (λ e. (_, after_word s (codes "#pragma GCC pch_preprocess") e))
+    (λ e. (_, after_word s (codes "#line ") e))
 
 pub what_marker : (start : Bool) (s : List ℕ) → what start s ≡ Marker → (t : List ℕ) × (s ≡ 35 ∷ t)
 unfolding what

@@ -39,10 +39,10 @@ unnamed_item starts_line text end is (marker, ends) =
     let hash = what_marker starts_line text is in
     let shorter = unnamed_shorter hash.0 text hash.1 marker in
     let long = length-append marker.front (10 ∷ marker.rest) in
-    let behind : drop end text ≡ 10 ∷ marker.rest = ap (drop end) marker.is ∙ drop_at marker.front (10 ∷ marker.rest) end (sym ends) in (
+    let following : drop end text ≡ 10 ∷ marker.rest = ap (drop end) marker.is ∙ drop_at marker.front (10 ∷ marker.rest) end (sym ends) in (
       omega (arith, shorter, long, ends, ap length marker.is),
       omega (arith, long, ends, ap length marker.is),
-      λ marks left. unnamed is marker (subst (λ (rest : List ℕ). Marks false rest marks) behind left),
+      λ marks left. unnamed is marker (subst (λ (rest : List ℕ). Marks false rest marks) following left),
     )
 
 pub named_item : (starts_line : Bool) (text : List ℕ) (begin end : ℕ) (name : List ℕ) (is_system_in : Bool) → what starts_line text ≡ Marker
@@ -51,10 +51,10 @@ named_item starts_line text begin end name is_system_in is (marker, at, its_name
     let front = marker.front ++ 34 ∷ marker.name in
     let cut : text ≡ front ++ marker.rest = marker.is ∙ sym (append_assoc marker.front (34 ∷ marker.name) marker.rest) in
     let long : length front ≡ end = omega (arith, length-append marker.front (34 ∷ marker.name), at.begins, at.ends) in
-    let behind : drop end text ≡ marker.rest = ap (drop end) cut ∙ drop_at front marker.rest end long in (
+    let following : drop end text ≡ marker.rest = ap (drop end) cut ∙ drop_at front marker.rest end long in (
       omega (arith, at.begins, at.ends),
       at.within,
-      λ marks left. named is marker marks (subst (λ (rest : List ℕ). Marks false rest marks) behind left) (ap₂ (λ n s. Name n s ∷ marks) (sym its_name) (sym its_system)),
+      λ marks left. named is marker marks (subst (λ (rest : List ℕ). Marks false rest marks) following left) (ap₂ (λ n s. Name n s ∷ marks) (sym its_name) (sym its_system)),
     )
 
 pub hidden_item : (starts_line : Bool) (text : List ℕ) (end : ℕ) → what starts_line text ≡ Hidden → IsFirstByte (is_byte 10) text (Some end) → IsItem starts_line text [] (end + 1) true

@@ -20,20 +20,20 @@ ends (hidden_to_end is free none) = rw none tt
 ends (refused is same) = rw same refl
 ends (plain is byte rest cut more) = ends more
 
-last_refusal : (before behind : List Mark) → Ends (before ++ Refusal ∷ behind) → behind ≡ []
-last_refusal [] behind h = h
-last_refusal (Name name is_system_in ∷ before) behind h = last_refusal before behind h
-last_refusal (Refusal ∷ before) behind h = absurd (middle_some before Refusal behind h)
-last_refusal (Malformed ∷ before) behind h = absurd (middle_some before Refusal behind h)
+last_incbin : (before following : List Mark) → Ends (before ++ Refusal ∷ following) → following ≡ []
+last_incbin [] following h = h
+last_incbin (Name name is_system_in ∷ before) following h = last_incbin before following h
+last_incbin (Refusal ∷ before) following h = absurd (middle_some before Refusal following h)
+last_incbin (Malformed ∷ before) following h = absurd (middle_some before Refusal following h)
 
-last_malformed : (before behind : List Mark) → Ends (before ++ Malformed ∷ behind) → behind ≡ []
-last_malformed [] behind h = h
-last_malformed (Name name is_system_in ∷ before) behind h = last_malformed before behind h
-last_malformed (Refusal ∷ before) behind h = absurd (middle_some before Malformed behind h)
-last_malformed (Malformed ∷ before) behind h = absurd (middle_some before Malformed behind h)
+last_malformed : (before following : List Mark) → Ends (before ++ Malformed ∷ following) → following ≡ []
+last_malformed [] following h = h
+last_malformed (Name name is_system_in ∷ before) following h = last_malformed before following h
+last_malformed (Refusal ∷ before) following h = absurd (middle_some before Malformed following h)
+last_malformed (Malformed ∷ before) following h = absurd (middle_some before Malformed following h)
 
-pub nothing_behind_refusal : (starts_line : Bool) (text : List ℕ) (before behind : List Mark) → Marks starts_line text (before ++ Refusal ∷ behind) → behind ≡ []
-nothing_behind_refusal starts_line text before behind marks = last_refusal before behind (ends marks)
+pub nothing_after_incbin : (starts_line : Bool) (text : List ℕ) (before following : List Mark) → Marks starts_line text (before ++ Refusal ∷ following) → following ≡ []
+nothing_after_incbin starts_line text before following marks = last_incbin before following (ends marks)
 
-pub nothing_behind_malformed : (starts_line : Bool) (text : List ℕ) (before behind : List Mark) → Marks starts_line text (before ++ Malformed ∷ behind) → behind ≡ []
-nothing_behind_malformed starts_line text before behind marks = last_malformed before behind (ends marks)
+pub nothing_after_malformed : (starts_line : Bool) (text : List ℕ) (before following : List Mark) → Marks starts_line text (before ++ Malformed ∷ following) → following ≡ []
+nothing_after_malformed starts_line text before following marks = last_malformed before following (ends marks)

@@ -38,20 +38,20 @@ module _ (text : List ℕ) (first d : ℕ) (h : IsFirstByte (is_byte2 34 10) tex
   front_length : length (take first text) ≡ first
   front_length = omega (arith, h.0.high, length-take first text)
 
-  closed_name : (behind : List ℕ) (size : ℕ) (is_system_in : Bool) → behind ≡ drop (first + 1) text → IsFirstByte (is_byte 34) behind (Some size) → is_system_in ≡ has_three (drop (size + 1) behind)
-      → NamesFrom text (first + 1) (first + 1 + size) (take size behind) is_system_in
-  closed_name behind size is_system_in is found three =
-      let closing = byte_at 34 behind size found in
-      let long : length (take size behind) ≡ size = omega (arith, closing.2, length-take size behind) in (
+  closed_name : (following : List ℕ) (size : ℕ) (is_system_in : Bool) → following ≡ drop (first + 1) text → IsFirstByte (is_byte 34) following (Some size) → is_system_in ≡ has_three (drop (size + 1) following)
+      → NamesFrom text (first + 1) (first + 1 + size) (take size following) is_system_in
+  closed_name following size is_system_in is found three =
+      let closing = byte_at 34 following size found in
+      let long : length (take size following) ≡ size = omega (arith, closing.2, length-take size following) in (
         record {
           front = take first text;
-          name = take size behind;
-          rest = 34 ∷ drop (size + 1) behind;
+          name = take size following;
+          rest = 34 ∷ drop (size + 1) following;
           is = cut ∙ ap (λ v. take first text ++ 34 ∷ v) (sym is ∙ closing.0);
           free = pair_free 34 10 text first h;
           unquoted = closing.1;
           closed = refl;
-          some = middle_some (take size behind) 34 (drop (size + 1) behind);
+          some = middle_some (take size following) 34 (drop (size + 1) following);
         },
         record {
           begins = omega (arith, front_length);
@@ -66,20 +66,20 @@ module _ (text : List ℕ) (first d : ℕ) (h : IsFirstByte (is_byte2 34 10) tex
       → is_system_in ≡ has_three (take (length (take (length text - (first + 1)) (drop (first + 1) text)) - (size + 1)) (drop (size + 1) (take (length text - (first + 1)) (drop (first + 1) text))))
       → NamesFrom text (first + 1) (first + 1 + size) (take size (take (length text - (first + 1)) (drop (first + 1) text))) is_system_in
   named_line size is_system_in found three =
-      let behind = take (length text - (first + 1)) (drop (first + 1) text) in
-      closed_name behind size is_system_in (slice_from text (first + 1)) found (three ∙ ap has_three (slice_from behind (size + 1)))
+      let following = take (length text - (first + 1)) (drop (first + 1) text) in
+      closed_name following size is_system_in (slice_from text (first + 1)) found (three ∙ ap has_three (slice_from following (size + 1)))
 
-  open_name : (behind : List ℕ) → behind ≡ drop (first + 1) text → IsFirstByte (is_byte 34) behind None → (length behind ≡ 0 → ⊥) → NamesFrom text (first + 1) (length text) behind false
-  open_name behind is found some = (
+  open_name : (following : List ℕ) → following ≡ drop (first + 1) text → IsFirstByte (is_byte 34) following None → (length following ≡ 0 → ⊥) → NamesFrom text (first + 1) (length text) following false
+  open_name following is found some = (
     record {
       front = take first text;
-      name = behind;
+      name = following;
       rest = [];
-      is = cut ∙ ap (λ v. take first text ++ 34 ∷ v) (sym is ∙ sym (append-nil behind));
+      is = cut ∙ ap (λ v. take first text ++ 34 ∷ v) (sym is ∙ sym (append-nil following));
       free = pair_free 34 10 text first h;
-      unquoted = byte_nowhere 34 behind found;
+      unquoted = byte_nowhere 34 following found;
       closed = tt;
-      some = λ none. some (ap length (sym (append-nil behind) ∙ none));
+      some = λ none. some (ap length (sym (append-nil following) ∙ none));
     },
     record {
       begins = omega (arith, front_length);
@@ -108,11 +108,11 @@ three_here : (v : ℕ) (rest : List ℕ) → (v ≡ 51) ⊎ (v ≡ 10) → (v ==
 three_here v rest (inl e) = rw e refl
 three_here v rest (inr e) = rw e refl
 
-three_behind : (front : List ℕ) (v : ℕ) (rest : List ℕ) → All (λ v. (v ≢ 51) × (v ≢ 10)) front → (v ≡ 51) ⊎ (v ≡ 10) → (v == 51) ≡ has_three (front ++ v ∷ rest)
-three_behind [] v rest free e = three_here v rest e
-three_behind (x ∷ front) v rest free e =
+three_after : (front : List ℕ) (v : ℕ) (rest : List ℕ) → All (λ v. (v ≢ 51) × (v ≢ 10)) front → (v ≡ 51) ⊎ (v ≡ 10) → (v == 51) ≡ has_three (front ++ v ∷ rest)
+three_after [] v rest free e = three_here v rest e
+three_after (x ∷ front) v rest free e =
     let here = free 0 x (omega arith) in
-    rw (ne_eqb x 10 here.1, ne_eqb x 51 here.0) (three_behind front v rest (λ k d l. free (suc k) d (omega arith)) e)
+    rw (ne_eqb x 10 here.1, ne_eqb x 51 here.0) (three_after front v rest (λ k d l. free (suc k) d (omega arith)) e)
 
 either : (v : ℕ) → (v == 51 || v == 10) ≡ true → (v ≡ 51) ⊎ (v ≡ 10)
 either v h =
@@ -124,7 +124,7 @@ either v h =
 pub three_at : (text : List ℕ) (place d : ℕ) → IsFirstByte (is_byte2 51 10) text (Some place) → (get_or text place d == 51) ≡ has_three text
 three_at text place d h =
     let same = get_or_default text place d 0 h.0.high in
-    rw same (three_behind (take place text) (get_or text place 0) (drop (place + 1) text) (pair_free 51 10 text place h) (either (get_or text place 0) h.1) ∙ ap has_three (sym (cut_at text place 0 h.0.high)))
+    rw same (three_after (take place text) (get_or text place 0) (drop (place + 1) text) (pair_free 51 10 text place h) (either (get_or text place 0) h.1) ∙ ap has_three (sym (cut_at text place 0 h.0.high)))
 
 three_none : (text : List ℕ) → All (λ v. (v ≢ 51) × (v ≢ 10)) text → false ≡ has_three text
 three_none [] free = refl

@@ -128,15 +128,15 @@ one_hidden_to_end start s a b e free z (hidden_to_end e' free' z') = z ∙ sym z
 one_hidden_to_end start s a b e free z (refused e' z') = let apart : Hidden ≡ Inclusion = sym e ∙ e' in cc
 one_hidden_to_end start s a b e free z (plain e' x' rest' is' m') = let apart : Hidden ≡ Plain = sym e ∙ e' in cc
 
-one_refused : (start : Bool) (s : List ℕ) (a b : List Mark) → what start s ≡ Inclusion → a ≡ Refusal ∷ [] → Marks start s b → a ≡ b
-one_refused start s a b e z (at_end e' z') = let apart : Inclusion ≡ Short = sym e ∙ e' in cc
-one_refused start s a b e z (unnamed e' u' m') = let apart : Inclusion ≡ Marker = sym e ∙ e' in cc
-one_refused start s a b e z (named e' n' more' m' z') = let apart : Inclusion ≡ Marker = sym e ∙ e' in cc
-one_refused start s a b e z (malformed e' nu' nn' z') = let apart : Inclusion ≡ Marker = sym e ∙ e' in cc
-one_refused start s a b e z (hidden e' front' rest' is' free' m') = let apart : Inclusion ≡ Hidden = sym e ∙ e' in cc
-one_refused start s a b e z (hidden_to_end e' free' z') = let apart : Inclusion ≡ Hidden = sym e ∙ e' in cc
-one_refused start s a b e z (refused e' z') = z ∙ sym z'
-one_refused start s a b e z (plain e' x' rest' is' m') = let apart : Inclusion ≡ Plain = sym e ∙ e' in cc
+one_incbin : (start : Bool) (s : List ℕ) (a b : List Mark) → what start s ≡ Inclusion → a ≡ Refusal ∷ [] → Marks start s b → a ≡ b
+one_incbin start s a b e z (at_end e' z') = let apart : Inclusion ≡ Short = sym e ∙ e' in cc
+one_incbin start s a b e z (unnamed e' u' m') = let apart : Inclusion ≡ Marker = sym e ∙ e' in cc
+one_incbin start s a b e z (named e' n' more' m' z') = let apart : Inclusion ≡ Marker = sym e ∙ e' in cc
+one_incbin start s a b e z (malformed e' nu' nn' z') = let apart : Inclusion ≡ Marker = sym e ∙ e' in cc
+one_incbin start s a b e z (hidden e' front' rest' is' free' m') = let apart : Inclusion ≡ Hidden = sym e ∙ e' in cc
+one_incbin start s a b e z (hidden_to_end e' free' z') = let apart : Inclusion ≡ Hidden = sym e ∙ e' in cc
+one_incbin start s a b e z (refused e' z') = z ∙ sym z'
+one_incbin start s a b e z (plain e' x' rest' is' m') = let apart : Inclusion ≡ Plain = sym e ∙ e' in cc
 
 one_plain : (start : Bool) (s : List ℕ) (a b : List Mark) → what start s ≡ Plain → (x : ℕ) (rest : List ℕ) → s ≡ x ∷ rest → ((b : List Mark) → Marks (x == 10) rest b → a ≡ b) → Marks start s b → a ≡ b
 one_plain start s a b e x rest is ih (at_end e' z') = let apart : Plain ≡ Short = sym e ∙ e' in cc
@@ -155,7 +155,7 @@ one (named e n more m z) b w = one_named _ _ _ b e n more (λ c v. one m c v) z 
 one (malformed e nu nn z) b w = one_malformed _ _ _ b e nu nn z w
 one (hidden e front rest is free m) b w = one_hidden _ _ _ b e front rest is free (λ c v. one m c v) w
 one (hidden_to_end e free z) b w = one_hidden_to_end _ _ _ b e free z w
-one (refused e z) b w = one_refused _ _ _ b e z w
+one (refused e z) b w = one_incbin _ _ _ b e z w
 one (plain e x rest is m) b w = one_plain _ _ _ b e x rest is (λ c v. one m c v) w
 
 pub one_list : (start : Bool) (s : List ℕ) (a b : List Mark) → Marks start s a → Marks start s b → a ≡ b

@@ -12,7 +12,7 @@ use Rattle.cck_markers.specs.declared.search.MarkerSearch.{MarkerSearch}
 use Rattle.cck_markers.specs.declared.search.Searches.{Searches}
 use Rattle.cck_markers.specs.declared.search.WordSearch.{WordSearch}
 use Rattle.cck_markers.proofs.Cuts.{slice_from}
-use Rattle.cck_markers.proofs.EachText.{any_true, behind_word, marker_starts}
+use Rattle.cck_markers.proofs.EachText.{any_true, after_word, marker_starts}
 use Rattle.cck_markers.proofs.ItemLemmas.{gives_both, gives_nothing}
 
 -- plain bytes have no mark
@@ -37,17 +37,17 @@ occurs text word rest place some is =
 -- a word with which a text begins occurs at its first place
 pub occurs_first : (text word : List ℕ) → starts_with nat_eq text word ≡ true → OccursAt text word (length text - length text)
 occurs_first text word begins =
-    let is = behind_word text word begins in
+    let is = after_word text word begins in
     record {
       fits = omega (arith, ap length is, length-append word (drop (length word) text));
       reads = λ j l. ap (λ (k : ℕ). get_or text k 0) (omega arith) ∙ ap (λ (t : List ℕ). get_or t j 0) is ∙ get_or_append_left word (drop (length word) text) 0 j l;
     }
 
 -- after a line's end, a word occurs together with that line's end
-occurs_behind : (text word rest : List ℕ) (place : ℕ) → suc place ≤ length text → starts_line_at text (suc place) ≡ true → drop (suc place) text ≡ word ++ rest → OccursAt text (10 ∷ word) place
-occurs_behind text word rest place within starts is =
+occurs_after : (text word rest : List ℕ) (place : ℕ) → suc place ≤ length text → starts_line_at text (suc place) ≡ true → drop (suc place) text ≡ word ++ rest → OccursAt text (10 ∷ word) place
+occurs_after text word rest place within starts is =
     occurs text (10 ∷ word) rest place (omega arith)
-    (drop_more text place 0 within ∙ ap₂ (λ byte behind. byte ∷ behind) (eqb-true (get_or text place 0) 10 starts) (rw (add-one place) is))
+    (drop_more text place 0 within ∙ ap₂ (λ byte following. byte ∷ following) (eqb-true (get_or text place 0) 10 starts) (rw (add-one place) is))
 
 -- a byte is plain where nothing else is
 what_plain : (a b c d e : Bool) → a ≡ false → (b ≡ true → (c ≡ false) × (d ≡ false)) → e ≡ false
@@ -61,13 +61,13 @@ inclusion_starts : (text : List ℕ) → is_inclusion text ≡ true → (rest : 
 unfolding is_inclusion
 inclusion_starts text h =
     any_true (starts_with nat_eq text (codes ".incbin" ++ 34 ∷ [])) (starts_with nat_eq text (codes ".incbin " ++ 34 ∷ [])) (starts_with nat_eq text (codes ".incbin " ++ 92 ∷ 34 ∷ [])) ((rest : List ℕ) × (text ≡ codes ".incbin" ++ rest)) h
-    (λ e. (_, behind_word text (codes ".incbin" ++ 34 ∷ []) e))
-    (λ e. (_, behind_word text (codes ".incbin " ++ 34 ∷ []) e))
-    (λ e. (_, behind_word text (codes ".incbin " ++ 92 ∷ 34 ∷ []) e))
+    (λ e. (_, after_word text (codes ".incbin" ++ 34 ∷ []) e))
+    (λ e. (_, after_word text (codes ".incbin " ++ 34 ∷ []) e))
+    (λ e. (_, after_word text (codes ".incbin " ++ 92 ∷ 34 ∷ []) e))
 
 hidden_starts : (text : List ℕ) → is_hidden text ≡ true → (rest : List ℕ) × (text ≡ codes "__________" ++ rest)
 unfolding is_hidden
-hidden_starts text h = (_, behind_word text (codes "__________") h)
+hidden_starts text h = (_, after_word text (codes "__________") h)
 
 module _ (text : List ℕ) (marker hidden inclusion : ℕ)
     (no_marker : Nowhere (EndsBeforeMarker text) 0 marker)
@@ -81,7 +81,7 @@ module _ (text : List ℕ) (marker hidden inclusion : ℕ)
     false_from_ne_true _ (λ e. no_marker place (omega arith) (omega arith) (eqb-true (get_or text place 0) 10 starts, rw (add-one place) e)),
     false_from_ne_true _ (λ e.
         let word = hidden_starts (drop (suc place) text) e in
-        no_hidden place (omega arith) (omega arith) (occurs_behind text (codes "__________") word.0 place (omega arith) starts word.1)),
+        no_hidden place (omega arith) (omega arith) (occurs_after text (codes "__________") word.0 place (omega arith) starts word.1)),
   )
 
   pub are_plain : (size : ℕ) → size ≤ length text - 6 → size ≤ marker + 1 → size ≤ hidden + 1 → size ≤ inclusion → ArePlain text size
@@ -111,7 +111,7 @@ no_end_before text from left within some nowhere before place low high ends =
       | inr above ↦ (
           let hash = marker_starts (drop (place + 1) text) ends.1 in
           let inside : place < length text = omega (arith, high) in
-          let whole : drop place text ≡ 10 ∷ (35 ∷ hash.0) = drop_more text place 0 inside ∙ ap₂ (λ byte behind. byte ∷ behind) ends.0 hash.1 in
+          let whole : drop place text ≡ 10 ∷ (35 ∷ hash.0) = drop_more text place 0 inside ∙ ap₂ (λ byte following. byte ∷ following) ends.0 hash.1 in
           nowhere (place - from) (omega arith) (omega (arith, high, above, length-drop from text))
           (occurs (drop from text) (10 ∷ 35 ∷ []) hash.0 (place - from) (omega arith) (drop-drop (place - from) from text ∙ ap (λ (k : ℕ). drop k text) (omega (arith, above)) ∙ whole))
           )
@@ -129,37 +129,37 @@ passed_end text from left within some more nowhere stands before unmarked place 
             let same : place ≡ length text - left = omega (arith, above, at) in
             let marked = rw same at ends.1 in
             absurd (false≢true (sym unmarked ∙ marked)))
-        | inr behind ↦ (
-            let same : place ≡ from + (length (drop from text) - left + 1) = omega (arith, above, behind, high, length-drop from text, some, within) in
+        | inr following ↦ (
+            let same : place ≡ from + (length (drop from text) - left + 1) = omega (arith, above, following, high, length-drop from text, some, within) in
             let byte : get_or text place 0 ≡ 35 = ap (λ (k : ℕ). get_or text k 0) same ∙ sym (get_or-drop from text (length (drop from text) - left + 1) 0) ∙ stands.reads 1 (omega arith) in
             let apart = sym ends.0 ∙ byte in cc)
       ])
     ]
 
 -- what a word's search knows stays true of what is left
-pub known_behind : (text word : List ℕ) (size left : ℕ) → Nowhere (OccursAt text word) 0 (length text - left) → size ≤ length text → Nowhere (OccursAt (drop size text) word) 0 (length (drop size text) - left)
-known_behind text word size left known within = λ place low high at.
+pub word_known_after : (text word : List ℕ) (size left : ℕ) → Nowhere (OccursAt text word) 0 (length text - left) → size ≤ length text → Nowhere (OccursAt (drop size text) word) 0 (length (drop size text) - left)
+word_known_after text word size left known within = λ place low high at.
     known (size + place) (omega arith) (omega (arith, high, length-drop size text)) (record {
       fits = omega (arith, at.fits, length-drop size text);
       reads = λ j l. ap (λ (k : ℕ). get_or text k 0) (omega arith) ∙ sym (get_or-drop size text (place + j) 0) ∙ at.reads j l;
     })
 
-marker_behind : (search : MarkerSearch) (text : List ℕ) (size : ℕ) → IsMarkerSearch search text → size ≤ length text → IsMarkerSearch search (drop size text)
-marker_behind search text size known within =
+marker_after : (search : MarkerSearch) (text : List ℕ) (size : ℕ) → IsMarkerSearch search text → size ≤ length text → IsMarkerSearch search (drop size text)
+marker_after search text size known within =
     record {
       word_is = known.word_is;
       known = λ place low high ends. known.known (size + place) (omega arith) (omega (arith, high, length-drop size text)) (ends_later text size place ends);
     }
 
-search_behind : (word : List ℕ) (search : WordSearch) (text : List ℕ) (size : ℕ) → IsSearchFor word search text → size ≤ length text → IsSearchFor word search (drop size text)
-search_behind word search text size known within = record { word_is = known.word_is; known = known_behind text word size search.left known.known within }
+search_after : (word : List ℕ) (search : WordSearch) (text : List ℕ) (size : ℕ) → IsSearchFor word search text → size ≤ length text → IsSearchFor word search (drop size text)
+search_after word search text size known within = record { word_is = known.word_is; known = word_known_after text word size search.left known.known within }
 
 pub known_after : (searches : Searches) (text : List ℕ) (size : ℕ) → AreKnown searches text → size ≤ length text → AreKnown searches (drop size text)
 known_after searches text size known within =
     record {
-      marker = marker_behind searches.marker text size known.marker within;
-      hidden = search_behind _ searches.hidden text size known.hidden within;
-      inclusion = search_behind _ searches.inclusion text size known.inclusion within;
+      marker = marker_after searches.marker text size known.marker within;
+      hidden = search_after _ searches.hidden text size known.hidden within;
+      inclusion = search_after _ searches.inclusion text size known.inclusion within;
     }
 
 -- the marks are those of a place where no line starts, if what is there is the same
@@ -182,15 +182,15 @@ unmarked true text no-hash no-underscore =
     let no-hidden : is_hidden text ≡ false = false_from_ne_true _ (λ e. let word = hidden_starts text e in let apart = rw word.1 at no-underscore in cc) in
     rw (no-marker, no-hidden) refl
 
-starts_behind : (text : List ℕ) (size : ℕ) → size ≢ 0 → starts_line_at text size ≡ (get_or text (size - 1) 0 == 10)
-starts_behind text zero some = absurd (some refl)
-starts_behind text (suc size) some = let before : suc size - 1 ≡ size = omega arith in rw before refl
+starts_line_after : (text : List ℕ) (size : ℕ) → size ≢ 0 → starts_line_at text size ≡ (get_or text (size - 1) 0 == 10)
+starts_line_after text zero some = absurd (some refl)
+starts_line_after text (suc size) some = let before : suc size - 1 ≡ size = omega arith in rw before refl
 
 -- the bytes that were passed, as the program cuts them off
 pub passed_bytes : (text : List ℕ) (size : ℕ) → size ≤ length text → size ≢ 0 → ArePlain text size
     → Gives (record { starts_line = false; text = text }) [] (record { starts_line = get_or text (size - 1) 0 == 10; text = take (length text - size) (drop size text) })
 passed_bytes text size within some are_plain =
-    rw (slice_from text size, ← starts_behind text size some) (plain_bytes text size within are_plain)
+    rw (slice_from text size, ← starts_line_after text size some) (plain_bytes text size within are_plain)
 
 -- an item after them, as the program cuts it off
 pub passed_item : (old : Unread) (starts_line starts_after : Bool) (text : List ℕ) (given : List Mark) (size : ℕ) → Gives old [] (record { starts_line = starts_line; text = text })

@@ -23,8 +23,8 @@ marks_of (Some mark) = mark_of mark ∷ []
 
 -- a text that begins with an item: its marks, its length in bytes, and whether a line starts after it
 abbrev pub IsItem : Bool → List ℕ → List marks.Mark → ℕ → Bool → Type 0
-IsItem starts_line text given size starts_behind =
-    (0 < size) × (size ≤ length text) × Gives (record { starts_line = starts_line; text = text }) given (record { starts_line = starts_behind; text = drop size text })
+IsItem starts_line text given size starts_line_after =
+    (0 < size) × (size ≤ length text) × Gives (record { starts_line = starts_line; text = text }) given (record { starts_line = starts_line_after; text = drop size text })
 
 -- a text that begins with this item, or has no more marks
 abbrev pub BeginsWith : Bool → List ℕ → Option Item → Type 0

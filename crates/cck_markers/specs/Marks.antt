@@ -66,7 +66,7 @@ has_three (byte ∷ bytes) = if byte == 10 then false else if byte == 51 then tr
 -- there is a `3` between the quote that begins this and the line's end
 abbrev pub is_system : List ℕ → Bool
 is_system [] = false
-is_system (quote ∷ behind) = has_three behind
+is_system (quote ∷ following) = has_three following
 
 -- a marker whose line ends before any quote
 pub record Unnamed (text : List ℕ) : Type 0 where

@@ -81,7 +81,7 @@ pub(crate) fn may_be_marked(text: &[u8], starts_line: bool) -> bool
 
 // What the rest of a text begins with, by whether a line starts there.
 #[tactic(auto, unfolding(crate::specs::Marks::what))]
-fn what_stands(text: &[u8], starts_line: bool) -> What
+fn what_occurs(text: &[u8], starts_line: bool) -> What
     ensures { what_of result ≡ what starts_line text.now }
 {
     if text.len() < LEAST_LEFT {
@@ -104,7 +104,7 @@ fn what_stands(text: &[u8], starts_line: bool) -> What
 pub(crate) fn read_item(text: &[u8], starts_line: bool) -> Option<Item<'_>>
     ensures { BeginsWith starts_line text.now result }
 {
-    match what_stands(text, starts_line) {
+    match what_occurs(text, starts_line) {
         What::Short => None,
         What::Marker => Some(read_marker(text, starts_line)),
         What::Hidden => {

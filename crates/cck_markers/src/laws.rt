@@ -13,11 +13,11 @@ pub fn one_list_of_marks()
 {}
 
 /// Nothing follows `Refusal` or `Malformed` in a list of marks.
-pub fn nothing_behind_the_last_mark()
-    ensures refusal { (starts_line : Bool) (text : List ℕ) (before behind : List marks.Mark) →
-        Marks starts_line text (before ++ Refusal ∷ behind) → behind ≡ [] }
-    ensures malformed { (starts_line : Bool) (text : List ℕ) (before behind : List marks.Mark) →
-        Marks starts_line text (before ++ Malformed ∷ behind) → behind ≡ [] }
+pub fn nothing_after_the_last_mark()
+    ensures refusal { (starts_line : Bool) (text : List ℕ) (before following : List marks.Mark) →
+        Marks starts_line text (before ++ Refusal ∷ following) → following ≡ [] }
+    ensures malformed { (starts_line : Bool) (text : List ℕ) (before following : List marks.Mark) →
+        Marks starts_line text (before ++ Malformed ∷ following) → following ≡ [] }
 {}
 
 /// No marker both has a name and has none. There is one place for the name, and one for the line's

@@ -45,19 +45,19 @@ pub fn read_line(text: &[u8]) -> Line<'_>
         return Line::Unnamed { end: first };
     }
     let begin = first + 1;
-    let behind = &text[begin..];
-    match memchr(b'"', behind) {
+    let following = &text[begin..];
+    match memchr(b'"', following) {
         Some(length) => Line::Named {
             begin,
             end: begin + length,
-            name: &behind[..length],
-            is_system: has_three(&behind[length + 1..]),
+            name: &following[..length],
+            is_system: has_three(&following[length + 1..]),
         },
-        None if behind.is_empty() => Line::Malformed,
+        None if following.is_empty() => Line::Malformed,
         None => Line::Named {
             begin,
             end: text.len(),
-            name: behind,
+            name: following,
             is_system: false,
         },
     }

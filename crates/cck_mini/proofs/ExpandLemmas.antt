@@ -9,25 +9,25 @@ use Rattle.std.proofs.lemmas.Slice.Eq.{starts_is}
 use Rattle.memchr.proofs.lemmas.MatchLemmas.{OccursAt-from_part}
 use Rattle.memchr.specs.Find.{OccursAt}
 use Rattle.cck_path.specs.Bytes.{Bytes}
-use Rattle.cck_mini.specs.Printed.{Macros, macro_at, piece_or, expanded, expanded_behind, lines_in, onto_line, is_lf}
+use Rattle.cck_mini.specs.Printed.{Macros, macro_at, piece_or, expanded, expanded_after, lines_in, onto_line, is_lf}
 
 pub tail_range : (text : Bytes) (k : ℕ) → drop k text ≡ take (length text - k) (drop k text)
 tail_range text k = let h : length (drop k text) ≤ length text - k = simp length-drop (omega arith) in sym (take_all (length text - k) (drop k text) h)
 
 -- bytes inside a macro are dropped
-skipped : (m : Macros) (k : ℕ) (text : Bytes) → expanded_behind m k text ≡ expanded_behind m 0 (drop k text)
+skipped : (m : Macros) (k : ℕ) (text : Bytes) → expanded_after m k text ≡ expanded_after m 0 (drop k text)
 skipped m zero text = refl
 skipped m (suc k) [] = refl
 skipped m (suc k) (b ∷ bs) = skipped m k bs
 
-skipped_one : (m : Macros) (n : ℕ) (b : ℕ) (bs : Bytes) → 0 < n → expanded_behind m (n - 1) bs ≡ expanded_behind m 0 (drop n (b ∷ bs))
+skipped_one : (m : Macros) (n : ℕ) (b : ℕ) (bs : Bytes) → 0 < n → expanded_after m (n - 1) bs ≡ expanded_after m 0 (drop n (b ∷ bs))
 skipped_one m zero b bs h = absurd (omega arith)
 skipped_one m (suc k) b bs h = let e : suc k - 1 ≡ k = omega arith in rw e (skipped m k bs)
 
 pub piece_found : (m : Macros) (text value : Bytes) (n : ℕ) → macro_at m text ≡ Some (value, n) → 0 < n → 0 < length text → expanded m text ≡ value ++ expanded m (take (length text - n) (drop n text))
 unfolding expanded
 piece_found m [] value n e p h = absurd (omega arith)
-piece_found m (b ∷ bs) value n e p h = ap (λ found. piece_or found (b ∷ expanded_behind m 0 bs) (λ k. expanded_behind m k bs)) e ∙ ap (λ t. value ++ t) (skipped_one m n b bs p ∙ ap (λ t. expanded_behind m 0 t) (tail_range (b ∷ bs) n))
+piece_found m (b ∷ bs) value n e p h = ap (λ found. piece_or found (b ∷ expanded_after m 0 bs) (λ k. expanded_after m k bs)) e ∙ ap (λ t. value ++ t) (skipped_one m n b bs p ∙ ap (λ t. expanded_after m 0 t) (tail_range (b ∷ bs) n))
 
 -- bytes at which no macro begins are kept
 plain_bytes : (m : Macros) (size : ℕ) (text : Bytes) → size ≤ length text → ((place : ℕ) → place < size → macro_at m (drop place text) ≡ None)
@@ -36,7 +36,7 @@ unfolding expanded
 plain_bytes m zero text within none = refl
 plain_bytes m (suc size) [] within none = absurd (omega arith)
 plain_bytes m (suc size) (b ∷ bs) within none =
-    ap (λ found. piece_or found (b ∷ expanded_behind m 0 bs) (λ k. expanded_behind m k bs)) (none 0 (omega arith))
+    ap (λ found. piece_or found (b ∷ expanded_after m 0 bs) (λ k. expanded_after m k bs)) (none 0 (omega arith))
     ∙ ap (λ t. b ∷ t) (plain_bytes m size bs (omega arith) (λ place l. none (suc place) (omega arith)))
 
 -- no macro begins where no two underscores are
@@ -51,8 +51,8 @@ no_macro m text place free = rw (miss (codes "__DATE__") refl (omega arith), mis
         (ap (take 2) is ∙ take-append-le 2 word (drop (length word) (drop place text)) long ∙ begins)))
 
 -- a word after the first byte is in the text without that byte
-pub occurs_behind : (text word : Bytes) (place : ℕ) → 0 < place → OccursAt text word place → OccursAt (take (length text - 1) (drop 1 text)) word (place - 1)
-occurs_behind text word place some at =
+pub occurs_after : (text word : Bytes) (place : ℕ) → 0 < place → OccursAt text word place → OccursAt (take (length text - 1) (drop 1 text)) word (place - 1)
+occurs_after text word place some at =
     rw (← tail_range text 1) (record {
       fits = omega (arith, at.fits, length-drop 1 text, some);
       reads = λ j l. get_or-drop 1 text (place - 1 + j) 0 ∙ ap (λ (k : ℕ). get_or text k 0) (omega (arith, some)) ∙ at.reads j l;

@@ -3,7 +3,7 @@ use Rattle.std.proofs.Common.{◌≡◌, [], refl, ap, Option, Some, None, Resul
 use Rattle.std.specs.FinMap.{get}
 use Rattle.cck_digest.specs.declared.error.FileError.{FileError}
 use Rattle.cck_digest.specs.declared.error.FileError.TheVariants as file
-use Rattle.cck_files.specs.Calls.{IsRefusal, IsRefusalOrMemory}
+use Rattle.cck_files.specs.Calls.{IsError, IsErrorOrMemory}
 use Rattle.cck_files.specs.FileMap.{FileMap, FileNode, contents_at, contents_if, contents_in, file_at, file_if, file_in, metadata_at, metadata_in}
 use Rattle.cck_path.specs.Bytes.{Bytes}
 use Rattle.cck_path.specs.Path.{components}
@@ -12,7 +12,7 @@ use Rattle.cck_path.specs.declared.metadata.FileKind.{FileKind}
 use Rattle.cck_path.specs.declared.metadata.FileKind.TheVariants.{File, Folder, Other}
 use Rattle.cck_path.specs.declared.metadata.Metadata.{Metadata}
 use Rattle.cck_mini.specs.Printed.{text_at, text_if}
-use Rattle.cck_mini.specs.Refusal.{IsPrintRefusal, print_error}
+use Rattle.cck_mini.specs.Refusal.{IsPrintError, print_error}
 
 abbrev modified_in : Result Metadata FileError → Option Moment
 modified_in (Ok m) = m.modified
@@ -51,7 +51,7 @@ no_file None e c = refl
 no_file (Some n) e c = no_kind n.kind n e c
 
 -- nothing is known, so there is no regular file
-pub unknown : (map : FileMap) (path : Bytes) (F : Type 0) (e : FileError) → IsRefusal (metadata_at map (components path)) F e → IsPrintRefusal (text_at map path) F (print_error e)
+pub unknown : (map : FileMap) (path : Bytes) (F : Type 0) (e : FileError) → IsError (metadata_at map (components path)) F e → IsPrintError (text_at map path) F (print_error e)
 unfolding text_at metadata_at file_at
 unknown map path F file.NotFound r = no_node (get map.nodes (components path)) file.NotFound r
 unknown map path F file.OtherKind r = no_node (get map.nodes (components path)) file.OtherKind r
@@ -59,7 +59,7 @@ unknown map path F file.Fault r = r
 unknown map path F file.Memory r = tt
 
 -- no contents can be read, so there is no regular file
-pub unread : (map : FileMap) (path : Bytes) (F G : Type 0) (e : FileError) → (F → G) → IsRefusalOrMemory (contents_at map (components path)) F e → IsPrintRefusal (text_at map path) G (print_error e)
+pub unread : (map : FileMap) (path : Bytes) (F G : Type 0) (e : FileError) → (F → G) → IsErrorOrMemory (contents_at map (components path)) F e → IsPrintError (text_at map path) G (print_error e)
 unfolding text_at contents_at file_at
 unread map path F G file.NotFound f r = no_file (get map.nodes (components path)) file.NotFound r
 unread map path F G file.OtherKind f r = no_file (get map.nodes (components path)) file.OtherKind r

@@ -5,7 +5,7 @@ use Rattle.cck_path.specs.Bytes.{Bytes}
 use Rattle.cck_path.specs.Text.{join_path}
 use Rattle.cck_path.specs.Timestamp.{Moment}
 use Rattle.cck_mini.specs.Printed.{Macros, both, input_text, lines_in, lines_text, macros_of, marker, printed, text_at}
-use Rattle.cck_mini.specs.Refusal.{IsPrintRefusal}
+use Rattle.cck_mini.specs.Refusal.{IsPrintError}
 use Rattle.cck_mini.specs.declared.error.PrintError.{PrintError}
 use Rattle.cck_mini.specs.declared.error.PrintError.TheVariants.{Fault, Failed, Memory}
 
@@ -23,7 +23,7 @@ module _ (zone : ℤ) (moment : Moment) (map : FileMap) (folder input path : Byt
   printed_is = ap (λ p. input_text zone moment map folder p (text_at map p)) (sym is_path)
 
   -- the input is no regular file
-  pub no_input : (F : Type 0) (e : PrintError) → IsPrintRefusal (text_at map path) F e → IsPrintRefusal whole F e
+  pub no_input : (F : Type 0) (e : PrintError) → IsPrintError (text_at map path) F e → IsPrintError whole F e
   no_input F Fault r = r
   no_input F Failed r = printed_is ∙ ap (input_text zone moment map folder path) r
   no_input F Memory r = tt
@@ -38,7 +38,7 @@ module _ (zone : ℤ) (moment : Moment) (map : FileMap) (folder input path : Byt
 
   -- one of its lines isn't printed
   pub no_lines : (contents : Bytes) (modified : Option Moment) (m : Macros) → text_at map path ≡ Some (contents, modified) → m ≡ macros_of zone moment modified
-      → (F G : Type 0) (e : PrintError) → (F → G) → IsPrintRefusal (lines_of m contents) F e → IsPrintRefusal whole G e
+      → (F G : Type 0) (e : PrintError) → (F → G) → IsPrintError (lines_of m contents) F e → IsPrintError whole G e
   no_lines contents modified m text is F G Fault f r = f r
   no_lines contents modified m text is F G Failed f r = printed_by contents modified m text is ∙ ap (both (Some (marker 1 path []))) r
   no_lines contents modified m text is F G Memory f r = tt

@@ -27,18 +27,18 @@ macro_at m text =
 
 -- the text of the macro and then the text after it, or else the text here
 abbrev pub piece_or : Option (Bytes × ℕ) → Bytes → (ℕ → Bytes) → Bytes
-piece_or None here behind = here
-piece_or (Some r) here behind = r.0 ++ behind (r.1 - 1)
+piece_or None here following = here
+piece_or (Some r) here following = r.0 ++ following (r.1 - 1)
 
 -- the text with its macros replaced, where a number of its first bytes belong to a macro that was replaced
-abbrev pub expanded_behind : Macros → ℕ → Bytes → Bytes
-expanded_behind m skip [] = []
-expanded_behind m (suc skip) (b ∷ bs) = expanded_behind m skip bs
-expanded_behind m zero (b ∷ bs) = piece_or (macro_at m (b ∷ bs)) (b ∷ expanded_behind m zero bs) (λ k. expanded_behind m k bs)
+abbrev pub expanded_after : Macros → ℕ → Bytes → Bytes
+expanded_after m skip [] = []
+expanded_after m (suc skip) (b ∷ bs) = expanded_after m skip bs
+expanded_after m zero (b ∷ bs) = piece_or (macro_at m (b ∷ bs)) (b ∷ expanded_after m zero bs) (λ k. expanded_after m k bs)
 
 -- the text with its macros replaced, from left to right and without overlap
 unfoldable pub expanded : Macros → Bytes → Bytes
-expanded m text = expanded_behind m 0 text
+expanded m text = expanded_after m 0 text
 
 -- the local second of a time, if it is known
 abbrev pub second_of : ℤ → Option Moment → Bytes

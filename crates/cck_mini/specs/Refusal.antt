@@ -6,10 +6,10 @@ use Rattle.cck_mini.specs.declared.error.PrintError.{PrintError}
 use Rattle.cck_mini.specs.declared.error.PrintError.TheVariants.{Fault, Failed, Memory}
 
 -- there is no text, a call on files failed, or memory is lacking
-abbrev pub IsPrintRefusal : {X : Type 0} → Option X → Type 0 → PrintError → Type 0
-IsPrintRefusal text HasFault Fault = HasFault
-IsPrintRefusal text HasFault Failed = text ≡ None
-IsPrintRefusal text HasFault Memory = Unit {0}
+abbrev pub IsPrintError : {X : Type 0} → Option X → Type 0 → PrintError → Type 0
+IsPrintError text HasFault Fault = HasFault
+IsPrintError text HasFault Failed = text ≡ None
+IsPrintError text HasFault Memory = Unit {0}
 
 -- a lack of memory and a fault keep their variants
 abbrev pub print_error : FileError → PrintError

@@ -2,7 +2,7 @@
 ghost use Rattle.std.specs.Prelude.{◌≡◌, Some, MatchResult};
 ghost use Rattle.cck_files.specs.Calls.{Keeps, Rose};
 ghost use Rattle.cck_mini.specs.Printed.{text_at};
-ghost use Rattle.cck_mini.specs.Refusal.{IsPrintRefusal};
+ghost use Rattle.cck_mini.specs.Refusal.{IsPrintError};
 
 use crate::error::{PrintError, print_error};
 use cck_file_digest::read_contents_of_size;
@@ -32,7 +32,7 @@ pub(crate) fn read_file<F: Files>(
     ensures keeps { Keeps F.file_map F.faults F.is_quiet files.old files.new }
     ensures answer { let found = text_at (F.file_map files.old) path.now in
         MatchResult result (λ f. found ≡ Some (f.contents.items, f.modified))
-        (IsPrintRefusal found (Rose (F.faults files.old) (F.faults files.new))) }
+        (IsPrintError found (Rose (F.faults files.old) (F.faults files.new))) }
 {
     let metadata = match files.metadata(path) {
         Ok(metadata) => metadata,

@@ -3,7 +3,7 @@ ghost use Rattle.std.specs.Prelude.{◌≡◌, ◌++◌, Some, IfOk, IsOkUnless,
 ghost use Rattle.cck_files.specs.Calls.{Keeps, Rose};
 ghost use Rattle.cck_path.specs.Text.{join_path};
 ghost use Rattle.cck_mini.specs.Printed.{include_name, included_text, line_text, lines_in, lines_text, marker, printed};
-ghost use Rattle.cck_mini.specs.Refusal.{IsPrintRefusal};
+ghost use Rattle.cck_mini.specs.Refusal.{IsPrintError};
 ghost use Rattle.cck_mini.specs.Seen.{macros_seen};
 
 use crate::error::PrintError;
@@ -40,7 +40,7 @@ pub fn print_input<F: Files>(
     ensures keeps { Keeps F.file_map F.faults F.is_quiet files.old files.new }
     ensures answer { let text = printed zone_offset moment (F.file_map files.old) cwd.now input.now in
         MatchResult result (λ out. text ≡ Some out.items)
-        (IsPrintRefusal text (Rose (F.faults files.old) (F.faults files.new))) }
+        (IsPrintError text (Rose (F.faults files.old) (F.faults files.new))) }
 {
     let path = joined(alloc, cwd, input)?;
     let file = read_file(alloc, files, &path)?;
@@ -81,7 +81,7 @@ fn print_lines<F: Files>(
         let text = lines_text job.now.zone_offset job.now.moment map job.now.cwd.now job.now.path.now
         (macros_seen macros.now) 2 (lines_in contents.now) in
         MatchResult result (λ _. IsSomeAnd text (λ text. out.new.items ≡ out.old.items ++ text))
-        (IsPrintRefusal text (Rose (F.faults files.old) (F.faults files.new))) }
+        (IsPrintError text (Rose (F.faults files.old) (F.faults files.new))) }
 {
     let mut number: u64 = 2;
     let mut left = contents;
@@ -110,7 +110,7 @@ fn print_line<F: Files>(
         let text = line_text job.now.zone_offset job.now.moment map job.now.cwd.now job.now.path.now
         (macros_seen macros.now) (include_name front) (front, line.entry.ending.now) number in
         MatchResult result (λ _. IsSomeAnd text (λ text. out.new.items ≡ out.old.items ++ text))
-        (IsPrintRefusal text (Rose (F.faults files.old) (F.faults files.new))) }
+        (IsPrintError text (Rose (F.faults files.old) (F.faults files.new))) }
 {
     let Some(name) = include_name(line.front) else {
         expand(out, macros, line.front)?;

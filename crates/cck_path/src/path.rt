@@ -8,7 +8,7 @@ ghost use Rattle.std.specs.Path.{extension_of_split, rsplit_once};
 ghost use Rattle.cck_path.specs.Path.{Name, components, beginning, inner_components, part_components, has_root, joined, normal, leading_names, path_cmp};
 ghost use Rattle.cck_path.specs.Text.{ends_in_slash, path_text, join_path as joined_text};
 ghost use Rattle.cck_path.specs.Names.{file_name_of, extension_of};
-ghost use Rattle.cck_path.specs.Components.{IsInName, component_of, components_behind, components_left};
+ghost use Rattle.cck_path.specs.Components.{IsInName, component_of, components_after, components_left};
 
 use cck_digest::UtilError;
 use memchr::{memchr, memrchr};
@@ -88,8 +88,8 @@ impl<'a> Iterator for Components<'a> {
 // The next component, and the text after it.
 #[tactic(auto, unfolding(crate::specs::Path::components))]
 fn take_component(has_started: bool, rest: &[u8]) -> Option<(Component<'_>, &[u8])>
-    ensures { MatchOption result (components_behind has_started rest.now ≡ []) (λ next.
-        components_behind has_started rest.now
+    ensures { MatchOption result (components_after has_started rest.now ≡ []) (λ next.
+        components_after has_started rest.now
         ≡ component_of next.0 ∷ inner_components next.1.now) }
 {
     if has_started {

@@ -31,12 +31,12 @@ module _ {V : Type 0} where
   -- the paths before a place are lower than a path, and those from it on are not
   pub record IsCut (p : Path) (es : List (Entry V)) (i : ℕ) : Type 0 where
     pub before : (k : ℕ) (d : Entry V) → k < i → k < length es → is_lt (path_cmp (path_of (get_or es k d)) p) ≡ true
-    pub behind : (k : ℕ) (d : Entry V) → i ≤ k → k < length es → is_lt (path_cmp (path_of (get_or es k d)) p) ≡ false
+    pub following : (k : ℕ) (d : Entry V) → i ≤ k → k < length es → is_lt (path_cmp (path_of (get_or es k d)) p) ≡ false
 
   pub cut_at_place : (es : List (Entry V)) → IsInOrder es → (p : Path) (i : ℕ) → IsPlaceOf p es i → IsCut p es i
   cut_at_place es h p i at = record {
     before = λ k d low high. ap (λ q. is_lt (path_cmp (path_of (get_or es k d)) q)) (sym (at.has_path d)) ∙ ap is_lt (rises es h k i d low at.in_range);
-    behind = λ k d low high. elim (cases_eq k i) [
+    following = λ k d low high. elim (cases_eq k i) [
       | inl same ↦ ap (λ j. is_lt (path_cmp (path_of (get_or es j d)) p)) same ∙ ap (λ q. is_lt (path_cmp q p)) (at.has_path d) ∙ ap is_lt (tied_itself path_cmp_total p)
       | inr other ↦ ap (λ q. is_lt (path_cmp (path_of (get_or es k d)) q)) (sym (at.has_path d)) ∙ ap is_lt (higher (path_of (get_or es i d)) (path_of (get_or es k d)) (rises es h i k d (omega (arith, other, low)) high))
     ];
@@ -45,13 +45,13 @@ module _ {V : Type 0} where
   pub cut_at_gap : (es : List (Entry V)) (p : Path) (i : ℕ) → IsGapFor p es i → IsCut p es i
   cut_at_gap es p i g = record {
     before = λ k d low high. ap is_lt (g.lower_before k d (omega arith) low);
-    behind = λ k d low high. ap is_lt (g.higher_after k d low high);
+    following = λ k d low high. ap is_lt (g.higher_after k d low high);
   }
 
   pub cut_of_none : (es : List (Entry V)) (p : Path) → es ≡ [] → IsCut p es 0
   cut_of_none es p none = record {
     before = λ k d low high. absurd (omega arith);
-    behind = λ k d low high. let empty : length es ≡ 0 = ap length none in absurd (omega (arith, empty, high));
+    following = λ k d low high. let empty : length es ≡ 0 = ap length none in absurd (omega (arith, empty, high));
   }
 
   -- ---- what is found from a cut on
@@ -59,13 +59,13 @@ module _ {V : Type 0} where
   next_before : (p : Path) (e : Entry V) (es : List (Entry V)) (i : ℕ) → IsCut p (e ∷ es) (suc i) → IsCut p es i
   next_before p e es i c = record {
     before = λ k d low high. c.before (suc k) d (omega arith) (omega arith);
-    behind = λ k d low high. c.behind (suc k) d (omega arith) (omega arith);
+    following = λ k d low high. c.following (suc k) d (omega arith) (omega arith);
   }
 
-  next_behind : (p : Path) (e : Entry V) (es : List (Entry V)) → IsCut p (e ∷ es) 0 → IsCut p es 0
-  next_behind p e es c = record {
+  next_after : (p : Path) (e : Entry V) (es : List (Entry V)) → IsCut p (e ∷ es) 0 → IsCut p es 0
+  next_after p e es c = record {
     before = λ k d low high. absurd (omega arith);
-    behind = λ k d low high. c.behind (suc k) d (omega arith) (omega arith);
+    following = λ k d low high. c.following (suc k) d (omega arith) (omega arith);
   }
 
   none_either : (f : Bool) → ◌≡◌ {A = Option V} None (cond f None None)
@@ -82,17 +82,17 @@ module _ {V : Type 0} where
   either_lower true false x y h e = absurd (true≢false (sym (h refl)))
   either_lower false f x y h e = e
 
-  found_behind : (es : List (Entry V)) (p q : Path) → IsCut p es 0 → find path_cmp q (map pair_of es) ≡ cond (is_from p q) (find path_cmp q (map pair_of es)) None
-  found_behind [] p q c = none_either (is_from p q)
-  found_behind (e ∷ es) p q c =
+  found_after : (es : List (Entry V)) (p q : Path) → IsCut p es 0 → find path_cmp q (map pair_of es) ≡ cond (is_from p q) (find path_cmp q (map pair_of es)) None
+  found_after [] p q c = none_either (is_from p q)
+  found_after (e ∷ es) p q c =
       either_lower (eq_by_cmp path_cmp q (path_of e)) (is_from p q) (Some e.value) (find path_cmp q (map pair_of es))
-      (λ t. ap (is_from p) (tied q (path_of e) t) ∙ ap not (c.behind 0 e (omega arith) (omega arith)))
-      (found_behind es p q (next_behind p e es c))
+      (λ t. ap (is_from p) (tied q (path_of e) t) ∙ ap not (c.following 0 e (omega arith) (omega arith)))
+      (found_after es p q (next_after p e es c))
 
   found_from : (es : List (Entry V)) (p q : Path) (i : ℕ) → IsCut p es i → find path_cmp q (map pair_of (drop i es)) ≡ cond (is_from p q) (find path_cmp q (map pair_of es)) None
   found_from [] p q zero c = none_either (is_from p q)
   found_from [] p q (suc i) c = none_either (is_from p q)
-  found_from (e ∷ es) p q zero c = found_behind (e ∷ es) p q c
+  found_from (e ∷ es) p q zero c = found_after (e ∷ es) p q c
   found_from (e ∷ es) p q (suc i) c =
       found_from es p q i (next_before p e es i c)
       ∙ either_found (eq_by_cmp path_cmp q (path_of e)) (is_from p q) (Some e.value) (find path_cmp q (map pair_of es))

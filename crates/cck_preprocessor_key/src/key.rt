@@ -4,7 +4,7 @@ ghost use Rattle.std.specs.Option.{option_map};
 ghost use Rattle.cck_files.specs.Calls.{Keeps, Rose};
 ghost use Rattle.cck_files.specs.FileMap.{file_at};
 ghost use Rattle.cck_include.specs.Recorded.{recorded};
-ghost use Rattle.cck_include.specs.Refusal.{IsIoRefusal};
+ghost use Rattle.cck_include.specs.Refusal.{IsIoError};
 ghost use Rattle.cck_include.specs.Setting.{setting_in};
 ghost use Rattle.cck_path.specs.Bytes.{lists_of, variables_of};
 ghost use Rattle.cck_path.specs.Path.{components};
@@ -167,7 +167,7 @@ pub fn preprocessor_cache_entry_hash_key<H: HashState, F: Files>(
         MatchResult result (λ key. IsOkAnd found (λ file. option_map string_bytes key
         ≡ option_map (preprocessor_key H.hash parts (map string_bytes extra_hashes.now))
         (recorded (setting_in H.hash config moment (plain_zone zone.now) env_vars.now) file)))
-        (IsIoRefusal found (Rose (F.faults files.old) (F.faults files.new))) }
+        (IsIoError found (Rose (F.faults files.old) (F.faults files.new))) }
 {
     let recorded = recorded_digest::<H, F>(
         alloc, files, input_file, moment, zone, env_vars, config,

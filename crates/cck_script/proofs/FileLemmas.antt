@@ -8,7 +8,7 @@ use Rattle.cck_files.specs.FileState.{no_files, with_place, without_place}
 use Rattle.cck_path.specs.Bytes.{Bytes}
 use Rattle.cck_path.specs.Path.{Path, components, normal, path_cmp, path_cmp_total}
 use Rattle.cck_path.proofs.TestLemmas.{tied}
-use Rattle.cck_script.specs.Surroundings.{AreFiles, executable, executable_path, if_names, place_said, stands, stands_first}
+use Rattle.cck_script.specs.Surroundings.{AreFiles, executable, executable_path, if_names, place_of_command, stands, element_is_first}
 use Rattle.cck_script.specs.Lines.{Line}
 use Rattle.cck_script.specs.Script.{first_or}
 
@@ -20,15 +20,15 @@ if_over : (b : Bool) (new old : Option FileNode) → unwrap_or (cond b (Some new
 if_over true new old = refl
 if_over false new old = refl
 
-stands_next : (lines : List Line) (line : Line) (named : Bytes) (new : Option FileNode) (p : Path) → place_said line ≡ Some (named, new) → stands (line ∷ lines) p ≡ over p (components named) new (stands lines p)
+is_next : (lines : List Line) (line : Line) (named : Bytes) (new : Option FileNode) (p : Path) → place_of_command line ≡ Some (named, new) → stands (line ∷ lines) p ≡ over p (components named) new (stands lines p)
 unfolding stands
-stands_next lines line named new p e =
-    ap (λ s. unwrap_or (if_names p s) (first_or (stands_first p) (λ l. if_names p (place_said l)) lines)) e
-    ∙ if_over (eq_by_cmp path_cmp p (components named)) new (first_or (stands_first p) (λ l. if_names p (place_said l)) lines)
+is_next lines line named new p e =
+    ap (λ s. unwrap_or (if_names p s) (first_or (element_is_first p) (λ l. if_names p (place_of_command l)) lines)) e
+    ∙ if_over (eq_by_cmp path_cmp p (components named)) new (first_or (element_is_first p) (λ l. if_names p (place_of_command l)) lines)
 
-stands_as_before : (lines : List Line) (line : Line) (p : Path) → place_said line ≡ None → stands (line ∷ lines) p ≡ stands lines p
+exists_as_before : (lines : List Line) (line : Line) (p : Path) → place_of_command line ≡ None → stands (line ∷ lines) p ≡ stands lines p
 unfolding stands
-stands_as_before lines line p e = ap (λ s. unwrap_or (if_names p s) (first_or (stands_first p) (λ l. if_names p (place_said l)) lines)) e
+exists_as_before lines line p e = ap (λ s. unwrap_or (if_names p s) (first_or (element_is_first p) (λ l. if_names p (place_of_command l)) lines)) e
 
 path_over : (b : Bool) (k p : Path) (n : FileNode) (old : Option FileNode) → (b ≡ true → p ≡ k) → cond b (Some (normal k)) (option_map (λ _. normal p) old) ≡ option_map (λ _. normal p) (cond b (Some n) old)
 path_over true k p n old same = ap (λ q. Some (normal q)) (sym (same refl))
@@ -39,34 +39,34 @@ none_over true p old = refl
 none_over false p old = refl
 
 -- a path that is put
-pub files_put : (lines : List Line) (line : Line) (files : FileMap) (named : Bytes) (n : FileNode) → place_said line ≡ Some (named, Some n) → AreFiles lines files
+pub files_put : (lines : List Line) (line : Line) (files : FileMap) (named : Bytes) (n : FileNode) → place_of_command line ≡ Some (named, Some n) → AreFiles lines files
     → AreFiles (line ∷ lines) (with_place files (components named) n (normal (components named)))
 files_put lines line files named n e are = record {
   nodes = λ p. finite.get-insert path_cmp_total files.nodes (components named) n p
-      ∙ ap (over p (components named) (Some n)) (are.nodes p) ∙ sym (stands_next lines line named (Some n) p e);
+      ∙ ap (over p (components named) (Some n)) (are.nodes p) ∙ sym (is_next lines line named (Some n) p e);
   canonicals = λ p. finite.get-insert path_cmp_total files.canonicals (components named) (normal (components named)) p
       ∙ ap (cond (eq_by_cmp path_cmp p (components named)) (Some (normal (components named)))) (are.canonicals p)
       ∙ path_over (eq_by_cmp path_cmp p (components named)) (components named) p n (stands lines p) (tied p (components named))
-      ∙ ap (option_map (λ _. normal p)) (sym (stands_next lines line named (Some n) p e));
+      ∙ ap (option_map (λ _. normal p)) (sym (is_next lines line named (Some n) p e));
 }
 
 -- a path that is taken away
-pub files_gone : (lines : List Line) (line : Line) (files : FileMap) (named : Bytes) → place_said line ≡ Some (named, None) → AreFiles lines files
+pub files_gone : (lines : List Line) (line : Line) (files : FileMap) (named : Bytes) → place_of_command line ≡ Some (named, None) → AreFiles lines files
     → AreFiles (line ∷ lines) (without_place files (components named))
 files_gone lines line files named e are = record {
   nodes = λ p. finite.get-remove path_cmp_total files.nodes (components named) p
-      ∙ ap (over p (components named) None) (are.nodes p) ∙ sym (stands_next lines line named None p e);
+      ∙ ap (over p (components named) None) (are.nodes p) ∙ sym (is_next lines line named None p e);
   canonicals = λ p. finite.get-remove path_cmp_total files.canonicals (components named) p
       ∙ ap (cond (eq_by_cmp path_cmp p (components named)) None) (are.canonicals p)
       ∙ none_over (eq_by_cmp path_cmp p (components named)) p (stands lines p)
-      ∙ ap (option_map (λ _. normal p)) (sym (stands_next lines line named None p e));
+      ∙ ap (option_map (λ _. normal p)) (sym (is_next lines line named None p e));
 }
 
 -- a line that names no path
-pub files_stay : (lines : List Line) (line : Line) (files : FileMap) → place_said line ≡ None → AreFiles lines files → AreFiles (line ∷ lines) files
+pub files_stay : (lines : List Line) (line : Line) (files : FileMap) → place_of_command line ≡ None → AreFiles lines files → AreFiles (line ∷ lines) files
 files_stay lines line files e are = record {
-  nodes = λ p. are.nodes p ∙ sym (stands_as_before lines line p e);
-  canonicals = λ p. are.canonicals p ∙ ap (option_map (λ _. normal p)) (sym (stands_as_before lines line p e));
+  nodes = λ p. are.nodes p ∙ sym (exists_as_before lines line p e);
+  canonicals = λ p. are.canonicals p ∙ ap (option_map (λ _. normal p)) (sym (exists_as_before lines line p e));
 }
 
 -- no files, and then the executable

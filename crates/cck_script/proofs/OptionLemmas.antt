@@ -31,10 +31,10 @@ filter_one front None rest = ap (λ f. f ++ rest) (sym (append-nil front))
 filter_one front (Some x) rest = sym (append_assoc front (x ∷ []) rest)
 
 -- what is said so far, and what is said by the lines that are left
-pub said_more : {A : Type 0} (all so_far next : List A) (says : Line → Option A) (items : List Command) (i : ℕ) (item : Command) → i < length items → item ≡ get_or items i item
+pub later_of_command : {A : Type 0} (all so_far next : List A) (says : Line → Option A) (items : List Command) (i : ℕ) (item : Command) → i < length items → item ≡ get_or items i item
     → all ≡ so_far ++ filter_map says (map line_of (drop i items)) → next ≡ so_far ++ option_to_list (says (line_of item))
     → all ≡ next ++ filter_map says (map line_of (drop (i + 1) items))
-said_more all so_far next says items i item lt at h e =
+later_of_command all so_far next says items i item lt at h e =
     h ∙ ap (λ ls. so_far ++ filter_map says ls) (left_more items i item lt at)
     ∙ filter_one so_far (says (line_of item)) (filter_map says (map line_of (drop (i + 1) items)))
     ∙ ap (λ n. n ++ filter_map says (map line_of (drop (i + 1) items))) (sym e)

@@ -25,9 +25,9 @@ pub skipped_here : (w : Option ℕ) (n : ℕ) (s front : Bytes) (rest : Option B
     → w ≡ wrong_from n (readings_left (Some s)) → w ≡ wrong_from (n + 1) (readings_left rest)
 skipped_here w n s front rest e here h = h ∙ ap (wrong_from n) (readings_next s front rest e ∙ ap (λ r. r ∷ readings_left rest) (sym here))
 
-pub said_here : (w : Option ℕ) (n : ℕ) (s front : Bytes) (rest : Option Bytes) (line : Line) → (front, rest) ≡ cut 10 s → Says line ≡ read front
+pub here_of_command : (w : Option ℕ) (n : ℕ) (s front : Bytes) (rest : Option Bytes) (line : Line) → (front, rest) ≡ cut 10 s → Says line ≡ read front
     → w ≡ wrong_from n (readings_left (Some s)) → w ≡ wrong_from (n + 1) (readings_left rest)
-said_here w n s front rest line e here h = h ∙ ap (wrong_from n) (readings_next s front rest e ∙ ap (λ r. r ∷ readings_left rest) (sym here))
+here_of_command w n s front rest line e here h = h ∙ ap (wrong_from n) (readings_next s front rest e ∙ ap (λ r. r ∷ readings_left rest) (sym here))
 
 -- the lines so far, and those that are left
 pub lines_skipped : (all lines : List Line) (s front : Bytes) (rest : Option Bytes) → (front, rest) ≡ cut 10 s → Skipped ≡ read front

@@ -6,7 +6,7 @@ use Rattle.cck_files.specs.FileState.{with_place, without_place}
 use Rattle.cck_path.specs.Bytes.{Bytes, variables_of}
 use Rattle.cck_path.specs.Path.{components, normal}
 use Rattle.cck_path.specs.Timestamp.{Moment}
-use Rattle.cck_script.specs.Surroundings.{AreAfter, AreNamesOf, is_clear, place_said, variable_said, variables, with_variable}
+use Rattle.cck_script.specs.Surroundings.{AreAfter, AreNamesOf, is_clear, place_of_command, variable_of_command, variables, with_variable}
 use Rattle.cck_script.specs.Lines.{Line}
 use Rattle.cck_script.specs.Lines as line
 use Rattle.cck_script.specs.Seen.{line_of}
@@ -18,7 +18,7 @@ use Rattle.cck_script.proofs.VariableLemmas.{variable_set, variables_stay}
 
 -- a line that puts a file or a directory
 after_put : (lines : List Line) (line : Line) (old new : Surroundings) (named : Bytes) (n : FileNode)
-    → place_said line ≡ Some (named, Some n) → variable_said line ≡ None → is_clear line ≡ false → AreAfter lines old
+    → place_of_command line ≡ Some (named, Some n) → variable_of_command line ≡ None → is_clear line ≡ false → AreAfter lines old
     → new.files ≡ record old.files { files = with_place old.files.files (components named) n (normal (components named)) } → new.variables ≡ old.variables → new.names ≡ old.names
     → AreAfter (line ∷ lines) new
 after_put lines line old new named n place no_variable go_on are set same known = record {
@@ -31,7 +31,7 @@ after_put lines line old new named n place no_variable go_on are set same known 
 
 -- a line that takes a path away
 pub after_gone : (lines : List Line) (line : Line) (old new : Surroundings) (named : Bytes)
-    → place_said line ≡ Some (named, None) → variable_said line ≡ None → is_clear line ≡ false → AreAfter lines old
+    → place_of_command line ≡ Some (named, None) → variable_of_command line ≡ None → is_clear line ≡ false → AreAfter lines old
     → new.files ≡ record old.files { files = without_place old.files.files (components named) } → new.variables ≡ old.variables → new.names ≡ old.names
     → AreAfter (line ∷ lines) new
 after_gone lines line old new named place no_variable go_on are set same known = record {
@@ -70,7 +70,7 @@ after_clear lines old new are same none no_name = record {
 }
 
 -- a line that says nothing of files and variables
-after_other : (lines : List Line) (line : Line) (old : Surroundings) → place_said line ≡ None → variable_said line ≡ None → is_clear line ≡ false → AreAfter lines old → AreAfter (line ∷ lines) old
+after_other : (lines : List Line) (line : Line) (old : Surroundings) → place_of_command line ≡ None → variable_of_command line ≡ None → is_clear line ≡ false → AreAfter lines old → AreAfter (line ∷ lines) old
 after_other lines line old no_place no_variable go_on are = record {
   files = files_stay lines line old.files.files no_place are.files;
   no_faults = are.no_faults;
@@ -81,7 +81,7 @@ after_other lines line old no_place no_variable go_on are = record {
 
 -- the same of a call that may have returned an error
 pub put_ok : {X E : Type 0} (r : Result X E) (line : Line) (old new : Surroundings) (named : Bytes) (n : FileNode)
-    → place_said line ≡ Some (named, Some n) → variable_said line ≡ None → is_clear line ≡ false
+    → place_of_command line ≡ Some (named, Some n) → variable_of_command line ≡ None → is_clear line ≡ false
     → OnOk r (new.files ≡ record old.files { files = with_place old.files.files (components named) n (normal (components named)) }) → new.variables ≡ old.variables → new.names ≡ old.names
     → OnOk r ((lines : List Line) → AreAfter lines old → AreAfter (line ∷ lines) new)
 put_ok (Ok x) line old new named n place no_variable go_on set same known = λ lines are. after_put lines line old new named n place no_variable go_on are set same known

@@ -14,7 +14,7 @@ use Rattle.std.proofs.lemmas.Bool.{or_parts}
 use Rattle.cck_path.specs.Bytes.{Bytes, lists_of, variables_of}
 use Rattle.cck_path.specs.Variables.{Variable}
 use Rattle.cck_path.proofs.TestLemmas.{bytes_eq-sym}
-use Rattle.cck_script.specs.Surroundings.{AreNamesOf, if_same, is_clear, set_by, names, new_name, sets, since_clear, value_of, variable_said, variables, with_variable}
+use Rattle.cck_script.specs.Surroundings.{AreNamesOf, if_same, is_clear, set_by, names, new_name, sets, since_clear, value_of, variable_of_command, variables, with_variable}
 use Rattle.cck_script.specs.Lines.{Line}
 use Rattle.cck_script.specs.Lines as line
 
@@ -157,7 +157,7 @@ named_more n (Some set) earlier h = new_set n set earlier (list_any (sets set.0)
 -- a name is among those that are set exactly where a line sets it
 named_is_set : (n : Bytes) (lines : List Line) → named n (names lines) ≡ list_any (sets n) lines
 named_is_set n [] = refl
-named_is_set n (line ∷ earlier) = named_more n (variable_said line) earlier (named_is_set n earlier)
+named_is_set n (line ∷ earlier) = named_more n (variable_of_command line) earlier (named_is_set n earlier)
 
 distinct_set : (set : Variable) (earlier : List Line) (b : Bool) → list_any (sets set.0) earlier ≡ b → AreDistinct (names earlier) → AreDistinct (names earlier ++ cond b [] (set.0 ∷ []))
 distinct_set set earlier true e d = subst AreDistinct (sym (append-nil (names earlier))) d
@@ -169,7 +169,7 @@ distinct_with (Some set) earlier d = distinct_set set earlier (list_any (sets se
 
 names_distinct : (lines : List Line) → AreDistinct (names lines)
 names_distinct [] = tt
-names_distinct (line ∷ earlier) = distinct_with (variable_said line) earlier (names_distinct earlier)
+names_distinct (line ∷ earlier) = distinct_with (variable_of_command line) earlier (names_distinct earlier)
 
 module _ (n v : Bytes) (f : Bytes → Bytes) where
   -- the value of a variable after one was set
@@ -213,13 +213,13 @@ variable_set lines name value =
     set_among name value (value_of ls) (names ls) (names_distinct ls)
     ∙ ap (λ b. map (new_pair name value (value_of ls)) (names ls ++ cond b [] (name ∷ []))) (named_is_set name ls)
 
-unset : (earlier : List Line) (line : Line) → variable_said line ≡ None → set_by earlier ≡ set_by (line ∷ earlier)
+unset : (earlier : List Line) (line : Line) → variable_of_command line ≡ None → set_by earlier ≡ set_by (line ∷ earlier)
 unset earlier line e =
     ap (map (λ m. (m, value_of earlier m))) (sym (append-nil (names earlier)))
     ∙ ap (λ o. map (λ m. (m, unwrap_or (if_same m o) (value_of earlier m))) (names earlier ++ new_name o earlier)) (sym e)
 
 -- a line that sets no variable
-pub variables_stay : (lines : List Line) (line : Line) → variable_said line ≡ None → is_clear line ≡ false → variables lines ≡ variables (line ∷ lines)
+pub variables_stay : (lines : List Line) (line : Line) → variable_of_command line ≡ None → is_clear line ≡ false → variables lines ≡ variables (line ∷ lines)
 unfolding variables
 variables_stay lines line e go_on =
     unset (since_clear lines) line e ∙ ap (λ b. set_by (cond b [] (line ∷ since_clear lines))) (sym go_on)

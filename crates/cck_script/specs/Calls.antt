@@ -7,27 +7,27 @@ use Rattle.cck_script.specs.Lines.{Line, Compile, Recache}
 use Rattle.cck_script.specs.declared.call.ScriptCall.{ScriptCall}
 
 -- a call, and the lines before it from the last to the first
-pub record AskedCall : Type 0 where
+pub record ScriptCallValue : Type 0 where
   pub moment : Moment
   pub arguments : List Bytes
   pub is_recache : Bool
   pub earlier : List Line
 
 -- the call that a line asks for
-abbrev pub call_said : List Line → Line → Option AskedCall
-call_said earlier (Compile moment arguments) = Some (record { moment = moment; arguments = arguments; is_recache = false; earlier = earlier })
-call_said earlier (Recache moment arguments) = Some (record { moment = moment; arguments = arguments; is_recache = true; earlier = earlier })
-call_said earlier _ = None
+abbrev pub call_of_command : List Line → Line → Option ScriptCallValue
+call_of_command earlier (Compile moment arguments) = Some (record { moment = moment; arguments = arguments; is_recache = false; earlier = earlier })
+call_of_command earlier (Recache moment arguments) = Some (record { moment = moment; arguments = arguments; is_recache = true; earlier = earlier })
+call_of_command earlier _ = None
 
 -- the calls of lines that follow other lines
-abbrev pub asked_behind : List Line → List Line → List AskedCall
-asked_behind earlier [] = []
-asked_behind earlier (line ∷ lines) = option_to_list (call_said earlier line) ++ asked_behind (line ∷ earlier) lines
+abbrev pub calls_after : List Line → List Line → List ScriptCallValue
+calls_after earlier [] = []
+calls_after earlier (line ∷ lines) = option_to_list (call_of_command earlier line) ++ calls_after (line ∷ earlier) lines
 
 -- the calls of these lines, in order
-abbrev pub asked_calls : List Line → List AskedCall
-asked_calls lines = asked_behind [] lines
+abbrev pub script_calls : List Line → List ScriptCallValue
+script_calls lines = calls_after [] lines
 
 -- what the program's value of a call says, after these lines
-abbrev pub call_behind : List Line → ScriptCall → AskedCall
-call_behind earlier c = record { moment = c.moment; arguments = lists_of c.arguments.now; is_recache = c.is_recache; earlier = earlier }
+abbrev pub call_after : List Line → ScriptCall → ScriptCallValue
+call_after earlier c = record { moment = c.moment; arguments = lists_of c.arguments.now; is_recache = c.is_recache; earlier = earlier }

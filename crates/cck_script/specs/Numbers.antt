@@ -13,14 +13,14 @@ are_digits [] = true
 are_digits (b ∷ bs) = is_digit b && are_digits bs
 
 -- the number that decimal digits write after the digits of a number
-abbrev pub number_behind : ℕ → List ℕ → ℕ
-number_behind n [] = n
-number_behind n (b ∷ bs) = number_behind (n * 10 + (b - 48)) bs
+abbrev pub number_after : ℕ → List ℕ → ℕ
+number_after n [] = n
+number_after n (b ∷ bs) = number_after (n * 10 + (b - 48)) bs
 
 -- the number that a text of decimal digits writes: at least one digit, with any zeros in front
 abbrev pub natural : List ℕ → Option ℕ
 natural [] = None
-natural (b ∷ bs) = if are_digits (b ∷ bs) then Some (number_behind 0 (b ∷ bs)) else None
+natural (b ∷ bs) = if are_digits (b ∷ bs) then Some (number_after 0 (b ∷ bs)) else None
 
 -- a number if it has 64 bits
 unfoldable pub capped : ℕ → Option ℕ

@@ -28,13 +28,13 @@ line_in Skipped = None
 line_in (Says line) = Some line
 
 -- the lines that say something
-unfoldable pub lines_said : Bytes → List Line
-lines_said text = filter_map line_in (readings text)
+unfoldable pub commands_of : Bytes → List Line
+commands_of text = filter_map line_in (readings text)
 
 -- an error: a wrong line, before which none is wrong, or lack of memory
-abbrev pub IsScriptRefusal : Bytes → ScriptError → Type 0
-IsScriptRefusal text error.Memory = Unit {0}
-IsScriptRefusal text (error.Line n) = wrong_line text ≡ Some n
+abbrev pub IsScriptError : Bytes → ScriptError → Type 0
+IsScriptError text error.Memory = Unit {0}
+IsScriptError text (error.Line n) = wrong_line text ≡ Some n
 
 -- the value of the first of these lines that has one, or else the given value
 abbrev pub first_or : {A : Type 0} → A → (Line → Option A) → List Line → A
@@ -45,34 +45,34 @@ first_or other says (line ∷ lines) = unwrap_or (says line) (first_or other say
 abbrev pub last_or : {A : Type 0} → A → (Line → Option A) → List Line → A
 last_or other says lines = first_or other says (reverse lines)
 
-abbrev pub zone_said : Line → Option ℤ
-zone_said (Zone offset) = Some offset
-zone_said _ = None
+abbrev pub zone_of_command : Line → Option ℤ
+zone_of_command (Zone offset) = Some offset
+zone_of_command _ = None
 
-abbrev pub forget_said : Line → Option (Option ℕ)
-forget_said (StoreForget n) = Some (Some n)
-forget_said _ = None
+abbrev pub forget_of_command : Line → Option (Option ℕ)
+forget_of_command (StoreForget n) = Some (Some n)
+forget_of_command _ = None
 
-abbrev pub fail_said : Line → Option (Option ℕ)
-fail_said (StoreFail n) = Some (Some n)
-fail_said _ = None
+abbrev pub fail_of_command : Line → Option (Option ℕ)
+fail_of_command (StoreFail n) = Some (Some n)
+fail_of_command _ = None
 
-abbrev pub basedir_said : Line → Option Bytes
-basedir_said (Basedir text) = Some text
-basedir_said _ = None
+abbrev pub basedir_of_command : Line → Option Bytes
+basedir_of_command (Basedir text) = Some text
+basedir_of_command _ = None
 
 -- the offset of the run's zone: that of the last line `zone`, and 0 without one
 abbrev pub zone_of : List Line → ℤ
-zone_of lines = last_or (pos 0) zone_said lines
+zone_of lines = last_or (pos 0) zone_of_command lines
 
 -- the run's base directories
 abbrev pub basedirs_of : List Line → List Bytes
-basedirs_of lines = filter_map basedir_said lines
+basedirs_of lines = filter_map basedir_of_command lines
 
 -- the number of the store call that forgets: that of the last line that says one
 abbrev pub forget_of : List Line → Option ℕ
-forget_of lines = last_or None forget_said lines
+forget_of lines = last_or None forget_of_command lines
 
 -- the number of the store call that fails: that of the last line that says one
 abbrev pub fail_of : List Line → Option ℕ
-fail_of lines = last_or None fail_said lines
+fail_of lines = last_or None fail_of_command lines

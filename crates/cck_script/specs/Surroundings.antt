@@ -40,15 +40,15 @@ abbrev pub working_directory : Bytes
 working_directory = codes "/w"
 
 -- the node at a path before any line
-abbrev pub stands_first : Path → Option FileNode
-stands_first p = if eq_by_cmp path_cmp p (components executable_path) then Some executable else None
+abbrev pub element_is_first : Path → Option FileNode
+element_is_first p = if eq_by_cmp path_cmp p (components executable_path) then Some executable else None
 
 -- the path that a line names, and the node there after the line
-abbrev pub place_said : Line → Option (Bytes × Option FileNode)
-place_said (File path modified changed contents) = Some (path, Some (file_node contents modified changed))
-place_said (Folder path) = Some (path, Some (record { kind = kind.Folder; contents = []; modified = None; changed = None }))
-place_said (Gone path) = Some (path, None)
-place_said _ = None
+abbrev pub place_of_command : Line → Option (Bytes × Option FileNode)
+place_of_command (File path modified changed contents) = Some (path, Some (file_node contents modified changed))
+place_of_command (Folder path) = Some (path, Some (record { kind = kind.Folder; contents = []; modified = None; changed = None }))
+place_of_command (Gone path) = Some (path, None)
+place_of_command _ = None
 
 abbrev pub if_names : Path → Option (Bytes × Option FileNode) → Option (Option FileNode)
 if_names p None = None
@@ -56,7 +56,7 @@ if_names p (Some place) = if eq_by_cmp path_cmp p (components place.0) then Some
 
 -- the node at a path after these lines: what the last line says that names the path, or else what was there before any line
 unfoldable pub stands : List Line → Path → Option FileNode
-stands lines p = first_or (stands_first p) (λ line. if_names p (place_said line)) lines
+stands lines p = first_or (element_is_first p) (λ line. if_names p (place_of_command line)) lines
 
 -- these are the files after these lines, each of which is its own canonical path, without its `.` and `..`
 pub record AreFiles (lines : List Line) (files : FileMap) : Type 0 where
@@ -75,9 +75,9 @@ since_clear [] = []
 since_clear (line ∷ lines) = if is_clear line then [] else line ∷ since_clear lines
 
 -- the variable that a line sets
-abbrev pub variable_said : Line → Option NamedValue
-variable_said (Variable name value) = Some (name, value)
-variable_said _ = None
+abbrev pub variable_of_command : Line → Option NamedValue
+variable_of_command (Variable name value) = Some (name, value)
+variable_of_command _ = None
 
 abbrev pub if_same : Bytes → Option NamedValue → Option Bytes
 if_same name None = None
@@ -85,7 +85,7 @@ if_same name (Some set) = if bytes_eq set.0 name then Some set.1 else None
 
 -- a line sets a variable of this name
 abbrev pub sets : Bytes → Line → Bool
-sets name line = is_some (if_same name (variable_said line))
+sets name line = is_some (if_same name (variable_of_command line))
 
 -- the name that a line sets, if no earlier line sets it
 abbrev pub new_name : Option NamedValue → List Line → List Bytes
@@ -95,11 +95,11 @@ new_name (Some set) earlier = if list_any (sets set.0) earlier then [] else set.
 -- the names that these lines set, each where it was set first
 abbrev pub names : List Line → List Bytes
 names [] = []
-names (line ∷ earlier) = names earlier ++ new_name (variable_said line) earlier
+names (line ∷ earlier) = names earlier ++ new_name (variable_of_command line) earlier
 
 -- the value of a variable: that of the last line that sets it
 abbrev pub value_of : List Line → Bytes → Bytes
-value_of lines name = first_or [] (λ line. if_same name (variable_said line)) lines
+value_of lines name = first_or [] (λ line. if_same name (variable_of_command line)) lines
 
 abbrev pub set_by : List Line → List NamedValue
 set_by lines = map (λ name. (name, value_of lines name)) (names lines)

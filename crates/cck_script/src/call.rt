@@ -1,7 +1,7 @@
 //! The calls of a script.
 ghost use Rattle.std.specs.Prelude.{◌≡◌, List};
 ghost use Rattle.std.specs.Option.{option_map};
-ghost use Rattle.cck_script.specs.Calls.{call_behind, call_said};
+ghost use Rattle.cck_script.specs.Calls.{call_after, call_of_command};
 ghost use Rattle.cck_script.specs.Lines.{Line};
 ghost use Rattle.cck_script.specs.Seen.{line_of};
 
@@ -24,7 +24,7 @@ impl Command {
     /// Returns the call that a line `compile` or `recache` asks for, and `None` for any other line.
     pub fn call(&self) -> Option<ScriptCall<'_>>
         ensures { (earlier : List Line) →
-            option_map (call_behind earlier) result ≡ call_said earlier (line_of self.now) }
+            option_map (call_after earlier) result ≡ call_of_command earlier (line_of self.now) }
     {
         match self {
             Command::Compile { moment, arguments } => Some(ScriptCall {

@@ -2,7 +2,7 @@
 ghost use Rattle.std.specs.Prelude.{◌≡◌, ◌++◌, None, IfOk, IsOkUnless, MatchResult, OnOk, map};
 ghost use Rattle.std.specs.Option.{option_to_list, unwrap_or};
 ghost use Rattle.cck_path.specs.Bytes.{lists_of};
-ghost use Rattle.cck_script.specs.Script.{IsScriptRefusal, basedir_said, basedirs_of, fail_of, fail_said, forget_of, forget_said, lines_said, wrong_line, zone_of, zone_said};
+ghost use Rattle.cck_script.specs.Script.{IsScriptError, basedir_of_command, basedirs_of, fail_of, fail_of_command, forget_of, forget_of_command, commands_of, wrong_line, zone_of, zone_of_command};
 ghost use Rattle.cck_script.specs.Seen.{line_of, lines_of};
 
 use crate::command::Command;
@@ -40,8 +40,8 @@ impl Script {
     /// returned has no wrong line.
     pub fn parse(alloc: Global, text: &[u8]) -> Result<Script, ScriptError>
         ensures { MatchResult result
-            (λ script. (wrong_line text.now ≡ None) × (lines_of script ≡ lines_said text.now))
-            (IsScriptRefusal text.now) }
+            (λ script. (wrong_line text.now ≡ None) × (lines_of script ≡ commands_of text.now))
+            (IsScriptError text.now) }
     {
         let mut commands = Vec::new(alloc);
         let mut number: u64 = 0;
@@ -95,13 +95,13 @@ impl RunOptions {
     // Applies the next line.
     fn take_in(&mut self, alloc: Global, command: &Command) -> Result<(), UtilError>
         ensures zone { OnOk result (self.new.zone_offset
-            ≡ unwrap_or (zone_said (line_of command.now)) self.old.zone_offset) }
+            ≡ unwrap_or (zone_of_command (line_of command.now)) self.old.zone_offset) }
         ensures basedirs { OnOk result (lists_of self.new.basedirs.items
-            ≡ lists_of self.old.basedirs.items ++ option_to_list (basedir_said (line_of command.now))) }
+            ≡ lists_of self.old.basedirs.items ++ option_to_list (basedir_of_command (line_of command.now))) }
         ensures forget { OnOk result (self.new.forget_at
-            ≡ unwrap_or (forget_said (line_of command.now)) self.old.forget_at) }
+            ≡ unwrap_or (forget_of_command (line_of command.now)) self.old.forget_at) }
         ensures fail { OnOk result (self.new.fail_at
-            ≡ unwrap_or (fail_said (line_of command.now)) self.old.fail_at) }
+            ≡ unwrap_or (fail_of_command (line_of command.now)) self.old.fail_at) }
         ensures refused { IsOkUnless result UtilError.Memory }
     {
         match command {

@@ -202,10 +202,10 @@ pub(crate) fn keys_of(alloc: Global, store: &MapStore) -> Result<Vec<String>, Ca
     let mut keys = Vec::new(alloc);
     let mut rest = text.as_str();
     for _ in 0..text.len() {
-        let Some((_, behind)) = rest.split_once('"') else {
+        let Some((_, following)) = rest.split_once('"') else {
             break;
         };
-        let (key, left) = behind.split_once('"').ok_or(CaseError::Line)?;
+        let (key, left) = following.split_once('"').ok_or(CaseError::Line)?;
         keys.push(String::from_str(alloc, key)?)?;
         rest = left;
     }

@@ -4,13 +4,13 @@ use Rattle.cck_path.specs.Bytes.{Bytes}
 use Rattle.cck_files.specs.Calls.{Rose}
 use Rattle.cck_store.specs.Counts.{counted_fits, counted_higher, more_higher, more_rises}
 use Rattle.cck_store.specs.EmptyStore.{empty_store}
-use Rattle.cck_store.specs.Store.{Handed, StoreLaws, counted, more}
+use Rattle.cck_store.specs.Store.{Returned, StoreLaws, counted, more}
 use Rattle.cck_store.specs.declared.store.StoreError.{StoreError}
 
-something : {bytes : Bytes} → ◌≡◌ {A = Handed} (Ok (Some bytes)) (Ok None) → ⊥
+something : {bytes : Bytes} → ◌≡◌ {A = Returned} (Ok (Some bytes)) (Ok None) → ⊥
 something e = cc
 
-refused : {e : StoreError} → ◌≡◌ {A = Handed} (Err e) (Ok None) → ⊥
+refused : {e : StoreError} → ◌≡◌ {A = Returned} (Err e) (Ok None) → ⊥
 refused e = cc
 
 raised : (s t : ℕ) → t ≡ more s → Rose (counted s) (counted t)

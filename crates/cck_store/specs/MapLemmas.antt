@@ -12,7 +12,7 @@ use Rattle.cck_files.proofs.CallsLemmas.{rose_earlier}
 use Rattle.cck_path.specs.TextOrder.{text_cmp}
 use Rattle.cck_store.specs.Counts.{counted_fits, counted_higher, more_higher, more_rises}
 use Rattle.cck_store.specs.MapStore.{IsGot, IsPut, State, begun, map_store, set_back}
-use Rattle.cck_store.specs.Store.{Handed, Setback, StoreLaws, Stored, counted, more}
+use Rattle.cck_store.specs.Store.{Returned, StoreFailure, StoreLaws, Stored, counted, more}
 use Rattle.cck_store.specs.declared.store.StoreError.{StoreError}
 use Rattle.cck_store.specs.declared.store.StoreError.TheVariants as store
 
@@ -25,7 +25,7 @@ begun_higher s = by (s.forget == 1)
     by true = more_higher s.setbacks
     by false = omega arith
 
-set_back_rises : (s : State) → Setback map_store s (set_back (begun s))
+set_back_rises : (s : State) → StoreFailure map_store s (set_back (begun s))
 set_back_rises s =
     rose_earlier (counted s.setbacks) (counted (begun s).setbacks) (counted (more (begun s).setbacks)) (counted_higher _ _ (begun_higher s)) (more_rises (begun s).setbacks)
 
@@ -43,7 +43,7 @@ begun_held s k x h = by (s.forget == 1) h
     by false h = h
 
 -- without a store failure all of it still is
-begun_calm : (s : State) (t : State) → t.setbacks ≡ (begun s).setbacks → (Setback map_store s t → ⊥) → (begun s).pairs ≡ s.pairs
+begun_calm : (s : State) (t : State) → t.setbacks ≡ (begun s).setbacks → (StoreFailure map_store s t → ⊥) → (begun s).pairs ≡ s.pairs
 begun_calm s t is calm = by (s.forget == 1) is
   where
     by : (b : Bool) → t.setbacks ≡ cond b (more s.setbacks) s.setbacks → cond b [] s.pairs ≡ s.pairs
@@ -75,19 +75,19 @@ found_apart k x key bytes ps apart h = find-put text_cmp nat_list_cmp_total k ke
 -- ---- the laws
 
 module _ (s t : State) where
-  got_count : (key : Bytes) (a : Handed) → IsGot s key a t → counted s.setbacks ≤ counted t.setbacks
+  got_count : (key : Bytes) (a : Returned) → IsGot s key a t → counted s.setbacks ≤ counted t.setbacks
   got_count key (Err store.Fault) g = rw (g.1) (counted_higher _ _ (set_back_higher s))
   got_count key (Err store.Memory) g = rw (g.1) (counted_higher _ _ (set_back_higher s))
   got_count key (Ok found) g = rw (g.2) (counted_higher _ _ (begun_higher s))
 
-  got_old : (key : Bytes) (a : Handed) → IsGot s key a t → (k x : Bytes) → find text_cmp k t.pairs ≡ Some x → find text_cmp k s.pairs ≡ Some x
+  got_old : (key : Bytes) (a : Returned) → IsGot s key a t → (k x : Bytes) → find text_cmp k t.pairs ≡ Some x → find text_cmp k s.pairs ≡ Some x
   got_old key (Err store.Fault) g k x h = begun_held s k x (ap (λ v. find text_cmp k v.pairs) (sym g.1) ∙ h)
   got_old key (Err store.Memory) g k x h = begun_held s k x (ap (λ v. find text_cmp k v.pairs) (sym g.1) ∙ h)
   got_old key (Ok found) g k x h = begun_held s k x (ap (λ v. find text_cmp k v.pairs) (sym g.2) ∙ h)
 
-  got_calm : (key : Bytes) (a : Handed) → IsGot s key a t → (Setback map_store s t → ⊥) → (k x : Bytes) → find text_cmp k s.pairs ≡ Some x → find text_cmp k t.pairs ≡ Some x
-  got_calm key (Err store.Fault) g calm k x h = absurd (calm (subst (Setback map_store s) (sym g.1) (set_back_rises s)))
-  got_calm key (Err store.Memory) g calm k x h = absurd (calm (subst (Setback map_store s) (sym g.1) (set_back_rises s)))
+  got_calm : (key : Bytes) (a : Returned) → IsGot s key a t → (StoreFailure map_store s t → ⊥) → (k x : Bytes) → find text_cmp k s.pairs ≡ Some x → find text_cmp k t.pairs ≡ Some x
+  got_calm key (Err store.Fault) g calm k x h = absurd (calm (subst (StoreFailure map_store s) (sym g.1) (set_back_rises s)))
+  got_calm key (Err store.Memory) g calm k x h = absurd (calm (subst (StoreFailure map_store s) (sym g.1) (set_back_rises s)))
   got_calm key (Ok found) g calm k x h = ap (λ v. find text_cmp k v.pairs) g.2 ∙ ap (find text_cmp k) (begun_calm s t (ap (λ v. v.setbacks) g.2) calm) ∙ h
 
   put_count : (key bytes : Bytes) (a : Stored) → IsPut s key bytes a t → counted s.setbacks ≤ counted t.setbacks
@@ -101,25 +101,25 @@ module _ (s t : State) where
   put_old key bytes (Ok done) p k x h =
       elim (found_other k x key bytes (begun s).pairs (ap (λ v. find text_cmp k v.pairs) (sym p.1) ∙ h)) [ inl old ↦ inl (begun_held s k x old) | inr own ↦ inr own ]
 
-  put_calm : (key bytes : Bytes) (a : Stored) → IsPut s key bytes a t → (Setback map_store s t → ⊥) → (k x : Bytes) → (k ≡ key → ⊥) → find text_cmp k s.pairs ≡ Some x → find text_cmp k t.pairs ≡ Some x
-  put_calm key bytes (Err store.Fault) p calm k x apart h = absurd (calm (subst (Setback map_store s) (sym p.1) (set_back_rises s)))
-  put_calm key bytes (Err store.Memory) p calm k x apart h = absurd (calm (subst (Setback map_store s) (sym p.1) (set_back_rises s)))
+  put_calm : (key bytes : Bytes) (a : Stored) → IsPut s key bytes a t → (StoreFailure map_store s t → ⊥) → (k x : Bytes) → (k ≡ key → ⊥) → find text_cmp k s.pairs ≡ Some x → find text_cmp k t.pairs ≡ Some x
+  put_calm key bytes (Err store.Fault) p calm k x apart h = absurd (calm (subst (StoreFailure map_store s) (sym p.1) (set_back_rises s)))
+  put_calm key bytes (Err store.Memory) p calm k x apart h = absurd (calm (subst (StoreFailure map_store s) (sym p.1) (set_back_rises s)))
   put_calm key bytes (Ok done) p calm k x apart h =
       ap (λ v. find text_cmp k v.pairs) p.1
       ∙ found_apart k x key bytes (begun s).pairs apart (ap (find text_cmp k) (begun_calm s t (ap (λ v. v.setbacks) p.1) calm) ∙ h)
 
-  put_new : (key bytes : Bytes) (a : Stored) → IsPut s key bytes a t → (Setback map_store s t → ⊥) → find text_cmp key t.pairs ≡ Some bytes
-  put_new key bytes (Err store.Fault) p calm = absurd (calm (subst (Setback map_store s) (sym p.1) (set_back_rises s)))
-  put_new key bytes (Err store.Memory) p calm = absurd (calm (subst (Setback map_store s) (sym p.1) (set_back_rises s)))
+  put_new : (key bytes : Bytes) (a : Stored) → IsPut s key bytes a t → (StoreFailure map_store s t → ⊥) → find text_cmp key t.pairs ≡ Some bytes
+  put_new key bytes (Err store.Fault) p calm = absurd (calm (subst (StoreFailure map_store s) (sym p.1) (set_back_rises s)))
+  put_new key bytes (Err store.Memory) p calm = absurd (calm (subst (StoreFailure map_store s) (sym p.1) (set_back_rises s)))
   put_new key bytes (Ok done) p calm = ap (λ v. find text_cmp key v.pairs) p.1 ∙ found_own key bytes (begun s).pairs
 
-  got_error : (key : Bytes) (e : StoreError) → IsGot s key (Err e) t → Setback map_store s t
-  got_error key store.Fault g = subst (Setback map_store s) (sym g.1) (set_back_rises s)
-  got_error key store.Memory g = subst (Setback map_store s) (sym g.1) (set_back_rises s)
+  got_error : (key : Bytes) (e : StoreError) → IsGot s key (Err e) t → StoreFailure map_store s t
+  got_error key store.Fault g = subst (StoreFailure map_store s) (sym g.1) (set_back_rises s)
+  got_error key store.Memory g = subst (StoreFailure map_store s) (sym g.1) (set_back_rises s)
 
-  put_error : (key bytes : Bytes) (e : StoreError) → IsPut s key bytes (Err e) t → Setback map_store s t
-  put_error key bytes store.Fault p = subst (Setback map_store s) (sym p.1) (set_back_rises s)
-  put_error key bytes store.Memory p = subst (Setback map_store s) (sym p.1) (set_back_rises s)
+  put_error : (key bytes : Bytes) (e : StoreError) → IsPut s key bytes (Err e) t → StoreFailure map_store s t
+  put_error key bytes store.Fault p = subst (StoreFailure map_store s) (sym p.1) (set_back_rises s)
+  put_error key bytes store.Memory p = subst (StoreFailure map_store s) (sym p.1) (set_back_rises s)
 
 pub map_store_laws : StoreLaws map_store
 map_store_laws = record {

@@ -8,7 +8,7 @@ use Rattle.std.specs.declared.alloc.Global.{Global}
 use Rattle.cck_files.specs.ArmedCalls.{Armed, after_call, coded_armed, fails, new_armed}
 use Rattle.cck_path.specs.Bytes.{Bytes}
 use Rattle.cck_path.specs.TextOrder.{text_cmp}
-use Rattle.cck_store.specs.Store.{Handed, Store, Stored, counted, more}
+use Rattle.cck_store.specs.Store.{Returned, Store, Stored, counted, more}
 use Rattle.cck_store.specs.declared.store.StoreError.TheVariants as store
 
 -- Keys and bytes, ascending by the keys, and the number of store failures. Also which of the next calls loses all that is held, counted
@@ -44,7 +44,7 @@ begun s = record {
 }
 
 -- A get fails exactly if it is armed to. Otherwise it returns what the key has, or memory is lacking. Either error is a store failure.
-abbrev pub IsGot : State → Bytes → Handed → State → Type 0
+abbrev pub IsGot : State → Bytes → Returned → State → Type 0
 IsGot s key (Err store.Fault) t = (fails s.armed ≡ true) × (t ≡ set_back (begun s))
 IsGot s key (Err store.Memory) t = (fails s.armed ≡ false) × (t ≡ set_back (begun s))
 IsGot s key (Ok found) t = (fails s.armed ≡ false) × (found ≡ find text_cmp key (begun s).pairs) × (t ≡ begun s)

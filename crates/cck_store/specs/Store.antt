@@ -6,22 +6,22 @@ use Rattle.cck_files.specs.Calls.{Rose}
 use Rattle.cck_store.specs.declared.store.StoreError.{StoreError}
 
 -- the result of a get, and that of a put
-abbrev pub Handed : Type 0
-Handed = Result (Option Bytes) StoreError
+abbrev pub Returned : Type 0
+Returned = Result (Option Bytes) StoreError
 
 abbrev pub Stored : Type 0
 Stored = Result (Unit {0}) StoreError
 
-abbrev pub handed_in : Result (Option (Vec ℕ)) StoreError → Handed
-handed_in (Err e) = Err e
-handed_in (Ok None) = Ok None
-handed_in (Ok (Some bytes)) = Ok (Some bytes.items)
+abbrev pub returned_by : Result (Option (Vec ℕ)) StoreError → Returned
+returned_by (Err e) = Err e
+returned_by (Ok None) = Ok None
+returned_by (Ok (Some bytes)) = Ok (Some bytes.items)
 
 -- which bytes are held under a key, the number of store failures, and what a get and a put do, with their results
 pub record Store (S : Type 0) : Type 1 where
   pub held : S → Bytes → Bytes → Type 0
   pub setbacks : S → ℕ
-  pub got : S → Bytes → Handed → S → Type 0
+  pub got : S → Bytes → Returned → S → Type 0
   pub put : S → Bytes → Bytes → Stored → S → Type 0
 
 -- one more, up to the greatest number of 64 bits
@@ -33,8 +33,8 @@ abbrev pub counted : ℕ → ℕ
 counted n = min n (2 ^ 64 - 1)
 
 -- there was a store failure between two states
-abbrev pub Setback : {S : Type 0} → Store S → S → S → Type 0
-Setback st s t = Rose (st.setbacks s) (st.setbacks t)
+abbrev pub StoreFailure : {S : Type 0} → Store S → S → S → Type 0
+StoreFailure st s t = Rose (st.setbacks s) (st.setbacks t)
 
 -- these bytes are held under the key, and no others
 abbrev pub HoldsOnly : {S : Type 0} → Store S → S → Bytes → Bytes → Type 0
@@ -45,14 +45,14 @@ HoldsOnly st s key bytes = st.held s key bytes × ((others : Bytes) → st.held 
 -- what its own key holds.
 pub record StoreLaws {S : Type 0} (st : Store S) : Type 0 where
   pub setbacks_fit : (s : S) → st.setbacks s < 2 ^ 64
-  pub got_count : (s t : S) (key : Bytes) (answer : Handed) → st.got s key answer t → st.setbacks s ≤ st.setbacks t
-  pub got_old : (s t : S) (key : Bytes) (answer : Handed) → st.got s key answer t → (k b : Bytes) → st.held t k b → st.held s k b
+  pub got_count : (s t : S) (key : Bytes) (answer : Returned) → st.got s key answer t → st.setbacks s ≤ st.setbacks t
+  pub got_old : (s t : S) (key : Bytes) (answer : Returned) → st.got s key answer t → (k b : Bytes) → st.held t k b → st.held s k b
   pub got_some : (s t : S) (key bytes : Bytes) → st.got s key (Ok (Some bytes)) t → st.held s key bytes
-  pub got_calm : (s t : S) (key : Bytes) (answer : Handed) → st.got s key answer t → (Setback st s t → ⊥) → (k b : Bytes) → st.held s k b → st.held t k b
-  pub got_none : (s t : S) (key : Bytes) → st.got s key (Ok None) t → (Setback st s t → ⊥) → (b : Bytes) → st.held s key b → ⊥
-  pub got_error : (s t : S) (key : Bytes) (e : StoreError) → st.got s key (Err e) t → Setback st s t
+  pub got_calm : (s t : S) (key : Bytes) (answer : Returned) → st.got s key answer t → (StoreFailure st s t → ⊥) → (k b : Bytes) → st.held s k b → st.held t k b
+  pub got_none : (s t : S) (key : Bytes) → st.got s key (Ok None) t → (StoreFailure st s t → ⊥) → (b : Bytes) → st.held s key b → ⊥
+  pub got_error : (s t : S) (key : Bytes) (e : StoreError) → st.got s key (Err e) t → StoreFailure st s t
   pub put_count : (s t : S) (key bytes : Bytes) (answer : Stored) → st.put s key bytes answer t → st.setbacks s ≤ st.setbacks t
   pub put_old : (s t : S) (key bytes : Bytes) (answer : Stored) → st.put s key bytes answer t → (k b : Bytes) → st.held t k b → st.held s k b ⊎ ((k ≡ key) × (b ≡ bytes))
-  pub put_calm : (s t : S) (key bytes : Bytes) (answer : Stored) → st.put s key bytes answer t → (Setback st s t → ⊥) → (k b : Bytes) → (k ≡ key → ⊥) → st.held s k b → st.held t k b
-  pub put_new : (s t : S) (key bytes : Bytes) (answer : Stored) → st.put s key bytes answer t → (Setback st s t → ⊥) → HoldsOnly st t key bytes
-  pub put_error : (s t : S) (key bytes : Bytes) (e : StoreError) → st.put s key bytes (Err e) t → Setback st s t
+  pub put_calm : (s t : S) (key bytes : Bytes) (answer : Stored) → st.put s key bytes answer t → (StoreFailure st s t → ⊥) → (k b : Bytes) → (k ≡ key → ⊥) → st.held s k b → st.held t k b
+  pub put_new : (s t : S) (key bytes : Bytes) (answer : Stored) → st.put s key bytes answer t → (StoreFailure st s t → ⊥) → HoldsOnly st t key bytes
+  pub put_error : (s t : S) (key bytes : Bytes) (e : StoreError) → st.put s key bytes (Err e) t → StoreFailure st s t

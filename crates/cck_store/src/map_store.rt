@@ -125,7 +125,7 @@ impl MapStore {
     }
 
     // Loses all that is held, if the call that begins is armed to.
-    fn forget_if_told(&mut self)
+    fn forget_if_armed(&mut self)
         ensures { self.new ≡ record self.old {
           pairs = if self.old.forget == 1 then [] else self.old.pairs;
           setbacks = if self.old.forget == 1 then more self.old.setbacks else self.old.setbacks;
@@ -142,7 +142,7 @@ impl MapStore {
         ensures fails { result ≡ fails self.old.armed }
         ensures after { self.new ≡ (if fails self.old.armed then set_back (begun self.old) else begun self.old) }
     {
-        self.forget_if_told();
+        self.forget_if_armed();
         self.forget = self.forget.saturating_sub(1);
         let fails = self.armed.begin();
         if fails {

@@ -29,7 +29,7 @@ pub enum StoreError {
 /// - if the count didn't rise, nothing is lost: after `None` nothing is held under the key, and
 ///   after a put its bytes are held under its key, and no others.
 pub trait PreprocessorStore {
-    ghost use Rattle.cck_store.specs.Store.{Store, StoreLaws, handed_in};
+    ghost use Rattle.cck_store.specs.Store.{Store, StoreLaws, returned_by};
 
     // What is held, the number of store failures, and what the calls do.
     ghost store: { Store Self };
@@ -43,7 +43,7 @@ pub trait PreprocessorStore {
         alloc: Global,
         key: &str,
     ) -> Result<Option<Vec<u8>>, StoreError>
-        ensures { store.got self.old key.now (handed_in result) self.new };
+        ensures { store.got self.old key.now (returned_by result) self.new };
 
     /// Puts bytes under a key, in place of those that are held there.
     ///

@@ -41,7 +41,7 @@ places_from-first test hay i (suc n) d others e = go (test (get_or hay i 0)) ref
           low = omega arith;
           high = omega arith;
           before = λ k from lt passes. elim (cases_lt i k) [
-            | inl behind ↦ f.before k (omega arith) lt passes
+            | inl following ↦ f.before k (omega arith) lt passes
             | inr at ↦ let same : k ≡ i = omega arith in false≢true (sym p ∙ (ap (λ j. test (get_or hay j 0)) (sym same) ∙ passes))
           ];
           rest = f.rest ∙ ap (places_from test hay (d + 1)) (omega arith);
@@ -59,7 +59,7 @@ places_from-none test hay i (suc n) e k low high passes = go (test (get_or hay i
         → (later ≡ [] → (j : ℕ) → i + 1 ≤ j → j < i + 1 + n → Passes test hay j → ⊥) → ⊥
     go true p e h = cc
     go false p e h = elim (cases_lt i k) [
-      | inl behind ↦ h e k (omega arith) (omega arith) passes
+      | inl following ↦ h e k (omega arith) (omega arith) passes
       | inr at ↦ let same : k ≡ i = omega arith in false≢true (sym p ∙ (ap (λ j. test (get_or hay j 0)) (sym same) ∙ passes))
     ]
 
@@ -92,7 +92,7 @@ Left-place words byte text distances others from d begins l e =
       within = omega (arith, length-drop from text);
       none_before = λ k low lt. elim (cases_lt k (from + l.seen)) [
         | inl gone ↦ l.none k low gone
-        | inr behind ↦
+        | inr following ↦
             text_site-beginning words text (byte ∷ []) k begins
             (λ o. f.before (k - from) (omega arith) (omega arith) (passes_in_rest text byte from k low o))
       ];
@@ -120,7 +120,7 @@ pub Left-none : (words : List (List ℕ)) (byte : ℕ) (text distances : List �
     → Left words byte text distances from → distances ≡ [] → (k : ℕ) → from ≤ k → text_site words text k ≡ 0
 Left-none words byte text distances from begins l e k low = elim (cases_lt k (from + l.seen)) [
   | inl gone ↦ l.none k low gone
-  | inr behind ↦ elim (cases_lt k (length text)) [
+  | inr following ↦ elim (cases_lt k (length text)) [
     | inl within ↦
         text_site-beginning words text (byte ∷ []) k begins
         (λ o. places_from-none (is_byte byte) (drop from text) (l.seen) (length (drop from text) - l.seen) (sym (l.rest) ∙ e) (k - from)

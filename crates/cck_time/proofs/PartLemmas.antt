@@ -106,26 +106,26 @@ stamp_length true m n zone s t p q =
     omega (arith, ap length first.3, ap length second.3, length-append (delimiter (codes "timestamp")) i, length-append (delimiter (codes "timestamp")) j, i64_length (local_second zone (nanos_of first.0)) (local_second zone (nanos_of second.0)))
 
 -- equal parts have the same day, and the same value of the variable
-pub days_told : (zone : TimeZone) (timestamp : Bool) (m n : Option Moment) (a b : Moment) (v w : List Variable) (part : List ℕ)
+pub day_is_determined : (zone : TimeZone) (timestamp : Bool) (m n : Option Moment) (a b : Moment) (v w : List Variable) (part : List ℕ)
     → time_part true timestamp m a zone v ≡ Some part → time_part true timestamp n b zone w ≡ Some part
     → (local_day zone (nanos_of a) ≡ local_day zone (nanos_of b)) × (source_date_epoch v ≡ source_date_epoch w)
-days_told zone timestamp m n a b v w part p q =
+day_is_determined zone timestamp m n a b v w part p q =
     let x = from_time_part true timestamp m a zone v part p in
     let y = from_time_part true timestamp n b zone w part q in
     let first = from_date_part a zone v x.0 x.2 in
     let second = from_date_part b zone w y.0 y.2 in
     let left = sym (nested (delimiter (codes "date")) (date_bytes first.0) (framed_option (source_date_epoch v)) x.1) ∙ ap (λ (l : List ℕ). l ++ x.1) first.4 ∙ x.4 in
     let right = sym (nested (delimiter (codes "date")) (date_bytes second.0) (framed_option (source_date_epoch w)) y.1) ∙ ap (λ (l : List ℕ). l ++ y.1) second.4 ∙ y.4 in
-    let behind = append_cancel_left (delimiter (codes "date")) _ _ (left ∙ sym right) in
-    let same = date_reads_back first.0 second.0 first.1 second.1 (framed_option (source_date_epoch v) ++ x.1) (framed_option (source_date_epoch w) ++ y.1) behind in
+    let following = append_cancel_left (delimiter (codes "date")) _ _ (left ∙ sym right) in
+    let same = date_reads_back first.0 second.0 first.1 second.1 (framed_option (source_date_epoch v) ++ x.1) (framed_option (source_date_epoch w) ++ y.1) following in
     let told = option_reads_back (source_date_epoch v) (source_date_epoch w) x.1 y.1 same.1 in
     (sym first.2 ∙ ap day_number same.0 ∙ second.2, told.0)
 
 -- and the same second
-pub seconds_told : (zone : TimeZone) (date : Bool) (m n : Option Moment) (a b : Moment) (v w : List Variable) (part : List ℕ)
+pub second_is_determined : (zone : TimeZone) (date : Bool) (m n : Option Moment) (a b : Moment) (v w : List Variable) (part : List ℕ)
     → time_part date true m a zone v ≡ Some part → time_part date true n b zone w ≡ Some part
     → AreOfOneSecond zone m n
-seconds_told zone date m n a b v w part p q =
+second_is_determined zone date m n a b v w part p q =
     let x = from_time_part date true m a zone v part p in
     let y = from_time_part date true n b zone w part q in
     let long : length x.0 ≡ length y.0 = omega (arith, ap length x.4, ap length y.4, length-append x.0 x.1, length-append y.0 y.1, stamp_length true m n zone x.1 y.1 x.3 y.3) in

@@ -8,8 +8,8 @@ use Rattle.std.proofs.lemmas.Simd.{map-map}
 use Rattle.std.proofs.Math.Bool.{and-false}
 use Rattle.cck_digest.specs.declared.error.FileError.{FileError}
 use Rattle.cck_digest.specs.declared.error.FileError.TheVariants.{NotFound, OtherKind, Fault, Memory}
-use Rattle.cck_files.specs.Calls.{IsRefusalOrMemory, Rose}
-use Rattle.cck_files.specs.FileMap.{FileMap, stands_at}
+use Rattle.cck_files.specs.Calls.{IsErrorOrMemory, Rose}
+use Rattle.cck_files.specs.FileMap.{FileMap, exists_at}
 use Rattle.cck_files.proofs.CallsLemmas.{rose_earlier, rose_later}
 use Rattle.cck_path.specs.Names.{file_name_of}
 use Rattle.cck_path.specs.Path.{Path, components, has_root}
@@ -40,19 +40,19 @@ in_turn a b c h k (inl p) (inr r) f = inr (rose_earlier a b c h r)
 in_turn a b c h k (inr r) q f = inr (rose_later a b c k r)
 
 -- without a canonical path
-pub not_canonical : (x : Result Path FileError) (HasFault : Type 0) (e : FileError) → e ≢ Memory → IsRefusalOrMemory x HasFault e → (false ≡ leads_if x) ⊎ HasFault
+pub not_canonical : (x : Result Path FileError) (HasFault : Type 0) (e : FileError) → e ≢ Memory → IsErrorOrMemory x HasFault e → (false ≡ leads_if x) ⊎ HasFault
 not_canonical x HasFault NotFound other r = inl (sym (ap leads_if r))
 not_canonical x HasFault OtherKind other r = inl (sym (ap leads_if r))
 not_canonical x HasFault Fault other r = inr r
 not_canonical x HasFault Memory other r = absurd (other refl)
 
 -- a path that does not exist
-pub nothing_stands : (m : FileMap) (p : Path) → stands_at m p ≡ false → false ≡ is_compiler m p
+pub nothing_exists : (m : FileMap) (p : Path) → exists_at m p ≡ false → false ≡ is_compiler m p
 unfolding is_compiler
-nothing_stands m p e = sym (ap (λ b. b && not (leads_to_wrapper m p)) e)
+nothing_exists m p e = sym (ap (λ b. b && not (leads_to_wrapper m p)) e)
 
 -- a path that exists
-pub stands : (m n : FileMap) (p : Path) (leads : Bool) → n ≡ m → stands_at m p ≡ true → leads ≡ leads_to_wrapper n p → not leads ≡ is_compiler m p
+pub stands : (m n : FileMap) (p : Path) (leads : Bool) → n ≡ m → exists_at m p ≡ true → leads ≡ leads_to_wrapper n p → not leads ≡ is_compiler m p
 unfolding is_compiler
 stands m n p leads same e h = ap not (h ∙ ap (λ k. leads_to_wrapper k p) same) ∙ sym (ap (λ b. b && not (leads_to_wrapper m p)) e)
 
@@ -118,17 +118,17 @@ first_found m n executable variables paths same are other =
 -- at one of the parts
 module _ (m : FileMap) (name : List ℕ) (parts : List (Bor (List ℕ))) (i : ℕ) (d : Bor (List ℕ)) (path : List ℕ) where
   -- this path is a compiler's
-  pub stands_here : i < length parts → path ≡ join_path (get_or parts i d).now name → true ≡ is_compiler m (components path)
+  pub exists_here : i < length parts → path ≡ join_path (get_or parts i d).now name → true ≡ is_compiler m (components path)
       → find (λ q. is_compiler m (components q)) (map (λ part. join_path part.now name) (drop i parts)) ≡ Some path
-  stands_here within is e =
+  exists_here within is e =
       found_here (λ q. is_compiler m (components q)) (λ part. join_path part.now name) parts i (get_or parts i d) within
       (get_or_default parts i d (get_or parts i d) within) (ap (λ q. is_compiler m (components q)) (sym is) ∙ sym e)
       ∙ ap Some (sym is)
 
   -- this path is not a compiler's
-  pub stands_later : i < length parts → path ≡ join_path (get_or parts i d).now name → false ≡ is_compiler m (components path)
+  pub exists_later : i < length parts → path ≡ join_path (get_or parts i d).now name → false ≡ is_compiler m (components path)
       → find (λ q. is_compiler m (components q)) (map (λ part. join_path part.now name) (drop i parts)) ≡ find (λ q. is_compiler m (components q)) (map (λ part. join_path part.now name) (drop (i + 1) parts))
-  stands_later within is e =
+  exists_later within is e =
       found_later (λ q. is_compiler m (components q)) (λ part. join_path part.now name) parts i (get_or parts i d) within
       (get_or_default parts i d (get_or parts i d) within) (ap (λ q. is_compiler m (components q)) (sym is) ∙ sym e)
 

@@ -4,7 +4,7 @@ use Rattle.std.specs.List.{find, list_any, slice_split}
 use Rattle.std.specs.Option.{option_map_or, unwrap_or}
 use Rattle.std.specs.Str.{bytes_eq, str_eq_ignore_ascii_case}
 use Rattle.cck_digest.specs.declared.error.FileError.{FileError}
-use Rattle.cck_files.specs.FileMap.{FileMap, canonical_at, stands_at}
+use Rattle.cck_files.specs.FileMap.{FileMap, canonical_at, exists_at}
 use Rattle.cck_path.specs.Names.{file_name_of, name_of}
 use Rattle.cck_path.specs.Path.{Component, Path, components, has_root}
 use Rattle.cck_path.specs.Text.{join_path}
@@ -63,7 +63,7 @@ candidates executable variables = places (file_name_of (components executable)) 
 
 -- the path exists and doesn't lead to a wrapper
 unfoldable pub is_compiler : FileMap → Path → Bool
-is_compiler m p = stands_at m p && not (leads_to_wrapper m p)
+is_compiler m p = exists_at m p && not (leads_to_wrapper m p)
 
 -- an absolute path that doesn't lead to a wrapper
 unfoldable pub is_settled : FileMap → Path → Bool

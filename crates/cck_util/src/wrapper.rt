@@ -4,7 +4,7 @@ ghost use Rattle.std.specs.List.{find};
 ghost use Rattle.std.specs.Option.{option_map};
 ghost use Rattle.std.specs.Str.{str_eq_ignore_ascii_case};
 ghost use Rattle.cck_files.specs.Calls.{Keeps, Rose};
-ghost use Rattle.cck_files.specs.FileMap.{stands_at};
+ghost use Rattle.cck_files.specs.FileMap.{exists_at};
 ghost use Rattle.cck_path.specs.Bytes.{variables_of};
 ghost use Rattle.cck_path.specs.Components.{component_of};
 ghost use Rattle.cck_path.specs.Path.{components};
@@ -45,8 +45,8 @@ pub fn resolve_compiler_avoiding_wrapper<F: Files>(
     ensures place { IfOk result (λ path. Contains
         (executable.now ∷ candidates executable.now (variables_of vars.now))
         path.items) }
-    ensures standing { IfOk result (λ path. (path.items ≡ executable.now)
-        ⊎ (stands_at (F.file_map files.old) (components path.items) ≡ true)) }
+    ensures judgement { IfOk result (λ path. (path.items ≡ executable.now)
+        ⊎ (exists_at (F.file_map files.old) (components path.items) ≡ true)) }
     ensures refused { IsOkUnless result UtilError.Memory }
 {
     match find_compiler(alloc, files, executable, vars)? {
@@ -70,8 +70,8 @@ fn find_compiler<F: Files>(
     ensures place { IfOk result (λ compiler. IfSome compiler (λ path. Contains
         (candidates executable.now (variables_of vars.now))
         path.items)) }
-    ensures standing { IfOk result (λ compiler. IfSome compiler (λ path.
-        stands_at (F.file_map files.old) (components path.items) ≡ true)) }
+    ensures judgement { IfOk result (λ compiler. IfSome compiler (λ path.
+        exists_at (F.file_map files.old) (components path.items) ≡ true)) }
     ensures refused { IsOkUnless result UtilError.Memory }
 {
     if is_settled(alloc, files, executable)? {
@@ -147,8 +147,8 @@ fn first_compiler<F: Files>(
         ⊎ Rose (F.faults files.old) (F.faults files.new)) }
     ensures place { IfOk result (λ compiler. IfSome compiler (λ path. Contains
         (map (λ part. joined_text part.now name.now) parts.now) path.items)) }
-    ensures standing { IfOk result (λ compiler. IfSome compiler (λ path.
-        stands_at (F.file_map files.old) (components path.items) ≡ true)) }
+    ensures judgement { IfOk result (λ compiler. IfSome compiler (λ path.
+        exists_at (F.file_map files.old) (components path.items) ≡ true)) }
     ensures refused { IsOkUnless result UtilError.Memory }
 {
     for part in parts {
@@ -166,8 +166,8 @@ fn is_compiler<F: Files>(alloc: Global, files: &mut F, path: &[u8]) -> Result<bo
     ensures answer { IfOk result (λ compiler.
         (compiler ≡ is_compiler (F.file_map files.old) (components path.now))
         ⊎ Rose (F.faults files.old) (F.faults files.new)) }
-    ensures standing { IfOk result (λ compiler. compiler ≡ true
-        → stands_at (F.file_map files.old) (components path.now) ≡ true) }
+    ensures judgement { IfOk result (λ compiler. compiler ≡ true
+        → exists_at (F.file_map files.old) (components path.now) ≡ true) }
     ensures refused { IsOkUnless result UtilError.Memory }
 {
     if !files.exists(path) {

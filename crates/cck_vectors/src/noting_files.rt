@@ -1,8 +1,8 @@
 //! Files in memory that count the calls on one path, and that can be read in single bytes.
 ghost use Rattle.std.specs.Prelude.{◌≡◌, ◌⊎◌, false, true, map, IsOkAnd, MatchBool, MatchResult, Ok, vec_items};
 ghost use Rattle.cck_path.specs.Path.{components};
-ghost use Rattle.cck_files.specs.Calls.{IsRead, IsRefusal, IsRefusalOrMemory, Keeps, Rose};
-ghost use Rattle.cck_files.specs.FileMap.{IsListing, canonical_at, contents_at, folder_at, metadata_at, stands_at};
+ghost use Rattle.cck_files.specs.Calls.{IsRead, IsError, IsErrorOrMemory, Keeps, Rose};
+ghost use Rattle.cck_files.specs.FileMap.{IsListing, canonical_at, contents_at, folder_at, metadata_at, exists_at};
 ghost use Rattle.cck_vectors.specs.NotingFiles.{IsNoted, faults_of, is_quiet, map_of};
 
 use cck_digest::FileError;
@@ -53,7 +53,7 @@ impl Files for NotingFiles {
         ensures keeps { Keeps map_of faults_of is_quiet self.old self.new }
         ensures answer { let found = metadata_at (map_of self.old) (components path.now) in
             MatchResult result (λ metadata. found ≡ Ok metadata)
-            (IsRefusal found (Rose (faults_of self.old) (faults_of self.new))) }
+            (IsError found (Rose (faults_of self.old) (faults_of self.new))) }
         ensures call { IsNoted self.old (components path.now) self.new }
     {
         self.note(path);
@@ -64,7 +64,7 @@ impl Files for NotingFiles {
         ensures keeps { Keeps map_of faults_of is_quiet self.old self.new }
         ensures answer { let found = contents_at (map_of self.old) (components path.now) in
             MatchResult result (λ n. IsOkAnd found (λ contents. IsRead contents offset n buffer.new))
-            (IsRefusal found (Rose (faults_of self.old) (faults_of self.new))) }
+            (IsError found (Rose (faults_of self.old) (faults_of self.new))) }
         ensures call { IsNoted self.old (components path.now) self.new }
     {
         self.note(path);
@@ -79,7 +79,7 @@ impl Files for NotingFiles {
         ensures keeps { Keeps map_of faults_of is_quiet self.old self.new }
         ensures answer { MatchResult result
             (λ names. IsListing (map_of self.old) (components path.now) (map vec_items names.items))
-            (IsRefusalOrMemory (folder_at (map_of self.old) (components path.now))
+            (IsErrorOrMemory (folder_at (map_of self.old) (components path.now))
             (Rose (faults_of self.old) (faults_of self.new))) }
         ensures call { IsNoted self.old (components path.now) self.new }
     {
@@ -89,7 +89,7 @@ impl Files for NotingFiles {
 
     fn exists(&mut self, path: &[u8]) -> bool
         ensures keeps { Keeps map_of faults_of is_quiet self.old self.new }
-        ensures answer { let stands = stands_at (map_of self.old) (components path.now) in
+        ensures answer { let stands = exists_at (map_of self.old) (components path.now) in
             MatchBool result (stands ≡ true)
             ((stands ≡ false) ⊎ Rose (faults_of self.old) (faults_of self.new)) }
         ensures call { IsNoted self.old (components path.now) self.new }
@@ -102,7 +102,7 @@ impl Files for NotingFiles {
         ensures keeps { Keeps map_of faults_of is_quiet self.old self.new }
         ensures answer { let found = canonical_at (map_of self.old) (components path.now) in
             MatchResult result (λ path. found ≡ Ok (components path.items))
-            (IsRefusalOrMemory found (Rose (faults_of self.old) (faults_of self.new))) }
+            (IsErrorOrMemory found (Rose (faults_of self.old) (faults_of self.new))) }
         ensures call { IsNoted self.old (components path.now) self.new }
     {
         self.note(path);

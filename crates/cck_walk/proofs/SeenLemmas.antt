@@ -9,9 +9,9 @@ use Rattle.std.specs.Option.{option_map}
 use Rattle.std.specs.Ordering.{eq_by_cmp}
 use Rattle.std.specs.Prelude.{Contains}
 use Rattle.cck_path.specs.Path.{Path, path_cmp, path_cmp_total}
-use Rattle.cck_walk.specs.Decided.{Context, Digests, Outcome, Passes, Records, Refuses, after, is_known, is_passed, outcome, path_named, standing_outcome}
+use Rattle.cck_walk.specs.Decided.{Context, Digests, Outcome, Passes, Records, Refuses, after, is_known, is_passed, outcome, path_named, judgement_outcome}
 use Rattle.cck_walk.specs.Seen.{AllPass, name_in, names_in}
-use Rattle.cck_walk.specs.Standing.{Standing, Folder, Regular, Bad, standing_at}
+use Rattle.cck_walk.specs.Judgement.{Judgement, Folder, Regular, Bad, judgement_at}
 use Rattle.cck_walk.specs.declared.seen.SeenName.{SeenName}
 use Rattle.cck_walk.specs.declared.seen.SeenNames.{SeenNames}
 
@@ -98,9 +98,9 @@ pub passes_on : (c : Context) (held : Digests) (p : Path) (digest name : List �
 unfolding outcome
 passes_on c held p digest name is_system e =
     let q = path_named c name in
-    passes_still (is_passed c.setting.config.skip_system_headers name is_system) (is_known c held q) (is_known c (insert held p digest) q) (standing_outcome q (standing_at c.setting c.files q)) (more_known c held p q digest) e
+    passes_still (is_passed c.setting.config.skip_system_headers name is_system) (is_known c held q) (is_known c (insert held p digest) q) (judgement_outcome q (judgement_at c.setting c.files q)) (more_known c held p q digest) e
 
-path_recorded : (passed known : Bool) (q p : Path) (s : Standing) (digest : List ℕ) → (if passed then Passes else if known then Passes else standing_outcome q s) ≡ Records p digest → p ≡ q
+path_recorded : (passed known : Bool) (q p : Path) (s : Judgement) (digest : List ℕ) → (if passed then Passes else if known then Passes else judgement_outcome q s) ≡ Records p digest → p ≡ q
 path_recorded true known q p s digest e = absurd (apart e)
   where
     apart : Passes ≡ Records p digest → ⊥
@@ -128,11 +128,11 @@ passes_recorded : (c : Context) (held : Digests) (p : Path) (digest name : List 
 unfolding outcome is_known
 passes_recorded c held p digest name is_system e =
     let q = path_named c name in
-    let s = standing_at c.setting c.files q in
+    let s = judgement_at c.setting c.files q in
     let same : p ≡ q = path_recorded (is_passed c.setting.config.skip_system_headers name is_system) (is_known c held q) q p s digest e in
     let tie : eq_by_cmp path_cmp q p ≡ true = subst (λ r. eq_by_cmp path_cmp q r ≡ true) (sym same) ((eq_by_cmp_equiv path_cmp_total).refl q) in
     let there : is_some (get (insert held p digest) q) ≡ true = ap is_some (get-insert path_cmp_total held p digest q) ∙ rw tie refl in
-    passes_known (is_passed c.setting.config.skip_system_headers name is_system) (is_known c (insert held p digest) q) (standing_outcome q s) (rw there refl)
+    passes_known (is_passed c.setting.config.skip_system_headers name is_system) (is_known c (insert held p digest) q) (judgement_outcome q s) (rw there refl)
 
 -- with these digests, the name is passed over, and so are those that were passed over before
 abbrev pub Still : Context → Digests → List ℕ → Bool → Digests → Type 0

@@ -10,8 +10,8 @@ use Rattle.cck_markers.proofs.EachText.{each_text}
 use Rattle.cck_markers.specs.Markers.{Gives, MarksLeft, Unread, whole}
 use Rattle.cck_markers.specs.Marks.{Mark, Name, Refusal, Malformed}
 use Rattle.cck_path.specs.Path.{Path}
-use Rattle.cck_walk.specs.Decided.{Accepts, Asked, AsksForNone, Context, TextDecides, Digests, Errs, IsLookedFor, IsRefused, LooksForNone, Outcome, Passes, Refuses, after, decided, is_known, is_looked_for, is_passed, outcome, path_named, standing_outcome}
-use Rattle.cck_walk.specs.Standing.{standing_at}
+use Rattle.cck_walk.specs.Decided.{Accepts, Asked, AsksForNone, Context, TextDecides, Digests, Errs, IsLookedFor, IsRefused, LooksForNone, Outcome, Passes, Refuses, after, decided, is_known, is_looked_for, is_passed, outcome, path_named, judgement_outcome}
+use Rattle.cck_walk.specs.Judgement.{judgement_at}
 
 passed_by : (passed known : Bool) (o : Outcome) → not (passed || known) ≡ false → (if passed then Passes else if known then Passes else o) ≡ Passes
 passed_by true known o e = refl
@@ -23,7 +23,7 @@ passed_over : (c : Context) (held : Digests) (name : List ℕ) (is_system : Bool
 unfolding is_looked_for outcome
 passed_over c held name is_system e =
     let p = path_named c name in
-    passed_by (is_passed c.setting.config.skip_system_headers name is_system) (is_known c held p) (standing_outcome p (standing_at c.setting c.files p)) e
+    passed_by (is_passed c.setting.config.skip_system_headers name is_system) (is_known c held p) (judgement_outcome p (judgement_at c.setting c.files p)) e
 
 -- marks by which no file is looked for lead to no digests
 no_digests : (c : Context) (d : Digests) (before marks : List Mark) (held : Digests) → d ≡ empty → AllByRecursion (AsksForNone c) (before ++ marks) → decided c (Some d) before ≡ Accepts held
@@ -39,7 +39,7 @@ no_digests c d (Name name is_system ∷ before) marks held nothing none e =
 -- a text that looks for no file looks for no path
 pub none_asked : (c : Context) (text : List ℕ) → LooksForNone c text → (p : Path) → Asked c text p → ⊥
 none_asked c text none p asked =
-    let so = no_digests c empty asked.before (Name asked.name asked.is_system ∷ asked.behind) asked.held refl (none _ asked.marks) asked.undecided in
+    let so = no_digests c empty asked.before (Name asked.name asked.is_system ∷ asked.following) asked.held refl (none _ asked.marks) asked.undecided in
     let here : is_looked_for c asked.held asked.name asked.is_system ≡ false = ap (λ (x : Digests). is_looked_for c x asked.name asked.is_system) so.0 ∙ so.1.0 in
     false≢true (sym here ∙ asked.looked_for.0)
 
@@ -103,7 +103,7 @@ module _ (c : Context) (text : List ℕ) where
               before = passed.before;
               name = name;
               is_system = is_system;
-              behind = rest.0;
+              following = rest.0;
               marks = passed.gives (Name name is_system ∷ rest.0) (gives rest.0 rest.1);
               held = held;
               undecided = passed.undecided;
@@ -124,6 +124,6 @@ module _ (c : Context) (text : List ℕ) where
             (all.0, all.1, all.2 ∙ ap (λ o. decided c (after held o) rest.0) why)
 
         -- or a fault came where its path was looked for
-        pub refused_by : (P Q : Type 0) → (P → Q) → (outcome c held name is_system ≡ Refuses) ⊎ (P × (is_looked_for c held name is_system ≡ true)) → TextDecides c text IsRefused ⊎ (Q × (p : Path) × Asked c text p)
-        refused_by P Q f (inl why) = inl (refused_name why)
-        refused_by P Q f (inr fault) = inr (f fault.0, path_named c name, asked (path_named c name) (fault.1, refl))
+        pub error_by_fault : (P Q : Type 0) → (P → Q) → (outcome c held name is_system ≡ Refuses) ⊎ (P × (is_looked_for c held name is_system ≡ true)) → TextDecides c text IsRefused ⊎ (Q × (p : Path) × Asked c text p)
+        error_by_fault P Q f (inl why) = inl (refused_name why)
+        error_by_fault P Q f (inr fault) = inr (f fault.0, path_named c name, asked (path_named c name) (fault.1, refl))

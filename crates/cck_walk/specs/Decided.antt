@@ -11,7 +11,7 @@ use Rattle.cck_path.specs.Path.{Path, components, joined, normal, path_cmp}
 use Rattle.cck_path.specs.Timestamp.{Moment}
 use Rattle.cck_time.specs.declared.config.PreprocessorCacheModeConfig.{PreprocessorCacheModeConfig}
 use Rattle.jiff.specs.Types.{TimeZone}
-use Rattle.cck_walk.specs.Standing.{Standing, standing_at}
+use Rattle.cck_walk.specs.Judgement.{Judgement, judgement_at}
 
 -- digests by paths
 abbrev pub Digests : Type 0
@@ -64,13 +64,13 @@ pub data Outcome : Type 0 where
   Records : Path → List ℕ → Outcome
   Refuses : Outcome
 
-abbrev pub standing_outcome : Path → Standing → Outcome
-standing_outcome p Standing.Folder = Passes
-standing_outcome p (Standing.Regular digest) = Records p digest
-standing_outcome p Standing.Bad = Refuses
+abbrev pub judgement_outcome : Path → Judgement → Outcome
+judgement_outcome p Judgement.Folder = Passes
+judgement_outcome p (Judgement.Regular digest) = Records p digest
+judgement_outcome p Judgement.Bad = Refuses
 
 abbrev pub path_outcome : Context → Digests → Path → Outcome
-path_outcome c held p = if is_known c held p then Passes else standing_outcome p (standing_at c.setting c.files p)
+path_outcome c held p = if is_known c held p then Passes else judgement_outcome p (judgement_at c.setting c.files p)
 
 unfoldable pub outcome : Context → Digests → List ℕ → Bool → Outcome
 outcome c held name is_system = if is_passed c.setting.config.skip_system_headers name is_system then Passes else path_outcome c held (path_named c name)
@@ -100,8 +100,8 @@ pub record Asked (c : Context) (text : List ℕ) (p : Path) : Type 0 where
   pub before : List Mark
   pub name : List ℕ
   pub is_system : Bool
-  pub behind : List Mark
-  pub marks : Marks true text (before ++ Name name is_system ∷ behind)
+  pub following : List Mark
+  pub marks : Marks true text (before ++ Name name is_system ∷ following)
   pub held : Digests
   pub undecided : decided c (Some empty) before ≡ Accepts held
   pub looked_for : IsLookedFor c held name is_system p

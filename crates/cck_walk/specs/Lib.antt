@@ -2,5 +2,5 @@ pub mod Decided
 pub mod Digests
 pub mod Line
 pub mod Seen
-pub mod Standing
+pub mod Judgement
 pub mod Walk

@@ -10,11 +10,11 @@ use Rattle.cck_walk.specs.declared.line.LineAction.{LineAction}
 use Rattle.cck_walk.specs.declared.line.LineAction.TheVariants.{Continue, Break}
 
 -- a name was taken; or the text is refused for it; or a fault came where a file is looked for, and the text counts as refused
-abbrev pub IsNameAnswer : Context → Type 0 → Digests → Digests → List ℕ → Bool → Result Bool KeyError → Type 0
-IsNameAnswer c HasFault old new name is_system_in (Ok true) = after old (outcome c old name is_system_in) ≡ Some new
-IsNameAnswer c HasFault old new name is_system_in (Ok false) = (new ≡ old) × ((outcome c old name is_system_in ≡ Refuses) ⊎ (HasFault × (is_looked_for c old name is_system_in ≡ true)))
-IsNameAnswer c HasFault old new name is_system_in (Err Memory) = new ≡ old
-IsNameAnswer c HasFault old new name is_system_in (Err other) = ⊥
+abbrev pub IsNameResult : Context → Type 0 → Digests → Digests → List ℕ → Bool → Result Bool KeyError → Type 0
+IsNameResult c HasFault old new name is_system_in (Ok true) = after old (outcome c old name is_system_in) ≡ Some new
+IsNameResult c HasFault old new name is_system_in (Ok false) = (new ≡ old) × ((outcome c old name is_system_in ≡ Refuses) ⊎ (HasFault × (is_looked_for c old name is_system_in ≡ true)))
+IsNameResult c HasFault old new name is_system_in (Err Memory) = new ≡ old
+IsNameResult c HasFault old new name is_system_in (Err other) = ⊥
 
 -- a marker with a name that has bytes, and the places of these
 abbrev pub IsLongNamed : List ℕ → ℕ → ℕ → (List ℕ → Bool → Type 0) → Type 0
@@ -25,16 +25,16 @@ abbrev pub IsLineLookedFor : Context → Digests → List ℕ → Path → Type 
 IsLineLookedFor c held text p = (marker : Named text) × IsLookedFor c held marker.name (is_system marker.rest) p
 
 -- the result for the marker with which this text begins, where the text begins at a place of a longer one
-abbrev pub IsLineAnswer : Context → Type 0 → List ℕ → ℕ → ℕ → Digests → Digests → Result LineAction KeyError → Type 0
-IsLineAnswer c HasFault text start hash_start old new (Ok (Continue (next, also))) =
+abbrev pub IsLineResult : Context → Type 0 → List ℕ → ℕ → ℕ → Digests → Digests → Result LineAction KeyError → Type 0
+IsLineResult c HasFault text start hash_start old new (Ok (Continue (next, also))) =
     (begin : ℕ) × (end : ℕ) × (next ≡ start + end) × (also ≡ start + end)
     × IsLongNamed text begin end (λ name is_system_in. after old (outcome c old name is_system_in) ≡ Some new)
-IsLineAnswer c HasFault text start hash_start old new (Ok (Break (next, from, false))) =
+IsLineResult c HasFault text start hash_start old new (Ok (Break (next, from, false))) =
     (begin : ℕ) × (end : ℕ) × (next ≡ start + end) × (from ≡ start + begin) × (new ≡ old)
     × IsLongNamed text begin end (λ name is_system_in. (outcome c old name is_system_in ≡ Refuses) ⊎ (HasFault × (is_looked_for c old name is_system_in ≡ true)))
-IsLineAnswer c HasFault text start hash_start old new (Ok (Break (next, from, true))) =
+IsLineResult c HasFault text start hash_start old new (Ok (Break (next, from, true))) =
     (new ≡ old) × (((end : ℕ) × IsUnnamedTo text end × (next ≡ start + end) × (from ≡ hash_start))
     ⊎ ((marker : Named text) × (begin : ℕ) × (end : ℕ) × IsNamedAt text begin end marker × (marker.name ≡ []) × (next ≡ start + end) × (from ≡ start + begin)))
-IsLineAnswer c HasFault text start hash_start old new (Err Marker) = (new ≡ old) × ((Unnamed text → ⊥) × (Named text → ⊥))
-IsLineAnswer c HasFault text start hash_start old new (Err Memory) = new ≡ old
-IsLineAnswer c HasFault text start hash_start old new (Err other) = ⊥
+IsLineResult c HasFault text start hash_start old new (Err Marker) = (new ≡ old) × ((Unnamed text → ⊥) × (Named text → ⊥))
+IsLineResult c HasFault text start hash_start old new (Err Memory) = new ≡ old
+IsLineResult c HasFault text start hash_start old new (Err other) = ⊥

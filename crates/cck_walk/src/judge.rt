@@ -4,7 +4,7 @@ ghost use Rattle.cck_files.specs.Calls.{AreCalls, Keeps, Rose};
 ghost use Rattle.cck_include.specs.Setting.{setting_in};
 ghost use Rattle.cck_path.specs.Path.{components};
 ghost use Rattle.jiff.specs.Words.{plain_zone};
-ghost use Rattle.cck_walk.specs.Standing.{IsJudged, is_late, judged_unread, standing_at};
+ghost use Rattle.cck_walk.specs.Judgement.{IsJudged, is_late, judged_unread, judgement_at};
 
 use cck_digest::HashState;
 use cck_files::Files;
@@ -69,7 +69,7 @@ pub(crate) fn judge<H: HashState, F: Files>(
 ) -> Result<Judged, KeyError>
     ensures keeps { Keeps F.file_map F.faults F.is_quiet files.old files.new }
     ensures calls { AreCalls F.is_call (λ p. p ≡ components path.now) files.old files.new }
-    ensures answer { IsJudged (standing_at (setting_in H.hash config moment (plain_zone zone.now) vars.now)
+    ensures answer { IsJudged (judgement_at (setting_in H.hash config moment (plain_zone zone.now) vars.now)
         (F.file_map files.old) (components path.now)) (Rose (F.faults files.old) (F.faults files.new)) result }
 {
     let metadata = match files.metadata(path) {

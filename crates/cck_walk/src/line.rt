@@ -3,7 +3,7 @@ ghost use Rattle.std.specs.Prelude.{◌≤◌, ◌<◌, drop, length};
 ghost use Rattle.cck_files.specs.Calls.{AreCalls, Keeps, Rose};
 ghost use Rattle.jiff.specs.Words.{plain_zone};
 ghost use Rattle.cck_walk.specs.Decided.{context_in};
-ghost use Rattle.cck_walk.specs.Line.{IsLineAnswer, IsLineLookedFor};
+ghost use Rattle.cck_walk.specs.Line.{IsLineResult, IsLineLookedFor};
 
 use crate::Records;
 use crate::name::take_name;
@@ -69,7 +69,7 @@ pub fn process_preprocessor_line<H: HashState, F: Files>(
     ensures calls { AreCalls F.is_call (IsLineLookedFor (context_in H.hash config moment
         (plain_zone zone.now) vars.now (F.file_map files.old) input_file.now cwd.now) records.old
         (drop start text.now)) files.old files.new }
-    ensures answer { IsLineAnswer (context_in H.hash config moment (plain_zone zone.now) vars.now
+    ensures answer { IsLineResult (context_in H.hash config moment (plain_zone zone.now) vars.now
         (F.file_map files.old) input_file.now cwd.now) (Rose (F.faults files.old) (F.faults files.new))
         (drop start text.now) start hash_start records.old records.new result }
 {

@@ -5,7 +5,7 @@ ghost use Rattle.cck_files.specs.Calls.{AreCalls, Keeps, Rose};
 ghost use Rattle.cck_path.specs.Path.{components, joined, normal, path_cmp};
 ghost use Rattle.jiff.specs.Words.{plain_zone};
 ghost use Rattle.cck_walk.specs.Decided.{IsLookedFor, context_in, is_angled, is_passed};
-ghost use Rattle.cck_walk.specs.Line.{IsNameAnswer};
+ghost use Rattle.cck_walk.specs.Line.{IsNameResult};
 
 use crate::Records;
 use crate::judge::{Judged, judge};
@@ -80,7 +80,7 @@ pub(crate) fn take_name<H: HashState, F: Files>(
     ensures calls { AreCalls F.is_call (IsLookedFor (context_in H.hash config moment
         (plain_zone zone.now) vars.now (F.file_map files.old) input_file.now cwd.now) records.old
         name.now is_system) files.old files.new }
-    ensures answer { IsNameAnswer (context_in H.hash config moment (plain_zone zone.now) vars.now
+    ensures answer { IsNameResult (context_in H.hash config moment (plain_zone zone.now) vars.now
         (F.file_map files.old) input_file.now cwd.now) (Rose (F.faults files.old) (F.faults files.new))
         records.old records.new name.now is_system result }
 {

@@ -10,7 +10,7 @@ ghost use Rattle.c_cache_keys.specs.Step.{AsksBy};
 use super::opening::Opening;
 use crate::call::CacheControl;
 use crate::conditions::Conditions;
-use crate::refusals::entry_refusal;
+use crate::refusals::entry_error;
 use cck_compiler::KeyError;
 use cck_digest::HashState;
 use cck_entry::EntryView;
@@ -68,7 +68,7 @@ fn ask<H: HashState, F: Files, S: PreprocessorStore>(
     };
     let view = match EntryView::read(alloc, &bytes) {
         Ok(view) => view,
-        Err(error) => return Err(entry_refusal(error)),
+        Err(error) => return Err(entry_error(error)),
     };
     let found = match view.lookup_result_digest::<H, F>(
         alloc,

@@ -14,7 +14,7 @@ use super::opening::Opening;
 use super::storing::put_result;
 use crate::conditions::Conditions;
 use crate::included::included_of;
-use crate::refusals::{input_refusal, text_refusal};
+use crate::refusals::{input_error, text_error};
 use cck_compiler::{CCompilerImpl, KeyError, push_copies};
 use cck_digest::HashState;
 use cck_file_digest::read_contents;
@@ -52,7 +52,7 @@ impl<I: CCompilerImpl> CCompilerHasher<I> {
         if !self.parsed_args.language.needs_c_preprocessing() {
             let text = match read_contents(alloc, files, &input) {
                 Ok(text) => text,
-                Err(error) => return Err(input_refusal(error)),
+                Err(error) => return Err(input_error(error)),
             };
             return self.plain_key::<H>(alloc, &opening.extra_hashes, conditions, &text);
         }
@@ -66,7 +66,7 @@ impl<I: CCompilerImpl> CCompilerHasher<I> {
             conditions.moment,
         ) {
             Ok(text) => text,
-            Err(error) => return Err(text_refusal(error)),
+            Err(error) => return Err(text_error(error)),
         };
         match &opening.key {
             None => self.plain_key::<H>(alloc, &opening.extra_hashes, conditions, &text),

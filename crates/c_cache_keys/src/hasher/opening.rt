@@ -6,7 +6,7 @@ ghost use Rattle.cck_path.specs.Bytes.{variables_of};
 ghost use Rattle.cck_files.specs.Calls.{Keeps, Rose};
 ghost use Rattle.cck_util.specs.Language.{is_preprocessed_first};
 ghost use Rattle.c_cache_keys.specs.Conditions.{call_under, given_of, world_under};
-ghost use Rattle.c_cache_keys.specs.Hasher.{IsInputRefusal, IsKeyOfInput, IsOpening};
+ghost use Rattle.c_cache_keys.specs.Hasher.{IsInputError, IsKeyOfInput, IsOpening};
 ghost use Rattle.c_cache_keys.specs.Keys.{is_direct, is_off};
 ghost use Rattle.c_cache_keys.specs.Reasons.{IsFileReason};
 ghost use Rattle.c_cache_keys.specs.Seen.{why_of};
@@ -14,7 +14,7 @@ ghost use Rattle.c_cache_keys.specs.Step.{StopsOpening};
 
 use super::CCompilerHasher;
 use crate::conditions::Conditions;
-use crate::refusals::{extra_refusal, key_refusal};
+use crate::refusals::{extra_error, key_error_of};
 use cck_compiler::{CCompilerImpl, KeyError};
 use cck_digest::HashState;
 use cck_file_digest::hash_all;
@@ -109,7 +109,7 @@ impl<I: CCompilerImpl> CCompilerHasher<I> {
             &self.parsed_args.extra_hash_files,
         ) {
             Ok(extra_hashes) => extra_hashes,
-            Err(error) => return Err(extra_refusal(error)),
+            Err(error) => return Err(extra_error(error)),
         };
         if !self.uses_cache(conditions) {
             return Ok(Opening {
@@ -136,7 +136,7 @@ impl<I: CCompilerImpl> CCompilerHasher<I> {
             let w = world_under H.hash I.compiler given in
             let c = call_under I.value (F.file_map files.old) self.now given in
             MatchResult result (λ key. IsKeyOfInput w c (map string_bytes extra_hashes.now) (option_map string_bytes key))
-            (IsInputRefusal w c (Rose (F.faults files.old) (F.faults files.new))) }
+            (IsInputError w c (Rose (F.faults files.old) (F.faults files.new))) }
     {
         let args = &self.parsed_args;
         let input = match join_path(alloc, conditions.cwd, &args.input) {
@@ -164,7 +164,7 @@ impl<I: CCompilerImpl> CCompilerHasher<I> {
         );
         match key {
             Ok(key) => Ok(key),
-            Err(error) => Err(key_refusal(error)),
+            Err(error) => Err(key_error_of(error)),
         }
     }
 }

@@ -3,8 +3,8 @@ ghost use Rattle.std.specs.Prelude.{◌≡◌, ◌⊎◌, false, if◌then◌els
 ghost use Rattle.cck_path.specs.Path.{components};
 ghost use Rattle.cck_path.specs.Text.{path_text};
 ghost use Rattle.cck_files.specs.ArmedCalls.{fails};
-ghost use Rattle.cck_files.specs.Calls.{IsFullRead, IsRead, IsRefusal, IsRefusalOrMemory, Keeps, Rose};
-ghost use Rattle.cck_files.specs.FileMap.{IsListing, canonical_at, contents_at, folder_at, metadata_at, metadata_of, stands_at};
+ghost use Rattle.cck_files.specs.Calls.{IsFullRead, IsRead, IsError, IsErrorOrMemory, Keeps, Rose};
+ghost use Rattle.cck_files.specs.FileMap.{IsListing, canonical_at, contents_at, folder_at, metadata_at, metadata_of, exists_at};
 ghost use Rattle.cck_files.specs.FileState.{IsAfterCall, IsQuiet, fault_count, is_fault};
 ghost use Rattle.cck_files.specs.Node.{node_of};
 
@@ -31,7 +31,7 @@ impl Files for MapFiles {
         ensures keeps { Keeps (λ files. files.files) fault_count IsQuiet self.old self.new }
         ensures answer { let found = metadata_at self.old.files (components path.now) in
             MatchResult result (λ metadata. found ≡ Ok metadata)
-            (IsRefusal found (Rose (fault_count self.old) (fault_count self.new))) }
+            (IsError found (Rose (fault_count self.old) (fault_count self.new))) }
         ensures call { IsAfterCall self.old self.new }
         ensures fault { is_fault result ≡ fails self.old.armed }
     {
@@ -49,7 +49,7 @@ impl Files for MapFiles {
         ensures keeps { Keeps (λ files. files.files) fault_count IsQuiet self.old self.new }
         ensures answer { let found = contents_at self.old.files (components path.now) in
             MatchResult result (λ n. IsOkAnd found (λ contents. IsRead contents offset n buffer.new))
-            (IsRefusal found (Rose (fault_count self.old) (fault_count self.new))) }
+            (IsError found (Rose (fault_count self.old) (fault_count self.new))) }
         ensures full { IfOk result (λ n. IsOkAnd (contents_at self.old.files (components path.now))
             (λ contents. IsFullRead contents offset n buffer.old buffer.new)) }
         ensures left { OnErr result (buffer.new ≡ buffer.old) }
@@ -73,7 +73,7 @@ impl Files for MapFiles {
         ensures keeps { Keeps (λ files. files.files) fault_count IsQuiet self.old self.new }
         ensures answer { MatchResult result
             (λ names. IsListing self.old.files (components path.now) (map vec_items names.items))
-            (IsRefusalOrMemory (folder_at self.old.files (components path.now))
+            (IsErrorOrMemory (folder_at self.old.files (components path.now))
             (Rose (fault_count self.old) (fault_count self.new))) }
         ensures memory { result ≡ Err FileError.Memory →
             folder_at self.old.files (components path.now) ≡ Ok tt }
@@ -92,15 +92,15 @@ impl Files for MapFiles {
         }
     }
 
-    #[tactic(auto, unfolding(crate::specs::FileMap::stands_at))]
+    #[tactic(auto, unfolding(crate::specs::FileMap::exists_at))]
     fn exists(&mut self, path: &[u8]) -> bool
         ensures keeps { Keeps (λ files. files.files) fault_count IsQuiet self.old self.new }
-        ensures answer { let stands = stands_at self.old.files (components path.now) in
+        ensures answer { let stands = exists_at self.old.files (components path.now) in
             MatchBool result (stands ≡ true)
             ((stands ≡ false) ⊎ Rose (fault_count self.old) (fault_count self.new)) }
         ensures call { IsAfterCall self.old self.new }
         ensures fault { result ≡ (if fails self.old.armed then false
-            else stands_at self.old.files (components path.now)) }
+            else exists_at self.old.files (components path.now)) }
     {
         if self.begin() {
             return false;
@@ -113,7 +113,7 @@ impl Files for MapFiles {
         ensures keeps { Keeps (λ files. files.files) fault_count IsQuiet self.old self.new }
         ensures answer { let found = canonical_at self.old.files (components path.now) in
             MatchResult result (λ path. found ≡ Ok (components path.items))
-            (IsRefusalOrMemory found (Rose (fault_count self.old) (fault_count self.new))) }
+            (IsErrorOrMemory found (Rose (fault_count self.old) (fault_count self.new))) }
         ensures text { IfOk result (λ path. path.items ≡ path_text (components path.items)) }
         ensures memory { result ≡ Err FileError.Memory →
             IsOk (canonical_at self.old.files (components path.now)) }

@@ -1,9 +1,9 @@
 use Rattle.std.proofs.Common.{◌+◌, add-one, arith, ap, refl, ◌∙◌}
 use Rattle.cck_path.specs.Bytes.{lists_of}
 use Rattle.jiff.specs.Words.{plain_zone}
-use Rattle.c_cache_keys.proofs.Ran.{after_more, all_answered, all_run, answered_more, rest_more, untouched}
+use Rattle.c_cache_keys.proofs.Ran.{after_more, all_returned, all_run, returned_more, rest_more, untouched}
 use Rattle.c_cache_keys.proofs.Runs.{transparent}
-use Rattle.c_cache_keys.proofs.Stored.{run_answers_handed}
+use Rattle.c_cache_keys.proofs.Stored.{run_returns_stored}
 use Rattle.c_cache_keys.specs.World.{world_of}
 use Rattle.c_cache_keys.proofs.calls.run_calls.Goals as goal
 
@@ -12,7 +12,7 @@ returns-in_err-answers-clause-keeps g c = untouched g.F.Files.file_map g.F.Files
 
 pub loop-call-init : goal.loop-call-init
 loop-call-init g c = record {
-  answered = rw c.in_ok-answers.ensures.items refl;
+  returned = rw c.in_ok-answers.ensures.items refl;
   rest = refl;
   after = untouched g.F.Files.file_map g.F.Files.faults g.F.Files.is_quiet c.args.calls.now;
   count = c.in_ok-answers.ensures.len;
@@ -24,9 +24,9 @@ loop-call-preserved g c =
     let F = g.F.Files in
     let w = world_of g.H.HashState.hash g.I.CCompilerImpl.compiler (plain_zone c.args.zone.now) c.args.config (lists_of c.args.basedirs.now) in
     record {
-      answered = rw (add-one, c.in_ok-push.ensures.items)
-          (answered_more g.I.CCompilerImpl.value F.file_map F.faults w g.S.PreprocessorStore.store c.loop-call.call-index c.args.calls.now c.loop-call.calls _ c.call-item.result _ _ _ _ _
-          c.loop-call-test.true c.loop-call.invariant.rest c.loop-call.invariant.answered (record {
+      returned = rw (add-one, c.in_ok-push.ensures.items)
+          (returned_more g.I.CCompilerImpl.value F.file_map F.faults w g.S.PreprocessorStore.store c.loop-call.call-index c.args.calls.now c.loop-call.calls _ c.call-item.result _ _ _ _ _
+          c.loop-call-test.true c.loop-call.invariant.rest c.loop-call.invariant.returned (record {
             step = rw (c.deref.ensures.value, c.deref-in-loop-call.ensures.value) at c.generate_hash_key-answer.ensures.step;
             reason = rw (c.deref.ensures.value, c.deref-in-loop-call.ensures.value) at c.generate_hash_key-answer.ensures.reason;
             toolchain = c.generate_hash_key-answer.ensures.toolchain;
@@ -38,19 +38,19 @@ loop-call-preserved g c =
       room = omega (c.in_ok-push.ensures.capacity, c.loop-call.invariant.room, arith);
     }
 
-pub returns-clause-answered : goal.returns-clause-answered
-returns-clause-answered g c =
-    all_answered g.I.CCompilerImpl.value g.F.Files.file_map g.F.Files.faults _ g.S.PreprocessorStore.store c.loop-call.call-index c.args.calls.now c.loop-call.calls _ _ _
-    c.loop-call-test.false c.loop-call.auto.calls c.loop-call.invariant.answered
+pub returns-clause-returned : goal.returns-clause-returned
+returns-clause-returned g c =
+    all_returned g.I.CCompilerImpl.value g.F.Files.file_map g.F.Files.faults _ g.S.PreprocessorStore.store c.loop-call.call-index c.args.calls.now c.loop-call.calls _ _ _
+    c.loop-call-test.false c.loop-call.auto.calls c.loop-call.invariant.returned
 
 pub returns-clause-run : goal.returns-clause-run
 returns-clause-run g c =
     all_run g.I.CCompilerImpl.value g.F.Files.file_map g.F.Files.faults _ g.S.PreprocessorStore.store c.loop-call.call-index c.args.calls.now c.loop-call.calls _ _ _
-    c.loop-call-test.false c.loop-call.auto.calls c.loop-call.invariant.answered
+    c.loop-call-test.false c.loop-call.auto.calls c.loop-call.invariant.returned
 
 pub returns-clause-headline : goal.returns-clause-headline
 returns-clause-headline g c = λ none premises.
     transparent _ g.S.PreprocessorStore.store g.met.H.HashState.length_hash g.met.S.PreprocessorStore.laws _ _ _ _ none (returns-clause-run g c) premises
 
-pub returns-clause-handed : goal.returns-clause-handed
-returns-clause-handed g c = run_answers_handed _ g.S.PreprocessorStore.store _ _ _ _ (returns-clause-run g c)
+pub returns-clause-returned : goal.returns-clause-returned
+returns-clause-returned g c = run_returns_stored _ g.S.PreprocessorStore.store _ _ _ _ (returns-clause-run g c)

@@ -1,6 +1,6 @@
 use Rattle.std.proofs.Common.{[], ap, map, sym}
 use Rattle.std.proofs.lemmas.List.{drop_all}
-use Rattle.cck_script.specs.Calls.{asked_behind}
+use Rattle.cck_script.specs.Calls.{calls_after}
 use Rattle.cck_script.specs.Seen.{line_of, lines_of}
 use Rattle.cck_script.proofs.OptionLemmas.{left_more}
 use Rattle.cck_command.proofs.FollowedLemmas.{all_followed, one_line_more}
@@ -11,7 +11,7 @@ loop-command-init c = record {
   earlier = [];
   asked = [];
   after = c.in_ok-surroundings.ensures.first;
-  split = ap (asked_behind []) (sym c.commands-command-items.ensures);
+  split = ap (calls_after []) (sym c.commands-command-items.ensures);
   of_asked = rw c.new-calls.ensures.items tt;
 }
 

@@ -1,6 +1,6 @@
 use Rattle.std.proofs.Common.{◌≡◌, ◌∙◌, [], ap, map, rules, sym}
 use Rattle.std.proofs.lemmas.List.{drop_all}
-use Rattle.cck_script.specs.Calls.{asked_behind}
+use Rattle.cck_script.specs.Calls.{calls_after}
 use Rattle.cck_script.specs.Script.{zone_of}
 use Rattle.cck_script.specs.Seen.{line_of, lines_of}
 use Rattle.cck_script.proofs.OptionLemmas.{left_more}
@@ -17,7 +17,7 @@ loop-command-init g c =
       earlier = [];
       asked = [];
       after = c.in_ok-surroundings.ensures.first;
-      split = ap (asked_behind []) (sym c.commands-command-items.ensures);
+      split = ap (calls_after []) (sym c.commands-command-items.ensures);
       of_asked = rw (start, c.new-printed.ensures.items) (none_made g.H.HashState.hash (zone_of lines) _ (armed_by lines) []);
     }
 

@@ -1,5 +1,5 @@
 use Rattle.std.proofs.Common.{◌<◌, arith, length}
-use Rattle.cck_digest.proofs.StreamLemmas.{HasTaken-end, HasTaken-nothing, HasTaken-push, after_refusal, begun_with_piece, read_is_piece}
+use Rattle.cck_digest.proofs.StreamLemmas.{HasTaken-end, HasTaken-nothing, HasTaken-push, after_error, begun_with_piece, read_is_piece}
 use Rattle.cck_digest.proofs.stream.read_through.Goals as goal
 
 pub loop-init : goal.loop-init
@@ -20,5 +20,5 @@ returns-then-count-eq0-clause-taken g c =
     HasTaken-end _ _ _ _ _ _ c.in-Ok.count c.read.new.buf c.loop.invariant.read c.if-count-eq0.true bytes.0 (bytes.1 c.if-count-eq0.true room)
 
 pub returns-in_err-take_open-clause-begun : goal.returns-in_err-take_open-clause-begun
-returns-in_err-take_open-clause-begun g c = after_refusal c.from_residual.result _
+returns-in_err-take_open-clause-begun g c = after_error c.from_residual.result _
     (begun_with_piece _ _ _ _ _ _ _ _ c.loop.invariant.read c.in-Ok.ensures.bytes.0 c.in_err-take_open.ensures.begun)

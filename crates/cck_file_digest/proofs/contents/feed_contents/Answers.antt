@@ -1,6 +1,6 @@
 use Rattle.std.proofs.Common.{[], arith, refl, IsOkAnd}
 use Rattle.std.specs.Result.{result_unwrap_or}
-use Rattle.cck_digest.proofs.StreamLemmas.{after_refusal}
+use Rattle.cck_digest.proofs.StreamLemmas.{after_error}
 use Rattle.cck_files.proofs.CallsLemmas.{keeps_all, keeps_itself}
 use Rattle.cck_files.specs.Calls.{IsRead, none, one_more}
 use Rattle.cck_files.specs.FileMap.{contents_at}
@@ -25,14 +25,14 @@ loop-count-preserved g c =
     }
 
 pub returns-in_err-count-clause-begun : goal.returns-in_err-count-clause-begun
-returns-in_err-count-clause-begun g c = after_refusal c.from_residual.result _ (fed_begun _ _ _ _ _ c.loop-count.invariant.fed)
+returns-in_err-count-clause-begun g c = after_error c.from_residual.result _ (fed_begun _ _ _ _ _ c.loop-count.invariant.fed)
 
 pub returns-in_err-take-clause-begun : goal.returns-in_err-take-clause-begun
 returns-in_err-take-clause-begun g c =
     let found = contents_at (g.F.Files.file_map c.args.files.now) (components c.args.path.now) in
     let read : IsOkAnd found (λ contents. IsRead contents c.loop-count.offset c.in_ok-count.count c.read_at.new.buffer) =
     rw (← c.loop-count.invariant.keeps.same_map) c.in_ok-count.ensures.answer in
-    after_refusal c.from_residual-in_err-take.result _
+    after_error c.from_residual-in_err-take.result _
     (fed_begun_more _ _ _ _ _ c.in_ok-count.count c.read_at.new.buffer found c.loop-count.invariant.fed read c.in_err-take.ensures.begun)
 
 pub returns-in_err-count-clause-calls : goal.returns-in_err-count-clause-calls

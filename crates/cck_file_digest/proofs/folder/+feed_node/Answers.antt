@@ -9,13 +9,13 @@ use Rattle.cck_files.specs.Calls.{Rose}
 use Rattle.cck_files.proofs.CallsLemmas.{keeps_all, rose_earlier}
 use Rattle.cck_file_digest.specs.Folder.{IsInOrder, child_name}
 use Rattle.cck_file_digest.proofs.FolderSteps.{fed_all, fed_child, fed_more}
-use Rattle.cck_file_digest.proofs.NodeLemmas.{IsAt, at_metadata, child_at, child_refused, child_stands, contents_refused, fed_file, fed_folder, listing_refused, metadata_refused, name_at, other_kind, stands_of, too_deep}
+use Rattle.cck_file_digest.proofs.NodeLemmas.{IsAt, at_metadata, child_at, child_failed, child_exists, contents_failed, fed_file, fed_folder, listing_failed, metadata_failed, name_at, other_kind, exists_of, too_deep}
 use Rattle.cck_file_digest.proofs.folder.+feed_node.Goals as goal
 
 pub returns-in_err-metadata-clause-answer : goal.returns-in_err-metadata-clause-answer
 returns-in_err-metadata-clause-answer g t c =
     let p = err_from_is_err_and c.from_residual.result c.from_residual.ensures.1 in
-    rw (p.1, p.2) (metadata_refused (g.F.Files.file_map c.args.files.now) (components c.args.path.now) c.args.level
+    rw (p.1, p.2) (metadata_failed (g.F.Files.file_map c.args.files.now) (components c.args.path.now) c.args.level
     (Rose (g.F.Files.faults c.args.files.now) (g.F.Files.faults c.metadata.new.self)) c.in_err-metadata.field-0.0 c.in_err-metadata.ensures.answer)
 
 pub returns-in_err-feed_named-in-File-clause-answer :
@@ -24,7 +24,7 @@ returns-in_err-feed_named-in-File-clause-answer g t c =
     let p = err_from_is_err_and c.from_residual-in_err-feed_named-in-File.result c.from_residual-in_err-feed_named-in-File.ensures.1 in
     let file : IsAt (g.F.Files.file_map c.args.files.now) (components c.args.path.now) File = at_metadata _ _ _ _ c.in_ok-metadata.ensures.answer c.in-File.is in
     let rose = rose_earlier (g.F.Files.faults c.args.files.now) (g.F.Files.faults c.metadata.new.self) (g.F.Files.faults c.feed_named.new.files) c.metadata.ensures.keeps.not_lower in
-    rw (p.1, p.2) (contents_refused _ _ (g.F.Files.file_map c.metadata.new.self) c.args.level _ _ c.in_err-feed_named-in-File.field-0.0
+    rw (p.1, p.2) (contents_failed _ _ (g.F.Files.file_map c.metadata.new.self) c.args.level _ _ c.in_err-feed_named-in-File.field-0.0
     c.metadata.ensures.keeps.same_map file rose c.in_err-feed_named-in-File.ensures.answer)
 
 pub returns-then-level-gt-FOLDER_LEVELS-clause-answer :
@@ -38,7 +38,7 @@ returns-in_err-names-in-Folder-clause-answer g t c =
     let p = err_from_is_err_and c.from_residual-in_err-names-in-Folder.result c.from_residual-in_err-names-in-Folder.ensures.1 in
     let folder : IsAt (g.F.Files.file_map c.args.files.now) (components c.args.path.now) Folder = at_metadata _ _ _ _ c.in_ok-metadata.ensures.answer c.in-Folder.is in
     let rose = rose_earlier (g.F.Files.faults c.args.files.now) (g.F.Files.faults c.metadata.new.self) (g.F.Files.faults c.sorted_names.new.files) c.metadata.ensures.keeps.not_lower in
-    rw (p.1, p.2) (listing_refused _ _ (g.F.Files.file_map c.metadata.new.self) c.args.level _ _ c.in_err-names-in-Folder.field-0.0
+    rw (p.1, p.2) (listing_failed _ _ (g.F.Files.file_map c.metadata.new.self) c.args.level _ _ c.in_err-names-in-Folder.field-0.0
     c.metadata.ensures.keeps.same_map folder rose c.in_err-names-in-Folder.ensures.answer)
 
 pub returns-in_err-feed_node-in-Folder-clause-answer :
@@ -57,10 +57,10 @@ returns-in_err-feed_node-in-Folder-clause-answer g t c =
     child_at fm path _ c.deref.result.now names i here order is (ap components c.deref-in-loop-child-2.ensures.value ∙ c.in_ok-child_path-in-Folder.ensures.components) in
     let p = err_from_is_err_and c.from_residual-in_err-feed_node-in-Folder.result c.from_residual-in_err-feed_node-in-Folder.ensures.1 in
     let rose = rose_earlier (g.F.Files.faults c.args.files.now) (g.F.Files.faults c.loop-child.files) (g.F.Files.faults c.feed_node.new.files) c.loop-child.invariant.keeps.not_lower in
-    rw (p.1, p.2) (child_refused fm path (g.F.Files.file_map c.loop-child.files) (components c.deref-in-loop-child-2.result.now) names i c.args.level _ _ c.in_err-feed_node-in-Folder.field-0.0
+    rw (p.1, p.2) (child_failed fm path (g.F.Files.file_map c.loop-child.files) (components c.deref-in-loop-child-2.result.now) names i c.args.level _ _ c.in_err-feed_node-in-Folder.field-0.0
     c.loop-child.invariant.keeps.same_map here order at
     (at_metadata _ _ _ _ c.in_ok-metadata.ensures.answer c.in-Folder.is)
-    (child_stands fm path _ names i here order at)
+    (child_exists fm path _ names i here order at)
     rose c.in_err-feed_node-in-Folder.ensures.answer)
 
 pub loop-child-preserved : goal.loop-child-preserved
@@ -91,7 +91,7 @@ pub returns-in_ok-feed_named-in-File-clause-answer :
 returns-in_ok-feed_named-in-File-clause-answer g t c =
     let fm = g.F.Files.file_map c.args.files.now in
     let file : IsAt fm (components c.args.path.now) File = at_metadata _ _ _ _ c.in_ok-metadata.ensures.answer c.in-File.is in (
-      stands_of _ _ _ file,
+      exists_of _ _ _ file,
       fed_file _ _ _ _ _ _ _ file (rw (← c.metadata.ensures.keeps.same_map) c.in_ok-feed_named-in-File.ensures.answer),
     )
 
@@ -102,7 +102,7 @@ returns-after-loop-child-clause-answer g t c =
     let names : List (List ℕ) = map vec_items c.deref-child-items.result.now in
     let order : IsInOrder fm.nodes path names = rw (c.deref-child-items.ensures.value, ← c.metadata.ensures.keeps.same_map) c.in_ok-names-in-Folder.ensures.answer in
     let folder : IsAt fm path Folder = at_metadata _ _ _ _ c.in_ok-metadata.ensures.answer c.in-Folder.is in (
-      stands_of _ _ _ folder,
+      exists_of _ _ _ folder,
       fed_folder fm path g.H.HashState.holds c.args.level (option_copied c.args.name) c.args.digest.now c.loop-child.digest folder (omega arith)
           (fed_all _ _ _ _ _ names c.loop-child.child-index _ _ (simp length-map (omega arith)) order c.loop-child.invariant.fed),
     )

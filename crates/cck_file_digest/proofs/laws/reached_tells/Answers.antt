@@ -1,5 +1,5 @@
-use Rattle.cck_file_digest.proofs.Membership.{reached_told}
+use Rattle.cck_file_digest.proofs.Membership.{reached_is_sorted}
 use Rattle.cck_file_digest.proofs.laws.reached_tells.Goals as goal
 
 pub returns : goal.returns
-returns c = reached_told
+returns c = reached_is_sorted

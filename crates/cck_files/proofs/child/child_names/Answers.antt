@@ -6,7 +6,7 @@ use Rattle.cck_path.specs.Path.{components, path_cmp}
 use Rattle.cck_path_map.proofs.EntriesLemmas.{all_given, entry_at}
 use Rattle.cck_path_map.specs.Entries.{entries_left}
 use Rattle.cck_path_map.specs.PathMap.{pair_of, part_from, path_of}
-use Rattle.cck_files.proofs.BelowLemmas.{children_of_part, none_behind, not_within}
+use Rattle.cck_files.proofs.BelowLemmas.{children_of_part, none_after, not_within}
 use Rattle.cck_files.proofs.NamesLemmas.{IsListed, listed_all, listed_child, listed_other, listed_stop}
 use Rattle.cck_files.proofs.child.child_names.Goals as goal
 
@@ -49,4 +49,4 @@ returns-then-not-is_within-clause-names g c =
     let test = sym (ap (λ t. is_eq (path_cmp (take c.component_count-size.result (components t)) p)) c.deref.ensures.value) ∙ sym c.is_within.ensures ∙ c.if-not-is_within.true in
     let other = not_within p (path_of c.in-Some.entry.now) c.component_count-size.result test c.component_count-size.ensures in
     children_of_part p m names
-    (listed_all p (entries_left start) (part_from p m) is names (listed_stop p (entries_left start) size names (none_behind p m (entries_left start) is size at.0 c.in-Some.entry.now at.1 other) c.loop-entry.invariant))
+    (listed_all p (entries_left start) (part_from p m) is names (listed_stop p (entries_left start) size names (none_after p m (entries_left start) is size at.0 c.in-Some.entry.now at.1 other) c.loop-entry.invariant))

@@ -4,9 +4,9 @@ use Rattle.std.specs.String.{string_bytes}
 use Rattle.cck_files.proofs.CallsLemmas.{calls_all, one_call, rose_earlier}
 use Rattle.cck_files.specs.Calls.{Rose}
 use Rattle.cck_files.specs.FileMap.{file_at}
-use Rattle.cck_include.proofs.RecordedLemmas.{answered_by, without_metadata}
+use Rattle.cck_include.proofs.RecordedLemmas.{returned_by_result, without_metadata}
 use Rattle.cck_include.specs.Recorded.{recorded}
-use Rattle.cck_include.specs.Refusal.{IsIoRefusal}
+use Rattle.cck_include.specs.Refusal.{IsIoError}
 use Rattle.cck_include.specs.Setting.{setting_in}
 use Rattle.cck_path.specs.Path.{components}
 use Rattle.jiff.specs.Words.{plain_zone}
@@ -26,9 +26,9 @@ returns-clause-answer g c =
     let after = F.faults c.digest_with_metadata.new.files in
     let found = file_at (F.file_map c.args.files.now) (components c.args.path.now) in
     let s = setting_in g.H.HashState.hash c.args.config c.args.moment (plain_zone c.args.zone.now) c.args.vars.now in
-    let there : MatchResult c.digest_with_metadata.result (λ digest. IsOkAnd found (λ file. option_map string_bytes digest ≡ recorded s file)) (IsIoRefusal found (Rose between after)) =
+    let there : MatchResult c.digest_with_metadata.result (λ digest. IsOkAnd found (λ file. option_map string_bytes digest ≡ recorded s file)) (IsIoError found (Rose between after)) =
     rw (← c.in-Ok.ensures.keeps.same_map) (c.digest_with_metadata.ensures.answer (rw c.in-Ok.ensures.keeps.same_map c.in-Ok.ensures.answer)) in
-    answered_by c.digest_with_metadata.result _ found (Rose between after) (Rose before after) (rose_earlier before between after c.in-Ok.ensures.keeps.not_lower) there
+    returned_by_result c.digest_with_metadata.result _ found (Rose between after) (Rose before after) (rose_earlier before between after c.in-Ok.ensures.keeps.not_lower) there
 
 pub returns-in-Err-clause-calls : goal.returns-in-Err-clause-calls
 returns-in-Err-clause-calls g c = one_call _ _ _ (components c.args.path.now) refl c.in-Err.ensures.call

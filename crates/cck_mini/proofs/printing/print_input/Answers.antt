@@ -4,7 +4,7 @@ use Rattle.std.proofs.lemmas.Result.{err_from_is_err_and}
 use Rattle.cck_files.specs.Calls.{Rose}
 use Rattle.cck_files.proofs.CallsLemmas.{rose_earlier}
 use Rattle.cck_mini.specs.Printed.{lines_in, lines_text, macros_of, marker, text_at}
-use Rattle.cck_mini.specs.Refusal.{IsPrintRefusal}
+use Rattle.cck_mini.specs.Refusal.{IsPrintError}
 use Rattle.cck_mini.specs.Seen.{macros_seen}
 use Rattle.cck_mini.proofs.InputLemmas.{all_printed, no_input, no_lines}
 use Rattle.cck_mini.proofs.printing.print_input.Goals as goal
@@ -29,7 +29,7 @@ returns-in_err-print_lines-clause-answer g c =
     let macros : m ≡ macros_of c.args.zone_offset c.args.moment file.modified = rw z at c.in_ok-macros.ensures.macros in
     let R = Rose (F.faults c.read_file.new.files) (F.faults c.print_lines.new.files) in
     let S = Rose (F.faults c.args.files.now) (F.faults c.print_lines.new.files) in
-    let refused : IsPrintRefusal (lines_text c.args.zone_offset c.args.moment map c.args.cwd.now path m 2 (lines_in file.contents.items)) R c.in_err-print_lines.field-0.0 =
+    let refused : IsPrintError (lines_text c.args.zone_offset c.args.moment map c.args.cwd.now path m 2 (lines_in file.contents.items)) R c.in_err-print_lines.field-0.0 =
     rw (c.in_ok-file.ensures.keeps.same_map, c.deref-3.ensures.value, c.deref-4.ensures.value, z) at c.in_err-print_lines.ensures.answer in
     rw (p.1, p.2) (no_lines c.args.zone_offset c.args.moment map c.args.cwd.now c.args.input.now path c.in_ok-path.ensures.bytes
     file.contents.items file.modified m text macros R S c.in_err-print_lines.field-0.0

@@ -1,5 +1,5 @@
 use Rattle.std.proofs.Common.{◌≡◌, true, inl, inr, sym, map, ap, ◌∙◌, subst, Contains, IfSome}
-use Rattle.cck_files.specs.FileMap.{stands_at}
+use Rattle.cck_files.specs.FileMap.{exists_at}
 use Rattle.cck_path.specs.Bytes.{variables_of}
 use Rattle.cck_path.specs.Path.{components}
 use Rattle.cck_path.specs.Text.{join_path}
@@ -42,7 +42,7 @@ returns-clause-place g c =
     if_ok c.first_compiler.result c.first_compiler.ensures.place
     (λ compiler place. subst (λ ps. IfSome compiler (λ path. Contains ps path.items)) paths place)
 
-pub returns-clause-standing : goal.returns-clause-standing
-returns-clause-standing g c =
-    if_ok c.first_compiler.result c.first_compiler.ensures.standing
-    (λ compiler standing. subst (λ m. IfSome compiler (λ path. stands_at m (components path.items) ≡ true)) c.in_ok-is_settled.ensures.keeps.same_map standing)
+pub returns-clause-judgement : goal.returns-clause-judgement
+returns-clause-judgement g c =
+    if_ok c.first_compiler.result c.first_compiler.ensures.judgement
+    (λ compiler judgement. subst (λ m. IfSome compiler (λ path. exists_at m (components path.items) ≡ true)) c.in_ok-is_settled.ensures.keeps.same_map judgement)

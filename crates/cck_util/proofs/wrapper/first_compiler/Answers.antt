@@ -1,9 +1,9 @@
 use Rattle.std.proofs.Common.{inl, refl, sym, ap, ◌∙◌}
 use Rattle.cck_files.proofs.CallsLemmas.{keeps_itself, keeps_all}
-use Rattle.cck_files.specs.FileMap.{stands_at}
+use Rattle.cck_files.specs.FileMap.{exists_at}
 use Rattle.cck_path.specs.Path.{components}
 use Rattle.cck_util.specs.Wrapper.{is_compiler}
-use Rattle.cck_util.proofs.WrapperLemmas.{in_turn, stands_here, stands_later}
+use Rattle.cck_util.proofs.WrapperLemmas.{in_turn, exists_here, exists_later}
 use Rattle.cck_util.proofs.wrapper.first_compiler.Goals as goal
 
 pub loop-part-init : goal.loop-part-init
@@ -14,7 +14,7 @@ loop-part-preserved g c = let F = g.F.Files in let kept = c.loop-part.invariant.
   kept = keeps_all c.args.files.now c.loop-part.files c.is_compiler.new.files kept next.keeps;
   left = in_turn (F.faults c.args.files.now) (F.faults c.loop-part.files) (F.faults c.is_compiler.new.files) kept.not_lower next.keeps.not_lower
       c.loop-part.invariant.left next.answer
-      (λ left answer. sym (stands_later (F.file_map c.args.files.now) c.args.name.now c.args.parts.now c.loop-part.part-index _ c.in_ok-path.path.items
+      (λ left answer. sym (exists_later (F.file_map c.args.files.now) c.args.name.now c.args.parts.now c.loop-part.part-index _ c.in_ok-path.path.items
       c.loop-part-test.true c.in_ok-path.ensures.bytes
       (sym c.if-branch.false ∙ answer ∙ ap (λ s. is_compiler (F.file_map c.loop-part.files) (components s)) c.deref.ensures.value
       ∙ ap (λ m. is_compiler m (components c.in_ok-path.path.items)) kept.same_map))
@@ -25,14 +25,14 @@ pub returns-then-branch-clause-answer : goal.returns-then-branch-clause-answer
 returns-then-branch-clause-answer g c = let F = g.F.Files in let kept = c.loop-part.invariant.kept in let next = c.in_ok-is_compiler.ensures in
     in_turn (F.faults c.args.files.now) (F.faults c.loop-part.files) (F.faults c.is_compiler.new.files) kept.not_lower next.keeps.not_lower
     c.loop-part.invariant.left next.answer
-    (λ left answer. sym (stands_here (F.file_map c.args.files.now) c.args.name.now c.args.parts.now c.loop-part.part-index _ c.in_ok-path.path.items
+    (λ left answer. sym (exists_here (F.file_map c.args.files.now) c.args.name.now c.args.parts.now c.loop-part.part-index _ c.in_ok-path.path.items
     c.loop-part-test.true c.in_ok-path.ensures.bytes
     (sym c.if-branch.true ∙ answer ∙ ap (λ s. is_compiler (F.file_map c.loop-part.files) (components s)) c.deref.ensures.value
     ∙ ap (λ m. is_compiler m (components c.in_ok-path.path.items)) kept.same_map))
     ∙ left)
 
-pub returns-then-branch-clause-standing : goal.returns-then-branch-clause-standing
-returns-then-branch-clause-standing g c = let F = g.F.Files in
-    sym (ap (λ s. stands_at (F.file_map c.loop-part.files) (components s)) c.deref.ensures.value
-    ∙ ap (λ m. stands_at m (components c.in_ok-path.path.items)) c.loop-part.invariant.kept.same_map)
-    ∙ c.in_ok-is_compiler.ensures.standing c.if-branch.true
+pub returns-then-branch-clause-judgement : goal.returns-then-branch-clause-judgement
+returns-then-branch-clause-judgement g c = let F = g.F.Files in
+    sym (ap (λ s. exists_at (F.file_map c.loop-part.files) (components s)) c.deref.ensures.value
+    ∙ ap (λ m. exists_at m (components c.in_ok-path.path.items)) c.loop-part.invariant.kept.same_map)
+    ∙ c.in_ok-is_compiler.ensures.judgement c.if-branch.true

@@ -1,11 +1,11 @@
 use Rattle.std.proofs.Common.{inl, inr}
 use Rattle.cck_path.specs.Path.{components}
-use Rattle.cck_util.proofs.WrapperLemmas.{in_turn, nothing_stands, stands}
+use Rattle.cck_util.proofs.WrapperLemmas.{in_turn, nothing_exists, stands}
 use Rattle.cck_util.proofs.wrapper.is_compiler.Goals as goal
 
 pub returns-then-not-exists-clause-answer : goal.returns-then-not-exists-clause-answer
 returns-then-not-exists-clause-answer g c = let F = g.F.Files in elim c.if-not-exists.ensures.answer [
-  | inl e ↦ inl (nothing_stands (F.file_map c.args.files.now) (components c.args.path.now) e)
+  | inl e ↦ inl (nothing_exists (F.file_map c.args.files.now) (components c.args.path.now) e)
   | inr r ↦ inr r
 ]
 

@@ -9,5 +9,5 @@ returns-in-Some-clause-place g c =
     let place = rw c.in-Some.is at c.in_ok-compiler.ensures.place in
     contains_later c.args.executable.now (candidates c.args.executable.now (variables_of c.args.vars.now)) c.in-Some.compiler.items place
 
-pub returns-in-Some-clause-standing : goal.returns-in-Some-clause-standing
-returns-in-Some-clause-standing g c = let standing = rw c.in-Some.is at c.in_ok-compiler.ensures.standing in inr standing
+pub returns-in-Some-clause-judgement : goal.returns-in-Some-clause-judgement
+returns-in-Some-clause-judgement g c = let judgement = rw c.in-Some.is at c.in_ok-compiler.ensures.judgement in inr judgement

@@ -4,7 +4,7 @@ use Rattle.cck_files.proofs.CallsLemmas.{calls_all, one_call, rose_earlier}
 use Rattle.cck_files.specs.Calls.{Rose}
 use Rattle.cck_files.specs.FileMap.{file_at}
 use Rattle.cck_include.specs.Recorded.{recorded}
-use Rattle.cck_include.specs.Refusal.{IsIoRefusal}
+use Rattle.cck_include.specs.Refusal.{IsIoError}
 use Rattle.cck_include.specs.Setting.{setting_in}
 use Rattle.cck_path.specs.Path.{components}
 use Rattle.cck_walk.proofs.JudgeLemmas.{digest_at, folder_at, late_at, no_metadata, other_at, unread_at}
@@ -63,7 +63,7 @@ returns-in-Err-recorded_digest-clause-answer g c =
     let p = components c.args.path.now in
     let R = Rose (F.faults c.metadata.new.self) (F.faults c.recorded_digest.new.files) in
     let S = Rose (F.faults c.args.files.now) (F.faults c.recorded_digest.new.files) in
-    let there : IsIoRefusal (file_at old p) R c.in-Err-recorded_digest.error = rw (← c.in-Ok.ensures.keeps.same_map) c.in-Err-recorded_digest.ensures.answer in
+    let there : IsIoError (file_at old p) R c.in-Err-recorded_digest.error = rw (← c.in-Ok.ensures.keeps.same_map) c.in-Err-recorded_digest.ensures.answer in
     rw c.judge_unread.ensures
     (unread_at s old p c.in-Ok.metadata c.in-Ok.ensures.answer c.in-File.is R S c.in-Err-recorded_digest.error
     (rose_earlier (F.faults c.args.files.now) (F.faults c.metadata.new.self) (F.faults c.recorded_digest.new.files) c.in-Ok.ensures.keeps.not_lower) there)

@@ -5,7 +5,7 @@ use Rattle.cck_markers.specs.Markers.{Gives}
 use Rattle.cck_markers.specs.Marks.{Malformed, Name, Refusal}
 use Rattle.jiff.specs.Words.{plain_zone}
 use Rattle.cck_walk.proofs.SeenLemmas.{all_pass}
-use Rattle.cck_walk.proofs.WalkLemmas.{accepted, at_start, calls_on, malformed, passed_on, refused, refused_by}
+use Rattle.cck_walk.proofs.WalkLemmas.{accepted, at_start, calls_on, malformed, passed_on, refused, error_by_fault}
 use Rattle.cck_walk.specs.Decided.{IsLookedFor, Refuses, after, context_in, is_looked_for, outcome}
 use Rattle.cck_walk.proofs.walk.process_preprocessed_file.Goals as goal
 
@@ -103,7 +103,7 @@ returns-in-Ok-false-clause-answer g c =
     let gives : Gives c.loop-mark.mark-iterator (Name name c.in-Name-2.is_system ∷ []) c.next.new.self = rw c.in-Name-2.is at c.in-Some.ensures.steps in
     let why : (c.take_name.new.records ≡ held) × ((outcome x held name c.in-Name-2.is_system ≡ Refuses) ⊎ (R × (is_looked_for x held name c.in-Name-2.is_system ≡ true))) =
     rw (← c.loop-mark.invariant.keeps.same_map) (rw c.in-Ok-false.field-0-test at c.in-Ok-false.ensures.answer) in
-    refused_by x c.args.text.now c.loop-mark.mark-iterator held c.loop-mark.invariant.passed c.next.new.self name c.in-Name-2.is_system gives R S
+    error_by_fault x c.args.text.now c.loop-mark.mark-iterator held c.loop-mark.invariant.passed c.next.new.self name c.in-Name-2.is_system gives R S
     (rose_earlier (F.faults c.args.files.now) (F.faults c.loop-mark.files) (F.faults c.take_name.new.files) c.loop-mark.invariant.keeps.not_lower) why.1
 
 pub returns-in-Ok-clause-answer : goal.returns-in-Ok-clause-answer

@@ -21,7 +21,7 @@ returns-in-Err-read_contents-clause-makes g c =
     let w = world_under g.H.HashState.hash g.I.CCompilerImpl.compiler (given_of c.args.conditions.now) in
     let call = call_under g.I.CCompilerImpl.value (g.F.Files.file_map c.args.files.now) c.args.self.now (given_of c.args.conditions.now) in
     let F = Rose (g.F.Files.faults c.args.files.now) (g.F.Files.faults c.read_contents.new.files) in
-    rw c.input_refusal.ensures
+    rw c.input_error.ensures
     (stop_input w g.S.PreprocessorStore.store call F c.args.store.now c.in-Err-read_contents.error (sym c.needs_c_preprocessing.ensures ∙ c.if-not-needs_c_preprocessing.true)
     (rw (c.deref-then-not-needs_c_preprocessing.ensures.value, c.in-Ok.ensures.bytes, c.deref.ensures.value) at c.in-Err-read_contents.ensures.answer))
 
@@ -41,7 +41,7 @@ returns-in-Err-preprocess-clause-makes g c =
     let w = world_under g.H.HashState.hash g.I.CCompilerImpl.compiler (given_of c.args.conditions.now) in
     let call = call_under g.I.CCompilerImpl.value (g.F.Files.file_map c.args.files.now) c.args.self.now (given_of c.args.conditions.now) in
     let F = Rose (g.F.Files.faults c.args.files.now) (g.F.Files.faults c.preprocess.new.files) in
-    rw c.text_refusal.ensures
+    rw c.text_error.ensures
     (stop_text w g.S.PreprocessorStore.store call F c.args.store.now c.in-Err-preprocess.error _ (sym c.needs_c_preprocessing.ensures ∙ c.if-not-needs_c_preprocessing.false)
     (rw c.deref-2.ensures.value refl) c.in-Err-preprocess.ensures.answer)
 
@@ -80,7 +80,7 @@ returns-in-Err-read_contents-clause-reason g c =
     let w = world_under g.H.HashState.hash g.I.CCompilerImpl.compiler (given_of c.args.conditions.now) in
     let call = call_under g.I.CCompilerImpl.value (g.F.Files.file_map c.args.files.now) c.args.self.now (given_of c.args.conditions.now) in
     let F = Rose (g.F.Files.faults c.args.files.now) (g.F.Files.faults c.read_contents.new.files) in
-    rw c.input_refusal.ensures
+    rw c.input_error.ensures
     (input_reason w call F c.in-Err-read_contents.error
     (rw (c.deref-then-not-needs_c_preprocessing.ensures.value, c.in-Ok.ensures.bytes, c.deref.ensures.value) at c.in-Err-read_contents.ensures.answer))
 
@@ -96,7 +96,7 @@ returns-in-Err-preprocess-clause-reason g c =
     let w = world_under g.H.HashState.hash g.I.CCompilerImpl.compiler (given_of c.args.conditions.now) in
     let call = call_under g.I.CCompilerImpl.value (g.F.Files.file_map c.args.files.now) c.args.self.now (given_of c.args.conditions.now) in
     let F = Rose (g.F.Files.faults c.args.files.now) (g.F.Files.faults c.preprocess.new.files) in
-    rw c.text_refusal.ensures (text_reason w call F c.in-Err-preprocess.error)
+    rw c.text_error.ensures (text_reason w call F c.in-Err-preprocess.error)
 
 pub returns-in-None-clause-reason : goal.returns-in-None-clause-reason
 returns-in-None-clause-reason g c =

@@ -1,7 +1,7 @@
 use Rattle.std.proofs.Common.{refl, sym, ◌∙◌}
 use Rattle.cck_files.proofs.CallsLemmas.{rose_earlier}
 use Rattle.cck_files.specs.Calls.{Rose}
-use Rattle.c_cache_keys.proofs.Opened.{extra_refused, open_with, open_without, paths_as, stop_input, texts_here, used}
+use Rattle.c_cache_keys.proofs.Opened.{extra_failed, open_with, open_without, paths_as, stop_input, texts_here, used}
 use Rattle.c_cache_keys.proofs.Widen.{wide_opening}
 use Rattle.c_cache_keys.proofs.Reasons.{extra_reason, key_reason, wide_reason}
 use Rattle.c_cache_keys.specs.Conditions.{call_under, given_of, world_under}
@@ -12,8 +12,8 @@ returns-in-Err-clause-answer g c =
     let w = world_under g.H.HashState.hash g.I.CCompilerImpl.compiler (given_of c.args.conditions.now) in
     let call = call_under g.I.CCompilerImpl.value (g.F.Files.file_map c.args.files.now) c.args.self.now (given_of c.args.conditions.now) in
     let F = Rose (g.F.Files.faults c.args.files.now) (g.F.Files.faults c.hash_all.new.files) in
-    rw c.extra_refusal.ensures
-    (extra_refused w call F c.in-Err.error (rw (c.deref.ensures.value, paths_as c.args.self.now.parsed_args.extra_hash_files.items) at c.in-Err.ensures.answer))
+    rw c.extra_error.ensures
+    (extra_failed w call F c.in-Err.error (rw (c.deref.ensures.value, paths_as c.args.self.now.parsed_args.extra_hash_files.items) at c.in-Err.ensures.answer))
 
 pub returns-then-not-uses_cache-clause-answer : goal.returns-then-not-uses_cache-clause-answer
 returns-then-not-uses_cache-clause-answer g c =
@@ -47,7 +47,7 @@ returns-in-Err-clause-reason g c =
     let w = world_under g.H.HashState.hash g.I.CCompilerImpl.compiler (given_of c.args.conditions.now) in
     let call = call_under g.I.CCompilerImpl.value (g.F.Files.file_map c.args.files.now) c.args.self.now (given_of c.args.conditions.now) in
     let F = Rose (g.F.Files.faults c.args.files.now) (g.F.Files.faults c.hash_all.new.files) in
-    rw c.extra_refusal.ensures
+    rw c.extra_error.ensures
     (extra_reason w call F c.in-Err.error (rw (c.deref.ensures.value, paths_as c.args.self.now.parsed_args.extra_hash_files.items) at c.in-Err.ensures.answer))
 
 pub returns-in-Err-preprocessor_key-clause-reason : goal.returns-in-Err-preprocessor_key-clause-reason

@@ -1,7 +1,7 @@
 use Rattle.std.proofs.Common.{map, option_map, refl}
 use Rattle.std.specs.Prelude.{string_bytes}
 use Rattle.cck_files.specs.Calls.{Rose}
-use Rattle.c_cache_keys.proofs.Opened.{input_refused, key_of_input}
+use Rattle.c_cache_keys.proofs.Opened.{input_failed, key_of_input}
 use Rattle.c_cache_keys.specs.Conditions.{call_under, given_of, world_under}
 use Rattle.c_cache_keys.specs.Keys.{request_parts}
 use Rattle.c_cache_keys.proofs.hasher.CCompilerHasher.preprocessor_key.Goals as goal
@@ -31,5 +31,5 @@ returns-clause-answer g c =
     let w = world_under g.H.HashState.hash g.I.CCompilerImpl.compiler (given_of c.args.conditions.now) in
     let call = call_under g.I.CCompilerImpl.value (g.F.Files.file_map c.args.files.now) c.args.self.now (given_of c.args.conditions.now) in
     let F = Rose (g.F.Files.faults c.args.files.now) (g.F.Files.faults c.preprocessor_cache_entry_hash_key-key.new.files) in
-    rw c.key_refusal.ensures
-    (input_refused w call F c.in-Err-key.error (rw (c.deref-5.ensures.value, c.in-Ok.ensures.bytes, c.deref.ensures.value) at c.in-Err-key.ensures.answer))
+    rw c.key_error_of.ensures
+    (input_failed w call F c.in-Err-key.error (rw (c.deref-5.ensures.value, c.in-Ok.ensures.bytes, c.deref.ensures.value) at c.in-Err-key.ensures.answer))

@@ -3,11 +3,11 @@ use Rattle.std.specs.Prelude.{IfSome}
 use Rattle.std.proofs.lemmas.Result.{IfOk-weaker}
 use Rattle.cck_digest.specs.Digest.{digest_text}
 use Rattle.cck_digest.specs.TimeMacros.{Follows}
-use Rattle.cck_digest.proofs.StreamLemmas.{holds_of_stream, told_of_stream}
+use Rattle.cck_digest.proofs.StreamLemmas.{holds_of_stream, stream_is_known}
 use Rattle.cck_digest.proofs.digest.Digest.reader_sync_time_macros.Goals as goal
 
 pub returns-clause-text : goal.returns-clause-text
-returns-clause-text g c = told_of_stream c.finish.result (g.R.Read.remaining c.args.reader.now) _
+returns-clause-text g c = stream_is_known c.finish.result (g.R.Read.remaining c.args.reader.now) _
     (λ pair stream. string_bytes pair.0 ≡ digest_text g.H.HashState.hash stream)
     c.finish.ensures.text
     (holds_of_stream _ (λ watched. g.H.HashState.holds watched.digest) (λ before piece after step. step.0) _ _ _ c.in_ok-read_to_end.ensures.taken c.new-watched.ensures.digest)

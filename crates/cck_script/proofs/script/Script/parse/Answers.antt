@@ -1,14 +1,14 @@
 use Rattle.std.proofs.Common.{◌∙◌, ap, sym, refl, arith, ◌∷◌, []}
 use Rattle.std.proofs.lemmas.List.{map-append}
-use Rattle.cck_script.specs.Script.{lines_said, wrong_line}
+use Rattle.cck_script.specs.Script.{commands_of, wrong_line}
 use Rattle.cck_script.specs.Seen.{reading_of, line_of}
-use Rattle.cck_script.proofs.ScriptLemmas.{lines_more, lines_skipped, said_here, skipped_here, wrong_here}
+use Rattle.cck_script.proofs.ScriptLemmas.{lines_more, lines_skipped, here_of_command, skipped_here, wrong_here}
 use Rattle.cck_script.proofs.WordLemmas.{cut_less}
 use Rattle.cck_script.proofs.script.Script.parse.Goals.{in-Skipped, in-Says+in_ok-push-in-Says}
 use Rattle.cck_script.proofs.script.Script.parse.Goals as goal
 
 pub loop-left-init : goal.loop-left-init
-unfolding wrong_line lines_said
+unfolding wrong_line commands_of
 loop-left-init c = record { bound = omega arith; wrong = refl; lines = rw c.new-commands.ensures.items refl }
 
 pub returns-in-Wrong : goal.returns-in-Wrong
@@ -30,7 +30,7 @@ loop-left-preserved c = elim c.match-branch-2.branch [
   }
   | in-Says+in_ok-push-in-Says w ↦ record {
     bound = let h = rw c.in-Some.is at c.loop-left.invariant.bound in let less = cut_less 10 c.in-Some.lines.now _ _ c.cut-part.ensures in omega arith;
-    wrong = said_here _ _ c.in-Some.lines.now c.cut-part.result.front.now _ _ c.cut-part.ensures
+    wrong = here_of_command _ _ c.in-Some.lines.now c.cut-part.result.front.now _ _ c.cut-part.ensures
         (sym (ap reading_of w.in-Says.is) ∙ c.in_ok-read_line.ensures) (rw c.in-Some.is at c.loop-left.invariant.wrong);
     lines = rw w.commands-is (rw w.in_ok-push-in-Says.ensures.items (rw (map-append line_of c.loop-left.commands.items (w.in-Says.command ∷ [])) (lines_more _ _ c.in-Some.lines.now c.cut-part.result.front.now _ _ c.cut-part.ensures
         (sym (ap reading_of w.in-Says.is) ∙ c.in_ok-read_line.ensures) (rw c.in-Some.is at c.loop-left.invariant.lines))));

@@ -19,5 +19,5 @@ loop-at-preserved c =
 pub returns : goal.returns
 returns c k low = elim (cases_lt k c.loop-at.at) [
   | inl before ↦ c.loop-at.invariant k before low
-  | inr behind ↦ argument_site-beyond _ _ k (let end = c.loop-at-test.false in omega arith)
+  | inr following ↦ argument_site-beyond _ _ k (let end = c.loop-at-test.false in omega arith)
 ]

@@ -17,5 +17,5 @@ loop-at-preserved c =
 pub returns : goal.returns
 returns c k low = elim (cases_lt k c.loop-at.at) [
   | inl before ↦ c.loop-at.invariant k before low
-  | inr behind ↦ text_site-beyond _ _ k (let end = c.loop-at-test.false in omega arith)
+  | inr following ↦ text_site-beyond _ _ k (let end = c.loop-at-test.false in omega arith)
 ]

@@ -17,44 +17,44 @@ use Rattle.cck_walk.specs.declared.judge.Judged.{Judged}
 use Rattle.cck_walk.specs.declared.judge.Judged.TheVariants as judged
 
 -- a directory, a regular file with its recorded digest, or what can't be recorded
-pub data Standing : Type 0 where
-  Folder : Standing
-  Regular : List ℕ → Standing
-  Bad : Standing
+pub data Judgement : Type 0 where
+  Folder : Judgement
+  Regular : List ℕ → Judgement
+  Bad : Judgement
 
 -- the time is known, and is not before the call time
 abbrev pub is_late : Moment → Option Moment → Bool
 is_late moment None = false
 is_late moment (Some time) = not (is_before time moment)
 
-abbrev pub digest_standing : Option (List ℕ) → Standing
-digest_standing None = Bad
-digest_standing (Some digest) = Regular digest
+abbrev pub digest_judgement : Option (List ℕ) → Judgement
+digest_judgement None = Bad
+digest_judgement (Some digest) = Regular digest
 
 -- a regular file is recorded if none of its times is late and it has a recorded digest
-abbrev pub file_standing : Setting → FileNode → Standing
-file_standing s n = if is_late s.moment n.modified || is_late s.moment n.changed then Bad else digest_standing (recorded s n)
+abbrev pub file_judgement : Setting → FileNode → Judgement
+file_judgement s n = if is_late s.moment n.modified || is_late s.moment n.changed then Bad else digest_judgement (recorded s n)
 
-abbrev pub kind_standing : Setting → FileNode → FileKind → Standing
-kind_standing s n kind.File = file_standing s n
-kind_standing s n kind.Folder = Folder
-kind_standing s n kind.Other = Bad
+abbrev pub kind_judgement : Setting → FileNode → FileKind → Judgement
+kind_judgement s n kind.File = file_judgement s n
+kind_judgement s n kind.Folder = Folder
+kind_judgement s n kind.Other = Bad
 
-abbrev pub node_standing : Setting → Option FileNode → Standing
-node_standing s None = Bad
-node_standing s (Some n) = kind_standing s n n.kind
+abbrev pub node_judgement : Setting → Option FileNode → Judgement
+node_judgement s None = Bad
+node_judgement s (Some n) = kind_judgement s n n.kind
 
 -- how a path is judged in these files
-unfoldable pub standing_at : Setting → FileMap → Path → Standing
-standing_at s files p = node_standing s (get files.nodes p)
+unfoldable pub judgement_at : Setting → FileMap → Path → Judgement
+judgement_at s files p = node_judgement s (get files.nodes p)
 
 -- the path was judged exactly, or a fault came and it counts as bad
-abbrev pub IsJudged : Standing → Type 0 → Result Judged KeyError → Type 0
-IsJudged standing HasFault (Ok judged.Folder) = standing ≡ Folder
-IsJudged standing HasFault (Ok (judged.Regular digest)) = standing ≡ Regular (string_bytes digest)
-IsJudged standing HasFault (Ok judged.Bad) = (standing ≡ Bad) ⊎ HasFault
-IsJudged standing HasFault (Err Memory) = Unit {0}
-IsJudged standing HasFault (Err other) = ⊥
+abbrev pub IsJudged : Judgement → Type 0 → Result Judged KeyError → Type 0
+IsJudged judgement HasFault (Ok judged.Folder) = judgement ≡ Folder
+IsJudged judgement HasFault (Ok (judged.Regular digest)) = judgement ≡ Regular (string_bytes digest)
+IsJudged judgement HasFault (Ok judged.Bad) = (judgement ≡ Bad) ⊎ HasFault
+IsJudged judgement HasFault (Err Memory) = Unit {0}
+IsJudged judgement HasFault (Err other) = ⊥
 
 -- a file that can't be read is bad, unless the cause is lack of memory
 abbrev pub judged_unread : Error → Result Judged KeyError

@@ -1,5 +1,0 @@
-use Rattle.c_cache_keys.proofs.Causes.{refusals_have_causes}
-use Rattle.c_cache_keys.proofs.laws.refusals_have_causes.Goals as goal
-
-pub returns : goal.returns
-returns g c = λ zone config basedirs. refusals_have_causes _ _ g.met.S.PreprocessorStore.laws
