@@ -7,7 +7,9 @@ use crate::{CACHE_VERSION, Language, UnknownLanguage};
 pub use cck_digest::laws::{
     has_is_tested, hex_tells_bytes, lengths_are_little_endian, text_has_64_characters,
 };
-pub use cck_file_digest::laws::{file_material, folder_material, reached_tells, errors_tell_no_material};
+pub use cck_file_digest::laws::{
+    errors_tell_no_material, file_material, folder_material, reached_tells,
+};
 pub use cck_path::laws::{
     components_in_order, escape_is_undone, names_that_lead, timestamps_by_nanos,
 };
