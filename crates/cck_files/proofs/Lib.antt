@@ -1,3 +1,4 @@
+mod ArmedLemmas
 pub mod BelowLemmas
 pub mod CallsLemmas
 mod ChildLemmas

@@ -1,5 +1,5 @@
 -- calls of which some are armed to fail
-use Rattle.std.specs.Prelude.{◌≡◌, ◌==◌, ◌||◌, ℕ, ◌+◌, ◌-◌, ◌^◌, Bool, min, refl, if◌then◌else◌}
+use Rattle.std.specs.Prelude.{◌≡◌, ◌≢◌, ◌↔◌, ◌⊎◌, ◌≤◌, ◌==◌, ◌||◌, ℕ, zero, suc, ◌+◌, ◌-◌, ◌^◌, Bool, true, min, refl, if◌then◌else◌}
 use Rattle.std.specs.Coded.{Coded, code_by, coded×, coded_ℕ}
 
 -- which of the next calls is armed alone, and from which of them on all are; each is counted from 1, and 0 is none. Also the number of
@@ -32,3 +32,12 @@ after_call a = record {
 
 abbrev pub coded_armed : Coded Armed
 coded_armed = code_by (ℕ × (ℕ × ℕ)) (coded× coded_ℕ (coded× coded_ℕ coded_ℕ)) (λ a. (a.one, (a.onward, a.calls))) (λ p. record { one = p.0; onward = p.1.0; calls = p.1.1 }) (λ _. refl)
+
+-- after k calls
+unfoldable pub after_calls : ℕ → Armed → Armed
+after_calls zero a = a
+after_calls (suc k) a = after_calls k (after_call a)
+
+-- after k calls the next one fails exactly if it is the one that was armed alone, or is not before the first of those that all were
+abbrev pub FailsAsArmed : Type 0
+FailsAsArmed = (k : ℕ) (a : Armed) → (fails (after_calls k a) ≡ true) ↔ ((a.one ≡ suc k) ⊎ ((a.onward ≢ 0) × (a.onward ≤ suc k)))

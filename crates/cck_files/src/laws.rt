@@ -1,5 +1,6 @@
 //! Laws about the definitions. Each is the contract of a function with an empty body.
 ghost use Rattle.std.specs.Prelude.{◌≡◌, ◌↔◌, IsTrue};
+ghost use Rattle.cck_files.specs.ArmedCalls.{FailsAsArmed};
 ghost use Rattle.cck_files.specs.Node.{node_of};
 
 use crate::Node;
@@ -8,4 +9,13 @@ use crate::Node;
 pub fn equality_is_exact()
     ensures { (a b : Node) →
         IsTrue (⟦<Node as PartialEq>⟧.eq a b) ↔ (node_of a ≡ node_of b) }
+{}
+
+/// After k calls the next one fails exactly if it is the one that [`fail_at`] armed, or if it is not
+/// before the first of those that [`fail_after`] armed.
+///
+/// [`fail_at`]: crate::ArmedCalls::fail_at
+/// [`fail_after`]: crate::ArmedCalls::fail_after
+pub fn calls_fail_as_armed()
+    ensures { FailsAsArmed }
 {}
