@@ -15,23 +15,11 @@ set -e
 here=$(cd "$(dirname "$0")" && pwd)
 top=$(cd "$here/.." && pwd)
 folder=${1:-$(mktemp -d)}
+. "$here/program.sh"
 . "$here/headers.sh"
 . "$here/unit.sh"
 
-rm -rf "$folder/work"
-mkdir -p "$folder/work/crates/strip_bench/src"
-cp -r "$top/crates/cck_digest" "$top/crates/cck_strip" "$folder/work/crates/"
-cp "$here/strip/main.rt.in" "$folder/work/crates/strip_bench/src/main.rt"
-cp "$top/HANDLES" "$folder/work/"
-{
-    grep -E '^cck_(digest|strip):' "$top/crates.txt"
-    echo 'strip_bench: cck_strip memchr anyhow'
-} > "$folder/work/crates.txt"
-if ! (cd "$folder/work/crates/strip_bench" && rt run < /dev/null > "$folder/build.log" 2>&1); then
-    tail -20 "$folder/build.log" >&2
-    exit 1
-fi
-program="$folder/work/crates/strip_bench/out/strip_bench"
+build_program strip 'cck_digest cck_strip' 'cck_strip memchr anyhow'
 
 # Measures the text of this name, and prints its table.
 measure() {
@@ -40,9 +28,8 @@ measure() {
     if command -v valgrind > /dev/null; then
         head -c 4194304 "$folder/$1.i" > "$folder/part.i"
         for name in $(cut -d ' ' -f 1 "$folder/times"); do
-            made=$(valgrind --tool=callgrind --callgrind-out-file=/dev/null \
-                "$program" "$name" < "$folder/part.i" 2> "$folder/said")
-            echo "$made $(sed -n 's/.*Collected : //p' "$folder/said")" >> "$folder/counts"
+            made=$("$program" "$name" < "$folder/part.i")
+            echo "$made $(instructions "$program" "$name" < "$folder/part.i")" >> "$folder/counts"
         done
     fi
     echo "$1.i: a / once in $((size / $(tr -dc / < "$folder/$1.i" | wc -c))) bytes"
