@@ -75,7 +75,7 @@ pub fn run_calls<H: HashState, I: CCompilerImpl, F: Files, S: PreprocessorStore>
     basedirs: &[Vec<u8>],
     calls: &mut [Call<I, F>],
 ) -> Result<Vec<Result<HashResult, KeyError>>, UtilError>
-    ensures returned { IfOk result (λ answers.
+    ensures results_returned { IfOk result (λ answers.
         let w = world_of H.hash I.compiler (plain_zone zone.now) config (lists_of basedirs.now) in
         AreReturned I.value F.file_map F.faults w S.store store.old calls.old calls.new answers.items store.new) }
     ensures run { IfOk result (λ answers.

@@ -12,7 +12,7 @@ returns-in_err-answers-clause-keeps g c = untouched g.F.Files.file_map g.F.Files
 
 pub loop-call-init : goal.loop-call-init
 loop-call-init g c = record {
-  returned = rw c.in_ok-answers.ensures.items refl;
+  results_returned = rw c.in_ok-answers.ensures.items refl;
   rest = refl;
   after = untouched g.F.Files.file_map g.F.Files.faults g.F.Files.is_quiet c.args.calls.now;
   count = c.in_ok-answers.ensures.len;
@@ -24,9 +24,9 @@ loop-call-preserved g c =
     let F = g.F.Files in
     let w = world_of g.H.HashState.hash g.I.CCompilerImpl.compiler (plain_zone c.args.zone.now) c.args.config (lists_of c.args.basedirs.now) in
     record {
-      returned = rw (add-one, c.in_ok-push.ensures.items)
+      results_returned = rw (add-one, c.in_ok-push.ensures.items)
           (returned_more g.I.CCompilerImpl.value F.file_map F.faults w g.S.PreprocessorStore.store c.loop-call.call-index c.args.calls.now c.loop-call.calls _ c.call-item.result _ _ _ _ _
-          c.loop-call-test.true c.loop-call.invariant.rest c.loop-call.invariant.returned (record {
+          c.loop-call-test.true c.loop-call.invariant.rest c.loop-call.invariant.results_returned (record {
             step = rw (c.deref.ensures.value, c.deref-in-loop-call.ensures.value) at c.generate_hash_key-answer.ensures.step;
             reason = rw (c.deref.ensures.value, c.deref-in-loop-call.ensures.value) at c.generate_hash_key-answer.ensures.reason;
             toolchain = c.generate_hash_key-answer.ensures.toolchain;
@@ -38,15 +38,15 @@ loop-call-preserved g c =
       room = omega (c.in_ok-push.ensures.capacity, c.loop-call.invariant.room, arith);
     }
 
-pub returns-clause-returned : goal.returns-clause-returned
-returns-clause-returned g c =
+pub returns-clause-results_returned : goal.returns-clause-results_returned
+returns-clause-results_returned g c =
     all_returned g.I.CCompilerImpl.value g.F.Files.file_map g.F.Files.faults _ g.S.PreprocessorStore.store c.loop-call.call-index c.args.calls.now c.loop-call.calls _ _ _
-    c.loop-call-test.false c.loop-call.auto.calls c.loop-call.invariant.returned
+    c.loop-call-test.false c.loop-call.auto.calls c.loop-call.invariant.results_returned
 
 pub returns-clause-run : goal.returns-clause-run
 returns-clause-run g c =
     all_run g.I.CCompilerImpl.value g.F.Files.file_map g.F.Files.faults _ g.S.PreprocessorStore.store c.loop-call.call-index c.args.calls.now c.loop-call.calls _ _ _
-    c.loop-call-test.false c.loop-call.auto.calls c.loop-call.invariant.returned
+    c.loop-call-test.false c.loop-call.auto.calls c.loop-call.invariant.results_returned
 
 pub returns-clause-headline : goal.returns-clause-headline
 returns-clause-headline g c = λ none premises.

@@ -10,7 +10,7 @@ use Rattle.c_cache_keys.proofs.calls.run_calls.Given as goal
 -- the calls made so far, those that are left, and the room for their results
 abbrev pub invariant-loop-call : goal.invariant-loop-call
 invariant-loop-call g l = let F = g.F.Files in record {
-  returned : AreReturned g.I.CCompilerImpl.value F.file_map F.faults
+  results_returned : AreReturned g.I.CCompilerImpl.value F.file_map F.faults
       (world_of g.H.HashState.hash g.I.CCompilerImpl.compiler (plain_zone l.fn.zone) l.fn.config (lists_of l.fn.basedirs)) g.S.PreprocessorStore.store l.fn.store
       (take l.call-index l.fn.calls) (take l.call-index l.calls) l.answers.items l.store;
   rest : drop l.call-index l.calls ≡ drop l.call-index l.fn.calls;
