@@ -1,5 +1,5 @@
 -- The order of two paths whose first different bytes are of names.
-use Rattle.std.proofs.Common.{◌≡◌, ◌≢◌, ℕ, zero, suc, ◌+◌, ◌-◌, ◌<◌, ◌≤◌, List, [], ◌∷◌, ◌++◌, length, get_or, take, drop, Bool, true, false, cond, Ordering, Less, Equal, Greater, refl, sym, ap, ◌∙◌, arith, nat_eq, append_assoc, drop-cons, get_or-drop}
+use Rattle.std.proofs.Common.{◌≡◌, ◌≢◌, ℕ, suc, ◌+◌, ◌-◌, ◌<◌, ◌≤◌, List, [], ◌∷◌, ◌++◌, length, get_or, take, drop, Bool, true, false, cond, Ordering, Less, Equal, Greater, refl, sym, ap, ◌∙◌, arith, nat_eq, append_assoc, drop-cons, get_or-drop}
 use Rattle.std.specs.List.{onto_first, flat_map, common_prefix_len, AllByRecursion}
 use Rattle.std.specs.Ordering.{nat_cmp, ordering_then}
 use Rattle.std.specs.Cmp.Lexicographic.{slice_cmp}
@@ -7,7 +7,7 @@ use Rattle.std.specs.FinMap.{nat_cmp-IsAntisymmetric}
 use Rattle.std.proofs.lemmas.Bool.{eq-eqb}
 use Rattle.std.proofs.lemmas.Cmp.{nat_cmp_total}
 use Rattle.std.proofs.lemmas.List.{take-append-drop, drop-take, get_or-take, length-drop}
-use Rattle.cck_path.specs.Path.{Path, Name, parts, part_components, inner_components, components, component_cmp, path_cmp}
+use Rattle.cck_path.specs.Path.{Path, Name, parts, part_components, inner_components, components, path_cmp}
 use Rattle.cck_path.proofs.CommonPrefixLemmas.{order_after, same_prefix}
 use Rattle.cck_path.proofs.OrderLemmas.{reflexive}
 use Rattle.cck_path.proofs.PartLemmas.{no_slash_before}

@@ -1,5 +1,5 @@
 //! Paths: byte strings that are read as lists of components.
-ghost use Rattle.std.specs.Prelude.{◌≡◌, ◌≢◌, ◌++◌, ◌<◌, ◌≤◌, ◌∷◌, ◌+◌, [], drop, length, map, nat_eq, OnOk, IfOk, IsOkUnless, MatchOption, MatchBool, option_to_list};
+ghost use Rattle.std.specs.Prelude.{◌≡◌, ◌≢◌, ◌++◌, ◌<◌, ◌≤◌, ◌∷◌, ◌+◌, [], drop, length, map, nat_eq, OnOk, IfOk, IsOkUnless, MatchOption, MatchBool, option_to_list, take, ⊤};
 ghost use Rattle.std.specs.List.{common_prefix_len, join_with_byte};
 ghost use Rattle.std.specs.Option.{option_copied, option_map, option_and_then};
 ghost use Rattle.std.specs.Iterator.{YieldsFirstBy, at_most};
@@ -16,8 +16,11 @@ use std::alloc::Global;
 use std::cmp::Ordering;
 use std::io::Write;
 
-// The number of bytes that are compared at once while two texts are the same.
-const CHUNK_LEN: usize = 32;
+// The numbers of bytes that are compared at once while two texts are the same: first of long texts,
+// and then of what follows.
+const LONG_CHUNK: usize = 32;
+
+const SHORT_CHUNK: usize = 8;
 
 /// A component of a path, as `std::path::Component` on Unix. Components are ordered as listed here,
 /// and names by their bytes.
@@ -200,28 +203,39 @@ fn common_prefix_len(a: &[u8], b: &[u8]) -> usize
     ensures in_first { result ≤ length a.now }
     ensures in_second { result ≤ length b.now }
 {
-    let mut at = same_chunks_len(a, b);
+    let mut at = same_chunks_len::<LONG_CHUNK>(a, b);
+    at += same_chunks_len::<SHORT_CHUNK>(&a[at..], &b[at..]);
     while at < a.len() && at < b.len() && a[at] == b[at] {
         at += 1;
     }
     at
 }
 
-// The number of bytes in the chunks at the beginning that are the same in both texts.
-fn same_chunks_len(a: &[u8], b: &[u8]) -> usize
+// The number of bytes in the chunks of N bytes at the beginning that are the same in both texts.
+fn same_chunks_len<const N: usize>(a: &[u8], b: &[u8]) -> usize
+    requires some { 0 < N }
+    requires few { N ≤ 32 }
     ensures in_first { result ≤ length a.now }
     ensures in_second { result ≤ length b.now }
     ensures counted { common_prefix_len nat_eq a.now b.now
         ≡ result + common_prefix_len nat_eq (drop result a.now) (drop result b.now) }
 {
     let mut at = 0;
-    while CHUNK_LEN <= a.len() - at
-        && CHUNK_LEN <= b.len() - at
-        && a[at..at + CHUNK_LEN] == b[at..at + CHUNK_LEN]
-    {
-        at += CHUNK_LEN;
+    while is_same_chunk::<N>(&a[at..], &b[at..]) {
+        at += N;
     }
     at
+}
+
+// Whether both texts begin with the same N bytes.
+fn is_same_chunk<const N: usize>(a: &[u8], b: &[u8]) -> bool
+    requires { N ≤ 32 }
+    ensures { MatchBool result ((N ≤ length a.now) × (N ≤ length b.now) × (take N a.now ≡ take N b.now)) ⊤ }
+{
+    match (a.first_chunk::<N>(), b.first_chunk::<N>()) {
+        (Some(a), Some(b)) => a == b,
+        _ => false,
+    }
 }
 
 /// Whether two paths have the same components. It allocates no memory.
