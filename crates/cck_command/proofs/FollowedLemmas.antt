@@ -1,11 +1,13 @@
 -- The lines of a script, followed one after another.
-use Rattle.std.proofs.Common.{◌≡◌, List, [], ◌∷◌, ◌++◌, Option, Some, append_assoc, ap, sym, ◌∙◌}
+use Rattle.std.proofs.Common.{◌≡◌, List, [], ◌∷◌, ◌++◌, Option, Some, append_assoc, ap, arith, length, map, sym, ◌∙◌}
 use Rattle.std.specs.List.{AllZip}
 use Rattle.std.specs.Option.{option_to_list}
 use Rattle.std.proofs.lemmas.List.{append-nil}
 use Rattle.cck_script.specs.Calls.{ScriptCallValue, calls_after, script_calls, call_of_command}
 use Rattle.cck_script.specs.Lines.{Line}
+use Rattle.cck_script.specs.Seen.{line_of}
 use Rattle.cck_script.specs.Surroundings.{AreAfter}
+use Rattle.cck_script.specs.declared.command.Command.{Command}
 use Rattle.cck_script.specs.declared.surroundings.Surroundings.{Surroundings}
 
 -- the lines so far were followed, this holds of the calls that they ask for, and the lines that are left ask for the others
@@ -30,8 +32,13 @@ one_line_more OfAsked OfMore lines left following line now then so is follow mor
 }
 
 -- no line is left: it holds of all calls
-pub all_followed : (OfAsked : List ScriptCallValue → Type 0) (lines : List Line) (now : Surroundings) → AreFollowed OfAsked lines [] now → OfAsked (script_calls lines)
+all_followed : (OfAsked : List ScriptCallValue → Type 0) (lines : List Line) (now : Surroundings) → AreFollowed OfAsked lines [] now → OfAsked (script_calls lines)
 all_followed OfAsked lines now so = rw (so.split ∙ append-nil so.asked) so.of_asked
+
+-- the same, where no command is left
+pub none_left : (OfAsked : List ScriptCallValue → Type 0) (lines : List Line) (items : List Command) (now : Surroundings) → length items ≡ 0 → AreFollowed OfAsked lines (map line_of items) now → OfAsked (script_calls lines)
+none_left OfAsked lines [] now none so = all_followed OfAsked lines now so
+none_left OfAsked lines (command ∷ items) now none so = absurd (omega arith)
 
 pub zip_joined : {A B : Type 0} (R : A → B → Type 0) (xs more : List A) (ys others : List B) → AllZip R xs ys → AllZip R more others → AllZip R (xs ++ more) (ys ++ others)
 zip_joined R [] more [] others p q = q

@@ -46,14 +46,14 @@ pub fn compiler_of<H: HashState>(
 pub fn ready_calls(
     alloc: Global,
     compiler: &CCompiler<MiniCompiler>,
-    script: &Script,
+    script: Script,
 ) -> Result<Vec<Call<MiniCompiler, MapFiles>>, Failed>
-    ensures { IfOk result (λ calls. AllZip (IsReady compiler.now) (script_calls (lines_of script.now)) calls.items) }
+    ensures { IfOk result (λ calls. AllZip (IsReady compiler.now) (script_calls (lines_of script)) calls.items) }
 {
     let mut surroundings = Surroundings::new(alloc)?;
     let mut calls = Vec::new(alloc);
-    for command in script.commands() {
-        push_call(alloc, compiler, &surroundings, command, &mut calls)?;
+    for command in script.into_commands() {
+        push_call(alloc, compiler, &surroundings, &command, &mut calls)?;
         surroundings.follow(alloc, command)?;
     }
     Ok(calls)

@@ -1,9 +1,10 @@
 //! The program, over any reader and any writer.
-ghost use Rattle.std.specs.Prelude.{◌≡◌, ◌≢◌, None, IfOk, IfSome, map, string_bytes};
+ghost use Rattle.std.specs.Prelude.{◌≡◌, ◌≢◌, None, IfOk, IfSome, MatchResult, map, string_bytes};
 ghost use Rattle.std.specs.Cow.{cow_slice_items};
 ghost use Rattle.std.specs.Io.KnownBytes.{Appends};
 ghost use Rattle.cck_path.specs.Bytes.{Bytes};
-ghost use Rattle.cck_script.specs.Script.{commands_of, wrong_line};
+ghost use Rattle.cck_script.specs.Script.{IsScriptError, commands_of, wrong_line};
+ghost use Rattle.cck_script.specs.Seen.{lines_of};
 ghost use Rattle.cck_command.specs.Printing.{AppendsBeginning};
 ghost use Rattle.cck_command.specs.Program.{IsCutShort, IsOutput, IsSomeOutput, key_line, failed_line};
 ghost use Rattle.cck_command.specs.Request.{IsUsageError};
@@ -52,6 +53,18 @@ fn key_output<H: HashState, R: Read>(
     })
 }
 
+// Reads a script to the reader's end. Its text is freed when this returns.
+fn read_script<R: Read>(
+    alloc: Global,
+    reader: &mut R,
+) -> Result<Result<Script, ScriptError>, Failed>
+    ensures { IfOk result (λ parsed. IfSome (R.remaining reader.old) (λ input. MatchResult parsed
+        (λ script. (wrong_line input ≡ None) × (lines_of script ≡ commands_of input)) (IsScriptError input))) }
+{
+    let text = read_all(alloc, reader)?;
+    Ok(Script::parse(alloc, &text))
+}
+
 // Reads a script to its end. The output is one line for each of its calls. If a line is wrong, the
 // output is the number of the first such line, and no call is made.
 fn run_output<H: HashState, R: Read>(alloc: Global, reader: &mut R) -> Result<Output, Failed>
@@ -61,10 +74,9 @@ fn run_output<H: HashState, R: Read>(alloc: Global, reader: &mut R) -> Result<Ou
     ensures ran { IfOk result (λ output. IfSome (R.remaining reader.old) (λ input. wrong_line input ≡ None →
         (output.status ≡ Status.Done) × Ran H.hash (commands_of input) (cow_slice_items output.text))) }
 {
-    let text = read_all(alloc, reader)?;
-    match Script::parse(alloc, &text) {
+    match read_script(alloc, reader)? {
         Ok(script) => {
-            let lines = run_script::<H>(alloc, &script)?;
+            let lines = run_script::<H>(alloc, script)?;
             Ok(Output {
                 status: Status::Done,
                 text: CowSlice::Owned(lines),

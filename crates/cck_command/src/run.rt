@@ -1,9 +1,10 @@
 //! The calls of a script, made one after another.
-ghost use Rattle.std.specs.Prelude.{◌≡◌, ◌∷◌, [], List, ℤ, IfOk};
+ghost use Rattle.std.specs.Prelude.{◌≡◌, ◌↔◌, ◌∷◌, [], List, ℤ, IfOk, IsOk};
 ghost use Rattle.std.specs.Option.{option_to_list, unwrap_or};
 ghost use Rattle.cck_files.specs.ArmedCalls.{new_armed};
 ghost use Rattle.cck_path.specs.Bytes.{lists_of};
 ghost use Rattle.cck_store.specs.MapStore.{new_state};
+ghost use Rattle.jiff_core.specs.Timestamp.{IsOffsetSeconds};
 ghost use Rattle.jiff.specs.Words.{fixed_zone, plain_zone};
 ghost use Rattle.jiff.specs.Types.{Offset as PlainOffset};
 ghost use Rattle.cck_script.specs.Calls.{call_after, call_of_command};
@@ -32,13 +33,13 @@ use std::alloc::Global;
 /// for each call, as [`add_result_lines`] writes it.
 ///
 /// One map of files and one list of variables follow the script line by line. Each call is made
-/// over them as they are at its line.
+/// over them as they are at its line. What a line puts or sets is moved from the script to them.
 ///
 /// The theorem [`laws::headline`](c_cache_keys::laws::headline) holds for all these calls together,
 /// since the store is empty at first. The contract of [`run_calls`] gives it only for the one call
 /// of a line.
-pub fn run_script<H: HashState>(alloc: Global, script: &Script) -> Result<Vec<u8>, Failed>
-    ensures { IfOk result (λ printed. Ran H.hash (lines_of script.now) printed.items) }
+pub fn run_script<H: HashState>(alloc: Global, script: Script) -> Result<Vec<u8>, Failed>
+    ensures { IfOk result (λ printed. Ran H.hash (lines_of script) printed.items) }
 {
     let options = script.options(alloc)?;
     let mut store = store_of(alloc, options.forget_at, options.fail_at);
@@ -51,7 +52,7 @@ pub fn run_script<H: HashState>(alloc: Global, script: &Script) -> Result<Vec<u8
     };
     let mut surroundings = Surroundings::new(alloc)?;
     let mut printed = Vec::new(alloc);
-    for command in script.commands() {
+    for command in script.into_commands() {
         surroundings = follow_line::<H>(
             alloc,
             &setting,
@@ -79,15 +80,15 @@ fn follow_line<H: HashState>(
     setting: &Setting,
     store: &mut MapStore,
     surroundings: Surroundings,
-    command: &Command,
+    command: Command,
     printed: &mut Vec<u8>,
 ) -> Result<Surroundings, Failed>
     ensures after { IfOk result (λ after. (earlier : List Line) → AreAfter earlier surroundings
-        → AreAfter (line_of command.now ∷ earlier) after) }
+        → AreAfter (line_of command ∷ earlier) after) }
     ensures made { IfOk result (λ after. (zone : ℤ) (earlier : List Line) → IsRunCompiler H.hash zone setting.now.compiler
         → AreAfter earlier surroundings
         → AreMade H.hash zone (world_of H.hash mini_compiler (plain_zone setting.now.zone) activated (lists_of setting.now.basedirs.items))
-        (option_to_list (call_of_command earlier (line_of command.now))) store.old store.new printed.old.items printed.new.items) }
+        (option_to_list (call_of_command earlier (line_of command))) store.old store.new printed.old.items printed.new.items) }
 {
     let mut after = match command.call() {
         Some(asked) => make_call::<H>(alloc, setting, store, surroundings, &asked, printed)?,
@@ -145,9 +146,10 @@ fn make_call<H: HashState>(
 
 /// Returns the zone with a fixed offset of `seconds` seconds east of UTC.
 ///
-/// [`Failed`] is returned for an offset that [`Offset::from_seconds`] rejects.
+/// [`Failed`] is returned exactly for an offset of more than 93599 seconds, 25:59:59, to either side.
 pub fn zone_at(seconds: i32) -> Result<TimeZone<'static>, Failed>
-    ensures { IfOk result (λ zone. (offset : PlainOffset) × (offset.seconds ≡ seconds)
+    ensures succeeds { IsOk result ↔ IsOffsetSeconds seconds }
+    ensures zone { IfOk result (λ zone. (offset : PlainOffset) × (offset.seconds ≡ seconds)
         × (plain_zone zone ≡ fixed_zone offset)) }
 {
     match Offset::from_seconds(seconds) {

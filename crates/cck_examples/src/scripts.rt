@@ -20,16 +20,18 @@ fn a_script(rt: HostRuntime) -> Result<(), Fail> {
     };
     assert_eq!(rt; *second, Command::Clear);
     assert_ne!(rt; *first, Command::Clear);
-    let mut surroundings = Surroundings::new(alloc)?;
-    surroundings.follow(alloc, first)?;
-    assert_eq!(rt; surroundings.variables.len(), 1);
-    surroundings.follow(alloc, second)?;
-    assert_eq!(rt; surroundings.variables.len(), 0);
     let Some(call) = third.call() else {
         return Err(Fail::new("the third line asks for a call"));
     };
     assert_eq!(rt; call.moment, Timestamp::new(0, 5));
     assert_eq!(rt; call.arguments.len(), 2);
+    let mut surroundings = Surroundings::new(alloc)?;
+    let mut counts = Vec::new(alloc);
+    for command in script.into_commands() {
+        surroundings.follow(alloc, command)?;
+        counts.push(surroundings.variables.len())?;
+    }
+    assert_eq!(rt; counts.as_slice(), [1, 0, 0].as_slice());
     Ok(())
 }
 

@@ -47,6 +47,8 @@ pub fn print_input<F: Files>(
     let macros = macros_for(alloc, zone_offset, moment, file.modified)?;
     let mut out = Vec::new(alloc);
     print_marker(&mut out, 1, &path, b"")?;
+    // Without macros and inclusions this is all that is printed, so nothing is copied as it grows.
+    out.reserve(file.contents.len())?;
     let job = Job {
         zone_offset,
         moment,

@@ -31,7 +31,7 @@
 //! let text = b"file /w/a.c 1 1 int x;\\n\nvar HOME /h\ncompile 5000000000 a.c -O2\n";
 //! let script = Script::parse(alloc, text)?;
 //! let mut surroundings = Surroundings::new(alloc)?;
-//! for command in script.commands() {
+//! for command in script.into_commands() {
 //!     command.call(); // at the third line one, of `a.c` and `-O2`, over `/w/a.c` and `/usr/bin/cc`
 //!     surroundings.follow(alloc, command)?;
 //! }

@@ -66,6 +66,13 @@ impl Script {
         &self.commands
     }
 
+    /// Returns the same commands as values.
+    pub fn into_commands(self) -> Vec<Command>
+        ensures { map line_of result.items ≡ lines_of self }
+    {
+        self.commands
+    }
+
     /// Returns what holds for the whole run. Of several lines `zone`, `store forget` or
     /// `store fail` the last one counts.
     ///

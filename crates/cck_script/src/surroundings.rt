@@ -1,10 +1,8 @@
 //! The files and variables that a call is made over.
-ghost use Rattle.std.specs.Prelude.{◌≡◌, ◌∷◌, [], List, IfOk, IsOkUnless, OnOk};
+ghost use Rattle.std.specs.Prelude.{◌≡◌, ◌∷◌, [], List, IfOk, IsOkUnless, OnErr, OnOk};
 ghost use Rattle.cck_files.specs.ArmedCalls.{IsUnarmed};
-ghost use Rattle.cck_files.specs.FileState.{with_place};
 ghost use Rattle.cck_path.specs.Bytes.{variables_of};
-ghost use Rattle.cck_path.specs.Path.{components, normal};
-ghost use Rattle.cck_script.specs.Surroundings.{AreAfter, AreFiles, AreNamesOf, file_node, with_variable};
+ghost use Rattle.cck_script.specs.Surroundings.{AreAfter, AreFiles, AreNamesOf, with_variable};
 ghost use Rattle.cck_script.specs.Lines.{Line};
 ghost use Rattle.cck_script.specs.Seen.{line_of};
 
@@ -35,13 +33,15 @@ pub fn first_files(alloc: Global) -> Result<MapFiles, UtilError>
 {
     let mut files = MapFiles::new(alloc);
     let start = Timestamp::new(0, 0);
-    put_file(
-        alloc,
-        &mut files,
+    let contents = EXECUTABLE_CONTENTS.to_vec(alloc)?;
+    files.put(
         EXECUTABLE,
-        Some(start),
-        Some(start),
-        EXECUTABLE_CONTENTS,
+        Node {
+            kind: FileKind::File,
+            contents,
+            modified: Some(start),
+            changed: Some(start),
+        },
     )?;
     Ok(files)
 }
@@ -78,12 +78,15 @@ impl Surroundings {
     }
 
     /// Applies the next line. A line that asks for a call, or that holds for the whole run, changes
-    /// nothing here.
+    /// nothing here. The contents of a file and the value of a variable are moved, not copied.
     ///
-    /// The only error is [`UtilError::Memory`]; what was changed is then unspecified.
-    pub fn follow(&mut self, alloc: Global, command: &Command) -> Result<(), UtilError>
+    /// The only error is [`UtilError::Memory`]. The files and variables are then those before the
+    /// line.
+    pub fn follow(&mut self, alloc: Global, command: Command) -> Result<(), UtilError>
         ensures after { OnOk result ((lines : List Line) → AreAfter lines self.old
-            → AreAfter (line_of command.now ∷ lines) self.new) }
+            → AreAfter (line_of command ∷ lines) self.new) }
+        ensures kept { OnErr result ((lines : List Line) → AreAfter lines self.old
+            → AreAfter lines self.new) }
         ensures refused { IsOkUnless result UtilError.Memory }
     {
         match command {
@@ -92,9 +95,17 @@ impl Surroundings {
                 modified,
                 changed,
                 contents,
-            } => put_file(alloc, &mut self.files, path, *modified, *changed, contents),
+            } => self.files.put(
+                &path,
+                Node {
+                    kind: FileKind::File,
+                    contents,
+                    modified,
+                    changed,
+                },
+            ),
             Command::Folder { path } => self.files.put(
-                path,
+                &path,
                 Node {
                     kind: FileKind::Folder,
                     contents: Vec::new(alloc),
@@ -103,7 +114,7 @@ impl Surroundings {
                 },
             ),
             Command::Gone { path } => {
-                self.files.remove(path);
+                self.files.remove(&path);
                 Ok(())
             }
             Command::Variable { name, value } => {
@@ -137,55 +148,31 @@ pub fn copy_variables(
     Ok(copy)
 }
 
-// Puts a regular file at a path, in place of the node there.
-fn put_file(
-    alloc: Global,
-    files: &mut MapFiles,
-    path: &[u8],
-    modified: Option<Timestamp>,
-    changed: Option<Timestamp>,
-    contents: &[u8],
-) -> Result<(), UtilError>
-    ensures set { OnOk result (files.new ≡ record files.old {
-      files =
-          with_place files.old.files (components path.now)
-          (file_node contents.now modified changed)
-          (normal (components path.now));
-    }) }
-    ensures refused { IsOkUnless result UtilError.Memory }
-{
-    let contents = contents.to_vec(alloc)?;
-    files.put(
-        path,
-        Node {
-            kind: FileKind::File,
-            contents,
-            modified,
-            changed,
-        },
-    )
-}
-
-// Gives a variable a value: a new name comes last, a known one keeps its place.
+// Gives a variable a value: a new name comes last, a known one keeps its place. After an error
+// neither the variables nor their names are changed.
 fn set_variable(
     alloc: Global,
     variables: &mut Vec<(Vec<u8>, Vec<u8>)>,
     names: &mut IndexSet<Vec<u8>>,
-    name: &[u8],
-    value: &[u8],
+    name: Vec<u8>,
+    value: Vec<u8>,
 ) -> Result<(), UtilError>
     ensures set { OnOk result (AreNamesOf variables.old.items names.old.keys
         → (variables_of variables.new.items
-        ≡ with_variable name.now value.now (variables_of variables.old.items))
+        ≡ with_variable name.items value.items (variables_of variables.old.items))
         × AreNamesOf variables.new.items names.new.keys) }
+    ensures kept { OnErr result ((variables.new.items ≡ variables.old.items)
+        × (names.new.keys ≡ names.old.keys)) }
     ensures refused { IsOkUnless result UtilError.Memory }
 {
-    let value = value.to_vec(alloc)?;
-    let (at, _) = names.insert_full(name.to_vec(alloc)?)?;
+    let copy = name.to_vec(alloc)?;
+    // With room for it the push below can't fail.
+    variables.reserve(1)?;
+    let (at, _) = names.insert_full(name)?;
     if at < variables.len() {
         variables[at].1 = value;
     } else {
-        variables.push((name.to_vec(alloc)?, value))?;
+        variables.push((copy, value))?;
     }
     Ok(())
 }

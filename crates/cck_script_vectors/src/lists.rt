@@ -3,7 +3,7 @@ use c_cache_keys::cck_entry::PreprocessorCacheEntry;
 use c_cache_keys::{Call, HashResult, KeyError, MapStore, PreprocessorStore, run_calls};
 use cck_cases::CaseError;
 use cck_command::{Failed, MiniCompiler, compiler_of, ready_calls, zone_at};
-use cck_script::{Script, ScriptError};
+use cck_script::{RunOptions, Script, ScriptError, copy_variables};
 use cck_time::PreprocessorCacheModeConfig;
 use cck_util::{MapFiles, Sha256State, UtilError};
 use jiff::tz::TimeZone;
@@ -20,13 +20,12 @@ pub(crate) type Answer = Result<HashResult, KeyError>;
 pub(crate) struct List {
     /// The allocator of all that is made.
     pub(crate) alloc: Global,
-    script: Script,
+    options: RunOptions,
     // The calls, in the order of their lines.
     calls: Vec<Request>,
     // What is held before the first call: bytes under a key.
     first: Option<(String, Vec<u8>)>,
     zone: TimeZone<'static>,
-    basedirs: Vec<Vec<u8>>,
 }
 
 /// A call that is made alone, on a store that holds nothing.
@@ -59,11 +58,10 @@ impl List {
         )?;
         Ok(List {
             alloc,
-            calls: ready_calls(alloc, &compiler, &script).map_err(memory_error)?,
-            script,
+            calls: ready_calls(alloc, &compiler, script).map_err(memory_error)?,
             first: None,
             zone: zone_at(options.zone_offset).map_err(memory_error)?,
-            basedirs: options.basedirs,
+            options,
         })
     }
 
@@ -109,10 +107,9 @@ impl List {
 
     /// The same, armed as the lines `store` of the script say.
     pub(crate) fn store(&self) -> Result<MapStore, CaseError> {
-        let options = self.script.options(self.alloc)?;
         let mut store = self.first_store()?;
-        store.forget_at(options.forget_at.unwrap_or(0));
-        store.fail_at(options.fail_at.unwrap_or(0));
+        store.forget_at(self.options.forget_at.unwrap_or(0));
+        store.fail_at(self.options.fail_at.unwrap_or(0));
         Ok(store)
     }
 
@@ -131,16 +128,12 @@ impl List {
     }
 
     fn copy(&self, call: &Request) -> Result<Request, CaseError> {
-        let mut vars = Vec::new(self.alloc);
-        for (name, value) in &call.vars {
-            vars.push((name.to_vec(self.alloc)?, value.to_vec(self.alloc)?))?;
-        }
         let hasher = call.hasher.copy(self.alloc);
         Ok(Call {
             hasher: hasher.map_err(|_| CaseError::Util(UtilError::Memory))?,
             files: call.files.copy(self.alloc)?,
             cwd: call.cwd.to_vec(self.alloc)?,
-            vars,
+            vars: copy_variables(self.alloc, &call.vars)?,
             moment: call.moment,
             control: call.control,
         })
@@ -158,7 +151,7 @@ impl List {
             store,
             &self.zone,
             config,
-            &self.basedirs,
+            &self.options.basedirs,
             calls,
         )?;
         Ok(answers)

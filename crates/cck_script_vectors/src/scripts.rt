@@ -32,7 +32,7 @@ pub(crate) fn write(
     rest: &str,
 ) -> Result<(), CaseError> {
     match Script::parse(alloc, text) {
-        Ok(script) => write_of_script(call, alloc, out, &script, rest),
+        Ok(script) => write_of_script(call, alloc, out, script, rest),
         Err(ScriptError::Memory) => Err(CaseError::Util(UtilError::Memory)),
         Err(error) => Ok(write_error(call, alloc, out, error)?),
     }
@@ -42,12 +42,12 @@ fn write_of_script(
     call: ScriptCall,
     alloc: Global,
     out: &mut Vec<u8>,
-    script: &Script,
+    script: Script,
     rest: &str,
 ) -> Result<(), CaseError> {
     match call {
-        ScriptCall::Parse | ScriptCall::ErrorText => Ok(write_commands(alloc, out, script)?),
-        ScriptCall::Calls => Ok(write_calls(alloc, out, script)?),
+        ScriptCall::Parse | ScriptCall::ErrorText => Ok(write_commands(alloc, out, &script)?),
+        ScriptCall::Calls => Ok(write_calls(alloc, out, &script)?),
         ScriptCall::Options => Ok(write_options(alloc, out, &script.options(alloc)?)?),
         ScriptCall::Surroundings => write_at_call(alloc, out, script, rest),
     }
@@ -109,13 +109,13 @@ fn write_options(alloc: Global, out: &mut Vec<u8>, options: &RunOptions) -> Resu
 fn write_at_call(
     alloc: Global,
     out: &mut Vec<u8>,
-    script: &Script,
+    script: Script,
     rest: &str,
 ) -> Result<(), CaseError> {
     let (before, paths) = rest.split_once(' ').unwrap_or((rest, ""));
     let mut before = number::<u64>(before)?;
     let mut surroundings = Surroundings::new(alloc)?;
-    for command in script.commands() {
+    for command in script.into_commands() {
         if command.call().is_some() {
             if before == 0 {
                 break;

@@ -1,4 +1,4 @@
-use Rattle.std.proofs.Common.{drop, map}
+use Rattle.std.proofs.Common.{map}
 use Rattle.std.specs.List.{AllZip}
 use Rattle.cck_script.specs.Seen.{line_of, lines_of}
 use Rattle.cck_command.specs.Made.{IsReady}
@@ -9,4 +9,4 @@ use Rattle.cck_command.proofs.calls.ready_calls.Given as goal
 abbrev pub invariant-loop-command : goal.invariant-loop-command
 invariant-loop-command l =
     AreFollowed (λ asked. AllZip (IsReady l.fn.compiler) asked l.calls.items) (lines_of l.fn.script)
-    (map line_of (drop l.command-index l.command-items)) l.surroundings
+    (map line_of l.command-iterator.rest.items) l.surroundings

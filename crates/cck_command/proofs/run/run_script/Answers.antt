@@ -1,32 +1,30 @@
 use Rattle.std.proofs.Common.{◌≡◌, ◌∙◌, [], ap, map, rules, sym}
-use Rattle.std.proofs.lemmas.List.{drop_all}
 use Rattle.cck_script.specs.Calls.{calls_after}
 use Rattle.cck_script.specs.Script.{zone_of}
 use Rattle.cck_script.specs.Seen.{line_of, lines_of}
-use Rattle.cck_script.proofs.OptionLemmas.{left_more}
 use Rattle.cck_command.specs.Run.{armed_by}
-use Rattle.cck_command.proofs.FollowedLemmas.{all_followed, one_line_more}
+use Rattle.cck_command.proofs.FollowedLemmas.{none_left, one_line_more}
 use Rattle.cck_command.proofs.MadeLemmas.{compiler_in, made_joined, none_made, ran}
 use Rattle.cck_command.proofs.run.run_script.Goals as goal
 
 pub loop-command-init : goal.loop-command-init
 loop-command-init g c =
-    let lines = lines_of c.args.script.now in
+    let lines = lines_of c.args.script in
     let start : c.store_of-store.result ≡ armed_by lines = search rules in
     record {
       earlier = [];
       asked = [];
       after = c.in_ok-surroundings.ensures.first;
-      split = ap (calls_after []) (sym c.commands-command-items.ensures);
+      split = ap (calls_after []) (sym (ap (map line_of) c.into_iter-command-iterator.ensures.into_iter_gives.0 ∙ c.into_commands-command-items.ensures));
       of_asked = rw (start, c.new-printed.ensures.items) (none_made g.H.HashState.hash (zone_of lines) _ (armed_by lines) []);
     }
 
 pub loop-command-preserved : goal.loop-command-preserved
 loop-command-preserved g c =
     let hash = g.H.HashState.hash in
-    let lines = lines_of c.args.script.now in
+    let lines = lines_of c.args.script in
     one_line_more _ _ lines _ _ _ _ _ c.loop-command.invariant
-    (left_more _ _ c.command-item.result c.loop-command-test.true c.command-item.is)
+    (ap (map line_of) c.in-Some.ensures.steps.0)
     c.in_ok-surroundings-2.ensures.after
     (λ earlier asked are made.
     made_joined hash (zone_of lines) _ asked _ _ _ _ [] _ _ made
@@ -34,6 +32,6 @@ loop-command-preserved g c =
 
 pub returns : goal.returns
 returns g c =
-    let lines = lines_of c.args.script.now in
-    ran g.H.HashState.hash lines _ c.in_ok-zone.ensures.0 _ _ _ g.met.H.HashState.length_hash (c.in_ok-zone.ensures.1 ∙ (search rules)) c.in_ok-zone.ensures.2 c.in_ok-options.ensures.basedirs
-    (all_followed _ lines _ (rw (ap (map line_of) (drop_all c.loop-command.command-index _ c.loop-command-test.false)) at c.loop-command.invariant))
+    let lines = lines_of c.args.script in
+    ran g.H.HashState.hash lines _ c.in_ok-zone.ensures.zone.0 _ _ _ g.met.H.HashState.length_hash (c.in_ok-zone.ensures.zone.1 ∙ (search rules)) c.in_ok-zone.ensures.zone.2 c.in_ok-options.ensures.basedirs
+    (none_left _ lines c.loop-command.command-iterator.rest.items _ (sym (c.loop-command.command-iterator.rest.ok.0) ∙ c.in-None.ensures.steps.0) c.loop-command.invariant)

@@ -1,4 +1,4 @@
-use Rattle.std.proofs.Common.{[], drop, map}
+use Rattle.std.proofs.Common.{[], map}
 use Rattle.cck_path.specs.Bytes.{lists_of}
 use Rattle.jiff.specs.Words.{plain_zone}
 use Rattle.cck_script.specs.Script.{zone_of}
@@ -17,4 +17,4 @@ invariant-loop-command g l =
     let lines = lines_of l.fn.script in
     let world = world_of g.H.HashState.hash mini_compiler (plain_zone l.setting.zone) activated (lists_of l.setting.basedirs.items) in
     AreFollowed (λ asked. AreMade g.H.HashState.hash (zone_of lines) world asked (armed_by lines) l.store [] l.printed.items) lines
-    (map line_of (drop l.command-index l.command-items)) l.surroundings
+    (map line_of l.command-iterator.rest.items) l.surroundings

@@ -1,4 +1,4 @@
-use Rattle.std.proofs.Common.{◌≡◌, ◌++◌, [], Some, IsSomeAnd, w32}
+use Rattle.std.proofs.Common.{◌≡◌, ◌∙◌, ◌++◌, [], Some, IsSomeAnd, w32}
 use Rattle.std.proofs.lemmas.Int.{to_z-of_z}
 use Rattle.std.proofs.lemmas.Result.{err_from_is_err_and}
 use Rattle.cck_files.specs.Calls.{Rose}
@@ -45,8 +45,9 @@ returns-clause-answer g c =
     let z = to_z-of_z w32 c.args.zone_offset c.ranges.zone_offset in
     let text : text_at map path ≡ Some (file.contents.items, file.modified) = rw c.deref.ensures.value at c.in_ok-file.ensures.answer in
     let macros : m ≡ macros_of c.args.zone_offset c.args.moment file.modified = rw z at c.in_ok-macros.ensures.macros in
-    let first : c.print_marker.new.out.items ≡ marker 1 path [] = rw (c.new-out.ensures.items, c.deref-2.ensures.value) at c.in_ok-print_marker.ensures.text in
-    let lines : IsSomeAnd (lines_text c.args.zone_offset c.args.moment map c.args.cwd.now path m 2 (lines_in file.contents.items)) (λ text. c.print_lines.new.out.items ≡ c.print_marker.new.out.items ++ text) =
+    let printed : c.print_marker.new.out.items ≡ marker 1 path [] = rw (c.new-out.ensures.items, c.deref-2.ensures.value) at c.in_ok-print_marker.ensures.text in
+    let first : c.reserve.new.self.items ≡ marker 1 path [] = c.reserve.ensures.items ∙ printed in
+    let lines : IsSomeAnd (lines_text c.args.zone_offset c.args.moment map c.args.cwd.now path m 2 (lines_in file.contents.items)) (λ text. c.print_lines.new.out.items ≡ c.reserve.new.self.items ++ text) =
     rw (c.in_ok-file.ensures.keeps.same_map, c.deref-3.ensures.value, c.deref-4.ensures.value, z) at c.in_ok-print_lines.ensures.answer in
     all_printed c.args.zone_offset c.args.moment map c.args.cwd.now c.args.input.now path c.in_ok-path.ensures.bytes
-    file.contents.items file.modified m c.print_marker.new.out.items c.print_lines.new.out.items text macros first lines
+    file.contents.items file.modified m c.reserve.new.self.items c.print_lines.new.out.items text macros first lines

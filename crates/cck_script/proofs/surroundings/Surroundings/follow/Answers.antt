@@ -6,15 +6,15 @@ use Rattle.cck_script.proofs.surroundings.Surroundings.follow.Goals as goal
 
 pub returns-in-File-clause-after : goal.returns-in-File-clause-after
 returns-in-File-clause-after c =
-    rw c.in-File.is (put_ok c.put_file.result _ c.args.self.now _ c.deref.result.now _
-    (λ i. Some (sym c.deref.ensures.value i, Some (file_node (sym c.deref-in-File.ensures.value i) c.in-File.modified c.in-File.changed)))
-    refl refl c.put_file.ensures.set refl refl)
+    rw c.in-File.is (put_ok c.put.result _ c.args.self.now _ c.deref.result.now _
+    (λ i. Some (sym c.deref.ensures.value i, Some (file_node c.in-File.contents.items c.in-File.modified c.in-File.changed)))
+    refl refl c.put.ensures.set refl refl)
 
 pub returns-in-Folder-clause-after : goal.returns-in-Folder-clause-after
 returns-in-Folder-clause-after c =
-    rw c.in-Folder.is (put_ok c.put.result _ c.args.self.now _ c.deref-in-Folder.result.now _
+    rw c.in-Folder.is (put_ok c.put-in-Folder.result _ c.args.self.now _ c.deref-in-Folder.result.now _
     (λ i. Some (sym c.deref-in-Folder.ensures.value i, Some (record { kind = kind.Folder; contents = sym c.new.ensures.items i; modified = None; changed = None })))
-    refl refl c.put.ensures.set refl refl)
+    refl refl c.put-in-Folder.ensures.set refl refl)
 
 pub returns-in-Gone-clause-after : goal.returns-in-Gone-clause-after
 returns-in-Gone-clause-after c = rw c.in-Gone.is (λ lines are. after_gone lines _ c.args.self.now _ c.deref-in-Gone.result.now
@@ -22,14 +22,14 @@ returns-in-Gone-clause-after c = rw c.in-Gone.is (λ lines are. after_gone lines
 
 pub returns-in-Variable-clause-after : goal.returns-in-Variable-clause-after
 returns-in-Variable-clause-after c =
-    rw c.in-Variable.is (rw (← c.deref-in-Variable.ensures.value) (rw (← c.deref-in-Variable-2.ensures.value)
-    (set_ok c.set_variable.result _ _ c.args.self.now _ refl c.set_variable.ensures.set)))
+    rw c.in-Variable.is (set_ok c.set_variable.result _ _ c.args.self.now _ refl c.set_variable.ensures.set)
 
 pub returns-in-Clear-clause-after : goal.returns-in-Clear-clause-after
 returns-in-Clear-clause-after c = rw c.in-Clear.is (λ lines are. after_clear lines c.args.self.now _ are refl c.clear.ensures.items c.new-in-Clear.ensures.empty)
 
-pub returns-in_default : goal.returns-in_default
-returns-in_default c = record {
-  after = λ lines are. after_rest c.args.command.now lines c.args.self.now c.in_default.not-File c.in_default.not-Folder c.in_default.not-Gone c.in_default.not-Variable c.in_default.not-Clear are;
+pub returns : goal.returns
+returns c = record {
+  after = λ lines are. after_rest c.args.command lines c.args.self.now c.in_default.not-File c.in_default.not-Folder c.in_default.not-Gone c.in_default.not-Variable c.in_default.not-Clear are;
+  kept = tt;
   refused = tt;
 }
