@@ -88,11 +88,8 @@ right_there s files ks p i k is at right = subst (IsRight s files) (sym is) (All
 pub path_there : (ks : List KnownFile) (p : Path) (i : ℕ) (k : KnownFile) → k ≡ get_or ks i k → IsPlaceOf p ks i → path_of k ≡ p
 path_there ks p i k is at = ap path_of is ∙ at.has_path k
 
-pub metadata_there : (s : Setting) (files : FileMap) (ks : List KnownFile) (p : Path) (i : ℕ) (k : KnownFile) → k ≡ get_or ks i k → IsPlaceOf p ks i → All (IsRight s files) ks
-    → metadata_at files p ≡ Ok k.metadata
-metadata_there s files ks p i k is at right =
-    let own = right_there s files ks p i k is at right in
-    ap (metadata_at files) (sym (path_there ks p i k is at)) ∙ own.metadata
+pub metadata_known : (s : Setting) (files : FileMap) (k : KnownFile) (p : Path) → IsRight s files k → path_of k ≡ p → metadata_at files p ≡ Ok k.metadata
+metadata_known s files k p right path = ap (metadata_at files) (sym path) ∙ right.metadata
 
 -- and stays so where more becomes known of one file
 place_before : (ks : List KnownFile) (i : ℕ) (k now : KnownFile) (q : Path) (j : ℕ) → k ≡ get_or ks i k → path_of now ≡ path_of k → IsPlaceOf q (set ks i now) j → IsPlaceOf q ks j

@@ -34,12 +34,11 @@ pub by_known : (s : Setting) (files : FileMap) (p : Path) (digest : Option (Stri
     → IsOkAnd (file_at files p) (λ n. option_map string_bytes digest ≡ recorded s n) → is_digest (option_map string_bytes digest) expected ≡ digest_found s expected (file_at files p)
 by_known s files p digest expected h = found_known s (file_at files p) digest expected h
 
--- with a fault a match may be missed, and the later fault is one of the whole call
-pub by_recorded : (s : Setting) (files : FileMap) (i : Include) (m : Metadata) (P Q : Type 0) (answer : Bool) → (P → Q) → digest_found s i.digest (file_at files (components i.path)) ≡ matches s files i
-    → MayMiss P answer (digest_found s i.digest (file_at files (components i.path))) → MayMiss Q answer (matches s files i)
-by_recorded s files i m P Q true f e h = sym e ∙ h
-by_recorded s files i m P Q false f e (inl h) = inl (sym e ∙ h)
-by_recorded s files i m P Q false f e (inr h) = inr (f h)
+-- with a fault a match may be missed, also with a fault that came earlier
+pub may_miss_more : (P Q : Type 0) (answer right : Bool) → (P → Q) → MayMiss P answer right → MayMiss Q answer right
+may_miss_more P Q true right f h = h
+may_miss_more P Q false right f (inl h) = inl h
+may_miss_more P Q false right f (inr h) = inr (f h)
 
 -- where there is no file, there is no match,
 without_file : (s : Setting) (files : FileMap) (i : Include) (e : FileError) → file_at files (components i.path) ≡ Err e → matches s files i ≡ false

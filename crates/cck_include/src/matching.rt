@@ -4,6 +4,7 @@ ghost use Rattle.std.specs.List.{list_all};
 ghost use Rattle.std.specs.Option.{option_map};
 ghost use Rattle.cck_files.specs.Calls.{Keeps, Rose};
 ghost use Rattle.cck_files.specs.FileMap.{file_at};
+ghost use Rattle.cck_path.specs.Path.{components};
 ghost use Rattle.jiff.specs.Words.{plain_zone};
 ghost use Rattle.cck_include.specs.Include.{include_lent, includes_in};
 ghost use Rattle.cck_include.specs.Known.{AreKnown, IsRight, path_of};
@@ -127,6 +128,49 @@ fn is_recorded<H: HashState, F: Files>(
     Ok(answer)
 }
 
+// Whether an included file still matches, by what is known of the file at its path. With a fault the
+// result may be `false` although it does.
+fn known_matches<H: HashState, F: Files>(
+    alloc: Global,
+    files: &mut F,
+    file: &mut KnownFile,
+    include: &IncludeRef<'_>,
+    moment: Timestamp,
+    zone: &TimeZone<'_>,
+    vars: &[(Vec<u8>, Vec<u8>)],
+    config: PreprocessorCacheModeConfig,
+) -> Result<bool, Error>
+    ensures keeps { Keeps F.file_map F.faults F.is_quiet files.old files.new }
+    ensures known { let s = setting_in H.hash config moment (plain_zone zone.now) vars.now in
+        IsRight s (F.file_map files.old) file.old → IsRight s (F.file_map files.old) file.new }
+    ensures path { file.new.path ≡ file.old.path }
+    ensures answer { let s = setting_in H.hash config moment (plain_zone zone.now) vars.now in
+        IsRight s (F.file_map files.old) file.old → path_of file.old ≡ components include.now.path.now
+        → IfOk result (λ answer. MayMiss (Rose (F.faults files.old) (F.faults files.new)) answer
+        (matches s (F.file_map files.old) (include_lent include.now))) }
+    ensures refused { IsOkUnless result Error.Memory }
+{
+    if !is_file(&file.metadata) {
+        return Ok(false);
+    }
+    if file.metadata.len != include.file_size {
+        return Ok(false);
+    }
+    if times_accept(include, &file.metadata, config) {
+        return Ok(true);
+    }
+    is_recorded::<H, F>(
+        alloc,
+        files,
+        file,
+        include.digest,
+        moment,
+        zone,
+        vars,
+        config,
+    )
+}
+
 /// Whether this included file still matches, as [`includes_match`] says of several. Where there was
 /// a fault, the result may be `false` although it does. `known` is that of [`includes_match`].
 ///
@@ -153,26 +197,8 @@ pub fn include_matches<H: HashState, F: Files>(
     let Some(place) = place_for::<F>(alloc, files, known, include.path)? else {
         return Ok(false);
     };
-    let metadata = known.files[place].metadata;
-    if !is_file(&metadata) {
-        return Ok(false);
-    }
-    if metadata.len != include.file_size {
-        return Ok(false);
-    }
-    if times_accept(include, &metadata, config) {
-        return Ok(true);
-    }
-    is_recorded::<H, F>(
-        alloc,
-        files,
-        &mut known.files[place],
-        include.digest,
-        moment,
-        zone,
-        vars,
-        config,
-    )
+    let file = &mut known.files[place];
+    known_matches::<H, F>(alloc, files, file, include, moment, zone, vars, config)
 }
 
 /// Whether all of these included files still match what was recorded of them. A file matches if it
