@@ -53,6 +53,7 @@ mod status;
 pub use calls::{compiler_of, ready_calls};
 pub use failed::Failed;
 pub use mini_compiler::MiniCompiler;
+pub use printing::print;
 pub use program::{engine, refuse};
 pub use run::zone_at;
 pub use status::Status;

@@ -1,0 +1,3 @@
+pub mod BufferLemmas
+pub mod ListingLemmas
+pub mod PutLemmas

@@ -1,0 +1,173 @@
+-- listings, part by part, and the bytes of what is listed
+use Rattle.std.proofs.Common.{◌≡◌, ℕ, zero, suc, ◌+◌, ◌-◌, ◌/◌, ◌<◌, ◌≤◌, List, [], ◌∷◌, ◌++◌, Bool, true, false, Option, Some, None, length, take, drop, refl, sym, ap, ◌∙◌, append_assoc, append-nil, arith, length-append, length-drop, length-take, take-append-drop, map}
+use Rattle.std.proofs.lemmas.Grind.{flat_map-append}
+use Rattle.std.specs.List.{flat_map}
+use Rattle.std.proofs.lemmas.List.{length-take-le}
+use Rattle.cck_path.specs.Bytes.{Bytes}
+use Rattle.cck_path.specs.Variables.{Variable}
+use Rattle.cck_digest.specs.Frames.{frame, framed_list, framed_option, length_bytes}
+use Rattle.cck_util.specs.Key.{KeyParts, cache_version, flag_byte, material}
+use Rattle.cck_util.specs.Language.{language_name}
+use Rattle.cck_util.specs.Variables.{variable_frames}
+use Rattle.cck_explain_command.specs.Key.{PartsAreMaterial, frame_parts, frames_parts, item_name, length_part, list_parts, material_parts, option_parts, part, variables_parts}
+use Rattle.cck_explain_command.specs.Listing.{Part, cut_into, joined, listed, listed_part, part_line, part_lines, row_size, rows}
+use Rattle.std.proofs.Common.{codes, get_or, drop-cons}
+use Rattle.std.proofs.lemmas.List.{length-map, map-append, take_more}
+use Rattle.std.specs.Fmt.{decimal}
+
+pub part_lines-append : (hash : Bytes → Bytes) (offset : ℕ) (xs ys : List Part)
+    → part_lines hash offset (xs ++ ys) ≡ part_lines hash offset xs ++ part_lines hash (offset + length (joined xs)) ys
+part_lines-append hash offset [] ys = ap (λ n. part_lines hash n ys) (omega arith)
+part_lines-append hash offset (x ∷ xs) ys =
+    let line = part_line hash offset x.name x.bytes in
+    let n : (offset + length x.bytes) + length (joined xs) ≡ offset + length (joined (x ∷ xs)) = omega (arith, length-append x.bytes (joined xs)) in
+    ap (λ l. line ++ l) (part_lines-append hash (offset + length x.bytes) xs ys
+    ∙ ap (λ m. part_lines hash (offset + length x.bytes) xs ++ part_lines hash m ys) n)
+    ∙ sym (append_assoc line (part_lines hash (offset + length x.bytes) xs) (part_lines hash (offset + length (joined (x ∷ xs))) ys))
+
+pub joined-cut_into : (n : ℕ) (name bytes : Bytes) → joined (cut_into n name bytes) ≡ bytes
+joined-cut_into zero name bytes = append-nil bytes
+joined-cut_into (suc n) name bytes = ap (λ l. take row_size bytes ++ l) (joined-cut_into n name (drop row_size bytes)) ∙ take-append-drop row_size bytes
+
+pub joined-listed_part : (is_full : Bool) (p : Part) → joined (listed_part is_full p) ≡ p.bytes
+joined-listed_part false p = append-nil p.bytes
+joined-listed_part true p = joined-cut_into ((length p.bytes - 1) / row_size) p.name p.bytes
+
+joined-append : (xs ys : List Part) → joined (xs ++ ys) ≡ joined xs ++ joined ys
+joined-append xs ys = flat_map-append (λ (p : Part). p.bytes) xs ys
+
+pub joined-listed : (is_full : Bool) (parts : List Part) → joined (listed is_full parts) ≡ joined parts
+joined-listed is_full [] = refl
+joined-listed is_full (p ∷ parts) =
+    joined-append (listed_part is_full p) (listed is_full parts) ∙ ap (λ l. l ++ joined (listed is_full parts)) (joined-listed_part is_full p)
+    ∙ ap (λ l. p.bytes ++ l) (joined-listed is_full parts)
+
+-- the lines of a part and of the parts after it
+pub one_part : (hash : Bytes → Bytes) (is_full : Bool) (offset : ℕ) (p : Part) (parts : List Part)
+    → part_lines hash offset (listed is_full (p ∷ parts)) ≡ part_lines hash offset (listed_part is_full p) ++ part_lines hash (offset + length p.bytes) (listed is_full parts)
+one_part hash is_full offset p parts =
+    part_lines-append hash offset (listed_part is_full p) (listed is_full parts)
+    ∙ ap (λ l. part_lines hash offset (listed_part is_full p) ++ part_lines hash (offset + length l) (listed is_full parts)) (joined-listed_part is_full p)
+
+-- ---- rows
+
+next_rows : (n : ℕ) → 256 < n → (n - 1) / 256 ≡ suc (((n - 256) - 1) / 256)
+next_rows n h = omega (arith, h)
+
+-- the first row of a part of more than 256 bytes, and the others
+pub row_of_more : (hash : Bytes → Bytes) (offset : ℕ) (name bytes : Bytes) → 256 < length bytes
+    → part_lines hash offset (rows (part name bytes))
+    ≡ part_line hash offset name (take 256 bytes) ++ part_lines hash (offset + 256) (rows (part name (drop 256 bytes)))
+row_of_more hash offset name bytes h =
+    ap (λ n. part_lines hash offset (cut_into n name bytes)) (next_rows (length bytes) h ∙ ap (λ m. suc ((m - 1) / 256)) (sym (length-drop 256 bytes)))
+    ∙ ap (λ m. part_line hash offset name (take 256 bytes) ++ part_lines hash (offset + m) (rows (part name (drop 256 bytes))))
+    (length-take-le 256 bytes (omega (arith, h)))
+
+no_rows : (n : ℕ) → n ≤ 256 → (n - 1) / 256 ≡ 0
+no_rows n h = omega (arith, h)
+
+-- the one row of a part of at most 256 bytes
+pub row_of_rest : (hash : Bytes → Bytes) (offset : ℕ) (name bytes : Bytes) → length bytes ≤ 256
+    → part_lines hash offset (rows (part name bytes)) ≡ part_line hash offset name bytes
+row_of_rest hash offset name bytes h =
+    ap (λ n. part_lines hash offset (cut_into n name bytes)) (no_rows (length bytes) h) ∙ append-nil (part_line hash offset name bytes)
+
+-- ---- the parts of key material
+
+both : (xs ys : List Part) (s t : Bytes) → joined xs ≡ s → joined ys ≡ t → joined (xs ++ ys) ≡ s ++ t
+both xs ys s t e h = joined-append xs ys ∙ ap (λ l. l ++ joined ys) e ∙ ap (λ l. s ++ l) h
+
+of_frame : (name bytes : Bytes) → joined (frame_parts name bytes) ≡ frame bytes
+of_frame name bytes = ap (λ l. length_bytes (length bytes) ++ l) (append-nil bytes)
+
+of_frames : (name : Bytes) (i : ℕ) (items : List Bytes) → joined (frames_parts name i items) ≡ flat_map frame items
+of_frames name i [] = refl
+of_frames name i (item ∷ items) =
+    both (frame_parts (item_name name i) item) (frames_parts name (suc i) items) _ _ (of_frame (item_name name i) item) (of_frames name (suc i) items)
+
+of_list : (name : Bytes) (items : List Bytes) → joined (list_parts name items) ≡ framed_list frame items
+of_list name items = ap (λ l. length_bytes (length items) ++ l) (of_frames name 0 items)
+
+of_option : (name : Bytes) (o : Option Bytes) → joined (option_parts name o) ≡ framed_option o
+of_option name None = refl
+of_option name (Some bytes) = ap (λ l. 1 ∷ l) (of_frame name bytes)
+
+of_variables : (name : Bytes) (i : ℕ) (variables : List Variable) → joined (variables_parts name i variables) ≡ flat_map variable_frames variables
+of_variables name i [] = refl
+of_variables name i (v ∷ variables) =
+    let name-part = frame_parts (item_name name i ++ codes ".name") (v.0) in
+    let value-part = frame_parts (item_name name i ++ codes ".value") (v.1) in
+    both (name-part ++ value-part) (variables_parts name (suc i) variables) _ _
+    (both name-part value-part _ _ (of_frame (item_name name i ++ codes ".name") (v.0)) (of_frame (item_name name i ++ codes ".value") (v.1)))
+    (of_variables name (suc i) variables)
+
+of_material : (p : KeyParts) → joined (material_parts p) ≡ material p
+unfolding material
+of_material p =
+    let version : List Part = frame_parts (codes "CACHE_VERSION") cache_version in
+    let digest : List Part = frame_parts (codes "compiler_digest") p.compiler_digest in
+    let plusplus : List Part = part (codes "plusplus") (flag_byte p.plusplus ∷ []) ∷ [] in
+    let language : List Part = frame_parts (codes "language") (language_name p.language) in
+    let arguments : List Part = list_parts (codes "arguments") p.arguments in
+    let extra : List Part = list_parts (codes "extra_hashes") p.extra_hashes in
+    let assembler : List Part = option_parts (codes "assembler_digest") p.assembler_digest in
+    let variables : List Part = length_part (codes "env_vars") (length p.variables) ∷ variables_parts (codes "env_vars") 0 p.variables in
+    let output : List Part = frame_parts (codes "preprocessor_output") p.output in
+    both (version ++ digest ++ plusplus ++ language ++ arguments ++ extra ++ assembler ++ variables) output _ _
+    (both (version ++ digest ++ plusplus ++ language ++ arguments ++ extra ++ assembler) variables _ _
+    (both (version ++ digest ++ plusplus ++ language ++ arguments ++ extra) assembler _ _
+    (both (version ++ digest ++ plusplus ++ language ++ arguments) extra _ _
+    (both (version ++ digest ++ plusplus ++ language) arguments _ _
+    (both (version ++ digest ++ plusplus) language _ _
+    (both (version ++ digest) plusplus _ _
+    (both version digest _ _
+    (of_frame (codes "CACHE_VERSION") cache_version)
+    (of_frame (codes "compiler_digest") p.compiler_digest))
+    (refl))
+    (of_frame (codes "language") (language_name p.language)))
+    (of_list (codes "arguments") p.arguments))
+    (of_list (codes "extra_hashes") p.extra_hashes))
+    (of_option (codes "assembler_digest") p.assembler_digest))
+    (ap (λ l. length_bytes (length p.variables) ++ l) (of_variables (codes "env_vars") 0 p.variables)))
+    (of_frame (codes "preprocessor_output") p.output)
+
+pub parts_are_material : PartsAreMaterial
+parts_are_material is_full p = joined-listed is_full (material_parts p) ∙ of_material p
+
+-- ---- one more item
+
+pub frames_parts-push : (name : Bytes) (i : ℕ) (items : List Bytes) (item : Bytes)
+    → frames_parts name i (items ++ item ∷ []) ≡ frames_parts name i items ++ frame_parts (item_name name (i + length items)) item
+frames_parts-push name i [] item = ap (λ n. frame_parts (item_name name n) item) (omega arith)
+frames_parts-push name i (x ∷ items) item =
+    ap (λ l. frame_parts (item_name name i) x ++ l)
+    (frames_parts-push name (suc i) items item
+    ∙ ap (λ n. frames_parts name (suc i) items ++ frame_parts (item_name name n) item) (omega arith))
+
+-- the frames of one item more, whose value is found by two steps
+pub frames_more : {X : Type 0} (h : X → Bytes) (g : Bytes → Bytes) (name : Bytes) (xs : List X) (i : ℕ) (x : X) (named bytes : Bytes)
+    → i < length xs → x ≡ get_or xs i x → named ≡ item_name name i → bytes ≡ g (h x)
+    → frames_parts name 0 (map g (map h (take (i + 1) xs))) ≡ frames_parts name 0 (map g (map h (take i xs))) ++ frame_parts named bytes
+frames_more h g name xs i x named bytes lt at e f =
+    let so-far = map g (map h (take i xs)) in
+    let count : length so-far ≡ i = length-map (map h (take i xs)) g ∙ length-map (take i xs) h ∙ length-take-le i xs (omega (arith, lt)) in
+    let size : 0 + length so-far ≡ i = omega (arith, count) in
+    let more : take (i + 1) xs ≡ take i xs ++ x ∷ [] = take_more xs i x lt ∙ ap (λ y. take i xs ++ y ∷ []) (sym at) in
+    ap (λ t. frames_parts name 0 (map g (map h t))) more
+    ∙ ap (λ t. frames_parts name 0 (map g t)) (map-append h (take i xs) (x ∷ []))
+    ∙ ap (frames_parts name 0) (map-append g (map h (take i xs)) (h x ∷ []))
+    ∙ frames_parts-push name 0 so-far (g (h x))
+    ∙ ap (λ n. frames_parts name 0 so-far ++ frame_parts (item_name name n) (g (h x))) size
+    ∙ ap (λ n. frames_parts name 0 so-far ++ frame_parts n (g (h x))) (sym e)
+    ∙ ap (λ b. frames_parts name 0 so-far ++ frame_parts named b) (sym f)
+
+-- the lines of the parts from one on
+pub lines_from : (hash : Bytes → Bytes) (is_full : Bool) (offset end : ℕ) (parts : List Part) (i : ℕ) (p : Part)
+    → i < length parts → p ≡ get_or parts i p → end ≡ offset + length p.bytes
+    → part_lines hash offset (listed is_full (drop i parts))
+    ≡ part_lines hash offset (listed_part is_full p) ++ part_lines hash end (listed is_full (drop (i + 1) parts))
+lines_from hash is_full offset end parts i p lt at e =
+    let next : suc i ≡ i + 1 = omega arith in
+    ap (λ l. part_lines hash offset (listed is_full l)) (drop-cons parts i p lt ∙ ap (λ q. q ∷ drop (suc i) parts) (sym at) ∙ ap (λ n. p ∷ drop n parts) next)
+    ∙ one_part hash is_full offset p (drop (i + 1) parts)
+    ∙ ap (λ n. part_lines hash offset (listed_part is_full p) ++ part_lines hash n (listed is_full (drop (i + 1) parts))) (sym e)

@@ -1,0 +1,23 @@
+use Rattle.std.proofs.Common.{◌≡◌, ◌∷◌, [], ◌++◌, sym, ap, ◌∙◌, arith, codes, length, map, take, append_assoc, rules}
+use Rattle.std.specs.Cow.{cow_slice_items}
+use Rattle.cck_path.specs.Bytes.{lists_of}
+use Rattle.cck_strip.specs.Argument.{stripped_argument}
+use Rattle.cck_explain_command.specs.Key.{frame_parts, frames_parts, item_name, length_part}
+use Rattle.cck_explain_command.proofs.ListingLemmas.{frames_more}
+use Rattle.cck_explain_command.proofs.part.push_arguments.Goals as goal
+
+pub loop-argument-preserved : goal.loop-argument-preserved
+loop-argument-preserved c =
+    let i = c.loop-argument.argument-index in
+    let strip = stripped_argument (lists_of c.args.basedirs.now) in
+    let name : c.as_str.result.now ≡ item_name (codes "arguments") i =
+    c.as_str.ensures.value ∙ c.in_ok-name.ensures.ok ∙ ap (item_name (codes "arguments")) c.loop-argument.invariant.count in
+    let bytes = c.in_ok-stripped.ensures.value ∙ ap strip c.deref.ensures.value in
+    let more = frames_more (λ a. a.items) strip (codes "arguments") c.args.arguments.now i c.argument-item.result _ _ c.loop-argument-test.true c.argument-item.is name bytes in
+    record {
+      count = omega (arith, c.loop-argument.invariant.count);
+      parts = c.in_ok-push_frame.ensures
+          ∙ ap (λ l. l ++ frame_parts c.as_str.result.now (cow_slice_items c.in_ok-stripped.stripped)) c.loop-argument.invariant.parts
+          ∙ append_assoc c.args.parts.now.items _ _
+          ∙ ap (λ l. c.args.parts.now.items ++ length_part (codes "arguments") (length c.args.arguments.now) ∷ l) (sym more);
+    }

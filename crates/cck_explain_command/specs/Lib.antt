@@ -1,0 +1,5 @@
+pub mod Buffer
+pub mod Key
+pub mod KeyRequest
+pub mod Listing
+pub mod Part

@@ -1,0 +1,47 @@
+//! The error of the program.
+use cck_command::Failed;
+use cck_util::UtilError;
+use std::alloc::{AllocError, AllocFailed};
+use thiserror::Error;
+
+/// Why a listing is not complete.
+#[derive(Debug, Clone, Copy, PartialEq, Eq, Error)]
+pub enum ExplainError {
+    /// An allocation failed, or what is listed has 2^64 bytes or more.
+    #[error("out of memory")]
+    Memory,
+    /// A read failed.
+    #[error("a read failed")]
+    Read,
+    /// A write or the flush failed, or a write took no bytes.
+    #[error("a write failed")]
+    Write,
+}
+
+impl From<UtilError> for ExplainError {
+    fn from(error: UtilError) -> ExplainError {
+        if error == UtilError::Read {
+            ExplainError::Read
+        } else {
+            ExplainError::Memory
+        }
+    }
+}
+
+impl From<Failed> for ExplainError {
+    fn from(_: Failed) -> ExplainError {
+        ExplainError::Write
+    }
+}
+
+impl From<AllocError> for ExplainError {
+    fn from(_: AllocError) -> ExplainError {
+        ExplainError::Memory
+    }
+}
+
+impl<T: Drop> From<AllocFailed<T>> for ExplainError {
+    fn from(_: AllocFailed<T>) -> ExplainError {
+        ExplainError::Memory
+    }
+}

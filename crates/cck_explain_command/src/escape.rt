@@ -1,0 +1,47 @@
+//! Escaped bytes.
+ghost use Rattle.std.specs.Prelude.{◌≡◌, ◌<◌, ◌++◌, OnOk};
+ghost use Rattle.cck_digest.specs.Digest.{hex_digit};
+ghost use Rattle.cck_path.specs.Escape.{escaped, escaped_byte};
+
+use std::alloc::AllocError;
+
+// The hexadecimal digit of half a byte, in lower case.
+fn digit(half: u8) -> u8
+    requires { half < 16 }
+    ensures { result ≡ hex_digit half }
+{
+    if half < 10 {
+        b'0' + half
+    } else {
+        b'a' + (half - 10)
+    }
+}
+
+// Appends the escape of a byte.
+#[tactic(auto, unfolding(cck_path::specs::Escape::escape_letter))]
+fn push_escaped_byte(line: &mut Vec<u8>, byte: u8) -> Result<(), AllocError>
+    ensures { OnOk result (line.new.items ≡ line.old.items ++ escaped_byte byte) }
+{
+    match byte {
+        b'\t' => line.extend_from_slice(b"\\t"),
+        b'\r' => line.extend_from_slice(b"\\r"),
+        b'\n' => line.extend_from_slice(b"\\n"),
+        b'\'' | b'"' | b'\\' => line.extend_from_slice(&[b'\\', byte]),
+        b' '..=b'~' => line.extend_from_slice(&[byte]),
+        _ => line.extend_from_slice(&[b'\\', b'x', digit(byte / 16), digit(byte % 16)]),
+    }
+}
+
+/// Appends the escape of these bytes, which [`ascii_unescape_default`](cck_util::ascii_unescape_default)
+/// undoes: the bytes from 32 to 126 as themselves, but for a `\` before `'`, `"` and `\`; `\t`,
+/// `\r` and `\n`; and any other byte as `\x` and two hexadecimal digits.
+///
+/// The only error is lack of memory. What was appended is then unspecified.
+pub fn push_escaped(line: &mut Vec<u8>, bytes: &[u8]) -> Result<(), AllocError>
+    ensures { OnOk result (line.new.items ≡ line.old.items ++ escaped bytes.now) }
+{
+    for byte in bytes {
+        push_escaped_byte(line, *byte)?;
+    }
+    Ok(())
+}

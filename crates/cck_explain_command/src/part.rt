@@ -1,0 +1,162 @@
+//! The parts of key material.
+ghost use Rattle.std.specs.Prelude.{◌≡◌, ◌∷◌, ◌++◌, [], IfOk, OnOk, codes, map, string_bytes};
+ghost use Rattle.std.specs.Cow.{cow_slice_items};
+ghost use Rattle.cck_path.specs.Bytes.{lists_of};
+ghost use Rattle.cck_strip.specs.Argument.{stripped_argument};
+ghost use Rattle.cck_util.specs.Key.{key_parts};
+ghost use Rattle.cck_explain_command.specs.Key.{frame_parts, length_part, list_parts, material_parts, part};
+ghost use Rattle.cck_explain_command.specs.KeyRequest.{params_for};
+
+use crate::error::ExplainError;
+use crate::request::KeyRequest;
+use cck_util::{CACHE_VERSION, strip_basedirs, strip_basedirs_from_arg};
+use std::alloc::Global;
+use std::borrow::CowSlice;
+use std::marker::Model;
+
+/// Some bytes of key material, and what they are.
+#[derive(Drop)]
+pub struct Part<'a> {
+    name: String,
+    bytes: CowSlice<'a, u8>,
+}
+
+impl<'a> Model for Part<'a> {
+    ghost use Rattle.cck_explain_command.specs.Listing as listing;
+
+    ghost Value = { listing.Part };
+
+    ghost use Rattle.cck_explain_command.specs.Part.{part_of};
+
+    ghost view = { part_of };
+}
+
+impl<'a> Part<'a> {
+    /// What the bytes are.
+    pub fn name(&self) -> &str
+        ensures { result.now ≡ self.now.name }
+    {
+        self.name.as_str()
+    }
+
+    /// The bytes.
+    pub fn bytes(&self) -> &[u8]
+        ensures { result.now ≡ self.now.bytes }
+    {
+        self.bytes.as_slice()
+    }
+}
+
+// Appends a part.
+fn push_part<'a>(
+    parts: &mut Vec<Part<'a>>,
+    name: String,
+    bytes: CowSlice<'a, u8>,
+) -> Result<(), ExplainError>
+    ensures { OnOk result (parts.new.items
+        ≡ parts.old.items ++ part (string_bytes name) (cow_slice_items bytes.entry) ∷ []) }
+{
+    parts.push(Part { name, bytes })?;
+    Ok(())
+}
+
+// Appends the length or the count before what has this name.
+fn push_length<'a>(
+    alloc: Global,
+    parts: &mut Vec<Part<'a>>,
+    name: &str,
+    length: usize,
+) -> Result<(), ExplainError>
+    ensures { OnOk result (parts.new.items ≡ parts.old.items ++ length_part name.now length ∷ []) }
+{
+    let length = length as u64;
+    let bytes = length.to_le_bytes().to_vec(alloc)?;
+    let name = format!(in alloc; "{name}.length")?;
+    push_part(parts, name, CowSlice::Owned(bytes))?;
+    Ok(())
+}
+
+// Appends the length of these bytes, and the bytes.
+fn push_frame<'a>(
+    alloc: Global,
+    parts: &mut Vec<Part<'a>>,
+    name: &str,
+    bytes: CowSlice<'a, u8>,
+) -> Result<(), ExplainError>
+    ensures { OnOk result (parts.new.items ≡ parts.old.items ++ frame_parts name.now (cow_slice_items bytes.entry)) }
+{
+    push_length(alloc, parts, name, bytes.len())?;
+    let name = String::from_str(alloc, name)?;
+    push_part(parts, name, bytes)?;
+    Ok(())
+}
+
+// Appends the count of the arguments, and a frame for each without its base directories.
+fn push_arguments<'a>(
+    alloc: Global,
+    parts: &mut Vec<Part<'a>>,
+    arguments: &'a [Vec<u8>],
+    basedirs: &[Vec<u8>],
+) -> Result<(), ExplainError>
+    ensures { OnOk result (parts.new.items ≡ parts.old.items
+        ++ list_parts (codes "arguments") (map (stripped_argument (lists_of basedirs.now)) (lists_of arguments.now))) }
+{
+    push_length(alloc, parts, "arguments", arguments.len())?;
+    let mut index: usize = 0;
+    for argument in arguments {
+        let name = format!(in alloc; "arguments[{index}]")?;
+        let stripped = strip_basedirs_from_arg(alloc, argument, basedirs)?;
+        push_frame(alloc, parts, name.as_str(), stripped)?;
+        index += 1;
+    }
+    Ok(())
+}
+
+/// Returns the parts of the key material of this request and text, in their order. Of the text
+/// nothing is copied where no base directory is cut out of it.
+///
+/// The only error is [`ExplainError::Memory`].
+pub fn material_parts<'a>(
+    alloc: Global,
+    request: &'a KeyRequest<'_>,
+    text: &'a [u8],
+) -> Result<Vec<Part<'a>>, ExplainError>
+    ensures { IfOk result (λ parts. parts.items ≡ material_parts (key_parts (params_for request.now text.now))) }
+{
+    let mut parts = Vec::new(alloc);
+    let language = request.language.as_str();
+    push_frame(
+        alloc,
+        &mut parts,
+        "CACHE_VERSION",
+        CowSlice::Borrowed(CACHE_VERSION),
+    )?;
+    push_frame(
+        alloc,
+        &mut parts,
+        "compiler_digest",
+        CowSlice::Borrowed(request.compiler_digest.as_bytes()),
+    )?;
+    push_part(
+        &mut parts,
+        String::from_str(alloc, "plusplus")?,
+        CowSlice::Borrowed(&[0]),
+    )?;
+    push_frame(
+        alloc,
+        &mut parts,
+        "language",
+        CowSlice::Borrowed(language.as_bytes()),
+    )?;
+    push_arguments(alloc, &mut parts, &request.arguments, &request.basedirs)?;
+    push_length(alloc, &mut parts, "extra_hashes", 0)?;
+    push_part(
+        &mut parts,
+        String::from_str(alloc, "assembler_digest.option")?,
+        CowSlice::Borrowed(&[0]),
+    )?;
+    push_length(alloc, &mut parts, "env_vars", 0)?;
+    let output = strip_basedirs(alloc, text, &request.basedirs)?;
+    push_frame(alloc, &mut parts, "preprocessor_output", output)?;
+    Ok(parts)
+}

@@ -1,0 +1,93 @@
+//! The words of the command line.
+use crate::request::KeyRequest;
+use cck_util::Language;
+use clap::{Arg, ArgAction, ArgMatches, Command, Error};
+use std::alloc::Global;
+
+/// The version of the program.
+const VERSION: &str = "0.19.0";
+
+// The command `key`, whose language is one of these names.
+fn key_command<'a>(alloc: Global, languages: &'a [&'a str]) -> Result<Command<'a>, Error> {
+    let full = Arg::new(alloc, "full")
+        .long("full")
+        .action(ArgAction::SetTrue)
+        .help("Lists each part whole, in rows of 256 bytes");
+    let basedir = Arg::new(alloc, "basedir")
+        .long("basedir")
+        .value_name("DIR")
+        .action(ArgAction::Append)
+        .help("A directory that is cut out of the arguments and the text");
+    let digest = Arg::new(alloc, "DIGEST")
+        .required(true)
+        .help("The compiler's digest");
+    let language = Arg::new(alloc, "LANGUAGE")
+        .required(true)
+        .value_parser(languages)
+        .help("The language of the text");
+    let arguments = Arg::new(alloc, "ARG")
+        .num_args(0..)
+        .trailing_var_arg(true)
+        .allow_hyphen_values(true)
+        .help("The arguments that are part of the key");
+    let command = Command::new(alloc, "key")
+        .about("Lists the key material of a preprocessed text, which is read from standard input")
+        .arg(full)?
+        .arg(basedir)?
+        .arg(digest)?
+        .arg(language)?
+        .arg(arguments)?;
+    Ok(command)
+}
+
+// The whole command line.
+fn program<'a>(alloc: Global, languages: &'a [&'a str]) -> Result<Command<'a>, Error> {
+    let key = key_command(alloc, languages)?;
+    let command = Command::new(alloc, "cck_explain")
+        .version(VERSION)
+        .about("Explains why two compilations did not share a key")
+        .subcommand_required(true)
+        .subcommand(key)?;
+    Ok(command)
+}
+
+// The bytes of each value of this argument.
+fn values_of(alloc: Global, matches: &ArgMatches<'_>, id: &str) -> Result<Vec<Vec<u8>>, Error> {
+    let mut all = Vec::new(alloc);
+    if let Some(values) = matches.get_strs(id) {
+        for value in values {
+            all.push(value.as_bytes().to_vec(alloc)?)?;
+        }
+    }
+    Ok(all)
+}
+
+/// Reads what these words ask for. The first is the program's name.
+///
+/// The error is clap's: for wrong words, for `--help` and for `--version`, with the text to be
+/// printed, or for lack of memory. `None` is returned where clap accepts words without a command,
+/// or a language that has no such name; there are none.
+pub fn request_of<'a>(
+    alloc: Global,
+    languages: &'a [&'a str],
+    words: &'a [String],
+) -> Result<Option<KeyRequest<'a>>, Error> {
+    let matches = program(alloc, languages)?.try_get_matches_from(words)?;
+    let Some((_, key)) = matches.subcommand() else {
+        return Ok(None);
+    };
+    let (Some(compiler_digest), Some(name)) = (key.get_str("DIGEST"), key.get_str("LANGUAGE"))
+    else {
+        return Ok(None);
+    };
+    let Ok(language) = name.parse::<Language>() else {
+        return Ok(None);
+    };
+    Ok(Some(KeyRequest {
+        compiler_digest,
+        language,
+        arguments: values_of(alloc, key, "ARG")?,
+        basedirs: values_of(alloc, key, "basedir")?,
+        is_full: key.get_flag("full"),
+    }))
+}

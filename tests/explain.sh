@@ -1,0 +1,106 @@
+#!/bin/sh
+# Shows `cck_explain` on real input: three pairs of compilations that share no key, two texts that
+# differ in one byte 5 MiB in, a pipe, and a full device. Each listing's parts are joined again by
+# Python, and their digest is compared with the printed key. Prints a line for each case.
+#
+#     tests/explain.sh [PROGRAM]
+#
+# PROGRAM is crates/cck_explain/out/cck_explain, which `rt run` in its crate makes. Needs gcc and Python 3.
+set -e
+top=$(cd "$(dirname "$0")/.." && pwd)
+program=$(readlink -f "${1:-$top/crates/cck_explain/out/cck_explain}")
+folder=$(mktemp -d)
+trap 'rm -rf "$folder"' EXIT
+cd "$folder"
+
+# The key of the listed parts, computed without the program.
+cat > join.py <<'P'
+import ast, hashlib, re, sys
+parts, offset = [], 0
+for line in open(sys.argv[1], encoding="ascii").read().split("\n")[:-1]:
+    if line.startswith("key "):
+        key = line[4:]
+        break
+    at, length, name, shown = line.split(" ", 3)
+    data = ast.literal_eval("b" + shown)
+    assert (int(at), int(length)) == (offset, len(data)), line
+    parts.append(data)
+    offset += len(data)
+digest = hashlib.sha256(b"".join(parts)).digest()
+assert key == "".join("%x%x" % (byte % 16, byte // 16) for byte in digest), key
+print("joined", offset, "bytes:", key[:16] + "..")
+P
+
+# Lists both texts, and prints the first part in which they differ.
+compare() {
+    python3 join.py first.txt
+    python3 join.py second.txt
+    diff first.txt second.txt > difference || true
+    grep '^[<>]' difference | head -n "$1" | cut -c1-150
+}
+
+cat > main.c <<'C'
+#include <assert.h>
+#include <ctype.h>
+#include <errno.h>
+#include <limits.h>
+#include <locale.h>
+#include <math.h>
+#include <setjmp.h>
+#include <signal.h>
+#include <stdint.h>
+#include <stdio.h>
+#include <stdlib.h>
+#include <string.h>
+#include <time.h>
+int main(void) { return LEVEL; }
+C
+echo '== another -D'
+gcc -E -DLEVEL=1 main.c | "$program" key --full abcd c -DLEVEL=1 > first.txt
+gcc -E -DLEVEL=2 main.c | "$program" key --full abcd c -DLEVEL=2 > second.txt
+compare 4
+
+echo '== another working directory'
+mkdir one two
+echo 'int x;' | tee one/a.c > two/a.c
+(cd one && gcc -E -g a.c) > one.i
+(cd two && gcc -E -g a.c) > two.i
+"$program" key abcd c -g < one.i > first.txt
+"$program" key abcd c -g < two.i > second.txt
+compare 2 | sed "s,$folder,/tmp/F,g"
+
+echo '== a header with __DATE__'
+echo 'const char *built = __DATE__;' > stamp.h
+echo '#include "stamp.h"' > stamped.c
+SOURCE_DATE_EPOCH=0 gcc -E stamped.c | "$program" key abcd c > first.txt
+SOURCE_DATE_EPOCH=86400 gcc -E stamped.c | "$program" key abcd c > second.txt
+compare 2
+
+echo '== one byte, 5 MiB in'
+python3 - <<'P'
+text = bytearray(b"int number = 1234567890;\n" * 300000)
+open("first.i", "wb").write(text)
+text[5 << 20] ^= 1
+open("second.i", "wb").write(text)
+P
+"$program" key --full abcd c < first.i > first.txt
+"$program" key --full abcd c < second.i > second.txt
+compare 2
+"$program" key abcd c < first.i > first.txt
+"$program" key abcd c < second.i > second.txt
+diff first.txt second.txt | grep '^[<>]' | head -n 2
+
+echo '== through a pipe'
+cat first.i | "$program" key --full abcd c | cmp - "$(: > listing; "$program" key --full abcd c < first.i > listing; echo listing)"
+echo 'the same'
+
+echo '== into a full device'
+status=0
+"$program" key --full abcd c < first.i > /dev/full || status=$?
+echo "status $status"
+[ "$status" = 1 ]
+echo '== wrong words'
+status=0
+"$program" key abcd nothing < first.i > listing 2> errors || status=$?
+echo "status $status, $(wc -c < listing) bytes to standard output"
+[ "$status" = 2 ]
