@@ -12,7 +12,7 @@ FILE_TEXTS = {
 UTIL_TEXTS = {
     "Memory": "out of memory",
     "Read": "a read failed",
-    "TooDeep": "a folder stands too deep",
+    "TooDeep": "a directory is nested too deep",
     "TooLong": "too many bytes for a length of four bytes",
     "Write": "a write failed",
     "IncompleteEscape": "the text ends within an escape",

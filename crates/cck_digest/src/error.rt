@@ -36,7 +36,7 @@ pub enum UtilError {
     #[error("a file can't be read: {0}")]
     File(FileError),
     /// A directory is nested deeper than 100 levels.
-    #[error("a folder stands too deep")]
+    #[error("a directory is nested too deep")]
     TooDeep,
     /// There are more bytes than a length of four bytes can state: more than 4294967295.
     #[error("too many bytes for a length of four bytes")]

@@ -17,7 +17,7 @@ pub enum KeyError {
     Memory,
     /// The digest of an extra file failed with this error. Lack of memory is [`KeyError::Memory`]
     /// instead.
-    #[error("a further file has no digest: {0}")]
+    #[error("an extra file has no digest: {0}")]
     Extra(UtilError),
     /// The input cannot be read, with this error. Lack of memory is [`KeyError::Memory`] instead.
     #[error("the input can't be read: {0}")]
@@ -26,7 +26,7 @@ pub enum KeyError {
     #[error("the store failed")]
     Store,
     /// What the store returned is not an entry.
-    #[error("what the store returned out is no entry: {0}")]
+    #[error("what the store returned is no entry: {0}")]
     Entry(Error),
     /// There is no preprocessed text, for this cause. Lack of memory is [`KeyError::Memory`]
     /// instead.

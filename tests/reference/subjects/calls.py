@@ -465,10 +465,10 @@ KEY_ERRORS = {
 
 KEY_ERROR_TEXTS = {
     "Memory": "out of memory",
-    "Extra": "a further file has no digest: ",
+    "Extra": "an extra file has no digest: ",
     "Input": "the input can't be read: ",
     "Store": "the store failed",
-    "Entry": "what the store handed out is no entry: ",
+    "Entry": "what the store returned is no entry: ",
     "Preprocess": "there is no preprocessed text: ",
     "Marker": "a line marker is malformed",
 }
