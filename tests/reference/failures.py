@@ -6,7 +6,7 @@ import dataclasses
 from .calls import Answer, number_of, run_calls
 from .entry import add_result, entry_bytes, read_entry
 from .errors import is_fault
-from .program import answer_line, conditions_of, each_call
+from .program import result_line, conditions_of, each_call
 from .store import MapStore
 
 
@@ -67,7 +67,7 @@ class Failure:
             return True
         if self.cause == "store" and answer.name == "Store":
             return True
-        return answer_line(answer) == answer_line(plain)
+        return result_line(answer) == result_line(plain)
 
 
 class Runs:
@@ -101,7 +101,7 @@ class Runs:
         store = MapStore()
         store.pairs = held
         expected = self.make(own_calls(self.lines)[place], store)
-        return answer_line(expected) == answer_line(answer) and store.pairs == pairs
+        return result_line(expected) == result_line(answer) and store.pairs == pairs
 
     def run(self, failure, store_text):
         """Makes all calls under a failure, and says whether it was met; if not, nothing is counted."""
@@ -115,7 +115,7 @@ class Runs:
             held, before = copy.copy(store.pairs), store.armed.calls
             failure.arm_files(call.files, place)
             answer = self.make(call, store)
-            told += answer_line(answer)
+            told += result_line(answer)
             made = range(before + 1 - start, store.armed.calls + 1 - start)
             if failure.is_met(place, call.files.armed.calls, made):
                 has_met = has_met or failure.cause != "files" or place == failure.place

@@ -113,7 +113,7 @@ class MapFiles:
         return [child[-1][1] for child in children]
 
     def exists(self, path):
-        """`stands_at`, as one call on files: whether something is there; false at a fault."""
+        """`exists_at`, as one call on files: whether something is there; false at a fault."""
         return not self.armed.begin() and components(path) in self.places
 
     def canonical(self, path):

@@ -45,15 +45,15 @@ def arguments_of(words):
     return Arguments(words[0], language, outputs=outputs, common_args=words[1:])
 
 
-def answer_line(answer):
-    """`answer_line`: the line that is printed for one call."""
+def result_line(answer):
+    """`result_line`: the line that is printed for one call."""
     if not isinstance(answer, Answer):
         return b"error %d\n" % number_of(answer)
     return (b"miss " if answer.is_fresh else b"hit ") + answer.key + b"\n"
 
 
 def call_of(line, files, variables, compiler, digest):
-    """The call that a line asks for (`asked_calls`), over these files and variables."""
+    """The call that a line asks for (`script_calls`), over these files and variables."""
     moment, source, words = line.values
     arguments = with_extra_files(arguments_of([source] + words), files, variables)
     hasher = Hasher(compiler, EXECUTABLE, digest, arguments)
@@ -75,7 +75,7 @@ def armed_by(lines):
 
 
 def each_call(lines):
-    """The calls of a script in order (`asked_calls`), each over the files as they are at its line.
+    """The calls of a script in order (`script_calls`), each over the files as they are at its line.
 
     The files are the same object in all of them, which changes as the lines are followed.
     """
@@ -92,7 +92,7 @@ def run_lines(lines):
     """`Ran`: the lines of the results of a script's calls."""
     conditions, store = conditions_of(lines), armed_by(lines)
     answers = (run_calls([call], conditions, store)[0] for call in each_call(lines))
-    return b"".join(map(answer_line, answers))
+    return b"".join(map(result_line, answers))
 
 
 def run_script(text):

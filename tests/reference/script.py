@@ -185,7 +185,7 @@ def text_lines(text):
 
 
 def parse(text):
-    """`lines_said`: what the lines of a script say, in order."""
+    """`commands_of`: what the lines of a script say, in order."""
     said = []
     for place, line_text in enumerate(text_lines(text), 1):
         try:

@@ -39,8 +39,8 @@ def is_good_time(time, moment):
     return time is None or time < moment
 
 
-def standing_at(context, path):
-    """`standing_at`: `Folder`, or the recorded digest of the regular file, or None, which refuses."""
+def judgement_at(context, path):
+    """`judgement_at`: `Folder`, or the recorded digest of the regular file, or None, which refuses."""
     try:
         metadata = context.files.metadata(path)
         if metadata.kind == FOLDER:
@@ -62,7 +62,7 @@ def outcome(context, records, name, is_system):
     path = normalize_path(join_path(context.cwd, name))
     if components(path) in records or same_path(path, context.input_file):
         return PASSED_OVER
-    standing = standing_at(context, path)
+    standing = judgement_at(context, path)
     if standing == FOLDER:
         return PASSED_OVER
     if standing is None:
@@ -88,7 +88,7 @@ def walk(context, text):
 
 
 def process_line(context, records, text, start, hash_start):
-    """`IsLineAnswer`: the action for one line marker from `start` on, with its numbers.
+    """`IsLineResult`: the action for one line marker from `start` on, with its numbers.
 
     `("Continue", a, b)` or `("Break", a, b, goes_on)`; the scan goes on at `a`.
     """

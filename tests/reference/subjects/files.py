@@ -216,14 +216,14 @@ def call_file_calls(subject, rest, made):
     return number(subject.world.files.armed.calls)
 
 
-def call_copy_aside(subject, rest, made):
-    """`copy_aside`: a copy of the files is put aside."""
+def call_copy_saved(subject, rest, made):
+    """`copy_saved`: a copy of the files is put aside."""
     subject.aside = subject.world.files.copy()
     return b"copied"
 
 
-def call_swap_aside(subject, rest, made):
-    """`swap_aside`: the files that were put aside take the place of the others."""
+def call_swap_saved(subject, rest, made):
+    """`swap_saved`: the files that were put aside take the place of the others."""
     subject.world.files, subject.aside = subject.aside, subject.world.files
     return b"swapped"
 

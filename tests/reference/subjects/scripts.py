@@ -10,7 +10,7 @@ from ..files import FILE, FOLDER
 from ..given import World
 from ..mini import MiniCompiler, print_input
 from ..paths import join_path
-from ..program import answer_line, answer_words, arguments_of, armed_by, conditions_of
+from ..program import result_line, answer_words, arguments_of, armed_by, conditions_of
 from ..script import Surroundings, WrongLine as WrongScript
 from ..script import armed_of, basedirs_of, parse, zone_of
 from ..store import MapStore
@@ -400,7 +400,7 @@ class Subject(BaseSubject):
         lines = self.said(self.text(rest, made))
         conditions = conditions_of(lines)
         answers = (run_calls([call], conditions, MapStore())[0] for call in own_calls(lines))
-        return b"".join(map(answer_line, answers)).removesuffix(b"\n")
+        return b"".join(map(result_line, answers)).removesuffix(b"\n")
 
     def answers(self, rest, made):
         """`answers TEXT`: the answers of all calls as a list."""
@@ -411,7 +411,7 @@ class Subject(BaseSubject):
             store.pairs[key] = data
         store.fail_after(self.store_fail_after)
         answers = run_calls(own_calls(lines), conditions_of(lines), store)
-        return b"".join(map(answer_line, answers)).removesuffix(b"\n")
+        return b"".join(map(result_line, answers)).removesuffix(b"\n")
 
     def checked_answers(self, rest, made):
         """`checked_answers TEXT`: how many answers there are. With all memory none is wrong."""
