@@ -6,6 +6,7 @@ use crate::request::Request;
 use crate::shown::{held, write_result};
 use c_cache_keys::{Call, HashResult, KeyError, PreprocessorStore, run_calls};
 use cck_cases::{CaseError, Given, Value, World};
+use cck_script::copy_variables;
 use cck_util::Sha256State;
 use std::alloc::Global;
 
@@ -23,7 +24,7 @@ pub(crate) fn call_of(
         hasher: held(request.hasher.copy(alloc))?,
         files: noting(alloc, world)?,
         cwd: request.cwd.to_vec(alloc)?,
-        vars: copies_of(alloc, &given.variables)?,
+        vars: copy_variables(alloc, &given.variables)?,
         moment: world.moment,
         control: request.control,
     })
@@ -36,18 +37,6 @@ fn noting(alloc: Global, world: &World) -> Result<NotingFiles, CaseError> {
         count: 0,
         is_bytewise: false,
     })
-}
-
-fn copies_of(
-    alloc: Global,
-    variables: &[(Vec<u8>, Vec<u8>)],
-) -> Result<Vec<(Vec<u8>, Vec<u8>)>, CaseError> {
-    let mut copies = Vec::new(alloc);
-    for (name, value) in variables {
-        let name = name.to_vec(alloc)?;
-        copies.push((name, value.to_vec(alloc)?))?;
-    }
-    Ok(copies)
 }
 
 /// Makes the calls, and returns a line for each: its result, and how often it preprocessed.
