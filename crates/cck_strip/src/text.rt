@@ -77,6 +77,9 @@ impl<'a> Sites for TextSites<'a> {
     ghost within = { λ s k h. text_site-within (map (λ b. b.items) s.basedirs.now) s.text.now k h };
 }
 
+// A search ends after this many bytes, so that they are still in the cache when they are copied.
+const SEARCH_WINDOW: usize = 32768;
+
 // The search of a text for a word with which all base directories begin.
 #[derive(Drop)]
 struct WordSearch<'a> {
@@ -87,8 +90,16 @@ impl<'a, 'b> Search<TextSites<'b>> for WordSearch<'a> {
     ghost finds = { λ s t. (0 < length s.finder) × AllBegin (map (λ b. b.items) t.basedirs.now) s.finder };
 
     fn next_place(&self, sites: &TextSites<'b>, from: usize) -> Option<usize> {
-        let distance = self.finder.find(&sites.text[from..])?;
-        Some(from + distance)
+        let rest = &sites.text[from..];
+        let window = &rest[..rest.len().min(SEARCH_WINDOW)];
+        match self.finder.find(window) {
+            Some(distance) => Some(from + distance),
+            // The word may begin at a later place of the window, and end after it.
+            None if window.len() < rest.len() => {
+                Some(from + window.len().saturating_sub(self.finder.needle().len()))
+            }
+            None => None,
+        }
     }
 }
 
