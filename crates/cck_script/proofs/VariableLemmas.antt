@@ -1,20 +1,23 @@
 -- Variables, as one more is set.
-use Rattle.std.proofs.Common.{◌||◌, not, subst, is_some, ◌≡◌, ℕ, zero, suc, ◌<◌, ◌≤◌, ◌+◌, List, [], ◌∷◌, ◌++◌, refl, ap, sym, ◌∙◌, get_or, length, map, set, Bool, true, false, Option, Some, None, cond, arith}
-use Rattle.std.proofs.lemmas.List.{append-nil, length-map, map-append}
-use Rattle.std.proofs.lemmas.List.Sums.{passes_at_first}
+use Rattle.std.proofs.Common.{nat_lt, eqb, ◌||◌, not, subst, is_some, ◌≡◌, ℕ, zero, suc, ◌<◌, ◌≤◌, ◌+◌, List, [], ◌∷◌, ◌++◌, refl, ap, sym, ◌∙◌, get_or, inl, inr, length, map, set, Bool, true, false, Option, Some, None, cond, arith}
+use Rattle.std.proofs.lemmas.List.{append-nil, length-append, length-map, length-set, map-append}
+use Rattle.std.proofs.lemmas.List.Sums.{passes_at_first, prefix_len-le-length}
 use Rattle.std.specs.Global.{Vec}
 use Rattle.std.specs.List.{list_any, position_or_len}
-use Rattle.indexmap.specs.IndexSet.{insert_key}
+use Rattle.std.specs.BTreeMap.{BTreeMap, get}
 use Rattle.std.specs.Option.{unwrap_or}
 use Rattle.std.specs.Str.{bytes_eq}
-use Rattle.std.proofs.lemmas.List.Folds.{list_any-append, list_any_at}
+use Rattle.std.proofs.lemmas.Bool.Decides.{nat_tests}
+use Rattle.std.specs.Ordering.{is_eq}
+use Rattle.std.proofs.lemmas.List.Folds.{list_any-append, list_any_at, position_or_len_push}
+use Rattle.std.proofs.lemmas.Map.Text.{is_eq-slice_cmp}
 use Rattle.std.proofs.lemmas.Slice.Eq.{bytes_eq-Decides}
 use Rattle.std.proofs.Math.Bool.{or_comm, or-false}
-use Rattle.std.proofs.lemmas.Bool.{or_parts}
-use Rattle.cck_path.specs.Bytes.{Bytes, lists_of, variables_of}
+use Rattle.std.proofs.lemmas.Bool.{cases_lt, eqb-false, eqb-true, or_parts}
+use Rattle.cck_path.specs.Bytes.{Bytes, variables_of}
 use Rattle.cck_path.specs.Variables.{Variable}
 use Rattle.cck_path.proofs.TestLemmas.{bytes_eq-sym}
-use Rattle.cck_script.specs.Surroundings.{AreNamesOf, if_same, is_clear, set_by, names, new_name, sets, since_clear, value_of, variable_of_command, variables, with_variable}
+use Rattle.cck_script.specs.Surroundings.{ArePlacesOf, if_below, if_same, is_clear, name_cmp, names, new_name, place_of, set_by, sets, since_clear, value_of, variable_of_command, variables, with_variable}
 use Rattle.cck_script.specs.Lines.{Line}
 use Rattle.cck_script.specs.Lines as line
 
@@ -24,21 +27,9 @@ use Rattle.cck_script.specs.Lines as line
 abbrev names_in : List (Vec ℕ × Vec ℕ) → List Bytes
 names_in vs = map (λ v. v.0.items) vs
 
--- texts with the same bytes
-abbrev same_text : Vec ℕ → Vec ℕ → Bool
-same_text a b = bytes_eq a.items b.items
-
 -- the place of a name among variables, or their number where it is new
 abbrev place_in : Bytes → List (Vec ℕ × Vec ℕ) → ℕ
 place_in name vs = position_or_len (bytes_eq name) (names_in vs)
-
-any_text : (name : Vec ℕ) (names : List (Vec ℕ)) → list_any (same_text name) names ≡ list_any (bytes_eq name.items) (lists_of names)
-any_text name [] = refl
-any_text name (n ∷ ns) = ap (λ b. same_text name n || b) (any_text name ns)
-
-place_text : (name : Vec ℕ) (names : List (Vec ℕ)) → position_or_len (same_text name) names ≡ position_or_len (bytes_eq name.items) (lists_of names)
-place_text name [] = refl
-place_text name (n ∷ ns) = ap (λ p. cond (not (same_text name n)) (1 + p) 0) (place_text name ns)
 
 module _ (name : Bytes) (new : Vec ℕ) (d : Vec ℕ × Vec ℕ) where
   set_step : (v : Vec ℕ × Vec ℕ) (vs : List (Vec ℕ × Vec ℕ)) (b : Bool) → bytes_eq v.0.items name ≡ b → (p : ℕ) → p ≡ cond (not b) (1 + place_in name vs) 0 → p < length (v ∷ vs)
@@ -86,34 +77,103 @@ is_known name vs lt =
     let within : place_in name vs < length (names_in vs) = omega (arith, length-map vs (λ (v : Vec ℕ × Vec ℕ). v.0.items), lt) in
     list_any_at (bytes_eq name) (names_in vs) (place_in name vs) [] within (passes_at_first (bytes_eq name) (names_in vs) [] within)
 
--- a variable of this name has this value in new, and the keys are the names of new
-abbrev IsSetTo : Bytes → Bytes → List (Vec ℕ × Vec ℕ) → List (Vec ℕ × Vec ℕ) → List (Vec ℕ) → Type 0
-IsSetTo name value vs new keys = (variables_of new ≡ with_variable name value (variables_of vs)) × AreNamesOf new keys
+-- ---- the index of places
 
-module _ (vs : List (Vec ℕ × Vec ℕ)) (names keys : List (Vec ℕ)) (name : Vec ℕ) (named value : Bytes) (p : ℕ) (e : name.items ≡ named)
-    (inserted : keys ≡ insert_key same_text names name) (place : p ≡ position_or_len (same_text name) names) (are : AreNamesOf vs names) where
-  at_place : p ≡ place_in name.items vs
-  at_place = place ∙ place_text name names ∙ ap (position_or_len (bytes_eq name.items)) are
+-- a place that is the one of these, or else their number
+place_known : (n place at : ℕ) → at ≡ unwrap_or (if_below n place) n → at < n → at ≡ place
+place_known n place at e lt = go (nat_lt place n) e
+  where
+    go : (b : Bool) → at ≡ unwrap_or (cond b (Some place) None) n → at ≡ place
+    go true h = h
+    go false h = absurd (omega arith)
 
-  keys_are : (b : Bool) → list_any (bytes_eq name.items) (names_in vs) ≡ b → lists_of keys ≡ lists_of (cond b names (names ++ name ∷ []))
-  keys_are b is = ap lists_of inserted ∙ ap (λ c. lists_of (cond c names (names ++ name ∷ []))) (any_text name names ∙ ap (list_any (bytes_eq name.items)) are ∙ is)
+place_new : (n place at : ℕ) → at ≡ unwrap_or (if_below n place) n → n ≤ at → n ≤ place
+place_new n place at e le = go (nat_lt place n) refl e
+  where
+    go : (b : Bool) → nat_lt place n ≡ b → at ≡ unwrap_or (cond b (Some place) None) n → n ≤ place
+    go true t h = absurd (grind (arith, nat_tests))
+    go false t h = grind (arith, nat_tests)
+
+some_below : (n place : ℕ) → place < n → Some place ≡ if_below n place
+some_below n place lt = go (nat_lt place n) refl
+  where
+    go : (b : Bool) → nat_lt place n ≡ b → Some place ≡ cond b (Some place) None
+    go true t = refl
+    go false t = absurd (grind (arith, nat_tests))
+
+none_below : (n place : ℕ) → n ≤ place → None ≡ if_below n place
+none_below n place le = go (nat_lt place n) refl
+  where
+    go : (b : Bool) → nat_lt place n ≡ b → None ≡ cond b (Some place) None
+    go true t = absurd (grind (arith, nat_tests))
+    go false t = refl
+
+-- the place of a name where one more variable is known, of that name or of another
+place_more : (n place : ℕ) (b : Bool) → place ≤ n → (b ≡ true → n ≤ place)
+    → cond b (Some n) (if_below n place) ≡ if_below (n + 1) (cond (eqb place n) (n + cond b 0 1) place)
+place_more n place b le new = go b (eqb place n) refl new
+  where
+    go : (b e : Bool) → eqb place n ≡ e → (b ≡ true → n ≤ place) → cond b (Some n) (if_below n place) ≡ if_below (n + 1) (cond e (n + cond b 0 1) place)
+    go true true t h = ap Some (omega arith) ∙ some_below (n + 1) (n + 0) (omega arith)
+    go true false t h = let at_end = h refl in absurd (eqb-false place n t (omega arith))
+    go false true t h = let at_end = eqb-true place n t in sym (none_below n place (omega arith)) ∙ none_below (n + 1) (n + 1) (omega arith)
+    go false false t h =
+        let within : place < n = elim (cases_lt place n) [ inl lt ↦ lt | inr ge ↦ absurd (eqb-false place n t (omega arith)) ] in
+        sym (some_below n place within) ∙ some_below (n + 1) place (omega arith)
+
+-- a variable of this name has this value in new, and these are the places of new
+abbrev IsSetTo : Bytes → Bytes → List (Vec ℕ × Vec ℕ) → List (Vec ℕ × Vec ℕ) → BTreeMap (Vec ℕ) ℕ → Type 0
+IsSetTo name value vs new places = (variables_of new ≡ with_variable name value (variables_of vs)) × ArePlacesOf new places
+
+module _ (vs : List (Vec ℕ × Vec ℕ)) (places : BTreeMap (Vec ℕ) ℕ) (name : Vec ℕ) (at : ℕ)
+    (found : at ≡ unwrap_or (get name_cmp places name) (length vs)) (are : ArePlacesOf vs places) where
+  found_place : at ≡ unwrap_or (place_of name.items vs) (length vs)
+  found_place = found ∙ ap (λ o. unwrap_or o (length vs)) (are name)
 
   -- the variable of a known name has the new value, in its place
-  pub set_known : (d : Vec ℕ × Vec ℕ) (new : Vec ℕ) → p < length vs → d ≡ get_or vs p d → new.items ≡ value → IsSetTo named value vs (set vs p (d.0, new)) keys
-  set_known d new lt is same = (
-    ap (λ (v : Vec ℕ × Vec ℕ). variables_of (set vs p (v.0, new))) is ∙ set_at_place name.items new d vs p at_place lt ∙ (λ i. with_variable (e i) (same i) (variables_of vs)),
-    keys_are true (is_known name.items vs (omega (arith, at_place, lt))) ∙ are ∙ sym (ap (λ (v : Vec ℕ × Vec ℕ). names_in (set vs p (v.0, new))) is ∙ names_kept name.items new d vs p),
-  )
+  pub set_known : (d : Vec ℕ × Vec ℕ) (new : Vec ℕ) → at < length vs → d ≡ get_or vs at d → IsSetTo name.items new.items vs (set vs at (d.0, new)) places
+  set_known d new lt is =
+      let place = place_known (length vs) (place_in name.items vs) at found_place lt in (
+        ap (λ (v : Vec ℕ × Vec ℕ). variables_of (set vs at (v.0, new))) is ∙ set_at_place name.items new d vs at place (omega arith),
+        λ q. are q ∙ ap (λ ns. if_below (length vs) (position_or_len (bytes_eq q.items) ns)) (sym (ap (λ (v : Vec ℕ × Vec ℕ). names_in (set vs at (v.0, new))) is ∙ names_kept name.items new d vs at))
+            ∙ ap (λ n. if_below n (place_in q.items (set vs at (d.0, new)))) (sym (length-set vs at (d.0, new))),
+      )
 
   -- the variable of a new name comes last
-  pub set_new : (after : List (Vec ℕ × Vec ℕ)) (copy new : Vec ℕ) → length vs ≤ p → after ≡ vs ++ (copy, new) ∷ [] → copy.items ≡ named → new.items ≡ value → IsSetTo named value vs after keys
-  set_new after copy new le is copied same =
-      let none = is_new name.items vs (omega (arith, at_place, le)) in (
-        ap variables_of is ∙ map-append (λ (v : Vec ℕ × Vec ℕ). (v.0.items, v.1.items)) vs ((copy, new) ∷ [])
-            ∙ (λ i. variables_of vs ++ ((copied ∙ sym e) i, same i) ∷ []) ∙ sym (none.0 value) ∙ ap (λ n. with_variable n value (variables_of vs)) e,
-        keys_are false none.1 ∙ map-append (λ (v : Vec ℕ). v.items) names (name ∷ []) ∙ (λ i. are i ++ (e ∙ sym copied) i ∷ [])
-            ∙ sym (ap names_in is ∙ map-append (λ (v : Vec ℕ × Vec ℕ). v.0.items) vs ((copy, new) ∷ [])),
-      )
+  pub set_new : (more : BTreeMap (Vec ℕ) ℕ) (after : List (Vec ℕ × Vec ℕ)) (copy new : Vec ℕ) → length vs ≤ at → after ≡ vs ++ (name, new) ∷ []
+      → copy.items ≡ name.items → ((q : Vec ℕ) → get name_cmp more q ≡ cond (is_eq (name_cmp copy q)) (Some (length vs)) (get name_cmp places q)) → IsSetTo name.items new.items vs after more
+  set_new more after copy new le is copied inserted =
+      let beyond = place_new (length vs) (place_in name.items vs) at found_place le in
+      (set, places_after beyond)
+    where
+      set : variables_of after ≡ with_variable name.items new.items (variables_of vs)
+      set =
+          ap variables_of is ∙ (map-append (λ (v : Vec ℕ × Vec ℕ). (v.0.items, v.1.items)) vs ((name, new) ∷ [])
+          ∙ sym ((is_new name.items vs (place_new (length vs) (place_in name.items vs) at found_place le)).0 new.items))
+
+      count : length (names_in vs) ≡ length vs
+      count = length-map vs (λ (v : Vec ℕ × Vec ℕ). v.0.items)
+
+      within : (q : Vec ℕ) → place_in q.items vs ≤ length vs
+      within q = let most = prefix_len-le-length (λ n. not (bytes_eq q.items n)) (names_in vs) in omega (arith, count)
+
+      same_name : (q : Vec ℕ) → is_eq (name_cmp copy q) ≡ bytes_eq q.items name.items
+      same_name q = is_eq-slice_cmp copy.items q.items ∙ (ap (λ n. bytes_eq n q.items) copied ∙ bytes_eq-sym name.items q.items)
+
+      new_at : (q : Vec ℕ) → length vs ≤ place_in name.items vs → bytes_eq q.items name.items ≡ true → length vs ≤ place_in q.items vs
+      new_at q beyond e = subst (λ n. length vs ≤ place_in n vs) (sym ((bytes_eq-Decides q.items name.items).0 e)) beyond
+
+      place_after : (q : Vec ℕ) → if_below (length vs + 1) (position_or_len (bytes_eq q.items) (names_in vs ++ name.items ∷ [])) ≡ place_of q.items after
+      place_after q =
+          (λ i. if_below (sym (length-append vs ((name, new) ∷ [])) i) (position_or_len (bytes_eq q.items) (sym (map-append (λ (v : Vec ℕ × Vec ℕ). v.0.items) vs ((name, new) ∷ [])) i)))
+          ∙ ap (place_of q.items) (sym is)
+
+      places_after : length vs ≤ place_in name.items vs → ArePlacesOf after more
+      places_after beyond q =
+          inserted q ∙ ((λ i. cond (same_name q i) (Some (length vs)) (are q i))
+          ∙ (place_more (length vs) (place_in q.items vs) (bytes_eq q.items name.items) (within q) (new_at q beyond)
+          ∙ (ap (λ n. if_below (length vs + 1) (cond (eqb (place_in q.items vs) n) (n + cond (bytes_eq q.items name.items) 0 1) (place_in q.items vs))) (sym count)
+          ∙ (ap (if_below (length vs + 1)) (sym (position_or_len_push (bytes_eq q.items) (names_in vs) name.items)) ∙ place_after q))))
 
 -- ---- the variables after some lines, as one more is set
 

@@ -1,14 +1,17 @@
 -- the files and variables after the first lines of a script
-use Rattle.std.specs.Prelude.{◌≡◌, ℕ, pos, List, [], ◌∷◌, ◌++◌, map, codes, is_some, Bool, true, false, if◌then◌else◌, Option, Some, None}
+use Rattle.std.specs.Prelude.{◌≡◌, ℕ, nat_lt, length, pos, List, [], ◌∷◌, ◌++◌, map, codes, is_some, Bool, true, false, if◌then◌else◌, Option, Some, None}
+use Rattle.std.specs.BTreeMap.{BTreeMap, get}
+use Rattle.std.specs.Cmp.Lexicographic.{slice_cmp}
 use Rattle.std.specs.FinMap as finite
 use Rattle.std.specs.Global.{Vec}
-use Rattle.std.specs.List.{list_any}
+use Rattle.std.specs.List.{list_any, position_or_len}
 use Rattle.std.specs.Option.{option_map}
-use Rattle.std.specs.Ordering.{eq_by_cmp}
+use Rattle.std.specs.Ordering.{eq_by_cmp, nat_cmp}
+use Rattle.std.specs.declared.cmp.Ordering.{Ordering}
 use Rattle.std.specs.Str.{bytes_eq}
 use Rattle.cck_files.specs.ArmedCalls.{IsUnarmed}
 use Rattle.cck_files.specs.FileMap.{FileMap, FileNode}
-use Rattle.cck_path.specs.Bytes.{Bytes, lists_of, variables_of}
+use Rattle.cck_path.specs.Bytes.{Bytes, variables_of}
 use Rattle.cck_path.specs.Path.{Path, components, normal, path_cmp}
 use Rattle.cck_path.specs.Timestamp.{Moment}
 use Rattle.cck_path.specs.Variables.{Variable as NamedValue}
@@ -110,17 +113,29 @@ variables lines = set_by (since_clear lines)
 
 -- ---- what the program has of them
 
--- these are the names of the variables, in order
-abbrev pub AreNamesOf : List (Vec ℕ × Vec ℕ) → List (Vec ℕ) → Type 0
-AreNamesOf vs names = lists_of names ≡ map (λ v. v.0.items) vs
+-- names are ordered by their bytes
+abbrev pub name_cmp : Vec ℕ → Vec ℕ → Ordering
+name_cmp a b = slice_cmp nat_cmp a.items b.items
 
--- the files and variables are those after these lines, the names are those of the variables, and no call on the files is armed to fail
+-- this place, if it is one of n places
+abbrev pub if_below : ℕ → ℕ → Option ℕ
+if_below n place = if nat_lt place n then Some place else None
+
+-- the place of the first variable of this name
+abbrev pub place_of : Bytes → List (Vec ℕ × Vec ℕ) → Option ℕ
+place_of name vs = if_below (length vs) (position_or_len (bytes_eq name) (map (λ v. v.0.items) vs))
+
+-- these are the places of the variables by their names
+abbrev pub ArePlacesOf : List (Vec ℕ × Vec ℕ) → BTreeMap (Vec ℕ) ℕ → Type 0
+ArePlacesOf vs places = (name : Vec ℕ) → get name_cmp places name ≡ place_of name.items vs
+
+-- the files and variables are those after these lines, the places are those of the variables, and no call on the files is armed to fail
 pub record AreAfter (lines : List Line) (after : Surroundings) : Type 0 where
   pub files : AreFiles lines after.files.files
   pub no_faults : after.files.faults ≡ 0
   pub unarmed : IsUnarmed after.files.armed
   pub variables_are : variables_of after.variables.items ≡ variables lines
-  pub names_are : AreNamesOf after.variables.items after.names.keys
+  pub places_are : ArePlacesOf after.variables.items after.places
 
 -- variables after one is set: in the place of the first of its name, or else after the others
 abbrev pub with_variable : Bytes → Bytes → List NamedValue → List NamedValue

@@ -2,7 +2,7 @@
 ghost use Rattle.std.specs.Prelude.{◌≡◌, ◌∷◌, [], List, IfOk, IsOkUnless, OnErr, OnOk};
 ghost use Rattle.cck_files.specs.ArmedCalls.{IsUnarmed};
 ghost use Rattle.cck_path.specs.Bytes.{variables_of};
-ghost use Rattle.cck_script.specs.Surroundings.{AreAfter, AreFiles, AreNamesOf, with_variable};
+ghost use Rattle.cck_script.specs.Surroundings.{AreAfter, AreFiles, ArePlacesOf, with_variable};
 ghost use Rattle.cck_script.specs.Lines.{Line};
 ghost use Rattle.cck_script.specs.Seen.{line_of};
 
@@ -10,8 +10,8 @@ use crate::command::Command;
 use cck_digest::UtilError;
 use cck_files::{MapFiles, Node};
 use cck_path::{FileKind, Timestamp};
-use indexmap::IndexSet;
 use std::alloc::Global;
+use std::collections::BTreeMap;
 
 /// The path of the compiler's executable, which is there before any line.
 pub const EXECUTABLE: &[u8] = b"/usr/bin/cc";
@@ -58,8 +58,9 @@ pub struct Surroundings {
     pub files: MapFiles,
     /// The variables.
     pub variables: Vec<(Vec<u8>, Vec<u8>)>,
-    /// The names of the variables, in the same order, so that a name's place is found by a look-up.
-    pub names: IndexSet<Vec<u8>>,
+    /// The place of each variable by its name. A look-up compares about as many names as the
+    /// logarithm of their number, whatever the names are.
+    pub places: BTreeMap<Vec<u8>, usize>,
 }
 
 impl Surroundings {
@@ -73,7 +74,7 @@ impl Surroundings {
         Ok(Surroundings {
             files: first_files(alloc)?,
             variables: Vec::new(alloc),
-            names: IndexSet::new(alloc),
+            places: BTreeMap::new(alloc),
         })
     }
 
@@ -118,12 +119,11 @@ impl Surroundings {
                 Ok(())
             }
             Command::Variable { name, value } => {
-                set_variable(alloc, &mut self.variables, &mut self.names, name, value)
+                set_variable(alloc, &mut self.variables, &mut self.places, name, value)
             }
             Command::Clear => {
                 self.variables.clear();
-                // Clearing a set visits its whole table each time.
-                self.names = IndexSet::new(alloc);
+                self.places = BTreeMap::new(alloc);
                 Ok(())
             }
             _ => Ok(()),
@@ -149,30 +149,32 @@ pub fn copy_variables(
 }
 
 // Gives a variable a value: a new name comes last, a known one keeps its place. After an error
-// neither the variables nor their names are changed.
+// neither the variables nor their places are changed.
 fn set_variable(
     alloc: Global,
     variables: &mut Vec<(Vec<u8>, Vec<u8>)>,
-    names: &mut IndexSet<Vec<u8>>,
+    places: &mut BTreeMap<Vec<u8>, usize>,
     name: Vec<u8>,
     value: Vec<u8>,
 ) -> Result<(), UtilError>
-    ensures set { OnOk result (AreNamesOf variables.old.items names.old.keys
+    ensures set { OnOk result (ArePlacesOf variables.old.items places.old
         → (variables_of variables.new.items
         ≡ with_variable name.items value.items (variables_of variables.old.items))
-        × AreNamesOf variables.new.items names.new.keys) }
+        × ArePlacesOf variables.new.items places.new) }
     ensures kept { OnErr result ((variables.new.items ≡ variables.old.items)
-        × (names.new.keys ≡ names.old.keys)) }
+        × (places.new.entries ≡ places.old.entries)) }
     ensures refused { IsOkUnless result UtilError.Memory }
 {
+    let count = variables.len();
+    let at = places.get(name.as_slice()).copied().unwrap_or(count);
+    if at < count {
+        variables[at].1 = value;
+        return Ok(());
+    }
     let copy = name.to_vec(alloc)?;
     // With room for it the push below can't fail.
     variables.reserve(1)?;
-    let (at, _) = names.insert_full(name)?;
-    if at < variables.len() {
-        variables[at].1 = value;
-    } else {
-        variables.push((copy, value))?;
-    }
+    places.insert(copy, count)?;
+    variables.push((name, value))?;
     Ok(())
 }

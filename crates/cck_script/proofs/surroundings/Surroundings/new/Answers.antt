@@ -10,5 +10,5 @@ returns-clause-first c = record {
   no_faults = c.in_ok-first_files.ensures.quiet.0;
   unarmed = c.in_ok-first_files.ensures.quiet.1;
   variables_are = ap variables_of c.new.ensures.items;
-  names_are = rw (c.new.ensures.items, c.new-2.ensures.empty) refl;
+  places_are = λ name. rw (c.new.ensures.items, c.new-2.ensures.empty) refl;
 }
