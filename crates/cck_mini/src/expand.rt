@@ -1,13 +1,13 @@
 //! Macros replaced.
-ghost use Rattle.std.specs.Prelude.{◌≡◌, ◌++◌, ◌<◌, ◌≤◌, ℕ, IfSome, IsOkUnless, OnOk, codes, length};
+ghost use Rattle.std.specs.Prelude.{◌≡◌, ◌++◌, ◌<◌, ◌≤◌, ℕ, IfSome, OnOk, codes, length};
 ghost use Rattle.std.specs.Option.{option_map};
 ghost use Rattle.memchr.specs.Find.{OccursAt};
 ghost use Rattle.cck_mini.specs.Printed.{expanded, macro_at};
 ghost use Rattle.cck_mini.specs.Seen.{macros_seen};
 
-use crate::error::PrintError;
 use crate::macros::Macros;
 use memchr::memmem;
+use std::alloc::AllocError;
 
 // Printed bytes, and the text that is left to expand.
 #[derive(Clone, Copy)]
@@ -24,12 +24,9 @@ struct Found<'a> {
 }
 
 /// Appends a text to `out`, with its macros replaced from left to right.
-///
-/// The only error is [`PrintError::Memory`].
-pub(crate) fn expand(out: &mut Vec<u8>, macros: &Macros, text: &[u8]) -> Result<(), PrintError>
-    ensures text { OnOk result
+pub(crate) fn expand(out: &mut Vec<u8>, macros: &Macros, text: &[u8]) -> Result<(), AllocError>
+    ensures { OnOk result
         (out.new.items ≡ out.old.items ++ expanded (macros_seen macros.now) text.now) }
-    ensures refused { IsOkUnless result PrintError.Memory }
 {
     let mut left = text;
     while left.len() > 0 {

@@ -1,13 +1,12 @@
 //! The texts of the macros.
-ghost use Rattle.std.specs.Prelude.{◌≡◌, ◌+ℤ◌, IfOk, IsOkUnless, pos, string_bytes};
+ghost use Rattle.std.specs.Prelude.{◌≡◌, ◌+ℤ◌, IfOk, pos, string_bytes};
 ghost use Rattle.std.specs.Fmt.{signed_decimal};
 ghost use Rattle.std.specs.Int.{int_div_euclid};
 ghost use Rattle.cck_mini.specs.Printed.{macros_of, second_of};
 ghost use Rattle.cck_mini.specs.Seen.{macros_seen};
 
-use crate::error::PrintError;
 use cck_path::Timestamp;
-use std::alloc::Global;
+use std::alloc::{AllocError, Global};
 
 const SECONDS_IN_A_DAY: i128 = 86_400;
 
@@ -24,17 +23,14 @@ pub(crate) struct Macros {
 
 /// Returns the texts of the macros at a call time, in a file that was modified at this time, in a
 /// zone with an offset in seconds east of UTC.
-///
-/// The only error is [`PrintError::Memory`].
 #[tactic(auto, unfolding(crate::specs::Printed::macros_of))]
 pub(crate) fn macros_for(
     alloc: Global,
     zone_offset: i32,
     moment: Timestamp,
     modified: Option<Timestamp>,
-) -> Result<Macros, PrintError>
-    ensures macros { IfOk result (λ m. macros_seen m ≡ macros_of zone_offset moment modified) }
-    ensures refused { IsOkUnless result PrintError.Memory }
+) -> Result<Macros, AllocError>
+    ensures { IfOk result (λ m. macros_seen m ≡ macros_of zone_offset moment modified) }
 {
     let date = day_text(alloc, moment.seconds(), zone_offset)?;
     let time = second_text(alloc, moment.seconds(), zone_offset)?;
@@ -47,23 +43,21 @@ pub(crate) fn macros_for(
 }
 
 // The number of a local second.
-fn second_text(alloc: Global, seconds: i64, zone_offset: i32) -> Result<String, PrintError>
-    ensures text { IfOk result (λ text. string_bytes text ≡ signed_decimal (seconds +ℤ zone_offset)) }
-    ensures refused { IsOkUnless result PrintError.Memory }
+fn second_text(alloc: Global, seconds: i64, zone_offset: i32) -> Result<String, AllocError>
+    ensures { IfOk result (λ text. string_bytes text ≡ signed_decimal (seconds +ℤ zone_offset)) }
 {
     let second = (seconds as i128) + (zone_offset as i128);
-    Ok(format!(in alloc; "{second}")?)
+    format!(in alloc; "{second}")
 }
 
 // The number of the local day of a second.
-fn day_text(alloc: Global, seconds: i64, zone_offset: i32) -> Result<String, PrintError>
-    ensures text { IfOk result (λ text. string_bytes text
+fn day_text(alloc: Global, seconds: i64, zone_offset: i32) -> Result<String, AllocError>
+    ensures { IfOk result (λ text. string_bytes text
         ≡ signed_decimal (int_div_euclid (seconds +ℤ zone_offset) (pos 86400))) }
-    ensures refused { IsOkUnless result PrintError.Memory }
 {
     let second = (seconds as i128) + (zone_offset as i128);
     let day = second.div_euclid(SECONDS_IN_A_DAY);
-    Ok(format!(in alloc; "{day}")?)
+    format!(in alloc; "{day}")
 }
 
 // The number of the local second of a modification, or `?`.
@@ -71,12 +65,11 @@ fn modified_text(
     alloc: Global,
     modified: Option<Timestamp>,
     zone_offset: i32,
-) -> Result<String, PrintError>
-    ensures text { IfOk result (λ text. string_bytes text ≡ second_of zone_offset modified) }
-    ensures refused { IsOkUnless result PrintError.Memory }
+) -> Result<String, AllocError>
+    ensures { IfOk result (λ text. string_bytes text ≡ second_of zone_offset modified) }
 {
     let Some(time) = modified else {
-        return Ok(String::from_str(alloc, "?")?);
+        return String::from_str(alloc, "?");
     };
     second_text(alloc, time.seconds(), zone_offset)
 }

@@ -1,5 +1,5 @@
 //! The whole text.
-ghost use Rattle.std.specs.Prelude.{◌≡◌, ◌++◌, Some, IfOk, IsOkUnless, IsSomeAnd, MatchResult, OnOk};
+ghost use Rattle.std.specs.Prelude.{◌≡◌, ◌++◌, Some, IfOk, IsSomeAnd, MatchResult, OnOk};
 ghost use Rattle.cck_files.specs.Calls.{Keeps, Rose};
 ghost use Rattle.cck_path.specs.Text.{join_path};
 ghost use Rattle.cck_mini.specs.Printed.{include_name, included_text, line_text, lines_in, lines_text, marker, printed};
@@ -14,7 +14,7 @@ use crate::macros::{Macros, macros_for};
 use cck_files::Files;
 use cck_path::{Timestamp, join_path};
 use itoa::Buffer;
-use std::alloc::Global;
+use std::alloc::{AllocError, Global};
 
 /// Returns the text that is printed at the call time `moment` for an input in the directory `cwd`.
 /// The zone's offset is in seconds east of UTC.
@@ -122,7 +122,8 @@ fn print_line<F: Files>(
     let named = joined(alloc, job.cwd, name)?;
     let file = read_file(alloc, files, &named)?;
     let inside = macros_for(alloc, job.zone_offset, job.moment, file.modified)?;
-    print_included(out, &inside, &named, &file.contents, number, job.path)
+    print_included(out, &inside, &named, &file.contents, number, job.path)?;
+    Ok(())
 }
 
 // Prints an included file between its markers.
@@ -134,10 +135,9 @@ fn print_included(
     contents: &[u8],
     number: u64,
     path: &[u8],
-) -> Result<(), PrintError>
-    ensures text { OnOk result (out.new.items ≡ out.old.items
+) -> Result<(), AllocError>
+    ensures { OnOk result (out.new.items ≡ out.old.items
         ++ included_text (macros_seen macros.now) contents.now name.now number path.now) }
-    ensures refused { IsOkUnless result PrintError.Memory }
 {
     print_marker(out, 1, name, b" 1")?;
     expand(out, macros, contents)?;
@@ -149,10 +149,9 @@ fn print_included(
 
 // Prints a line marker.
 #[tactic(auto, unfolding(crate::specs::Printed::marker))]
-fn print_marker(out: &mut Vec<u8>, number: u64, path: &[u8], flag: &[u8]) -> Result<(), PrintError>
-    ensures text { OnOk result
+fn print_marker(out: &mut Vec<u8>, number: u64, path: &[u8], flag: &[u8]) -> Result<(), AllocError>
+    ensures { OnOk result
         (out.new.items ≡ out.old.items ++ marker number path.now flag.now) }
-    ensures refused { IsOkUnless result PrintError.Memory }
 {
     let mut buffer = Buffer::new();
     out.extend_from_slice(b"# ")?;
@@ -166,12 +165,11 @@ fn print_marker(out: &mut Vec<u8>, number: u64, path: &[u8], flag: &[u8]) -> Res
 }
 
 // A path as seen from the working directory.
-fn joined(alloc: Global, cwd: &[u8], path: &[u8]) -> Result<Vec<u8>, PrintError>
-    ensures bytes { IfOk result (λ whole. whole.items ≡ join_path cwd.now path.now) }
-    ensures refused { IsOkUnless result PrintError.Memory }
+fn joined(alloc: Global, cwd: &[u8], path: &[u8]) -> Result<Vec<u8>, AllocError>
+    ensures { IfOk result (λ whole. whole.items ≡ join_path cwd.now path.now) }
 {
     match join_path(alloc, cwd, path) {
         Ok(whole) => Ok(whole),
-        Err(_) => Err(PrintError::Memory),
+        Err(_) => Err(AllocError),
     }
 }

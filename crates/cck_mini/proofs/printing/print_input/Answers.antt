@@ -13,7 +13,7 @@ pub returns-in_err-file-clause-answer : goal.returns-in_err-file-clause-answer
 returns-in_err-file-clause-answer g c =
     let F = g.F.Files in
     let p = err_from_is_err_and c.from_residual-in_err-file.result c.from_residual-in_err-file.ensures.1 in
-    rw (p.1, p.2) (no_input c.args.zone_offset c.args.moment (F.file_map c.args.files.now) c.args.cwd.now c.args.input.now c.in_ok-path.path.items c.in_ok-path.ensures.bytes
+    rw (p.1, p.2) (no_input c.args.zone_offset c.args.moment (F.file_map c.args.files.now) c.args.cwd.now c.args.input.now c.in_ok-path.path.items c.in_ok-path.ensures
     (Rose (F.faults c.args.files.now) (F.faults c.read_file.new.files)) c.in_err-file.field-0.0 (rw c.deref.ensures.value at c.in_err-file.ensures.answer))
 
 pub returns-in_err-print_lines-clause-answer : goal.returns-in_err-print_lines-clause-answer
@@ -26,12 +26,12 @@ returns-in_err-print_lines-clause-answer g c =
     let p = err_from_is_err_and c.from_residual-in_err-print_lines.result c.from_residual-in_err-print_lines.ensures.1 in
     let z = to_z-of_z w32 c.args.zone_offset c.ranges.zone_offset in
     let text : text_at map path ≡ Some (file.contents.items, file.modified) = rw c.deref.ensures.value at c.in_ok-file.ensures.answer in
-    let macros : m ≡ macros_of c.args.zone_offset c.args.moment file.modified = rw z at c.in_ok-macros.ensures.macros in
+    let macros : m ≡ macros_of c.args.zone_offset c.args.moment file.modified = rw z at c.in_ok-macros.ensures in
     let R = Rose (F.faults c.read_file.new.files) (F.faults c.print_lines.new.files) in
     let S = Rose (F.faults c.args.files.now) (F.faults c.print_lines.new.files) in
     let refused : IsPrintError (lines_text c.args.zone_offset c.args.moment map c.args.cwd.now path m 2 (lines_in file.contents.items)) R c.in_err-print_lines.field-0.0 =
     rw (c.in_ok-file.ensures.keeps.same_map, c.deref-3.ensures.value, c.deref-4.ensures.value, z) at c.in_err-print_lines.ensures.answer in
-    rw (p.1, p.2) (no_lines c.args.zone_offset c.args.moment map c.args.cwd.now c.args.input.now path c.in_ok-path.ensures.bytes
+    rw (p.1, p.2) (no_lines c.args.zone_offset c.args.moment map c.args.cwd.now c.args.input.now path c.in_ok-path.ensures
     file.contents.items file.modified m text macros R S c.in_err-print_lines.field-0.0
     (rose_earlier _ _ _ c.in_ok-file.ensures.keeps.not_lower) refused)
 
@@ -44,10 +44,10 @@ returns-clause-answer g c =
     let m = macros_seen c.in_ok-macros.macros in
     let z = to_z-of_z w32 c.args.zone_offset c.ranges.zone_offset in
     let text : text_at map path ≡ Some (file.contents.items, file.modified) = rw c.deref.ensures.value at c.in_ok-file.ensures.answer in
-    let macros : m ≡ macros_of c.args.zone_offset c.args.moment file.modified = rw z at c.in_ok-macros.ensures.macros in
-    let printed : c.print_marker.new.out.items ≡ marker 1 path [] = rw (c.new-out.ensures.items, c.deref-2.ensures.value) at c.in_ok-print_marker.ensures.text in
+    let macros : m ≡ macros_of c.args.zone_offset c.args.moment file.modified = rw z at c.in_ok-macros.ensures in
+    let printed : c.print_marker.new.out.items ≡ marker 1 path [] = rw (c.new-out.ensures.items, c.deref-2.ensures.value) at c.in_ok-print_marker.ensures in
     let first : c.reserve.new.self.items ≡ marker 1 path [] = c.reserve.ensures.items ∙ printed in
     let lines : IsSomeAnd (lines_text c.args.zone_offset c.args.moment map c.args.cwd.now path m 2 (lines_in file.contents.items)) (λ text. c.print_lines.new.out.items ≡ c.reserve.new.self.items ++ text) =
     rw (c.in_ok-file.ensures.keeps.same_map, c.deref-3.ensures.value, c.deref-4.ensures.value, z) at c.in_ok-print_lines.ensures.answer in
-    all_printed c.args.zone_offset c.args.moment map c.args.cwd.now c.args.input.now path c.in_ok-path.ensures.bytes
+    all_printed c.args.zone_offset c.args.moment map c.args.cwd.now c.args.input.now path c.in_ok-path.ensures
     file.contents.items file.modified m c.reserve.new.self.items c.print_lines.new.out.items text macros first lines
