@@ -1,5 +1,5 @@
 //! The contents of regular files.
-ghost use Rattle.std.specs.Prelude.{◌≡◌, ◌≤◌, ◌<◌, [], Ok, OnErr, IfOk, MatchResult, IsOkAnd, length};
+ghost use Rattle.std.specs.Prelude.{◌≡◌, ◌≤◌, ◌<◌, [], Ok, OnErr, MatchResult, IsOkAnd};
 ghost use Rattle.std.specs.Result.{result_unwrap_or};
 ghost use Rattle.cck_digest.specs.Stream.{IsPiece, TakesBeginning, buffer_size};
 ghost use Rattle.cck_path.specs.Path.{components};
@@ -9,7 +9,7 @@ ghost use Rattle.cck_file_digest.specs.Contents.{TakesAll};
 
 use cck_digest::{FileError, HASH_BUFFER_SIZE, Sink};
 use cck_files::Files;
-use std::alloc::{AllocError, Global};
+use std::alloc::Global;
 
 /// Passes the contents of a regular file to a sink, read through this buffer. The buffer has at
 /// least one byte and at most [`HASH_BUFFER_SIZE`](cck_digest::HASH_BUFFER_SIZE) bytes.
@@ -89,23 +89,8 @@ pub fn feed_file_of_size<F: Files, S: Sink>(
         MatchResult result (λ _. IsOkAnd found (λ contents. TakesAll S.takes sink.old contents sink.new))
         (IsErrorOrMemory found (Rose (F.faults files.old) (F.faults files.new))) }
 {
-    let mut buffer = zeroed(alloc, room_for(size))?;
+    let mut buffer = vec![in alloc; 0u8; room_for(size)]?;
     feed_contents(files, path, &mut buffer, sink)
-}
-
-// Zeros for a buffer. Copying them takes fewer instructions than pushing one after the other.
-const ZEROS: [u8; 8192] = [0; 8192];
-
-// Returns a buffer of this many bytes, all zero.
-fn zeroed(alloc: Global, len: usize) -> Result<Vec<u8>, AllocError>
-    ensures { IfOk result (λ buffer. length buffer.items ≡ len) }
-{
-    let mut buffer = Vec::with_capacity(alloc, len)?;
-    while buffer.len() < len {
-        let count = (len - buffer.len()).min(ZEROS.len());
-        buffer.extend_from_slice(&ZEROS[..count])?;
-    }
-    Ok(buffer)
 }
 
 // The number of bytes of the buffer for contents of this size.
