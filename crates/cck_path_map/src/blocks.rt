@@ -69,6 +69,12 @@ fn search_block<V>(entries: &[Entry<V>], path: &[u8]) -> Result<usize, usize>
     ensures place { IfOk result (IsPlaceOf (components path.now) entries.now) }
     ensures gap { IfErr result (IsGapFor (components path.now) entries.now) }
 {
+    // Paths often come in order.
+    if let [.., last] = entries
+        && compare_paths(&last.path, path).is_lt()
+    {
+        return Err(entries.len());
+    }
     entries.binary_search_by(|entry| compare_paths(&entry.path, path))
 }
 
