@@ -12,7 +12,7 @@ use bstr::ByteSlice;
 use cck_key_error::KeyError;
 use cck_path::file_name;
 use cck_util::Language;
-use std::alloc::Global;
+use std::alloc::{AllocError, Global};
 use std::collections::BTreeMap;
 
 /// A file that a compilation writes.
@@ -127,11 +127,11 @@ impl ParsedArguments {
         ensures refused { IsOkUnless result KeyError.Memory }
     {
         let Some(output) = self.outputs.get("obj") else {
-            return unknown_name(alloc);
+            return Ok(unknown_name(alloc)?);
         };
         match file_name(&output.path) {
-            Some(name) => shown_name(alloc, name),
-            None => unknown_name(alloc),
+            Some(name) => Ok(shown_name(alloc, name)?),
+            None => Ok(unknown_name(alloc)?),
         }
     }
 }
@@ -170,18 +170,16 @@ fn has_other_arch(args: &[Vec<u8>], arch: &[u8]) -> bool
 
 // A name as text, with U+FFFD for what is no UTF-8.
 #[tactic(auto, unfolding(cck_file_digest::specs::FolderText::lossy))]
-fn shown_name(alloc: Global, name: &[u8]) -> Result<String, KeyError>
-    ensures text { IfOk result (λ text. string_bytes text ≡ lossy name.now) }
-    ensures refused { IsOkUnless result KeyError.Memory }
+fn shown_name(alloc: Global, name: &[u8]) -> Result<String, AllocError>
+    ensures { IfOk result (λ text. string_bytes text ≡ lossy name.now) }
 {
     let text = name.to_str_lossy(alloc)?;
-    Ok(format!(in alloc; "{text}")?)
+    format!(in alloc; "{text}")
 }
 
 // What is shown if there is no name.
-fn unknown_name(alloc: Global) -> Result<String, KeyError>
-    ensures text { IfOk result (λ text. string_bytes text ≡ codes "Unknown filename") }
-    ensures refused { IsOkUnless result KeyError.Memory }
+fn unknown_name(alloc: Global) -> Result<String, AllocError>
+    ensures { IfOk result (λ text. string_bytes text ≡ codes "Unknown filename") }
 {
-    Ok(String::from_str(alloc, "Unknown filename")?)
+    String::from_str(alloc, "Unknown filename")
 }

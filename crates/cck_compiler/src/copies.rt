@@ -8,7 +8,7 @@ ghost use Rattle.cck_compiler.specs.Seen.{arguments_of, output_of};
 use crate::arguments::{ArtifactDescriptor, ParsedArguments};
 use crate::lists::copy_lists;
 use cck_key_error::KeyError;
-use std::alloc::Global;
+use std::alloc::{AllocError, Global};
 use std::collections::BTreeMap;
 
 impl ArtifactDescriptor {
@@ -64,10 +64,9 @@ impl ParsedArguments {
 }
 
 // A copy of the bytes, if there are any to copy.
-fn copy_option(alloc: Global, bytes: &Option<Vec<u8>>) -> Result<Option<Vec<u8>>, KeyError>
-    ensures value { IfOk result (λ copy.
+fn copy_option(alloc: Global, bytes: &Option<Vec<u8>>) -> Result<Option<Vec<u8>>, AllocError>
+    ensures { IfOk result (λ copy.
         option_map (λ v. v.items) copy ≡ option_map (λ v. v.items) bytes.now) }
-    ensures refused { IsOkUnless result KeyError.Memory }
 {
     match bytes {
         Some(bytes) => Ok(Some(bytes.to_vec(alloc)?)),
@@ -97,10 +96,9 @@ fn put_output(
     outputs: &mut BTreeMap<String, ArtifactDescriptor>,
     name: String,
     output: ArtifactDescriptor,
-) -> Result<(), KeyError>
-    ensures put { OnOk result
+) -> Result<(), AllocError>
+    ensures { OnOk result
         (outputs.new.entries ≡ insert_entry string_cmp outputs.old.entries name output) }
-    ensures refused { IsOkUnless result KeyError.Memory }
 {
     outputs.insert(name, output)?;
     Ok(())

@@ -1,5 +1,5 @@
 //! Extra files: no command line names them, but their digests are part of the keys.
-ghost use Rattle.std.specs.Prelude.{◌≡◌, ◌++◌, ◌==◌, ◌⊎◌, true, None, Some, drop, filter, if◌then◌else◌, length, map, IfErr, IfOk, IsOkUnless, OnOk};
+ghost use Rattle.std.specs.Prelude.{◌≡◌, ◌++◌, ◌==◌, ◌⊎◌, true, None, Some, drop, filter, if◌then◌else◌, length, map, IfErr, IfOk, OnOk};
 ghost use Rattle.std.specs.List.{slice_split};
 ghost use Rattle.std.specs.Option.{option_map, option_or};
 ghost use Rattle.std.specs.Str.{is_utf8};
@@ -99,27 +99,26 @@ fn library_folder(
     alloc: Global,
     args: &[Vec<u8>],
     vars: &[(Vec<u8>, Vec<u8>)],
-) -> Result<Vec<u8>, KeyError>
-    ensures folder { IfOk result (λ folder.
+) -> Result<Vec<u8>, AllocError>
+    ensures { IfOk result (λ folder.
         folder.items ≡ library_folder (lists_of args.now) (variables_of vars.now)) }
-    ensures refused { IsOkUnless result KeyError.Memory }
 {
-    if let Some(folder) = told(
+    if let Some(folder) = flag_or_variable(
         args,
         b"--hip-device-lib-path=",
         vars,
         b"HIP_DEVICE_LIB_PATH",
     ) {
-        return Ok(folder.to_vec(alloc)?);
+        return folder.to_vec(alloc);
     }
-    match told(args, b"--rocm-path=", vars, b"ROCM_PATH") {
+    match flag_or_variable(args, b"--rocm-path=", vars, b"ROCM_PATH") {
         Some(release) => joined(alloc, release, b"amdgcn/bitcode"),
-        None => Ok(b"/opt/rocm/amdgcn/bitcode".to_vec(alloc)?),
+        None => b"/opt/rocm/amdgcn/bitcode".to_vec(alloc),
     }
 }
 
 // What follows a flag, or without that flag the value of a variable.
-fn told<'a>(
+fn flag_or_variable<'a>(
     args: &'a [Vec<u8>],
     flag: &[u8],
     vars: &'a [(Vec<u8>, Vec<u8>)],
@@ -193,7 +192,7 @@ fn push_libraries<F: Files>(
         ⊎ IsFileFault e (Rose (F.faults files.old) (F.faults files.new))) }
 {
     match sorted_names(alloc, files, folder) {
-        Ok(names) => push_listed(alloc, all, folder, &names),
+        Ok(names) => Ok(push_listed(alloc, all, folder, &names)?),
         Err(error) => match error {
             FileError::Memory => Err(KeyError::Memory),
             FileError::Fault => Err(KeyError::Extra(UtilError::File(FileError::Fault))),
@@ -208,10 +207,9 @@ fn push_listed(
     all: &mut Vec<Vec<u8>>,
     folder: &[u8],
     names: &[Vec<u8>],
-) -> Result<(), KeyError>
-    ensures pushed { OnOk result (lists_of all.new.items
+) -> Result<(), AllocError>
+    ensures { OnOk result (lists_of all.new.items
         ≡ lists_of all.old.items ++ map (joined_text folder.now) (filter is_library (lists_of names.now))) }
-    ensures refused { IsOkUnless result KeyError.Memory }
 {
     for name in names {
         if is_library(name) {
@@ -233,12 +231,11 @@ fn is_library(name: &[u8]) -> bool
 }
 
 // A path joined to another.
-fn joined(alloc: Global, base: &[u8], path: &[u8]) -> Result<Vec<u8>, KeyError>
-    ensures bytes { IfOk result (λ whole. whole.items ≡ joined_text base.now path.now) }
-    ensures refused { IsOkUnless result KeyError.Memory }
+fn joined(alloc: Global, base: &[u8], path: &[u8]) -> Result<Vec<u8>, AllocError>
+    ensures { IfOk result (λ whole. whole.items ≡ joined_text base.now path.now) }
 {
     match join_path(alloc, base, path) {
         Ok(whole) => Ok(whole),
-        Err(_) => Err(KeyError::Memory),
+        Err(_) => Err(AllocError),
     }
 }

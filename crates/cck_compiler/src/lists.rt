@@ -1,8 +1,7 @@
 //! Lists of byte strings, copied.
-ghost use Rattle.std.specs.Prelude.{◌≡◌, ◌++◌, IfOk, IsOkUnless, OnOk};
+ghost use Rattle.std.specs.Prelude.{◌≡◌, ◌++◌, IfOk, OnOk};
 ghost use Rattle.cck_path.specs.Bytes.{lists_of};
 
-use cck_key_error::KeyError;
 use std::alloc::{AllocError, Global};
 
 /// Appends copies of these byte strings to a list. After an error some of them may have been
@@ -21,11 +20,9 @@ pub fn push_copies(
 }
 
 /// Returns copies of these byte strings, in memory of their own.
-///
-/// The only error is [`KeyError::Memory`].
-pub fn copy_lists(alloc: Global, lists: &[Vec<u8>]) -> Result<Vec<Vec<u8>>, KeyError>
-    ensures same { IfOk result (λ copies. lists_of copies.items ≡ lists_of lists.now) }
-    ensures refused { IsOkUnless result KeyError.Memory }
+pub fn copy_lists(alloc: Global, lists: &[Vec<u8>]) -> Result<Vec<Vec<u8>>, AllocError>
+    ensures { IfOk result (λ copies. lists_of copies.items ≡ lists_of lists.now) }
 {
-    Ok(lists.to_vec(alloc)?)
+    let copies = lists.to_vec(alloc)?;
+    Ok(copies)
 }

@@ -20,8 +20,9 @@
 //!
 //! The types that these calls take and return are exported again: hash functions and errors of
 //! `cck_digest`, files of `cck_files`, their metadata and times of `cck_path`, [`Language`] of
-//! `cck_util`, and [`KnownFiles`] of `cck_include`, which [`includes_match`] and
-//! [`include_matches`] keep metadata and digests in, the latter of an [`IncludeRef`]. Zones are
+//! `cck_util`, and of `cck_include` [`KnownFiles`], which [`includes_match`] and
+//! [`include_matches`] keep metadata and digests in, the latter of an [`IncludeRef`], and
+//! [`JudgeContext`], which both judge files by. Zones are
 //! those of `jiff`.
 //!
 //! An entry is written in one way only. Numbers have their lowest byte first:
@@ -62,7 +63,8 @@ mod writing;
 pub use cck_digest::{FileError, HashState, Sha256State, UtilError};
 pub use cck_files::{Files, MapFiles, Node};
 pub use cck_include::{
-    IncludeEntry, IncludeRef, KnownFiles, gather, include_matches, includes_match, recorded_digest,
+    IncludeEntry, IncludeRef, JudgeContext, KnownFiles, gather, include_matches, includes_match,
+    recorded_digest,
 };
 pub use cck_path::{FileKind, Metadata, Timestamp};
 pub use cck_preprocessor_key::{FORMAT_VERSION, preprocessor_cache_entry_hash_key};

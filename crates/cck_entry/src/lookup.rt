@@ -4,6 +4,7 @@ ghost use Rattle.std.specs.FinMap.{entries};
 ghost use Rattle.std.specs.List.{AllByRecursion, list_all};
 ghost use Rattle.std.specs.Option.{option_map};
 ghost use Rattle.cck_files.specs.Calls.{Keeps, Rose};
+ghost use Rattle.cck_include.specs.JudgeContext.{setting_of};
 ghost use Rattle.cck_include.specs.Known.{AreKnown};
 ghost use Rattle.cck_include.specs.Matching.{MayMiss, matches};
 ghost use Rattle.cck_include.specs.Setting.{setting_in};
@@ -18,11 +19,11 @@ use crate::results::Results;
 use crate::{EntryView, PreprocessorCacheEntry};
 use cck_digest::HashState;
 use cck_files::Files;
-use cck_include::{KnownFiles, include_matches, includes_match};
+use cck_include::{JudgeContext, KnownFiles, include_matches, includes_match};
 use cck_path::Timestamp;
 use cck_time::{Error, PreprocessorCacheModeConfig};
 use jiff::tz::TimeZone;
-use std::alloc::Global;
+use std::alloc::{AllocError, Global};
 
 impl PreprocessorCacheEntry {
     /// Returns the key of the result whose included files are all unchanged, if there is one: of
@@ -50,7 +51,16 @@ impl PreprocessorCacheEntry {
             (entries self.now) (Rose (F.faults files.old) (F.faults files.new)) (option_map (λ k. k.now) key)) }
         ensures refused { IsOkUnless result Error.Memory }
     {
-        find_result::<H, F>(alloc, self.results(), files, moment, zone, vars, config)
+        let context = JudgeContext {
+            moment,
+            zone,
+            vars,
+            config,
+        };
+        match find_result::<H, F>(alloc, self.results(), files, &context) {
+            Ok(found) => Ok(found),
+            Err(_) => Err(Error::Memory),
+        }
     }
 }
 
@@ -78,7 +88,16 @@ impl<'a> EntryView<'a> {
             (entries self.now) (Rose (F.faults files.old) (F.faults files.new)) (option_map (λ k. k.now) key)) }
         ensures refused { IsOkUnless result Error.Memory }
     {
-        find_lent::<H, F>(alloc, self.results(), files, moment, zone, vars, config)
+        let context = JudgeContext {
+            moment,
+            zone,
+            vars,
+            config,
+        };
+        match find_lent::<H, F>(alloc, self.results(), files, &context) {
+            Ok(found) => Ok(found),
+            Err(_) => Err(Error::Memory),
+        }
     }
 }
 
@@ -87,22 +106,16 @@ fn find_result<'a, H: HashState, F: Files>(
     alloc: Global,
     results: &'a Results,
     files: &mut F,
-    moment: Timestamp,
-    zone: &TimeZone<'_>,
-    vars: &[(Vec<u8>, Vec<u8>)],
-    config: PreprocessorCacheModeConfig,
-) -> Result<Option<&'a str>, Error>
+    context: &JudgeContext<'_>,
+) -> Result<Option<&'a str>, AllocError>
     ensures keeps { Keeps F.file_map F.faults F.is_quiet files.old files.new }
     ensures answer { IfOk result (λ key. IsLookup
-        (matches (setting_in H.hash config moment (plain_zone zone.now) vars.now) (F.file_map files.old))
+        (matches (setting_of H.hash context.now) (F.file_map files.old))
         (map result_in results.now.entries) (Rose (F.faults files.old) (F.faults files.new)) (option_map (λ k. k.now) key)) }
-    ensures refused { IsOkUnless result Error.Memory }
 {
     let mut known = KnownFiles::new(alloc);
     for (key, includes) in results.iter().rev() {
-        let matches = includes_match::<H, F>(
-            alloc, files, &mut known, includes, moment, zone, vars, config,
-        )?;
+        let matches = includes_match::<H, F>(alloc, files, &mut known, includes, context)?;
         if matches {
             return Ok(Some(key.as_str()));
         }
@@ -115,24 +128,18 @@ fn find_lent<'a, H: HashState, F: Files>(
     alloc: Global,
     results: &[ResultRef<'a>],
     files: &mut F,
-    moment: Timestamp,
-    zone: &TimeZone<'_>,
-    vars: &[(Vec<u8>, Vec<u8>)],
-    config: PreprocessorCacheModeConfig,
-) -> Result<Option<&'a str>, Error>
+    context: &JudgeContext<'_>,
+) -> Result<Option<&'a str>, AllocError>
     requires { AllByRecursion IsWhole results.now }
     ensures keeps { Keeps F.file_map F.faults F.is_quiet files.old files.new }
     ensures answer { IfOk result (λ key. IsLookup
-        (matches (setting_in H.hash config moment (plain_zone zone.now) vars.now) (F.file_map files.old))
+        (matches (setting_of H.hash context.now) (F.file_map files.old))
         (map result_lent results.now) (Rose (F.faults files.old) (F.faults files.new)) (option_map (λ k. k.now) key)) }
-    ensures refused { IsOkUnless result Error.Memory }
 {
     let mut known = KnownFiles::new(alloc);
     for lent in results.iter().rev() {
-        let stands = lent_matches::<H, F>(
-            alloc, files, &mut known, lent, moment, zone, vars, config,
-        )?;
-        if stands {
+        let matches = lent_matches::<H, F>(alloc, files, &mut known, lent, context)?;
+        if matches {
             return Ok(Some(lent.key));
         }
     }
@@ -145,30 +152,25 @@ fn lent_matches<H: HashState, F: Files>(
     files: &mut F,
     known: &mut KnownFiles,
     lent: &ResultRef<'_>,
-    moment: Timestamp,
-    zone: &TimeZone<'_>,
-    vars: &[(Vec<u8>, Vec<u8>)],
-    config: PreprocessorCacheModeConfig,
-) -> Result<bool, Error>
+    context: &JudgeContext<'_>,
+) -> Result<bool, AllocError>
     requires { IsWhole lent.now }
     ensures keeps { Keeps F.file_map F.faults F.is_quiet files.old files.new }
-    ensures known { let s = setting_in H.hash config moment (plain_zone zone.now) vars.now in
+    ensures known { let s = setting_of H.hash context.now in
         AreKnown s (F.file_map files.old) known.old → AreKnown s (F.file_map files.old) known.new }
-    ensures answer { let s = setting_in H.hash config moment (plain_zone zone.now) vars.now in
+    ensures answer { let s = setting_of H.hash context.now in
         AreKnown s (F.file_map files.old) known.old
         → IfOk result (λ answer. MayMiss (Rose (F.faults files.old) (F.faults files.new)) answer
         (list_all (matches s (F.file_map files.old)) (includes_begun lent.now.count lent.now.includes.now))) }
-    ensures refused { IsOkUnless result Error.Memory }
 {
     let mut rest = lent.includes;
     for _ in 0..lent.count {
         let (include, after) = match read_include(rest) {
             Ok(read) => read,
-            Err(error) => return Err(error)
+            // The includes of a view can all be read, so this does not occur.
+            Err(_) => return Err(AllocError),
         };
-        let matches = include_matches::<H, F>(
-            alloc, files, known, &include, moment, zone, vars, config,
-        )?;
+        let matches = include_matches::<H, F>(alloc, files, known, &include, context)?;
         if !matches {
             return Ok(false);
         }

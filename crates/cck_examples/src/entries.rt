@@ -1,12 +1,12 @@
 //! Time parts, recorded digests, preprocessor keys and entries.
 use crate::files::{CountedFiles, files_of};
 use cck_entry::{
-    EntryView, Error, FileKind, IncludeEntry, KnownFiles, Language, MapFiles, Node,
+    EntryView, Error, FileKind, IncludeEntry, JudgeContext, KnownFiles, Language, MapFiles, Node,
     PreprocessorCacheEntry, PreprocessorCacheModeConfig, Sha256State, Timestamp, gather,
     includes_match, local_time_part, preprocessor_cache_entry_hash_key, recorded_digest,
 };
 use jiff::tz::{Offset, TimeZone};
-use std::alloc::Global;
+use std::alloc::{AllocError, Global};
 use std::test::Fail;
 
 #[test]
@@ -42,18 +42,15 @@ fn still_match(
     alloc: Global,
     files: &mut MapFiles,
     includes: &[IncludeEntry],
-) -> Result<bool, Error> {
+) -> Result<bool, AllocError> {
     let mut known = KnownFiles::new(alloc);
-    includes_match::<Sha256State, MapFiles>(
-        alloc,
-        files,
-        &mut known,
-        includes,
-        Timestamp::new(0, 0),
-        &TimeZone::UTC,
-        &[],
-        PreprocessorCacheModeConfig::activated(),
-    )
+    let context = JudgeContext {
+        moment: Timestamp::new(0, 0),
+        zone: &TimeZone::UTC,
+        vars: &[],
+        config: PreprocessorCacheModeConfig::activated(),
+    };
+    includes_match::<Sha256State, MapFiles>(alloc, files, &mut known, includes, &context)
 }
 
 #[test]

@@ -2,7 +2,7 @@
 use crate::cases::Cases;
 use crate::shown::{write_counts, write_entry, write_includes};
 use cck_cases::{CaseError, FailWriter, Line, Value, number, words_of};
-use cck_entry::{EntryView, Error, KnownFiles, PreprocessorCacheEntry, gather, includes_match};
+use cck_entry::{EntryView, Error, JudgeContext, KnownFiles, PreprocessorCacheEntry, gather, includes_match};
 use cck_util::{Digest, MapFiles, Sha256State, UtilError};
 use std::alloc::Global;
 
@@ -184,15 +184,18 @@ fn gathered<'a>(cases: &'a mut Cases) -> Result<Value<'a>, CaseError> {
 fn matches<'a>(cases: &'a mut Cases, key: &str) -> Result<Value<'a>, CaseError> {
     let mut known = KnownFiles::new(cases.alloc);
     let includes = cases.entry.results().get(key).ok_or(CaseError::Line)?;
+    let context = JudgeContext {
+        moment: cases.world.moment,
+        zone: &cases.wanted.zone,
+        vars: &cases.given.variables,
+        config: cases.world.config,
+    };
     Ok(Value::Flag(includes_match::<Sha256State, MapFiles>(
         cases.alloc,
         &mut cases.world.files,
         &mut known,
         includes,
-        cases.world.moment,
-        &cases.wanted.zone,
-        &cases.given.variables,
-        cases.world.config,
+        &context,
     )?))
 }
 

@@ -1,5 +1,6 @@
 pub mod Gathered
 pub mod Include
+pub mod JudgeContext
 pub mod Known
 pub mod Laws
 pub mod Matching

@@ -13,21 +13,23 @@
 //! - [`includes_match`] returns whether such files still match. A file of another size does not;
 //!   where the options let its times decide, it need not be read. [`include_matches`] does so for
 //!   one file, an [`IncludeRef`], whose path and digest may be borrowed from other bytes.
-//!   [`KnownFiles`] keeps what one look-up finds, so that it reads no file twice.
+//!   [`KnownFiles`] keeps what one look-up finds, so that it reads no file twice. Both judge files
+//!   by a [`JudgeContext`].
 //! - [`laws`] states what equal recorded digests imply.
 //!
 //! ```rust
 //! // `digest` is the recorded digest of `/w/h.h` at `moment`.
 //! let includes = gather(alloc, &mut files, moment, &[(digest, path)])?;
 //! let mut known = KnownFiles::new(alloc);
-//! includes_match::<Sha256State, MapFiles>(
-//!     alloc, &mut files, &mut known, &includes, later, &zone, &[], config,
-//! )?; // `true`, until `/w/h.h` has other contents, or one of its time macros shows another text
+//! let context = JudgeContext { moment: later, zone: &zone, vars: &[], config };
+//! includes_match::<Sha256State, MapFiles>(alloc, &mut files, &mut known, &includes, &context)?;
+//! // `true`, until `/w/h.h` has other contents, or one of its time macros shows another text
 //! ```
 #![tactic(auto)]
 
 mod gathering;
 mod include;
+mod judge_context;
 mod known;
 pub mod laws;
 mod matching;
@@ -36,6 +38,7 @@ mod refusal;
 
 pub use gathering::gather;
 pub use include::{IncludeEntry, IncludeRef};
+pub use judge_context::JudgeContext;
 pub use known::KnownFiles;
 pub use matching::{include_matches, includes_match};
 pub use recorded::recorded_digest;

@@ -1,25 +1,23 @@
 //! Whether included files still match what was recorded of them.
-ghost use Rattle.std.specs.Prelude.{◌≡◌, ◌≢◌, ◌⊎◌, ◌&&◌, IfOk, IsSome, OnOk, MatchBool, IsOkUnless, string_bytes};
+ghost use Rattle.std.specs.Prelude.{◌≡◌, ◌≢◌, ◌⊎◌, ◌&&◌, IfOk, IsSome, OnOk, MatchBool, string_bytes};
 ghost use Rattle.std.specs.List.{list_all};
 ghost use Rattle.std.specs.Option.{option_map};
 ghost use Rattle.cck_files.specs.Calls.{Keeps, Rose};
 ghost use Rattle.cck_files.specs.FileMap.{file_at};
 ghost use Rattle.cck_path.specs.Path.{components};
-ghost use Rattle.jiff.specs.Words.{plain_zone};
 ghost use Rattle.cck_include.specs.Include.{include_lent, includes_in};
+ghost use Rattle.cck_include.specs.JudgeContext.{setting_of};
 ghost use Rattle.cck_include.specs.Known.{AreKnown, IsRight, path_of};
 ghost use Rattle.cck_include.specs.Matching.{MayMiss, digest_found, is_digest, is_moment, matches, times_agree};
-ghost use Rattle.cck_include.specs.Setting.{setting_in};
 
 use crate::known::{KnownFile, place_for};
 use crate::recorded::digest_with_metadata;
-use crate::{IncludeEntry, IncludeRef, KnownFiles};
+use crate::{IncludeEntry, IncludeRef, JudgeContext, KnownFiles};
 use cck_digest::HashState;
 use cck_files::Files;
 use cck_path::{FileKind, Metadata, Timestamp};
 use cck_time::{Error, PreprocessorCacheModeConfig};
-use jiff::tz::TimeZone;
-use std::alloc::Global;
+use std::alloc::{AllocError, Global};
 
 // Whether this is the metadata of a regular file.
 fn is_file(metadata: &Metadata) -> bool
@@ -86,41 +84,29 @@ fn is_recorded<H: HashState, F: Files>(
     files: &mut F,
     file: &mut KnownFile,
     expected: &str,
-    moment: Timestamp,
-    zone: &TimeZone<'_>,
-    vars: &[(Vec<u8>, Vec<u8>)],
-    config: PreprocessorCacheModeConfig,
-) -> Result<bool, Error>
+    context: &JudgeContext<'_>,
+) -> Result<bool, AllocError>
     ensures keeps { Keeps F.file_map F.faults F.is_quiet files.old files.new }
-    ensures known { let s = setting_in H.hash config moment (plain_zone zone.now) vars.now in
+    ensures known { let s = setting_of H.hash context.now in
         IsRight s (F.file_map files.old) file.old → IsRight s (F.file_map files.old) file.new }
     ensures path { file.new.path ≡ file.old.path }
-    ensures remembered { let s = setting_in H.hash config moment (plain_zone zone.now) vars.now in
+    ensures remembered { let s = setting_of H.hash context.now in
         OnOk result (IsRight s (F.file_map files.old) file.old
         → IfOk (file_at (F.file_map files.old) (path_of file.old)) (λ _. IsSome file.new.digest)
         ⊎ Rose (F.faults files.old) (F.faults files.new)) }
     ensures unasked { IsSome file.old.digest → files.new ≡ files.old }
-    ensures answer { let s = setting_in H.hash config moment (plain_zone zone.now) vars.now in
+    ensures answer { let s = setting_of H.hash context.now in
         IsRight s (F.file_map files.old) file.old
         → IfOk result (λ answer. MayMiss (Rose (F.faults files.old) (F.faults files.new)) answer
         (digest_found s expected.now (file_at (F.file_map files.old) (path_of file.old)))) }
-    ensures refused { IsOkUnless result Error.Memory }
 {
     if let Some(digest) = &file.digest {
         return Ok(is_digest(digest, expected));
     }
-    let digest = match digest_with_metadata::<H, F>(
-        alloc,
-        files,
-        &file.path,
-        file.metadata,
-        moment,
-        zone,
-        vars,
-        config,
-    ) {
+    let found = digest_with_metadata::<H, F>(alloc, files, &file.path, file.metadata, context);
+    let digest = match found {
         Ok(digest) => digest,
-        Err(Error::Memory) => return Err(Error::Memory),
+        Err(Error::Memory) => return Err(AllocError),
         Err(_) => return Ok(false),
     };
     let answer = is_digest(&digest, expected);
@@ -135,20 +121,16 @@ fn known_matches<H: HashState, F: Files>(
     files: &mut F,
     file: &mut KnownFile,
     include: &IncludeRef<'_>,
-    moment: Timestamp,
-    zone: &TimeZone<'_>,
-    vars: &[(Vec<u8>, Vec<u8>)],
-    config: PreprocessorCacheModeConfig,
-) -> Result<bool, Error>
+    context: &JudgeContext<'_>,
+) -> Result<bool, AllocError>
     ensures keeps { Keeps F.file_map F.faults F.is_quiet files.old files.new }
-    ensures known { let s = setting_in H.hash config moment (plain_zone zone.now) vars.now in
+    ensures known { let s = setting_of H.hash context.now in
         IsRight s (F.file_map files.old) file.old → IsRight s (F.file_map files.old) file.new }
     ensures path { file.new.path ≡ file.old.path }
-    ensures answer { let s = setting_in H.hash config moment (plain_zone zone.now) vars.now in
+    ensures answer { let s = setting_of H.hash context.now in
         IsRight s (F.file_map files.old) file.old → path_of file.old ≡ components include.now.path.now
         → IfOk result (λ answer. MayMiss (Rose (F.faults files.old) (F.faults files.new)) answer
         (matches s (F.file_map files.old) (include_lent include.now))) }
-    ensures refused { IsOkUnless result Error.Memory }
 {
     if !is_file(&file.metadata) {
         return Ok(false);
@@ -156,49 +138,34 @@ fn known_matches<H: HashState, F: Files>(
     if file.metadata.len != include.file_size {
         return Ok(false);
     }
-    if times_accept(include, &file.metadata, config) {
+    if times_accept(include, &file.metadata, context.config) {
         return Ok(true);
     }
-    is_recorded::<H, F>(
-        alloc,
-        files,
-        file,
-        include.digest,
-        moment,
-        zone,
-        vars,
-        config,
-    )
+    is_recorded::<H, F>(alloc, files, file, include.digest, context)
 }
 
 /// Whether this included file still matches, as [`includes_match`] says of several. Where there was
 /// a fault, the result may be `false` although it does. `known` is that of [`includes_match`].
-///
-/// The only error is [`Error::Memory`].
 pub fn include_matches<H: HashState, F: Files>(
     alloc: Global,
     files: &mut F,
     known: &mut KnownFiles,
     include: &IncludeRef<'_>,
-    moment: Timestamp,
-    zone: &TimeZone<'_>,
-    vars: &[(Vec<u8>, Vec<u8>)],
-    config: PreprocessorCacheModeConfig,
-) -> Result<bool, Error>
+    context: &JudgeContext<'_>,
+) -> Result<bool, AllocError>
     ensures keeps { Keeps F.file_map F.faults F.is_quiet files.old files.new }
-    ensures known { let s = setting_in H.hash config moment (plain_zone zone.now) vars.now in
+    ensures known { let s = setting_of H.hash context.now in
         AreKnown s (F.file_map files.old) known.old → AreKnown s (F.file_map files.old) known.new }
-    ensures answer { let s = setting_in H.hash config moment (plain_zone zone.now) vars.now in
+    ensures answer { let s = setting_of H.hash context.now in
         AreKnown s (F.file_map files.old) known.old
         → IfOk result (λ answer. MayMiss (Rose (F.faults files.old) (F.faults files.new)) answer
         (matches s (F.file_map files.old) (include_lent include.now))) }
-    ensures refused { IsOkUnless result Error.Memory }
 {
     let Some(place) = place_for::<F>(alloc, files, known, include.path)? else {
         return Ok(false);
     };
     let file = &mut known.files[place];
-    known_matches::<H, F>(alloc, files, file, include, moment, zone, vars, config)
+    known_matches::<H, F>(alloc, files, file, include, context)
 }
 
 /// Whether all of these included files still match what was recorded of them. A file matches if it
@@ -210,40 +177,24 @@ pub fn include_matches<H: HashState, F: Files>(
 ///
 /// `known` keeps the metadata and the recorded digests that were found, so that no file's metadata
 /// is asked for twice and no file is read twice. The result is right if what was known before is:
-/// if nothing was, or if calls with the same files, call time, zone, variables and options found
-/// it.
-///
-/// The only error is [`Error::Memory`].
+/// if nothing was, or if calls with the same files and an equal context found it.
 pub fn includes_match<H: HashState, F: Files>(
     alloc: Global,
     files: &mut F,
     known: &mut KnownFiles,
     includes: &[IncludeEntry],
-    moment: Timestamp,
-    zone: &TimeZone<'_>,
-    vars: &[(Vec<u8>, Vec<u8>)],
-    config: PreprocessorCacheModeConfig,
-) -> Result<bool, Error>
+    context: &JudgeContext<'_>,
+) -> Result<bool, AllocError>
     ensures keeps { Keeps F.file_map F.faults F.is_quiet files.old files.new }
-    ensures known { let s = setting_in H.hash config moment (plain_zone zone.now) vars.now in
+    ensures known { let s = setting_of H.hash context.now in
         AreKnown s (F.file_map files.old) known.old → AreKnown s (F.file_map files.old) known.new }
-    ensures answer { let s = setting_in H.hash config moment (plain_zone zone.now) vars.now in
+    ensures answer { let s = setting_of H.hash context.now in
         AreKnown s (F.file_map files.old) known.old
         → IfOk result (λ answer. MayMiss (Rose (F.faults files.old) (F.faults files.new)) answer
         (list_all (matches s (F.file_map files.old)) (includes_in includes.now))) }
-    ensures refused { IsOkUnless result Error.Memory }
 {
     for include in includes {
-        let matches = include_matches::<H, F>(
-            alloc,
-            files,
-            known,
-            &include.lend(),
-            moment,
-            zone,
-            vars,
-            config,
-        )?;
+        let matches = include_matches::<H, F>(alloc, files, known, &include.lend(), context)?;
         if !matches {
             return Ok(false);
         }

@@ -8,11 +8,13 @@ ghost use Rattle.cck_path.specs.Bytes.{variables_of};
 ghost use Rattle.cck_path.specs.Path.{components};
 ghost use Rattle.cck_time.specs.TimePart.{time_part};
 ghost use Rattle.jiff.specs.Words.{plain_zone};
+ghost use Rattle.cck_include.specs.JudgeContext.{setting_of};
 ghost use Rattle.cck_include.specs.Recorded.{recorded, recorded_by};
 ghost use Rattle.cck_include.specs.Refusal.{IsIoError};
 ghost use Rattle.cck_include.specs.Scan.{IsScanOf};
 ghost use Rattle.cck_include.specs.Setting.{setting_in};
 
+use crate::JudgeContext;
 use crate::refusal::io_error;
 use cck_digest::{Digest, FileError, HashState, WatchedDigest};
 use cck_file_digest::feed_file_of_size;
@@ -20,7 +22,7 @@ use cck_files::Files;
 use cck_path::{Metadata, Timestamp};
 use cck_time::{Error, PreprocessorCacheModeConfig, local_time_part};
 use jiff::tz::TimeZone;
-use std::alloc::Global;
+use std::alloc::{AllocError, Global};
 
 // The hex digest of a file's contents, and which time macros they have.
 #[derive(Drop)]
@@ -80,15 +82,14 @@ fn contents_text<H: HashState, F: Files>(
 }
 
 // The hex digest of some bytes.
-fn text_of<H: HashState>(alloc: Global, bytes: &[u8]) -> Result<String, Error>
-    ensures text { IfOk result (λ text. string_bytes text ≡ digest_text H.hash bytes.now) }
-    ensures refused { IsOkUnless result Error.Memory }
+fn text_of<H: HashState>(alloc: Global, bytes: &[u8]) -> Result<String, AllocError>
+    ensures { IfOk result (λ text. string_bytes text ≡ digest_text H.hash bytes.now) }
 {
     let mut digest = Digest::<H>::new();
     digest.update(bytes);
     match digest.finish(alloc) {
         Ok(text) => Ok(text),
-        Err(_) => Err(Error::Memory),
+        Err(_) => Err(AllocError),
     }
 }
 
@@ -97,14 +98,12 @@ fn digest_of<H: HashState>(
     alloc: Global,
     scan: Scan,
     modified: Option<Timestamp>,
-    moment: Timestamp,
-    zone: &TimeZone<'_>,
-    vars: &[(Vec<u8>, Vec<u8>)],
+    context: &JudgeContext<'_>,
 ) -> Result<Option<String>, Error>
     ensures digest { IfOk result (λ o. option_map string_bytes o
         ≡ recorded_by H.hash scan.has_time (scan.has_date || scan.has_timestamp) (string_bytes scan.text)
-        (time_part scan.has_date scan.has_timestamp modified moment (plain_zone zone.now)
-        (variables_of vars.now))) }
+        (time_part scan.has_date scan.has_timestamp modified context.now.moment
+        (plain_zone context.now.zone.now) (variables_of context.now.vars.now))) }
     ensures refused { IsOkUnless result Error.Memory }
 {
     let Scan {
@@ -119,7 +118,15 @@ fn digest_of<H: HashState>(
     if !has_date && !has_timestamp {
         return Ok(Some(text));
     }
-    let part = local_time_part(alloc, has_date, has_timestamp, modified, moment, zone, vars)?;
+    let part = local_time_part(
+        alloc,
+        has_date,
+        has_timestamp,
+        modified,
+        context.moment,
+        context.zone,
+        context.vars,
+    )?;
     let Some(part) = part else {
         return Ok(None);
     };
@@ -164,7 +171,13 @@ pub fn recorded_digest<H: HashState, F: Files>(
         Ok(metadata) => metadata,
         Err(error) => return Err(io_error(error)),
     };
-    digest_with_metadata::<H, F>(alloc, files, path, metadata, moment, zone, vars, config)
+    let context = JudgeContext {
+        moment,
+        zone,
+        vars,
+        config,
+    };
+    digest_with_metadata::<H, F>(alloc, files, path, metadata, &context)
 }
 
 /// The recorded digest of the file at a path that has this metadata, as [`recorded_digest`] returns
@@ -174,20 +187,17 @@ pub(crate) fn digest_with_metadata<H: HashState, F: Files>(
     files: &mut F,
     path: &[u8],
     metadata: Metadata,
-    moment: Timestamp,
-    zone: &TimeZone<'_>,
-    vars: &[(Vec<u8>, Vec<u8>)],
-    config: PreprocessorCacheModeConfig,
+    context: &JudgeContext<'_>,
 ) -> Result<Option<String>, Error>
     ensures keeps { Keeps F.file_map F.faults F.is_quiet files.old files.new }
     ensures calls { AreCalls F.is_call (λ p. p ≡ components path.now) files.old files.new }
     ensures answer { let found = file_at (F.file_map files.old) (components path.now) in
         metadata_at (F.file_map files.old) (components path.now) ≡ Ok metadata
         → MatchResult result (λ digest. IsOkAnd found (λ file. option_map string_bytes digest
-        ≡ recorded (setting_in H.hash config moment (plain_zone zone.now) vars.now) file))
+        ≡ recorded (setting_of H.hash context.now) file))
         (IsIoError found (Rose (F.faults files.old) (F.faults files.new))) }
 {
-    if config.ignore_time_macros {
+    if context.config.ignore_time_macros {
         return match contents_text::<H, F>(alloc, files, path, metadata.len) {
             Ok(text) => Ok(Some(text)),
             Err(error) => Err(io_error(error)),
@@ -197,5 +207,5 @@ pub(crate) fn digest_with_metadata<H: HashState, F: Files>(
         Ok(scan) => scan,
         Err(error) => return Err(io_error(error)),
     };
-    digest_of::<H>(alloc, scan, metadata.modified, moment, zone, vars)
+    digest_of::<H>(alloc, scan, metadata.modified, context)
 }

@@ -11,7 +11,7 @@ returns-in_ok-push_libraries-clause-added g c =
     added_libraries (g.F.Files.file_map c.args.files.now) variables (arguments_of c.args.args.now) c.deref-then-is_hip.result.now
     (lists_of c.push_named_files.new.all.items) (lists_of c.push_libraries.new.all.items)
     (sym c.if-is_hip.ensures) c.in_ok-push_named_files.ensures
-    (c.deref-then-is_hip.ensures.value ∙ c.in_ok-folder.ensures.folder ∙ ap (λ args. library_folder (lists_of args) variables) c.deref.ensures.value)
+    (c.deref-then-is_hip.ensures.value ∙ c.in_ok-folder.ensures ∙ ap (λ args. library_folder (lists_of args) variables) c.deref.ensures.value)
     c.in_ok-push_libraries.ensures.pushed
 
 pub returns-else-is_hip-clause-added : goal.returns-else-is_hip-clause-added

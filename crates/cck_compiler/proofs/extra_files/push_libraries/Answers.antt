@@ -5,10 +5,10 @@ use Rattle.cck_files.specs.Calls.{Rose}
 use Rattle.cck_compiler.proofs.ExtraFiles.{libraries_listed, no_libraries}
 use Rattle.cck_compiler.proofs.extra_files.push_libraries.Goals as goal
 
-pub returns-in-Ok-clause-pushed : goal.returns-in-Ok-clause-pushed
-returns-in-Ok-clause-pushed g c =
+pub returns-in_ok-push_listed-in-Ok-clause-pushed : goal.returns-in_ok-push_listed-in-Ok-clause-pushed
+returns-in_ok-push_listed-in-Ok-clause-pushed g c =
     rw (← libraries_listed (g.F.Files.file_map c.args.files.now) c.args.folder.now (lists_of c.deref.result.now) c.in-Ok.ensures.folder (ap lists_of c.deref.ensures.value ∙ c.in-Ok.ensures.names))
-    c.push_listed.ensures.pushed
+    c.in_ok-push_listed-in-Ok.ensures
 
 pub returns-in_default-clause-pushed : goal.returns-in_default-clause-pushed
 returns-in_default-clause-pushed g c =

@@ -7,18 +7,17 @@ use Rattle.cck_files.proofs.CallsLemmas.{keeps_all, keeps_itself}
 use Rattle.cck_files.specs.Calls.{Rose}
 use Rattle.cck_include.specs.Known.{AreKnown}
 use Rattle.cck_include.specs.Matching.{MayMiss, matches}
-use Rattle.cck_include.specs.Setting.{setting_in}
-use Rattle.jiff.specs.Words.{plain_zone}
 use Rattle.cck_entry.specs.Lent.{IsWhole, includes_begun, result_lent}
 use Rattle.cck_entry.specs.Find.{found_in}
 use Rattle.cck_entry.specs.declared.lent.ResultRef.{ResultRef}
 use Rattle.cck_entry.proofs.LookupLemmas.{hits, misses}
+use Rattle.cck_include.specs.JudgeContext.{setting_of}
 use Rattle.cck_entry.proofs.lookup.find_lent.Goals as goal
 
 pub loop-lent-init : goal.loop-lent-init
 loop-lent-init g c =
     let F = g.F.Files in
-    let s = setting_in g.H.HashState.hash c.args.config c.args.moment (plain_zone c.args.zone.now) c.args.vars.now in
+    let s = setting_of g.H.HashState.hash c.args.context.now in
     let left = iter_rest (rev_source c.into_iter-lent-iterator.result) in
     let all : left ≡ c.args.results.now = search rules in
     record {
@@ -41,7 +40,7 @@ lent_matches-requires g c =
 pub loop-lent-preserved : goal.loop-lent-preserved
 loop-lent-preserved g c =
     let F = g.F.Files in
-    let s = setting_in g.H.HashState.hash c.args.config c.args.moment (plain_zone c.args.zone.now) c.args.vars.now in
+    let s = setting_of g.H.HashState.hash c.args.context.now in
     let old = F.file_map c.args.files.now in
     let lent = c.in-Some.lent.now in
     let left = iter_rest (rev_source c.next.new.self) in
@@ -49,30 +48,30 @@ loop-lent-preserved g c =
     let R = Rose (F.faults c.loop-lent.files) (F.faults c.lent_matches.new.files) in
     let includes = includes_begun lent.count lent.includes.now in
     let there : MayMiss R false (list_all (matches s old) includes) =
-    rw (← c.loop-lent.invariant.keeps.same_map) (subst (λ b. MayMiss R b (list_all (matches s (F.file_map c.loop-lent.files)) includes)) c.if-stands.false (c.in_ok-stands.ensures.answer right)) in
+    rw (← c.loop-lent.invariant.keeps.same_map) (subst (λ b. MayMiss R b (list_all (matches s (F.file_map c.loop-lent.files)) includes)) c.if-matches.false (c.in_ok-matches.ensures.answer right)) in
     record {
-      keeps = keeps_all c.args.files.now c.loop-lent.files c.lent_matches.new.files c.loop-lent.invariant.keeps c.in_ok-stands.ensures.keeps;
-      known = subst (λ m. AreKnown s m c.lent_matches.new.known) c.loop-lent.invariant.keeps.same_map (c.in_ok-stands.ensures.known right);
+      keeps = keeps_all c.args.files.now c.loop-lent.files c.lent_matches.new.files c.loop-lent.invariant.keeps c.in_ok-matches.ensures.keeps;
+      known = subst (λ m. AreKnown s m c.lent_matches.new.known) c.loop-lent.invariant.keeps.same_map (c.in_ok-matches.ensures.known right);
       seen = (
         lent ∷ c.loop-lent.invariant.seen.0,
         c.loop-lent.invariant.seen.1 ∙ ap (λ l. l ++ c.loop-lent.invariant.seen.0) c.in-Some.ensures.steps ∙ append_assoc left (lent ∷ []) c.loop-lent.invariant.seen.0,
       );
       so_far = misses result_lent (matches s old) (iter_rest (rev_source c.loop-lent.lent-iterator)) left lent _
           (F.faults c.args.files.now) (F.faults c.loop-lent.files) (F.faults c.lent_matches.new.files)
-          c.in-Some.ensures.steps c.loop-lent.invariant.keeps.not_lower c.in_ok-stands.ensures.keeps.not_lower c.loop-lent.invariant.so_far there;
+          c.in-Some.ensures.steps c.loop-lent.invariant.keeps.not_lower c.in_ok-matches.ensures.keeps.not_lower c.loop-lent.invariant.so_far there;
     }
 
-pub returns-then-stands-clause-answer : goal.returns-then-stands-clause-answer
-returns-then-stands-clause-answer g c =
+pub returns-then-matches-clause-answer : goal.returns-then-matches-clause-answer
+returns-then-matches-clause-answer g c =
     let F = g.F.Files in
-    let s = setting_in g.H.HashState.hash c.args.config c.args.moment (plain_zone c.args.zone.now) c.args.vars.now in
+    let s = setting_of g.H.HashState.hash c.args.context.now in
     let old = F.file_map c.args.files.now in
     let lent = c.in-Some.lent.now in
     let right : AreKnown s (F.file_map c.loop-lent.files) c.loop-lent.known = rw c.loop-lent.invariant.keeps.same_map c.loop-lent.invariant.known in
     let R = Rose (F.faults c.loop-lent.files) (F.faults c.lent_matches.new.files) in
     let includes = includes_begun lent.count lent.includes.now in
     let there : MayMiss R true (list_all (matches s old) includes) =
-    rw (← c.loop-lent.invariant.keeps.same_map) (subst (λ b. MayMiss R b (list_all (matches s (F.file_map c.loop-lent.files)) includes)) c.if-stands.true (c.in_ok-stands.ensures.answer right)) in
+    rw (← c.loop-lent.invariant.keeps.same_map) (subst (λ b. MayMiss R b (list_all (matches s (F.file_map c.loop-lent.files)) includes)) c.if-matches.true (c.in_ok-matches.ensures.answer right)) in
     hits result_lent (matches s old) c.args.results.now (iter_rest (rev_source c.loop-lent.lent-iterator)) (iter_rest (rev_source c.next.new.self)) c.loop-lent.invariant.seen.0 lent
     (F.faults c.args.files.now) (F.faults c.loop-lent.files) (F.faults c.lent_matches.new.files)
-    c.in-Some.ensures.steps c.loop-lent.invariant.seen.1 c.in_ok-stands.ensures.keeps.not_lower c.loop-lent.invariant.so_far there
+    c.in-Some.ensures.steps c.loop-lent.invariant.seen.1 c.in_ok-matches.ensures.keeps.not_lower c.loop-lent.invariant.so_far there

@@ -7,17 +7,16 @@ use Rattle.cck_files.specs.Calls.{Rose}
 use Rattle.cck_include.specs.Include.{includes_in}
 use Rattle.cck_include.specs.Known.{AreKnown}
 use Rattle.cck_include.specs.Matching.{MayMiss, matches}
-use Rattle.cck_include.specs.Setting.{setting_in}
-use Rattle.jiff.specs.Words.{plain_zone}
 use Rattle.cck_entry.proofs.LookupLemmas.{misses, hits}
 use Rattle.cck_entry.specs.Find.{found_in}
 use Rattle.cck_entry.specs.Results.{result_in}
+use Rattle.cck_include.specs.JudgeContext.{setting_of}
 use Rattle.cck_entry.proofs.lookup.find_result.Goals as goal
 
 pub loop-key-init : goal.loop-key-init
 loop-key-init g c =
     let F = g.F.Files in
-    let s = setting_in g.H.HashState.hash c.args.config c.args.moment (plain_zone c.args.zone.now) c.args.vars.now in
+    let s = setting_of g.H.HashState.hash c.args.context.now in
     let all : rev_source c.into_iter-key-iterator.result ≡ c.args.results.now.entries = search rules in
     record {
       can = tt;
@@ -31,7 +30,7 @@ loop-key-init g c =
 pub loop-key-preserved : goal.loop-key-preserved
 loop-key-preserved g c =
     let F = g.F.Files in
-    let s = setting_in g.H.HashState.hash c.args.config c.args.moment (plain_zone c.args.zone.now) c.args.vars.now in
+    let s = setting_of g.H.HashState.hash c.args.context.now in
     let old = F.file_map c.args.files.now in
     let right : AreKnown s (F.file_map c.loop-key.files) c.loop-key.known = rw c.loop-key.invariant.keeps.same_map c.loop-key.invariant.known in
     let R = Rose (F.faults c.loop-key.files) (F.faults c.includes_match.new.files) in
@@ -54,7 +53,7 @@ loop-key-preserved g c =
 pub returns-then-matches-clause-answer : goal.returns-then-matches-clause-answer
 returns-then-matches-clause-answer g c =
     let F = g.F.Files in
-    let s = setting_in g.H.HashState.hash c.args.config c.args.moment (plain_zone c.args.zone.now) c.args.vars.now in
+    let s = setting_of g.H.HashState.hash c.args.context.now in
     let old = F.file_map c.args.files.now in
     let right : AreKnown s (F.file_map c.loop-key.files) c.loop-key.known = rw c.loop-key.invariant.keeps.same_map c.loop-key.invariant.known in
     let R = Rose (F.faults c.loop-key.files) (F.faults c.includes_match.new.files) in

@@ -8,15 +8,14 @@ use Rattle.cck_entry.specs.Results.{result_in}
 use Rattle.cck_files.specs.Calls.{Keeps, Rose}
 use Rattle.cck_include.specs.Known.{AreKnown}
 use Rattle.cck_include.specs.Matching.{matches}
-use Rattle.cck_include.specs.Setting.{setting_in}
 use Rattle.cck_include.specs.declared.include.IncludeEntry.{IncludeEntry}
-use Rattle.jiff.specs.Words.{plain_zone}
+use Rattle.cck_include.specs.JudgeContext.{setting_of}
 use Rattle.cck_entry.proofs.lookup.find_result.Given as goal
 
 abbrev pub invariant-loop-key : goal.invariant-loop-key
 invariant-loop-key g l =
     let F = g.F.Files in
-    let s = setting_in g.H.HashState.hash l.config l.moment (plain_zone l.zone) l.vars in
+    let s = setting_of g.H.HashState.hash l.context in
     let matching = matches s (F.file_map l.fn.files) in
     record {
       can : (goal.iterator-loop-key g).can_next l.key-iterator;

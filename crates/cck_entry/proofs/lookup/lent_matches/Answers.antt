@@ -6,34 +6,30 @@ use Rattle.cck_include.proofs.MatchLemmas.{all_more}
 use Rattle.cck_include.specs.Include.{include_lent}
 use Rattle.cck_include.specs.Known.{AreKnown}
 use Rattle.cck_include.specs.Matching.{MayMiss, matches}
-use Rattle.cck_include.specs.Setting.{setting_in}
-use Rattle.jiff.specs.Words.{plain_zone}
 use Rattle.cck_entry.specs.Lent.{includes_begun}
-use Rattle.cck_entry.proofs.IncludeLoop.{begun_done, begun_ends, begun_next}
+use Rattle.cck_entry.proofs.IncludeLoop.{begun_done, begun_next}
 use Rattle.cck_entry.proofs.LookupLemmas.{one_misses}
+use Rattle.cck_include.specs.JudgeContext.{setting_of}
 use Rattle.cck_entry.proofs.lookup.lent_matches.Goals as goal
-
-pub returns-in-Err-clause-refused : goal.returns-in-Err-clause-refused
-returns-in-Err-clause-refused g c = begun_ends c.in-Err.error c.args.lent.now.count c.loop.counter c.loop.rest.now c.loop-test.true c.in-Err.ensures c.loop.invariant.whole
 
 pub returns-in_err-matches-clause-known : goal.returns-in_err-matches-clause-known
 returns-in_err-matches-clause-known g c = λ right.
     let F = g.F.Files in
-    let s = setting_in g.H.HashState.hash c.args.config c.args.moment (plain_zone c.args.zone.now) c.args.vars.now in
+    let s = setting_of g.H.HashState.hash c.args.context.now in
     let before : AreKnown s (F.file_map c.loop.files) c.loop.known = rw c.loop.invariant.keeps.same_map (c.loop.invariant.known right) in
     subst (λ m. AreKnown s m c.include_matches.new.known) c.loop.invariant.keeps.same_map (c.include_matches.ensures.known before)
 
 pub returns-then-not-matches-clause-known : goal.returns-then-not-matches-clause-known
 returns-then-not-matches-clause-known g c = λ right.
     let F = g.F.Files in
-    let s = setting_in g.H.HashState.hash c.args.config c.args.moment (plain_zone c.args.zone.now) c.args.vars.now in
+    let s = setting_of g.H.HashState.hash c.args.context.now in
     let before : AreKnown s (F.file_map c.loop.files) c.loop.known = rw c.loop.invariant.keeps.same_map (c.loop.invariant.known right) in
     subst (λ m. AreKnown s m c.include_matches.new.known) c.loop.invariant.keeps.same_map (c.include_matches.ensures.known before)
 
 pub returns-then-not-matches-clause-answer : goal.returns-then-not-matches-clause-answer
 returns-then-not-matches-clause-answer g c = λ right.
     let F = g.F.Files in
-    let s = setting_in g.H.HashState.hash c.args.config c.args.moment (plain_zone c.args.zone.now) c.args.vars.now in
+    let s = setting_of g.H.HashState.hash c.args.context.now in
     let m = matches s (F.file_map c.args.files.now) in
     let lent = c.args.lent.now in
     let n = include_lent c.in-Ok.read.0 in
@@ -48,7 +44,7 @@ returns-then-not-matches-clause-answer g c = λ right.
 pub loop-preserved : goal.loop-preserved
 loop-preserved g c =
     let F = g.F.Files in
-    let s = setting_in g.H.HashState.hash c.args.config c.args.moment (plain_zone c.args.zone.now) c.args.vars.now in
+    let s = setting_of g.H.HashState.hash c.args.context.now in
     let old = F.file_map c.args.files.now in
     let lent = c.args.lent.now in
     let n = include_lent c.in-Ok.read.0 in
@@ -68,5 +64,5 @@ loop-preserved g c =
 pub returns-clause-answer : goal.returns-clause-answer
 returns-clause-answer g c = λ right.
     let F = g.F.Files in
-    let s = setting_in g.H.HashState.hash c.args.config c.args.moment (plain_zone c.args.zone.now) c.args.vars.now in
+    let s = setting_of g.H.HashState.hash c.args.context.now in
     sym (c.loop.invariant.left right) ∙ ap (list_all (matches s (F.file_map c.args.files.now))) (begun_done c.args.lent.now.count c.loop.counter c.loop.rest.now c.loop-test.false)

@@ -3,16 +3,15 @@ use Rattle.std.specs.List.{list_all}
 use Rattle.cck_files.specs.Calls.{Keeps}
 use Rattle.cck_include.specs.Known.{AreKnown}
 use Rattle.cck_include.specs.Matching.{matches}
-use Rattle.cck_include.specs.Setting.{setting_in}
-use Rattle.jiff.specs.Words.{plain_zone}
 use Rattle.cck_entry.specs.Lent.{includes_begun}
 use Rattle.cck_entry.specs.Reading.{includes_at}
+use Rattle.cck_include.specs.JudgeContext.{setting_of}
 use Rattle.cck_entry.proofs.lookup.lent_matches.Given as goal
 
 abbrev pub invariant-loop : goal.invariant-loop
 invariant-loop g l =
     let F = g.F.Files in
-    let s = setting_in g.H.HashState.hash l.config l.moment (plain_zone l.zone) l.vars in
+    let s = setting_of g.H.HashState.hash l.context in
     let right = AreKnown s (F.file_map l.fn.files) l.fn.known in
     let matching = matches s (F.file_map l.fn.files) in
     record {

@@ -8,9 +8,8 @@ use Rattle.cck_include.proofs.MatchLemmas.{may_miss_more, unreadable}
 use Rattle.cck_include.specs.Include.{include_lent}
 use Rattle.cck_include.specs.Known.{IsPlaceOf, IsRight}
 use Rattle.cck_include.specs.Matching.{matches}
-use Rattle.cck_include.specs.Setting.{setting_in}
 use Rattle.cck_path.specs.Path.{components}
-use Rattle.jiff.specs.Words.{plain_zone}
+use Rattle.cck_include.specs.JudgeContext.{setting_of}
 use Rattle.cck_include.proofs.matching.include_matches.Goals as goal
 
 pub returns-in_err-place-clause-known : goal.returns-in_err-place-clause-known
@@ -22,7 +21,7 @@ returns-in_default-clause-known g c = λ right. c.in_ok-place.ensures.known _ ri
 pub returns-in_default-clause-answer : goal.returns-in_default-clause-answer
 returns-in_default-clause-answer g c = λ right.
     let F = g.F.Files in
-    let s = setting_in g.H.HashState.hash c.args.config c.args.moment (plain_zone c.args.zone.now) c.args.vars.now in
+    let s = setting_of g.H.HashState.hash c.args.context.now in
     let old = F.file_map c.args.files.now in
     let i = include_lent c.args.include.now in
     let Missing = IfOk (metadata_at old (components i.path)) (λ _. Rose (F.faults c.args.files.now) (F.faults c.place_for.new.files)) in
@@ -31,7 +30,7 @@ returns-in_default-clause-answer g c = λ right.
 pub returns-clause-answer : goal.returns-clause-answer
 returns-clause-answer g c = λ right.
     let F = g.F.Files in
-    let s = setting_in g.H.HashState.hash c.args.config c.args.moment (plain_zone c.args.zone.now) c.args.vars.now in
+    let s = setting_of g.H.HashState.hash c.args.context.now in
     let old = F.file_map c.args.files.now in
     let i = include_lent c.args.include.now in
     let ks = c.place_for.new.known.files.items in
@@ -51,7 +50,7 @@ returns-clause-answer g c = λ right.
 pub returns-clause-known : goal.returns-clause-known
 returns-clause-known g c = λ right.
     let F = g.F.Files in
-    let s = setting_in g.H.HashState.hash c.args.config c.args.moment (plain_zone c.args.zone.now) c.args.vars.now in
+    let s = setting_of g.H.HashState.hash c.args.context.now in
     let old = F.file_map c.args.files.now in
     let p = components c.args.include.now.path.now in
     let ks = c.place_for.new.known.files.items in

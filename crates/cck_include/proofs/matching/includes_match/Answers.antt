@@ -5,28 +5,27 @@ use Rattle.cck_include.proofs.MatchLemmas.{all_more, rest_here}
 use Rattle.cck_include.specs.Include.{include_in, include_lent, includes_in}
 use Rattle.cck_include.specs.Known.{AreKnown}
 use Rattle.cck_include.specs.Matching.{MayMiss, matches}
-use Rattle.cck_include.specs.Setting.{setting_in}
-use Rattle.jiff.specs.Words.{plain_zone}
+use Rattle.cck_include.specs.JudgeContext.{setting_of}
 use Rattle.cck_include.proofs.matching.includes_match.Goals as goal
 
 pub returns-in_err-matches-clause-known : goal.returns-in_err-matches-clause-known
 returns-in_err-matches-clause-known g c = λ right.
     let F = g.F.Files in
-    let s = setting_in g.H.HashState.hash c.args.config c.args.moment (plain_zone c.args.zone.now) c.args.vars.now in
+    let s = setting_of g.H.HashState.hash c.args.context.now in
     let before : AreKnown s (F.file_map c.loop-include.files) c.loop-include.known = rw c.loop-include.invariant.keeps.same_map (c.loop-include.invariant.known right) in
     subst (λ m. AreKnown s m c.include_matches.new.known) c.loop-include.invariant.keeps.same_map (c.include_matches.ensures.known before)
 
 pub returns-then-not-matches-clause-known : goal.returns-then-not-matches-clause-known
 returns-then-not-matches-clause-known g c = λ right.
     let F = g.F.Files in
-    let s = setting_in g.H.HashState.hash c.args.config c.args.moment (plain_zone c.args.zone.now) c.args.vars.now in
+    let s = setting_of g.H.HashState.hash c.args.context.now in
     let before : AreKnown s (F.file_map c.loop-include.files) c.loop-include.known = rw c.loop-include.invariant.keeps.same_map (c.loop-include.invariant.known right) in
     subst (λ m. AreKnown s m c.include_matches.new.known) c.loop-include.invariant.keeps.same_map (c.include_matches.ensures.known before)
 
 pub loop-include-preserved : goal.loop-include-preserved
 loop-include-preserved g c =
     let F = g.F.Files in
-    let s = setting_in g.H.HashState.hash c.args.config c.args.moment (plain_zone c.args.zone.now) c.args.vars.now in
+    let s = setting_of g.H.HashState.hash c.args.context.now in
     let old = F.file_map c.args.files.now in
     let x = c.include-item.result in
     let xs = c.args.includes.now in

@@ -4,14 +4,13 @@ use Rattle.cck_files.specs.Calls.{Keeps}
 use Rattle.cck_include.specs.Include.{includes_in}
 use Rattle.cck_include.specs.Known.{AreKnown}
 use Rattle.cck_include.specs.Matching.{matches}
-use Rattle.cck_include.specs.Setting.{setting_in}
-use Rattle.jiff.specs.Words.{plain_zone}
+use Rattle.cck_include.specs.JudgeContext.{setting_of}
 use Rattle.cck_include.proofs.matching.includes_match.Given as goal
 
 abbrev pub invariant-loop-include : goal.invariant-loop-include
 invariant-loop-include g l =
     let F = g.F.Files in
-    let s = setting_in g.H.HashState.hash l.config l.moment (plain_zone l.zone) l.vars in
+    let s = setting_of g.H.HashState.hash l.context in
     let right = AreKnown s (F.file_map l.fn.files) l.fn.known in
     record {
       keeps : Keeps F.file_map F.faults F.is_quiet l.fn.files l.files;

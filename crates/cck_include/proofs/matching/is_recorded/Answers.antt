@@ -7,14 +7,13 @@ use Rattle.cck_include.proofs.MatchLemmas.{by_known, exact}
 use Rattle.cck_include.specs.Known.{path_of}
 use Rattle.cck_include.specs.Matching.{digest_found}
 use Rattle.cck_include.specs.Recorded.{recorded}
-use Rattle.cck_include.specs.Setting.{setting_in}
-use Rattle.jiff.specs.Words.{plain_zone}
+use Rattle.cck_include.specs.JudgeContext.{setting_of}
 use Rattle.cck_include.proofs.matching.is_recorded.Goals as goal
 
 pub returns-in-Some-clause-answer : goal.returns-in-Some-clause-answer
 returns-in-Some-clause-answer g c = λ right.
     let F = g.F.Files in
-    let s = setting_in g.H.HashState.hash c.args.config c.args.moment (plain_zone c.args.zone.now) c.args.vars.now in
+    let s = setting_of g.H.HashState.hash c.args.context.now in
     let old = F.file_map c.args.files.now in
     let p = path_of c.args.file.now in
     let told : IsOkAnd (file_at old p) (λ n. option_map string_bytes c.in-Some.digest ≡ recorded s n) =

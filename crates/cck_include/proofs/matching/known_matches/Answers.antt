@@ -5,15 +5,14 @@ use Rattle.cck_include.proofs.KnownLemmas.{metadata_known}
 use Rattle.cck_include.proofs.MatchLemmas.{by_digest, by_times, other_kind, other_size}
 use Rattle.cck_include.specs.Include.{include_lent}
 use Rattle.cck_include.specs.Matching.{MayMiss, digest_found}
-use Rattle.cck_include.specs.Setting.{setting_in}
 use Rattle.cck_path.specs.Path.{components}
-use Rattle.jiff.specs.Words.{plain_zone}
+use Rattle.cck_include.specs.JudgeContext.{setting_of}
 use Rattle.cck_include.proofs.matching.known_matches.Goals as goal
 
 pub returns-then-not-is_file-clause-answer : goal.returns-then-not-is_file-clause-answer
 returns-then-not-is_file-clause-answer g c = λ right path.
     let F = g.F.Files in
-    let s = setting_in g.H.HashState.hash c.args.config c.args.moment (plain_zone c.args.zone.now) c.args.vars.now in
+    let s = setting_of g.H.HashState.hash c.args.context.now in
     let old = F.file_map c.args.files.now in
     let i = include_lent c.args.include.now in
     let k = c.args.file.now in
@@ -23,7 +22,7 @@ returns-then-not-is_file-clause-answer g c = λ right path.
 pub returns-then-file-include-clause-answer : goal.returns-then-file-include-clause-answer
 returns-then-file-include-clause-answer g c = λ right path.
     let F = g.F.Files in
-    let s = setting_in g.H.HashState.hash c.args.config c.args.moment (plain_zone c.args.zone.now) c.args.vars.now in
+    let s = setting_of g.H.HashState.hash c.args.context.now in
     let old = F.file_map c.args.files.now in
     let i = include_lent c.args.include.now in
     let k = c.args.file.now in
@@ -33,7 +32,7 @@ returns-then-file-include-clause-answer g c = λ right path.
 pub returns-then-times_accept-clause-answer : goal.returns-then-times_accept-clause-answer
 returns-then-times_accept-clause-answer g c = λ right path.
     let F = g.F.Files in
-    let s = setting_in g.H.HashState.hash c.args.config c.args.moment (plain_zone c.args.zone.now) c.args.vars.now in
+    let s = setting_of g.H.HashState.hash c.args.context.now in
     let old = F.file_map c.args.files.now in
     let i = include_lent c.args.include.now in
     let k = c.args.file.now in
@@ -43,7 +42,7 @@ returns-then-times_accept-clause-answer g c = λ right path.
 pub returns-clause-answer : goal.returns-clause-answer
 returns-clause-answer g c = λ right path.
     let F = g.F.Files in
-    let s = setting_in g.H.HashState.hash c.args.config c.args.moment (plain_zone c.args.zone.now) c.args.vars.now in
+    let s = setting_of g.H.HashState.hash c.args.context.now in
     let old = F.file_map c.args.files.now in
     let i = include_lent c.args.include.now in
     let k = c.args.file.now in

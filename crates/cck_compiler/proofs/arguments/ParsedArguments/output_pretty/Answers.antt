@@ -12,19 +12,19 @@ pub returns-in_default-clause-name : goal.returns-in_default-clause-name
 returns-in_default-clause-name c =
     let none : None ≡ output_path (codes "obj") (arguments_of c.args.self.now) =
     ap (option_map (λ (o : ArtifactDescriptor). o.path.items)) c.in_default.ensures.value ∙ found_output (codes "obj") c.args.self.now.outputs.entries in
-    rw (no_output (arguments_of c.args.self.now) none) c.unknown_name.ensures.text
+    rw (no_output (arguments_of c.args.self.now) none) c.in_ok-unknown_name.ensures
 
-pub returns-in-Some-file_name-clause-name : goal.returns-in-Some-file_name-clause-name
-returns-in-Some-file_name-clause-name c =
+pub returns-in_ok-shown_name-in-Some-file_name-clause-name : goal.returns-in_ok-shown_name-in-Some-file_name-clause-name
+returns-in_ok-shown_name-in-Some-file_name-clause-name c =
     let at : Some c.in-Some.output.now.path.items ≡ output_path (codes "obj") (arguments_of c.args.self.now) =
     ap (option_map (λ (o : ArtifactDescriptor). o.path.items)) c.in-Some.ensures.value ∙ found_output (codes "obj") c.args.self.now.outputs.entries in
     let name : Some c.in-Some-file_name.name.now ≡ file_name_of (components c.in-Some.output.now.path.items) =
     c.in-Some-file_name.ensures ∙ ap (λ s. file_name_of (components s)) c.deref.ensures.value in
-    rw (output_by (arguments_of c.args.self.now) c.in-Some.output.now.path.items (Some c.in-Some-file_name.name.now) at name) c.shown_name.ensures.text
+    rw (output_by (arguments_of c.args.self.now) c.in-Some.output.now.path.items (Some c.in-Some-file_name.name.now) at name) c.in_ok-shown_name-in-Some-file_name.ensures
 
-pub returns-in-None-clause-name : goal.returns-in-None-clause-name
-returns-in-None-clause-name c =
+pub returns-in_ok-unknown_name-in-None-clause-name : goal.returns-in_ok-unknown_name-in-None-clause-name
+returns-in_ok-unknown_name-in-None-clause-name c =
     let at : Some c.in-Some.output.now.path.items ≡ output_path (codes "obj") (arguments_of c.args.self.now) =
     ap (option_map (λ (o : ArtifactDescriptor). o.path.items)) c.in-Some.ensures.value ∙ found_output (codes "obj") c.args.self.now.outputs.entries in
     let name : None ≡ file_name_of (components c.in-Some.output.now.path.items) = c.in-None.ensures ∙ ap (λ s. file_name_of (components s)) c.deref.ensures.value in
-    rw (output_by (arguments_of c.args.self.now) c.in-Some.output.now.path.items None at name) c.unknown_name-in-None.ensures.text
+    rw (output_by (arguments_of c.args.self.now) c.in-Some.output.now.path.items None at name) c.in_ok-unknown_name-in-None.ensures
