@@ -107,7 +107,7 @@ fn push_results(
 /// the times of its last modification and last change, or `-` for none.
 ///
 /// The only error is lack of memory.
-pub fn entry_lines(
+pub(crate) fn entry_lines(
     alloc: Global,
     entry: &PreprocessorCacheEntry,
 ) -> Result<Vec<u8>, AllocError>
