@@ -3,3 +3,4 @@ pub mod Key
 pub mod KeyRequest
 pub mod Listing
 pub mod Part
+pub mod Written

@@ -4,7 +4,7 @@ use Rattle.std.specs.Fmt.{decimal}
 use Rattle.std.specs.List.{flat_map}
 use Rattle.cck_digest.specs.Digest.{digest_text}
 use Rattle.cck_path.specs.Bytes.{Bytes}
-use Rattle.cck_path.specs.Escape.{escaped}
+use Rattle.cck_explain_text.specs.Quoted.{quoted}
 
 -- some bytes of a text, and what they are
 pub record Part : Type 0 where
@@ -21,7 +21,7 @@ row_size = 256
 
 -- what a line shows of bytes: their escape in quotation marks, or their hex digest
 abbrev pub shown : (Bytes → Bytes) → Bytes → Bytes
-shown hash bytes = if nat_le (length bytes) row_size then codes "\"" ++ escaped bytes ++ codes "\"" else codes "digest " ++ digest_text hash bytes
+shown hash bytes = if nat_le (length bytes) row_size then quoted bytes else codes "digest " ++ digest_text hash bytes
 
 -- the line of bytes with this name at this offset
 abbrev pub part_line : (Bytes → Bytes) → ℕ → Bytes → Bytes → Bytes

@@ -1,5 +1,9 @@
 //! The error of the program.
+ghost use Rattle.std.specs.Prelude.{◌≡◌};
+ghost use Rattle.cck_explain_command.specs.Written.{explained_by};
+
 use cck_command::Failed;
+use cck_explain_entry::{EntryError, Fault};
 use cck_util::UtilError;
 use std::alloc::{AllocError, AllocFailed};
 use thiserror::Error;
@@ -16,6 +20,20 @@ pub enum ExplainError {
     /// A write or the flush failed, or a write took no bytes.
     #[error("a write failed")]
     Write,
+    /// The bytes are no entry.
+    #[error("no entry")]
+    NotEntry(Fault),
+}
+
+impl From<EntryError> for ExplainError {
+    ghost from_gives = { λ error explained. explained ≡ explained_by error };
+
+    fn from(error: EntryError) -> ExplainError {
+        match error {
+            EntryError::Memory => ExplainError::Memory,
+            EntryError::NotEntry(fault) => ExplainError::NotEntry(fault),
+        }
+    }
 }
 
 impl From<UtilError> for ExplainError {

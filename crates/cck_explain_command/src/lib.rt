@@ -2,17 +2,20 @@
 #![tactic(auto)]
 
 mod buffer;
+mod entry;
 mod error;
-mod escape;
 mod key;
 pub mod laws;
 mod line;
+mod markers;
 mod part;
 mod program;
 mod request;
 mod words;
 
+pub use entry::explain_entry;
 pub use error::ExplainError;
 pub use key::explain_key;
+pub use markers::explain_markers;
 pub use program::{refuse, run};
-pub use request::KeyRequest;
+pub use request::{KeyRequest, MarkersRequest};

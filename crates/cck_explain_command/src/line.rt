@@ -6,8 +6,8 @@ ghost use Rattle.cck_explain_command.specs.Listing.{listed, listed_part, part_li
 
 use crate::buffer::spill;
 use crate::error::ExplainError;
-use crate::escape::push_escaped;
 use crate::part::Part;
+use cck_explain_text::push_quoted;
 use cck_util::{Digest, HashState};
 use std::alloc::Global;
 use std::io::Write;
@@ -25,9 +25,7 @@ fn push_shown<H: HashState>(
     ensures { OnOk result (line.new.items ≡ line.old.items ++ shown H.hash bytes.now) }
 {
     if bytes.len() <= ROW_SIZE {
-        line.push(b'"')?;
-        push_escaped(line, bytes)?;
-        line.push(b'"')?;
+        push_quoted(line, bytes)?;
         return Ok(());
     }
     let mut digest = Digest::<H>::new();

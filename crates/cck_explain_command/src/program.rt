@@ -1,10 +1,14 @@
 //! The program, over any reader and any writers.
 ghost use Rattle.std.specs.Prelude.{◌≡◌};
 
+use crate::entry::explain_entry;
 use crate::error::ExplainError;
 use crate::key::explain_key;
+use crate::markers::explain_markers;
+use crate::request::Request;
 use crate::words::request_of;
 use cck_command::{Failed, Status, print};
+use cck_explain_entry::Fault;
 use cck_util::{HashState, Language};
 use clap::Error;
 use clap::error::ErrorKind;
@@ -46,12 +50,41 @@ fn answer<W: Write, E: Write>(
     }
 }
 
-// The line for an error.
-fn text_of(error: ExplainError) -> &'static [u8] {
+// Tries once to write which error it was.
+fn refuse_for<E: Write>(alloc: Global, errors: &mut E, error: ExplainError) -> Status
+    ensures { result ≡ Status.Refused }
+{
     match error {
-        ExplainError::Memory => b"out of memory",
-        ExplainError::Read => b"a read failed",
-        ExplainError::Write => b"a write failed",
+        ExplainError::Memory => refuse(errors, b"out of memory"),
+        ExplainError::Read => refuse(errors, b"a read failed"),
+        ExplainError::Write => refuse(errors, b"a write failed"),
+        ExplainError::NotEntry(fault) => refuse_bytes(alloc, errors, fault),
+    }
+}
+
+// Tries once to write where bytes stop being an entry, and why.
+fn refuse_bytes<E: Write>(alloc: Global, errors: &mut E, fault: Fault) -> Status
+    ensures { result ≡ Status.Refused }
+{
+    let offset = fault.offset;
+    let cause = fault.cause.as_str();
+    match format!(in alloc; "no entry from byte {offset} on: {cause}") {
+        Ok(text) => refuse(errors, text.as_bytes()),
+        Err(_) => refuse(errors, b"out of memory"),
+    }
+}
+
+// Writes the listing that is asked for.
+fn explain<H: HashState, R: Read, W: Write>(
+    alloc: Global,
+    request: &Request<'_>,
+    reader: &mut R,
+    writer: &mut W,
+) -> Result<(), ExplainError> {
+    match request {
+        Request::Key(request) => explain_key::<H, R, W>(alloc, request, reader, writer),
+        Request::Entry => explain_entry(alloc, reader, writer),
+        Request::Markers(request) => explain_markers(alloc, *request, reader, writer),
     }
 }
 
@@ -69,11 +102,13 @@ fn language_names(alloc: Global) -> Result<Vec<&'static str>, ExplainError> {
 ///
 /// - `key [--full] [--basedir DIR].. DIGEST LANGUAGE [ARG..]`: [`explain_key`] is called, and
 ///   [`Status::Done`] is returned.
+/// - `entry`: [`explain_entry`] is called, and [`Status::Done`] is returned.
+/// - `markers INPUT CWD`: [`explain_markers`] is called, and [`Status::Done`] is returned.
 /// - `--help` and `--version`: the text is written, and [`Status::Done`] is returned.
 /// - For any other words what is wrong with them is written to `errors`, and [`Status::Usage`] is
 ///   returned. Nothing is read.
-/// - If a read, a write or an allocation failed, [`Status::Refused`] is returned, after one try to
-///   write to `errors` which it was.
+/// - If a read, a write or an allocation failed, or the bytes are no entry, [`Status::Refused`] is
+///   returned, after one try to write to `errors` which it was.
 pub fn run<H: HashState, R: Read, W: Write, E: Write>(
     alloc: Global,
     words: &[String],
@@ -85,9 +120,9 @@ pub fn run<H: HashState, R: Read, W: Write, E: Write>(
         return refuse(errors, b"out of memory");
     };
     match request_of(alloc, &languages, words) {
-        Ok(Some(request)) => match explain_key::<H, R, W>(alloc, &request, reader, writer) {
+        Ok(Some(request)) => match explain::<H, R, W>(alloc, &request, reader, writer) {
             Ok(()) => Status::Done,
-            Err(error) => refuse(errors, text_of(error)),
+            Err(error) => refuse_for(alloc, errors, error),
         },
         Ok(None) => Status::Usage,
         Err(error) => answer(alloc, &error, writer, errors),

@@ -15,3 +15,23 @@ pub struct KeyRequest<'a> {
     /// Whether a part of more than 256 bytes is listed whole, in rows, and not by its digest.
     pub is_full: bool,
 }
+
+/// The paths that the names of line markers are compared with and joined to.
+#[derive(Clone, Copy)]
+pub struct MarkersRequest<'a> {
+    /// The path of the input.
+    pub input: &'a [u8],
+    /// The working directory.
+    pub cwd: &'a [u8],
+}
+
+/// What is explained.
+#[derive(Drop)]
+pub enum Request<'a> {
+    /// A key.
+    Key(KeyRequest<'a>),
+    /// An entry of the store.
+    Entry,
+    /// The line markers of a text.
+    Markers(MarkersRequest<'a>),
+}

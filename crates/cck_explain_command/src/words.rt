@@ -1,5 +1,5 @@
 //! The words of the command line.
-use crate::request::KeyRequest;
+use crate::request::{KeyRequest, MarkersRequest, Request};
 use cck_util::Language;
 use clap::{Arg, ArgAction, ArgMatches, Command, Error};
 use std::alloc::Global;
@@ -40,14 +40,38 @@ fn key_command<'a>(alloc: Global, languages: &'a [&'a str]) -> Result<Command<'a
     Ok(command)
 }
 
+// The command `entry`.
+fn entry_command<'a>(alloc: Global) -> Command<'a> {
+    Command::new(alloc, "entry")
+        .about("Lists an entry of the store, which is read from standard input")
+}
+
+// The command `markers`.
+fn markers_command<'a>(alloc: Global) -> Result<Command<'a>, Error> {
+    let input = Arg::new(alloc, "INPUT")
+        .required(true)
+        .help("The path of the input");
+    let cwd = Arg::new(alloc, "CWD")
+        .required(true)
+        .help("The working directory");
+    let command = Command::new(alloc, "markers")
+        .about("Lists the line markers of a preprocessed text, which is read from standard input")
+        .arg(input)?
+        .arg(cwd)?;
+    Ok(command)
+}
+
 // The whole command line.
 fn program<'a>(alloc: Global, languages: &'a [&'a str]) -> Result<Command<'a>, Error> {
     let key = key_command(alloc, languages)?;
+    let markers = markers_command(alloc)?;
     let command = Command::new(alloc, "cck_explain")
         .version(VERSION)
         .about("Explains why two compilations did not share a key")
         .subcommand_required(true)
-        .subcommand(key)?;
+        .subcommand(key)?
+        .subcommand(entry_command(alloc))?
+        .subcommand(markers)?;
     Ok(command)
 }
 
@@ -62,20 +86,11 @@ fn values_of(alloc: Global, matches: &ArgMatches<'_>, id: &str) -> Result<Vec<Ve
     Ok(all)
 }
 
-/// Reads what these words ask for. The first is the program's name.
-///
-/// The error is clap's: for wrong words, for `--help` and for `--version`, with the text to be
-/// printed, or for lack of memory. `None` is returned where clap accepts words without a command,
-/// or a language that has no such name; there are none.
-pub fn request_of<'a>(
+// The request for a key, or `None` for a language that has no such name.
+fn key_request<'a>(
     alloc: Global,
-    languages: &'a [&'a str],
-    words: &'a [String],
+    key: &ArgMatches<'a>,
 ) -> Result<Option<KeyRequest<'a>>, Error> {
-    let matches = program(alloc, languages)?.try_get_matches_from(words)?;
-    let Some((_, key)) = matches.subcommand() else {
-        return Ok(None);
-    };
     let (Some(compiler_digest), Some(name)) = (key.get_str("DIGEST"), key.get_str("LANGUAGE"))
     else {
         return Ok(None);
@@ -90,4 +105,35 @@ pub fn request_of<'a>(
         basedirs: values_of(alloc, key, "basedir")?,
         is_full: key.get_flag("full"),
     }))
+}
+
+// The request for line markers.
+fn markers_request<'a>(markers: &ArgMatches<'a>) -> Option<MarkersRequest<'a>> {
+    Some(MarkersRequest {
+        input: markers.get_str("INPUT")?.as_bytes(),
+        cwd: markers.get_str("CWD")?.as_bytes(),
+    })
+}
+
+/// Reads what these words ask for. The first is the program's name.
+///
+/// The error is clap's: for wrong words, for `--help` and for `--version`, with the text to be
+/// printed, or for lack of memory. `None` is returned where clap accepts words without a command,
+/// or a language that has no such name; there are none.
+pub fn request_of<'a>(
+    alloc: Global,
+    languages: &'a [&'a str],
+    words: &'a [String],
+) -> Result<Option<Request<'a>>, Error> {
+    let matches = program(alloc, languages)?.try_get_matches_from(words)?;
+    let Some((name, of_command)) = matches.subcommand() else {
+        return Ok(None);
+    };
+    if name == "key" {
+        return Ok(key_request(alloc, of_command)?.map(Request::Key));
+    }
+    if name == "entry" {
+        return Ok(Some(Request::Entry));
+    }
+    Ok(markers_request(of_command).map(Request::Markers))
 }

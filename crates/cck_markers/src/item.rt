@@ -19,15 +19,16 @@ enum What {
     Plain,
 }
 
-/// What a text begins with.
+/// What a text begins with: a marker up to its line's end or closing quote, a line that is skipped,
+/// the inclusion of a file's bytes, or one byte.
 #[derive(Debug, Clone, Copy)]
-pub(crate) struct Item<'a> {
+pub struct Item<'a> {
     /// The mark that it makes.
-    pub(crate) mark: Option<Mark<'a>>,
-    /// Its length in bytes.
-    pub(crate) size: usize,
+    pub mark: Option<Mark<'a>>,
+    /// Its length in bytes. After [`Mark::Refusal`] and [`Mark::Malformed`] it is all of the text.
+    pub size: usize,
     /// Whether a line starts after it.
-    pub(crate) starts_line: bool,
+    pub starts_line: bool,
 }
 
 // Whether a line that starts here is a marker. The first byte is compared by itself, here and
@@ -101,7 +102,10 @@ fn what_occurs(text: &[u8], starts_line: bool) -> What
 
 /// Returns what a text begins with, by whether a line starts there, or `None` if the text has no
 /// more marks.
-pub(crate) fn read_item(text: &[u8], starts_line: bool) -> Option<Item<'_>>
+///
+/// [`Markers`](crate::Markers) yields the marks of these items, and passes over plain bytes sooner.
+/// This function is for a caller that needs the place of each mark.
+pub fn read_item(text: &[u8], starts_line: bool) -> Option<Item<'_>>
     ensures { BeginsWith starts_line text.now result }
 {
     match what_occurs(text, starts_line) {

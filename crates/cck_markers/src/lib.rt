@@ -11,9 +11,10 @@
 //! - a *malformed* marker, which neither has a name nor ends its line without one.
 //!
 //! [`Markers`] yields them in order, up to the first that is no name. [`read_line`] reads a single
-//! marker and returns its name and the place of the name, as a [`Line`]. Neither opens a file or
-//! allocates memory, and the time is linear in the length of the text. Text is bytes, in no
-//! encoding.
+//! marker and returns its name and the place of the name, as a [`Line`]. [`read_item`] returns what
+//! a text begins with and the length of that, as an [`Item`], so a caller can find the place of each
+//! mark. None of them opens a file or allocates memory, and the time is linear in the length of the
+//! text. Text is bytes, in no encoding.
 //!
 //! A place is looked at while at least 7 bytes are left from it on. A line starts at the text's
 //! start and after each line feed. A marker starts a line with `# ` and a digit, with `#line ` or
@@ -40,5 +41,6 @@ mod line;
 mod mark;
 mod search;
 
+pub use item::{Item, read_item};
 pub use line::{Line, read_line};
 pub use mark::{Mark, Markers};

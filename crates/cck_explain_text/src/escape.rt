@@ -2,6 +2,7 @@
 ghost use Rattle.std.specs.Prelude.{◌≡◌, ◌<◌, ◌++◌, OnOk};
 ghost use Rattle.cck_digest.specs.Digest.{hex_digit};
 ghost use Rattle.cck_path.specs.Escape.{escaped, escaped_byte};
+ghost use Rattle.cck_explain_text.specs.Quoted.{quoted};
 
 use std::alloc::AllocError;
 
@@ -32,7 +33,7 @@ fn push_escaped_byte(line: &mut Vec<u8>, byte: u8) -> Result<(), AllocError>
     }
 }
 
-/// Appends the escape of these bytes, which [`ascii_unescape_default`](cck_util::ascii_unescape_default)
+/// Appends the escape of these bytes, which [`ascii_unescape_default`](cck_path::ascii_unescape_default)
 /// undoes: the bytes from 32 to 126 as themselves, but for a `\` before `'`, `"` and `\`; `\t`,
 /// `\r` and `\n`; and any other byte as `\x` and two hexadecimal digits.
 ///
@@ -43,5 +44,17 @@ pub fn push_escaped(line: &mut Vec<u8>, bytes: &[u8]) -> Result<(), AllocError>
     for byte in bytes {
         push_escaped_byte(line, *byte)?;
     }
+    Ok(())
+}
+
+/// Appends the escape of these bytes between quotation marks.
+///
+/// The only error is lack of memory. What was appended is then unspecified.
+pub fn push_quoted(line: &mut Vec<u8>, bytes: &[u8]) -> Result<(), AllocError>
+    ensures { OnOk result (line.new.items ≡ line.old.items ++ quoted bytes.now) }
+{
+    line.push(b'"')?;
+    push_escaped(line, bytes)?;
+    line.push(b'"')?;
     Ok(())
 }

@@ -1,0 +1,34 @@
+//! The listing of an entry.
+ghost use Rattle.std.specs.Prelude.{IfErr, IfSome, OnErr, OnOk};
+ghost use Rattle.cck_explain_entry.specs.Bytes.{IsListingOf};
+ghost use Rattle.cck_explain_command.specs.Written.{IsErrorFor, WritesOf, BeginsOf};
+
+use crate::error::ExplainError;
+use cck_command::print;
+use cck_explain_entry::entry_listing;
+use cck_util::read_all;
+use std::alloc::Global;
+use std::io::{Read, Write};
+
+/// Reads bytes to their end, and writes the [listing](entry_listing) of the entry that they are.
+///
+/// The error is [`ExplainError::NotEntry`] exactly if the bytes are no entry; nothing is then written.
+/// The other errors are [`ExplainError::Read`], [`ExplainError::Write`] and [`ExplainError::Memory`]. A
+/// prefix of the listing is then written, which may be empty or all of it.
+pub fn explain_entry<R: Read, W: Write>(
+    alloc: Global,
+    reader: &mut R,
+    writer: &mut W,
+) -> Result<(), ExplainError>
+    ensures listed { OnOk result (IfSome (R.remaining reader.old) (λ bytes.
+        WritesOf (IsListingOf bytes) (W.contents writer.old) (W.contents writer.new))) }
+    ensures begun { OnErr result (IfSome (R.remaining reader.old) (λ bytes.
+        BeginsOf (IsListingOf bytes) (W.contents writer.old) (W.contents writer.new))) }
+    ensures refused { IfErr result (λ error. IfSome (R.remaining reader.old) (λ bytes.
+        IsErrorFor bytes error (W.contents writer.old) (W.contents writer.new))) }
+{
+    let bytes = read_all(alloc, reader)?;
+    let listing = entry_listing(alloc, &bytes)?;
+    print(writer, &listing)?;
+    Ok(())
+}

@@ -1,0 +1,21 @@
+-- the marks of a text with their places
+use Rattle.std.specs.Prelude.{◌≡◌, ℕ, ◌+◌, ◌==◌, not, List, ◌++◌, All, count_by, map, reverse, true}
+use Rattle.std.specs.List.{prefix_len}
+use Rattle.cck_markers.specs.Markers.{mark_of}
+use Rattle.cck_markers.specs.Marks as marks
+use Rattle.cck_markers.specs.Marks.{Marks}
+use Rattle.cck_explain_markers.specs.declared.place.PlacedMark.{PlacedMark}
+use Rattle.cck_explain_markers.specs.declared.place.Position.{Position}
+
+-- the line and the column after these bytes: one more than the line feeds, and one more than the bytes after the last of them
+unfoldable pub position_after : List ℕ → Position
+position_after front = record { line = count_by (λ byte. byte == 10) front + 1; column = prefix_len (λ byte. not (byte == 10)) (reverse front) + 1 }
+
+-- the place is that after some of the first bytes of a text
+abbrev pub IsPlacedIn : List ℕ → PlacedMark → Type 0
+IsPlacedIn text placed = (front : List ℕ) × (rest : List ℕ) × (text ≡ front ++ rest) × (placed.position ≡ position_after front)
+
+-- these are the marks of a text, in order, with their places
+pub record ArePlacedMarks (text : List ℕ) (placed : List PlacedMark) : Type 0 where
+  pub marks : Marks true text (map (λ p. mark_of p.mark) placed)
+  pub places : All (IsPlacedIn text) placed
