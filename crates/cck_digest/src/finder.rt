@@ -1,5 +1,5 @@
 //! The time macros in a stream, however the stream is cut into pieces.
-ghost use Rattle.std.specs.Prelude.{◌≡◌, ℕ, List, [], ◌++◌, ◌≤◌, ◌⊎◌, ◌↔◌, IsTrue, length, take};
+ghost use Rattle.std.specs.Prelude.{◌≡◌, ℕ, List, [], ◌++◌, ◌≤◌, ◌<◌, ◌⊎◌, ◌↔◌, IsTrue, MatchOption, length, take};
 ghost use Rattle.cck_digest.specs.TimeMacros.{Follows, Has, date_macro, last_bytes, time_macro, timestamp_macro};
 
 use memchr::memmem;
@@ -20,6 +20,19 @@ const TAIL_LENGTH: usize = 12;
 
 // The last `TAIL_LENGTH` bytes before a piece, and the first `TAIL_LENGTH` bytes of the piece.
 const WINDOW_LENGTH: usize = 24;
+
+/// The state of a [`TimeMacroFinder`] as plain values, for a caller that stores it.
+#[derive(Debug, Clone, Copy)]
+pub struct SeenMacros<'a> {
+    /// Whether the stream contains `__TIME__`.
+    pub time: bool,
+    /// Whether the stream contains `__DATE__`.
+    pub date: bool,
+    /// Whether the stream contains `__TIMESTAMP__`.
+    pub timestamp: bool,
+    /// The last 12 bytes of the stream, or all bytes of a shorter one.
+    pub tail: &'a [u8],
+}
 
 /// Finds the macros `__TIME__`, `__DATE__` and `__TIMESTAMP__` in a stream that is passed piece by
 /// piece. The result does not depend on where the stream is cut.
@@ -91,6 +104,41 @@ impl TimeMacroFinder {
             found_timestamp: false,
             tail: [0; TAIL_LENGTH],
             length: 0,
+        }
+    }
+
+    /// The finder with this state, or `None` if the tail is longer than 12 bytes.
+    ///
+    /// It is a finder of the stream that the state was taken from, by [`TimeMacroFinder::seen`].
+    pub fn resume(seen: SeenMacros<'_>) -> Option<TimeMacroFinder>
+        ensures { MatchOption result (12 < length seen.entry.tail.now) (λ finder.
+            finder ≡ record { time = seen.entry.time; date = seen.entry.date; timestamp = seen.entry.timestamp; tail = seen.entry.tail.now }) }
+    {
+        if seen.tail.len() > TAIL_LENGTH {
+            return None;
+        }
+        let mut tail = [0; TAIL_LENGTH];
+        let length = keep(&mut tail, seen.tail);
+        Some(TimeMacroFinder {
+            found_time: seen.time,
+            found_date: seen.date,
+            found_timestamp: seen.timestamp,
+            tail,
+            length,
+        })
+    }
+
+    /// The state of the finder, which [`TimeMacroFinder::resume`] takes back. Its tail has at most
+    /// 12 bytes.
+    pub fn seen(&self) -> SeenMacros<'_>
+        ensures within { length result.tail.now ≤ 12 }
+        ensures value { record { time = result.time; date = result.date; timestamp = result.timestamp; tail = result.tail.now } ≡ self.now }
+    {
+        SeenMacros {
+            time: self.found_time,
+            date: self.found_date,
+            timestamp: self.found_timestamp,
+            tail: &self.tail[..self.length],
         }
     }
 

@@ -12,7 +12,7 @@
 //!   passes each piece to a [`Sink`]; [`read_all`] returns all that it reads.
 //! - [`Digest::reader_sync`] and its variants compute the digest of what a reader gives.
 //! - [`TimeMacroFinder`] finds the time macros in a stream, however the stream is cut, and
-//!   [`WatchedDigest`] feeds it and a digest in one pass.
+//!   [`WatchedDigest`] feeds it and a digest in one pass. [`SeenMacros`] is its state as values.
 //! - [`UtilError`] and [`FileError`] are the errors of this crate and of the crates above.
 //! - [`laws`] states properties of the definitions.
 //!
@@ -34,7 +34,7 @@ mod stream;
 
 pub use digest::{Digest, hash_len_prefixed, hash_length, hex};
 pub use error::{FileError, UtilError};
-pub use finder::TimeMacroFinder;
+pub use finder::{SeenMacros, TimeMacroFinder};
 pub use hash::{HashState, Sha256State};
 pub use reader::WatchedDigest;
 pub use stream::{HASH_BUFFER_SIZE, Sink, new_hash_buffer, read_all, read_to_end};

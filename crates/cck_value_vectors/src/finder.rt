@@ -1,17 +1,21 @@
 //! The macros of time in a stream.
 use cck_cases::{CaseError, Value};
-use cck_util::{Digest, Sha256State, TimeMacroFinder};
+use cck_util::{Digest, SeenMacros, Sha256State, TimeMacroFinder};
 use std::alloc::Global;
 
 #[derive(Clone, Copy)]
 pub(crate) enum FinderCall {
     Pieces,
+    Resumed,
+    Tail,
     Reader,
     Cuts,
 }
 
-pub(crate) const CALLS: [(&str, FinderCall); 3] = [
+pub(crate) const CALLS: [(&str, FinderCall); 5] = [
     ("find_in_pieces", FinderCall::Pieces),
+    ("find_resumed", FinderCall::Resumed),
+    ("resume_tail", FinderCall::Tail),
     ("find_in_reader", FinderCall::Reader),
     ("find_at_each_cut", FinderCall::Cuts),
 ];
@@ -24,6 +28,8 @@ pub(crate) fn call<'a>(
 ) -> Result<Value<'a>, CaseError> {
     match call {
         FinderCall::Pieces => Ok(Value::Word(in_pieces(pieces))),
+        FinderCall::Resumed => Ok(Value::Word(resumed(pieces))),
+        FinderCall::Tail => tail_kept(alloc, bytes),
         FinderCall::Reader => in_reader(alloc, bytes),
         FinderCall::Cuts => Ok(Value::Word(at_each_cut(bytes))),
     }
@@ -55,6 +61,33 @@ fn in_pieces(pieces: &[Vec<u8>]) -> &'static str {
         finder.find_time_macros(piece);
     }
     macros(&finder)
+}
+
+// Each piece is searched by a finder with the state of the one before it.
+fn resumed(pieces: &[Vec<u8>]) -> &'static str {
+    let mut finder = TimeMacroFinder::new();
+    for piece in pieces {
+        let Some(mut next) = TimeMacroFinder::resume(finder.seen()) else {
+            return "no finder has the state of another";
+        };
+        next.find_time_macros(piece);
+        finder = next;
+    }
+    macros(&finder)
+}
+
+// The tail of a finder that was made with this one.
+fn tail_kept<'a>(alloc: Global, tail: &[u8]) -> Result<Value<'a>, CaseError> {
+    let seen = SeenMacros {
+        time: false,
+        date: false,
+        timestamp: false,
+        tail,
+    };
+    match TimeMacroFinder::resume(seen) {
+        Some(finder) => Ok(Value::Found(Some(Vec::from_slice(alloc, finder.seen().tail)?))),
+        None => Ok(Value::Found(None)),
+    }
 }
 
 fn in_reader<'a>(alloc: Global, bytes: &[u8]) -> Result<Value<'a>, CaseError> {

@@ -24,6 +24,9 @@ from ..recorded import found_macros
 # How many bytes are asked of a reader at once.
 HASH_BUFFER_SIZE = 131072
 
+# How many of the last bytes of a stream the state of a finder has.
+TAIL_LENGTH = 12
+
 class Streams:
     """What a reader and a writer do: `reader STEP PASSING KIND` and `writer PASSING`."""
 
@@ -149,6 +152,12 @@ def call_reader_sync_time_macros(subject, rest, made):
     return macros(text) + b" " + digests.digest_text(text)
 
 
+def call_resume_tail(subject, rest, made):
+    """`resume_tail TEXT`: the tail of a finder with this one, or none if it is too long."""
+    tail = made.text(rest)
+    return found(tail if len(tail) <= TAIL_LENGTH else None)
+
+
 DIGEST_CALLS = {
     "hex_digits": lambda subject, rest, made: digests.hex_text(made.text(rest)),
     "hash_buffer_size": lambda subject, rest, made: number(HASH_BUFFER_SIZE),
@@ -171,6 +180,8 @@ DIGEST_CALLS = {
     "lengths_of_pieces": call_lengths_of_pieces,
     "reader_sync_time_macros": call_reader_sync_time_macros,
     "find_in_pieces": lambda subject, rest, made: macros(b"".join(subject.pieces)),
+    "find_resumed": lambda subject, rest, made: macros(b"".join(subject.pieces)),
+    "resume_tail": call_resume_tail,
     "find_in_reader": lambda subject, rest, made: macros(made.text(rest)),
     "find_at_each_cut": lambda subject, rest, made: macros(made.text(rest)),
 }
