@@ -57,11 +57,26 @@ impl<'a> Markers<'a> {
     pub fn new(text: &'a [u8]) -> Markers<'a>
         ensures { result ≡ whole text.now }
     {
+        Markers::resume(text, true)
+    }
+
+    /// Returns the marks of the rest of a text, by whether a line starts there: those that are left
+    /// where [`Markers::unread`] returned this.
+    pub fn resume(rest: &'a [u8], starts_line: bool) -> Markers<'a>
+        ensures { result ≡ record { starts_line = starts_line; text = rest.now } }
+    {
         Markers {
-            rest: text,
-            starts_line: true,
+            rest,
+            starts_line,
             searches: Searches::new(),
         }
+    }
+
+    /// Returns the rest of the text, whose marks are left, and whether a line starts there.
+    pub fn unread(&self) -> (&'a [u8], bool)
+        ensures { self.now ≡ record { starts_line = result.1; text = result.0.now } }
+    {
+        (self.rest, self.starts_line)
     }
 }
 

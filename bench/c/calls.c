@@ -1,0 +1,74 @@
+/* Times one round of calls of cck.h on the text on standard input, and prints the name, the nanoseconds
+   and the result of each. bench/c.sh runs it beside bench/c/main.rt.in, which prints the same. */
+#define _POSIX_C_SOURCE 199309L
+#include "cck.h"
+#include <stdio.h>
+#include <stdlib.h>
+#include <time.h>
+
+#define BYTES(text) (const uint8_t *)(text), sizeof(text) - 1
+
+static const struct cck_bytes no_bytes[1] = {{BYTES("")}};
+static const struct cck_variable no_variables[1] = {{BYTES(""), BYTES("")}};
+static const struct cck_bytes some[] = {{BYTES("/usr/include/linux/")}};
+static const struct cck_bytes none[] = {{BYTES("/home/user/project/")}};
+
+static double now(void) {
+  struct timespec t;
+  clock_gettime(CLOCK_MONOTONIC, &t);
+  return (double)t.tv_sec * 1e9 + (double)t.tv_nsec;
+}
+
+static void fail(void) {
+  fprintf(stderr, "a call failed\n");
+  exit(1);
+}
+
+static void time_key(const uint8_t *text, size_t length) {
+  struct cck_key_params params = {BYTES("abcd"), BYTES("c"), no_bytes, 0, no_bytes, 0, no_variables, 0,
+                                  no_bytes, 0, NULL, 0, BYTES(""), 0, 0};
+  uint8_t key[CCK_KEY_LENGTH];
+  double start;
+  params.text = text;
+  params.text_length = length;
+  start = now();
+  if (cck_object_key(&params, key) != CCK_DONE)
+    fail();
+  printf("key %.0f %.*s\n", now() - start, CCK_KEY_LENGTH, (const char *)key);
+}
+
+static void time_finder(const uint8_t *text, size_t length) {
+  struct cck_finder finder;
+  double start = now();
+  size_t at;
+  cck_finder_start(&finder);
+  for (at = 0; at < length; at += 131072)
+    cck_finder_push(&finder, text + at, length - at < 131072 ? length - at : 131072);
+  printf("finder %.0f %s\n", now() - start,
+         finder.found_time || finder.found_date || finder.found_timestamp ? "true" : "false");
+}
+
+static void time_strip(const char *name, const struct cck_bytes *basedirs, const uint8_t *text,
+                       size_t length, uint8_t *buffer) {
+  size_t written;
+  double start = now();
+  if (cck_strip_text(text, length, basedirs, 1, buffer, length, &written) != CCK_DONE)
+    fail();
+  printf("%s %.0f %lu\n", name, now() - start, (unsigned long)written);
+}
+
+int main(void) {
+  size_t room = (size_t)1 << 27, length, i;
+  uint8_t *text = malloc(room), *buffer = malloc(room);
+  if (!text || !buffer)
+    fail();
+  length = fread(text, 1, room, stdin);
+  /* Each page of the buffer is there before it is timed. */
+  for (i = 0; i < length; i++)
+    buffer[i] = 1;
+  time_key(text, length);
+  time_finder(text, length);
+  time_strip("strip_some", some, text, length, buffer);
+  time_strip("strip_none", none, text, length, buffer);
+  return 0;
+}

@@ -1,0 +1,3 @@
+mod LanguageLemmas
+mod MarkLemmas
+mod StringLemmas

@@ -1,0 +1,22 @@
+//! The statuses that the exports return.
+
+/// The call has done what it says.
+pub const DONE: i32 = 0;
+
+/// Memory is lacking.
+pub const MEMORY: i32 = 1;
+
+/// What is to be written is longer than the buffer that was passed for it.
+pub const LENGTH: i32 = 2;
+
+/// No language has this name.
+pub const LANGUAGE: i32 = 3;
+
+/// A digest is not UTF-8.
+pub const DIGEST: i32 = 4;
+
+/// The bytes are an entry in another format.
+pub const FORMAT: i32 = 5;
+
+/// The bytes begin as an entry does, and are the text of no entry.
+pub const ENTRY: i32 = 6;
