@@ -1,12 +1,11 @@
 -- how a walk judges a path
-use Rattle.std.specs.Prelude.{◌≡◌, ◌⊎◌, ◌||◌, if◌then◌else◌, not, ℕ, Bool, false, List, Option, Some, None, Result, Ok, Err, string_bytes}
+use Rattle.std.specs.Prelude.{◌≡◌, ◌⊎◌, ◌||◌, if◌then◌else◌, not, ℕ, Bool, false, List, Option, Some, None, Result, Ok, Err, alloc_error, string_bytes}
 use Rattle.std.specs.FinMap.{get}
+use Rattle.std.specs.declared.alloc.AllocError.{AllocError}
 use Rattle.cck_files.specs.FileMap.{FileMap, FileNode}
 use Rattle.cck_include.specs.Gathered.{is_before}
 use Rattle.cck_include.specs.Recorded.{recorded}
 use Rattle.cck_include.specs.Setting.{Setting}
-use Rattle.cck_key_error.specs.declared.key_error.KeyError.{KeyError}
-use Rattle.cck_key_error.specs.declared.key_error.KeyError.TheVariants.{Memory}
 use Rattle.cck_path.specs.Path.{Path}
 use Rattle.cck_path.specs.Timestamp.{Moment}
 use Rattle.cck_path.specs.declared.metadata.FileKind.{FileKind}
@@ -49,16 +48,15 @@ unfoldable pub judgement_at : Setting → FileMap → Path → Judgement
 judgement_at s files p = node_judgement s (get files.nodes p)
 
 -- the path was judged exactly, or a fault came and it counts as bad
-abbrev pub IsJudged : Judgement → Type 0 → Result Judged KeyError → Type 0
+abbrev pub IsJudged : Judgement → Type 0 → Result Judged AllocError → Type 0
 IsJudged judgement HasFault (Ok judged.Folder) = judgement ≡ Folder
 IsJudged judgement HasFault (Ok (judged.Regular digest)) = judgement ≡ Regular (string_bytes digest)
 IsJudged judgement HasFault (Ok judged.Bad) = (judgement ≡ Bad) ⊎ HasFault
-IsJudged judgement HasFault (Err Memory) = Unit {0}
-IsJudged judgement HasFault (Err other) = ⊥
+IsJudged judgement HasFault (Err e) = Unit {0}
 
 -- a file that can't be read is bad, unless the cause is lack of memory
-abbrev pub judged_unread : Error → Result Judged KeyError
-judged_unread error.Memory = Err Memory
+abbrev pub judged_unread : Error → Result Judged AllocError
+judged_unread error.Memory = Err alloc_error
 judged_unread (error.Io e) = Ok judged.Bad
 judged_unread error.Deserialization = Ok judged.Bad
 judged_unread (error.UnknownFormat byte) = Ok judged.Bad

@@ -4,3 +4,4 @@ pub mod Line
 pub mod Seen
 pub mod Judgement
 pub mod Walk
+pub mod WalkContext

@@ -1,5 +1,6 @@
 -- the results for a line marker
 use Rattle.std.specs.Prelude.{◌≡◌, ◌≢◌, ◌⊎◌, ◌+◌, ℕ, Bool, true, false, List, [], Some, Result, Ok, Err}
+use Rattle.std.specs.declared.alloc.AllocError.{AllocError}
 use Rattle.cck_key_error.specs.declared.key_error.KeyError.{KeyError}
 use Rattle.cck_key_error.specs.declared.key_error.KeyError.TheVariants.{Memory, Marker}
 use Rattle.cck_markers.specs.Lines.{IsNamedAt, IsUnnamedTo}
@@ -10,11 +11,10 @@ use Rattle.cck_walk.specs.declared.line.LineAction.{LineAction}
 use Rattle.cck_walk.specs.declared.line.LineAction.TheVariants.{Continue, Break}
 
 -- a name was taken; or the text is refused for it; or a fault came where a file is looked for, and the text counts as refused
-abbrev pub IsNameResult : Context → Type 0 → Digests → Digests → List ℕ → Bool → Result Bool KeyError → Type 0
+abbrev pub IsNameResult : Context → Type 0 → Digests → Digests → List ℕ → Bool → Result Bool AllocError → Type 0
 IsNameResult c HasFault old new name is_system_in (Ok true) = after old (outcome c old name is_system_in) ≡ Some new
 IsNameResult c HasFault old new name is_system_in (Ok false) = (new ≡ old) × ((outcome c old name is_system_in ≡ Refuses) ⊎ (HasFault × (is_looked_for c old name is_system_in ≡ true)))
-IsNameResult c HasFault old new name is_system_in (Err Memory) = new ≡ old
-IsNameResult c HasFault old new name is_system_in (Err other) = ⊥
+IsNameResult c HasFault old new name is_system_in (Err e) = new ≡ old
 
 -- a marker with a name that has bytes, and the places of these
 abbrev pub IsLongNamed : List ℕ → ℕ → ℕ → (List ℕ → Bool → Type 0) → Type 0

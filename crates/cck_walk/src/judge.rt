@@ -1,19 +1,16 @@
 //! Judges the node at a path.
 ghost use Rattle.std.specs.Prelude.{◌≡◌, ◌||◌};
 ghost use Rattle.cck_files.specs.Calls.{AreCalls, Keeps, Rose};
-ghost use Rattle.cck_include.specs.Setting.{setting_in};
+ghost use Rattle.cck_include.specs.JudgeContext.{setting_of};
 ghost use Rattle.cck_path.specs.Path.{components};
-ghost use Rattle.jiff.specs.Words.{plain_zone};
 ghost use Rattle.cck_walk.specs.Judgement.{IsJudged, is_late, judged_unread, judgement_at};
 
 use cck_digest::HashState;
 use cck_files::Files;
-use cck_include::recorded_digest;
-use cck_key_error::KeyError;
+use cck_include::{JudgeContext, recorded_digest};
 use cck_path::{FileKind, Metadata, Timestamp};
-use cck_time::{Error, PreprocessorCacheModeConfig};
-use jiff::tz::TimeZone;
-use std::alloc::Global;
+use cck_time::Error;
+use std::alloc::{AllocError, Global};
 
 /// How a walk judges a path.
 #[derive(Debug, Drop)]
@@ -44,11 +41,11 @@ fn has_late_time(metadata: &Metadata, moment: Timestamp) -> bool
 }
 
 // A file that can't be read is bad, unless the cause is lack of memory.
-fn judge_unread(error: Error) -> Result<Judged, KeyError>
+fn judge_unread(error: Error) -> Result<Judged, AllocError>
     ensures { result ≡ judged_unread error }
 {
     match error {
-        Error::Memory => Err(KeyError::Memory),
+        Error::Memory => Err(AllocError),
         Error::Io(_) | Error::Deserialization | Error::UnknownFormat(_) => Ok(Judged::Bad),
     }
 }
@@ -56,20 +53,15 @@ fn judge_unread(error: Error) -> Result<Judged, KeyError>
 /// Returns how a path is judged: as a directory, or as a regular file that has a recorded digest
 /// and no time at `moment` or later. With such a time the file may still be written. Anything else
 /// is bad. After a fault anything may be judged bad.
-///
-/// The only error is [`KeyError::Memory`].
 pub(crate) fn judge<H: HashState, F: Files>(
     alloc: Global,
     files: &mut F,
     path: &[u8],
-    config: PreprocessorCacheModeConfig,
-    moment: Timestamp,
-    zone: &TimeZone<'_>,
-    vars: &[(Vec<u8>, Vec<u8>)],
-) -> Result<Judged, KeyError>
+    context: &JudgeContext<'_>,
+) -> Result<Judged, AllocError>
     ensures keeps { Keeps F.file_map F.faults F.is_quiet files.old files.new }
     ensures calls { AreCalls F.is_call (λ p. p ≡ components path.now) files.old files.new }
-    ensures answer { IsJudged (judgement_at (setting_in H.hash config moment (plain_zone zone.now) vars.now)
+    ensures answer { IsJudged (judgement_at (setting_of H.hash context.now)
         (F.file_map files.old) (components path.now)) (Rose (F.faults files.old) (F.faults files.new)) result }
 {
     let metadata = match files.metadata(path) {
@@ -81,10 +73,18 @@ pub(crate) fn judge<H: HashState, F: Files>(
         FileKind::Other => return Ok(Judged::Bad),
         FileKind::File => {}
     }
-    if has_late_time(&metadata, moment) {
+    if has_late_time(&metadata, context.moment) {
         return Ok(Judged::Bad);
     }
-    match recorded_digest::<H, F>(alloc, files, path, moment, zone, vars, config) {
+    match recorded_digest::<H, F>(
+        alloc,
+        files,
+        path,
+        context.moment,
+        context.zone,
+        context.vars,
+        context.config,
+    ) {
         Ok(Some(digest)) => Ok(Judged::Regular(digest)),
         Ok(None) => Ok(Judged::Bad),
         Err(error) => judge_unread(error),

@@ -40,6 +40,7 @@ mod name;
 mod records;
 mod seen;
 mod walk;
+mod walk_context;
 
 pub use cck_key_error::KeyError;
 pub use line::{LineAction, process_preprocessor_line};

@@ -7,8 +7,10 @@ ghost use Rattle.cck_walk.specs.Line.{IsLineResult, IsLineLookedFor};
 
 use crate::Records;
 use crate::name::take_name;
+use crate::walk_context::WalkContext;
 use cck_digest::HashState;
 use cck_files::Files;
+use cck_include::JudgeContext;
 use cck_key_error::KeyError;
 use cck_markers::{Line, read_line};
 use cck_path::Timestamp;
@@ -86,12 +88,21 @@ pub fn process_preprocessor_line<H: HashState, F: Files>(
             if name.is_empty() {
                 return Ok(LineAction::Break((end, begin, true)));
             }
-            match take_name::<H, F>(
-                alloc, files, input_file, cwd, records, name, is_system, config, moment, zone, vars,
-            ) {
+            let judge = JudgeContext {
+                moment,
+                zone,
+                vars,
+                config,
+            };
+            let context = WalkContext {
+                input_file,
+                cwd,
+                judge,
+            };
+            match take_name::<H, F>(alloc, files, &context, records, name, is_system) {
                 Ok(true) => Ok(LineAction::Continue((end, end))),
                 Ok(false) => Ok(LineAction::Break((end, begin, false))),
-                Err(error) => Err(error),
+                Err(_) => Err(KeyError::Memory),
             }
         }
     }

@@ -1,15 +1,14 @@
 //! The files that a walk found, by path.
-ghost use Rattle.std.specs.Prelude.{◌≡◌, IfOk, IsOkUnless, OnErr, OnOk, map, string_bytes};
+ghost use Rattle.std.specs.Prelude.{◌≡◌, IfOk, OnErr, OnOk, map, string_bytes};
 ghost use Rattle.std.specs.FinMap as finite;
 ghost use Rattle.std.specs.Option.{option_copied};
 ghost use Rattle.cck_path.specs.Path.{components, normal};
 ghost use Rattle.cck_path_map.specs.Values.{map_values};
 ghost use Rattle.cck_walk.specs.Digests.{AreNormal, listed, written};
 
-use cck_key_error::KeyError;
 use cck_path::normalize_path;
 use cck_path_map::PathMap;
-use std::alloc::Global;
+use std::alloc::{AllocError, Global};
 use std::marker::Model;
 
 /// Files that were found, each with its recorded digest.
@@ -69,24 +68,22 @@ impl Records {
     }
 
     // Adds a file at a path without `.` and `..`, or replaces its digest.
-    pub(crate) fn insert(&mut self, path: &[u8], digest: String) -> Result<(), KeyError>
+    pub(crate) fn insert(&mut self, path: &[u8], digest: String) -> Result<(), AllocError>
         requires { normal (components path.now) ≡ components path.now }
         ensures set { OnOk result
             (self.new ≡ finite.insert self.old (components path.now) (string_bytes digest)) }
         ensures kept { OnErr result (self.new ≡ self.old) }
-        ensures refused { IsOkUnless result KeyError.Memory }
     {
         match self.digests.insert(path, digest) {
             Ok(()) => Ok(()),
-            Err(_) => Err(KeyError::Memory),
+            Err(_) => Err(AllocError),
         }
     }
 
     // All files in the order of their paths.
-    pub(crate) fn to_list(&self, alloc: Global) -> Result<Vec<(Vec<u8>, String)>, KeyError>
-        ensures all { IfOk result (λ files.
+    pub(crate) fn to_list(&self, alloc: Global) -> Result<Vec<(Vec<u8>, String)>, AllocError>
+        ensures { IfOk result (λ files.
             map listed files.items ≡ map written (finite.entries self.now)) }
-        ensures refused { IsOkUnless result KeyError.Memory }
     {
         list_of(alloc, &self.digests)
     }
@@ -94,16 +91,15 @@ impl Records {
 
 // All entries of a map in the order of their paths. The map keeps a path as it was written first,
 // so each is normalised: its normal form is written in one way only.
-fn list_of(alloc: Global, digests: &PathMap<String>) -> Result<Vec<(Vec<u8>, String)>, KeyError>
+fn list_of(alloc: Global, digests: &PathMap<String>) -> Result<Vec<(Vec<u8>, String)>, AllocError>
     requires { AreNormal digests.now }
-    ensures all { IfOk result (λ files. map listed files.items
+    ensures { IfOk result (λ files. map listed files.items
         ≡ map written (finite.entries (map_values string_bytes digests.now))) }
-    ensures refused { IsOkUnless result KeyError.Memory }
 {
     let mut files = Vec::new(alloc);
     for entry in digests.entries() {
         let Ok(path) = normalize_path(alloc, &entry.path) else {
-            return Err(KeyError::Memory);
+            return Err(AllocError);
         };
         let digest = String::from_str(alloc, &entry.value)?;
         files.push((path, digest))?;

@@ -3,12 +3,15 @@ ghost use Rattle.cck_files.specs.Calls.{AreCalls, Keeps, Rose};
 ghost use Rattle.jiff.specs.Words.{plain_zone};
 ghost use Rattle.cck_walk.specs.Decided.{Asked, context_in};
 ghost use Rattle.cck_walk.specs.Walk.{IsWalk};
+ghost use Rattle.cck_walk.specs.WalkContext.{context_of};
 
 use crate::Records;
 use crate::name::take_name;
 use crate::seen::SeenNames;
+use crate::walk_context::WalkContext;
 use cck_digest::HashState;
 use cck_files::Files;
+use cck_include::JudgeContext;
 use cck_key_error::KeyError;
 use cck_markers::{Mark, Markers};
 use cck_path::Timestamp;
@@ -64,6 +67,33 @@ pub fn process_preprocessed_file<H: HashState, F: Files>(
         (F.file_map files.old) input_file.now cwd.now) (Rose (F.faults files.old) (F.faults files.new))
         text.now result }
 {
+    let judge = JudgeContext {
+        moment,
+        zone,
+        vars,
+        config,
+    };
+    let context = WalkContext {
+        input_file,
+        cwd,
+        judge,
+    };
+    walk_text::<H, F>(alloc, files, &context, text)
+}
+
+// The walk over a text in this context.
+fn walk_text<H: HashState, F: Files>(
+    alloc: Global,
+    files: &mut F,
+    context: &WalkContext<'_>,
+    text: &[u8],
+) -> Result<Walk, KeyError>
+    ensures keeps { Keeps F.file_map F.faults F.is_quiet files.old files.new }
+    ensures calls { AreCalls F.is_call
+        (Asked (context_of H.hash context.now (F.file_map files.old)) text.now) files.old files.new }
+    ensures answer { IsWalk (context_of H.hash context.now (F.file_map files.old))
+        (Rose (F.faults files.old) (F.faults files.new)) text.now result }
+{
     let mut records = Records::new(alloc);
     let mut seen = SeenNames::new();
     for mark in Markers::new(text) {
@@ -71,27 +101,17 @@ pub fn process_preprocessed_file<H: HashState, F: Files>(
             Mark::Refusal => return Ok(Walk::Refused),
             Mark::Malformed => return Err(KeyError::Marker),
             Mark::Name { name, is_system } if seen.contains(name, is_system) => {}
-            Mark::Name { name, is_system } => match take_name::<H, F>(
-                alloc,
-                files,
-                input_file,
-                cwd,
-                &mut records,
-                name,
-                is_system,
-                config,
-                moment,
-                zone,
-                vars,
-            ) {
-                Ok(true) => seen.insert(name, is_system),
-                Ok(false) => return Ok(Walk::Refused),
-                Err(error) => return Err(error),
-            },
+            Mark::Name { name, is_system } => {
+                match take_name::<H, F>(alloc, files, context, &mut records, name, is_system) {
+                    Ok(true) => seen.insert(name, is_system),
+                    Ok(false) => return Ok(Walk::Refused),
+                    Err(_) => return Err(KeyError::Memory),
+                }
+            }
         }
     }
     match records.to_list(alloc) {
         Ok(files) => Ok(Walk::Accepted(files)),
-        Err(error) => Err(error),
+        Err(_) => Err(KeyError::Memory),
     }
 }

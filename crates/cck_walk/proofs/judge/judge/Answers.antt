@@ -3,42 +3,41 @@ use Rattle.std.specs.Prelude.{Some, None, Option, List, ℕ, string_bytes}
 use Rattle.cck_files.proofs.CallsLemmas.{calls_all, one_call, rose_earlier}
 use Rattle.cck_files.specs.Calls.{Rose}
 use Rattle.cck_files.specs.FileMap.{file_at}
+use Rattle.cck_include.specs.JudgeContext.{setting_of}
 use Rattle.cck_include.specs.Recorded.{recorded}
 use Rattle.cck_include.specs.Refusal.{IsIoError}
-use Rattle.cck_include.specs.Setting.{setting_in}
 use Rattle.cck_path.specs.Path.{components}
 use Rattle.cck_walk.proofs.JudgeLemmas.{digest_at, folder_at, late_at, no_metadata, other_at, unread_at}
-use Rattle.jiff.specs.Words.{plain_zone}
 use Rattle.cck_walk.proofs.judge.judge.Goals as goal
 
 pub returns-in-Err-clause-answer : goal.returns-in-Err-clause-answer
 returns-in-Err-clause-answer g c =
     let F = g.F.Files in
-    let s = setting_in g.H.HashState.hash c.args.config c.args.moment (plain_zone c.args.zone.now) c.args.vars.now in
+    let s = setting_of g.H.HashState.hash c.args.context.now in
     no_metadata s (F.file_map c.args.files.now) (components c.args.path.now) (Rose (F.faults c.args.files.now) (F.faults c.metadata.new.self)) c.in-Err.field-0 c.in-Err.ensures.answer
 
 pub returns-in-Folder-clause-answer : goal.returns-in-Folder-clause-answer
 returns-in-Folder-clause-answer g c =
     let F = g.F.Files in
-    let s = setting_in g.H.HashState.hash c.args.config c.args.moment (plain_zone c.args.zone.now) c.args.vars.now in
+    let s = setting_of g.H.HashState.hash c.args.context.now in
     folder_at s (F.file_map c.args.files.now) (components c.args.path.now) c.in-Ok.metadata c.in-Ok.ensures.answer c.in-Folder.is
 
 pub returns-in-Other-clause-answer : goal.returns-in-Other-clause-answer
 returns-in-Other-clause-answer g c =
     let F = g.F.Files in
-    let s = setting_in g.H.HashState.hash c.args.config c.args.moment (plain_zone c.args.zone.now) c.args.vars.now in
+    let s = setting_of g.H.HashState.hash c.args.context.now in
     inl (other_at s (F.file_map c.args.files.now) (components c.args.path.now) c.in-Ok.metadata c.in-Ok.ensures.answer c.in-Other.is)
 
 pub returns-then-has_late_time-clause-answer : goal.returns-then-has_late_time-clause-answer
 returns-then-has_late_time-clause-answer g c =
     let F = g.F.Files in
-    let s = setting_in g.H.HashState.hash c.args.config c.args.moment (plain_zone c.args.zone.now) c.args.vars.now in
+    let s = setting_of g.H.HashState.hash c.args.context.now in
     inl (late_at s (F.file_map c.args.files.now) (components c.args.path.now) c.in-Ok.metadata c.in-Ok.ensures.answer c.in-File.is c.if-has_late_time.ensures)
 
 pub returns-in-Ok-Some-clause-answer : goal.returns-in-Ok-Some-clause-answer
 returns-in-Ok-Some-clause-answer g c =
     let F = g.F.Files in
-    let s = setting_in g.H.HashState.hash c.args.config c.args.moment (plain_zone c.args.zone.now) c.args.vars.now in
+    let s = setting_of g.H.HashState.hash c.args.context.now in
     let old = F.file_map c.args.files.now in
     let p = components c.args.path.now in
     let digest : Option (List ℕ) = Some (string_bytes c.in-Ok-Some.digest) in
@@ -48,7 +47,7 @@ returns-in-Ok-Some-clause-answer g c =
 pub returns-in-Ok-None-clause-answer : goal.returns-in-Ok-None-clause-answer
 returns-in-Ok-None-clause-answer g c =
     let F = g.F.Files in
-    let s = setting_in g.H.HashState.hash c.args.config c.args.moment (plain_zone c.args.zone.now) c.args.vars.now in
+    let s = setting_of g.H.HashState.hash c.args.context.now in
     let old = F.file_map c.args.files.now in
     let p = components c.args.path.now in
     let digest : Option (List ℕ) = None in
@@ -58,7 +57,7 @@ returns-in-Ok-None-clause-answer g c =
 pub returns-in-Err-recorded_digest-clause-answer : goal.returns-in-Err-recorded_digest-clause-answer
 returns-in-Err-recorded_digest-clause-answer g c =
     let F = g.F.Files in
-    let s = setting_in g.H.HashState.hash c.args.config c.args.moment (plain_zone c.args.zone.now) c.args.vars.now in
+    let s = setting_of g.H.HashState.hash c.args.context.now in
     let old = F.file_map c.args.files.now in
     let p = components c.args.path.now in
     let R = Rose (F.faults c.metadata.new.self) (F.faults c.recorded_digest.new.files) in

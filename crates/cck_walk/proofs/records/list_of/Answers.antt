@@ -19,8 +19,8 @@ loop-entry-preserved c =
     (listed_more (entries_left start) c.args.digests.now is c.requires (length c.loop-entry.yielded) at.0 c.in-Some.entry.now at.1
     c.loop-entry.files.items c.loop-entry.invariant c.in-Ok.path c.in_ok-digest.digest (rw (← c.deref.ensures.value) c.in-Ok.ensures.bytes) (rw (← c.deref-in-loop-entry.ensures) c.in_ok-digest.ensures.ok))
 
-pub returns-clause-all : goal.returns-clause-all
-returns-clause-all c =
+pub returns : goal.returns
+returns c =
     let start = c.into_iter-entry-iterator.result in
     let is = ap (λ it. map pair_of (entries_left it)) c.into_iter-entry-iterator.ensures.into_iter_gives ∙ c.entries-entry-items.ensures in
     let end = all_given start c.loop-entry.yielded c.loop-entry.entry-iterator c.loop-entry.yielded_by c.next.result c.next.new.self c.in-None.is c.next.ensures.steps in

@@ -3,30 +3,30 @@ use Rattle.cck_files.proofs.CallsLemmas.{keeps_all, keeps_itself, rose_earlier}
 use Rattle.cck_files.specs.Calls.{AreCalls, Rose, none}
 use Rattle.cck_markers.specs.Markers.{Gives}
 use Rattle.cck_markers.specs.Marks.{Malformed, Name, Refusal}
-use Rattle.jiff.specs.Words.{plain_zone}
 use Rattle.cck_walk.proofs.SeenLemmas.{all_pass}
 use Rattle.cck_walk.proofs.WalkLemmas.{accepted, at_start, calls_on, malformed, passed_on, refused, error_by_fault}
-use Rattle.cck_walk.specs.Decided.{IsLookedFor, Refuses, after, context_in, is_looked_for, outcome}
-use Rattle.cck_walk.proofs.walk.process_preprocessed_file.Goals as goal
+use Rattle.cck_walk.specs.Decided.{IsLookedFor, Refuses, after, is_looked_for, outcome}
+use Rattle.cck_walk.specs.WalkContext.{context_of}
+use Rattle.cck_walk.proofs.walk.walk_text.Goals as goal
 
 pub returns-in-Refusal-clause-answer : goal.returns-in-Refusal-clause-answer
 returns-in-Refusal-clause-answer g c =
     let F = g.F.Files in
-    let x = context_in g.H.HashState.hash c.args.config c.args.moment (plain_zone c.args.zone.now) c.args.vars.now (F.file_map c.args.files.now) c.args.input_file.now c.args.cwd.now in
+    let x = context_of g.H.HashState.hash c.args.context.now (F.file_map c.args.files.now) in
     let gives : Gives c.loop-mark.mark-iterator (Refusal ∷ []) c.next.new.self = rw c.in-Refusal.is at c.in-Some.ensures.steps in
     inl (refused x c.args.text.now c.loop-mark.mark-iterator c.loop-mark.records c.loop-mark.invariant.passed c.next.new.self gives)
 
 pub returns-in-Malformed-clause-answer : goal.returns-in-Malformed-clause-answer
 returns-in-Malformed-clause-answer g c =
     let F = g.F.Files in
-    let x = context_in g.H.HashState.hash c.args.config c.args.moment (plain_zone c.args.zone.now) c.args.vars.now (F.file_map c.args.files.now) c.args.input_file.now c.args.cwd.now in
+    let x = context_of g.H.HashState.hash c.args.context.now (F.file_map c.args.files.now) in
     let gives : Gives c.loop-mark.mark-iterator (Malformed ∷ []) c.next.new.self = rw c.in-Malformed.is at c.in-Some.ensures.steps in
     malformed x c.args.text.now c.loop-mark.mark-iterator c.loop-mark.records c.loop-mark.invariant.passed c.next.new.self gives
 
 pub loop-mark-init : goal.loop-mark-init
 loop-mark-init g c =
     let F = g.F.Files in
-    let x = context_in g.H.HashState.hash c.args.config c.args.moment (plain_zone c.args.zone.now) c.args.vars.now (F.file_map c.args.files.now) c.args.input_file.now c.args.cwd.now in
+    let x = context_of g.H.HashState.hash c.args.context.now (F.file_map c.args.files.now) in
     record {
       keeps = keeps_itself c.args.files.now;
       calls = none refl;
@@ -37,7 +37,7 @@ loop-mark-init g c =
 pub loop-mark-preserved : goal.loop-mark-preserved
 loop-mark-preserved g c =
     let F = g.F.Files in
-    let x = context_in g.H.HashState.hash c.args.config c.args.moment (plain_zone c.args.zone.now) c.args.vars.now (F.file_map c.args.files.now) c.args.input_file.now c.args.cwd.now in
+    let x = context_of g.H.HashState.hash c.args.context.now (F.file_map c.args.files.now) in
     let name = c.in-Name-2.name.now in
     let held = c.loop-mark.records in
     let gives : Gives c.loop-mark.mark-iterator (Name name c.in-Name-2.is_system ∷ []) c.next.new.self = rw c.in-Name-2.is at c.in-Some.ensures.steps in
@@ -56,7 +56,7 @@ loop-mark-preserved g c =
 pub loop-mark-preserved-then-contains : goal.loop-mark-preserved-then-contains
 loop-mark-preserved-then-contains g c =
     let F = g.F.Files in
-    let x = context_in g.H.HashState.hash c.args.config c.args.moment (plain_zone c.args.zone.now) c.args.vars.now (F.file_map c.args.files.now) c.args.input_file.now c.args.cwd.now in
+    let x = context_of g.H.HashState.hash c.args.context.now (F.file_map c.args.files.now) in
     let name = c.in-Name.name.now in
     let held = c.loop-mark.records in
     let gives : Gives c.loop-mark.mark-iterator (Name name c.in-Name.is_system ∷ []) c.next.new.self = rw c.in-Name.is at c.in-Some.ensures.steps in
@@ -71,7 +71,7 @@ loop-mark-preserved-then-contains g c =
 pub returns-in-Ok-false-clause-calls : goal.returns-in-Ok-false-clause-calls
 returns-in-Ok-false-clause-calls g c =
     let F = g.F.Files in
-    let x = context_in g.H.HashState.hash c.args.config c.args.moment (plain_zone c.args.zone.now) c.args.vars.now (F.file_map c.args.files.now) c.args.input_file.now c.args.cwd.now in
+    let x = context_of g.H.HashState.hash c.args.context.now (F.file_map c.args.files.now) in
     let name = c.in-Name-2.name.now in
     let held = c.loop-mark.records in
     let gives : Gives c.loop-mark.mark-iterator (Name name c.in-Name-2.is_system ∷ []) c.next.new.self = rw c.in-Name-2.is at c.in-Some.ensures.steps in
@@ -83,7 +83,7 @@ returns-in-Ok-false-clause-calls g c =
 pub returns-in-Err-clause-calls : goal.returns-in-Err-clause-calls
 returns-in-Err-clause-calls g c =
     let F = g.F.Files in
-    let x = context_in g.H.HashState.hash c.args.config c.args.moment (plain_zone c.args.zone.now) c.args.vars.now (F.file_map c.args.files.now) c.args.input_file.now c.args.cwd.now in
+    let x = context_of g.H.HashState.hash c.args.context.now (F.file_map c.args.files.now) in
     let name = c.in-Name-2.name.now in
     let held = c.loop-mark.records in
     let gives : Gives c.loop-mark.mark-iterator (Name name c.in-Name-2.is_system ∷ []) c.next.new.self = rw c.in-Name-2.is at c.in-Some.ensures.steps in
@@ -95,7 +95,7 @@ returns-in-Err-clause-calls g c =
 pub returns-in-Ok-false-clause-answer : goal.returns-in-Ok-false-clause-answer
 returns-in-Ok-false-clause-answer g c =
     let F = g.F.Files in
-    let x = context_in g.H.HashState.hash c.args.config c.args.moment (plain_zone c.args.zone.now) c.args.vars.now (F.file_map c.args.files.now) c.args.input_file.now c.args.cwd.now in
+    let x = context_of g.H.HashState.hash c.args.context.now (F.file_map c.args.files.now) in
     let name = c.in-Name-2.name.now in
     let held = c.loop-mark.records in
     let R = Rose (F.faults c.loop-mark.files) (F.faults c.take_name.new.files) in
@@ -109,5 +109,5 @@ returns-in-Ok-false-clause-answer g c =
 pub returns-in-Ok-clause-answer : goal.returns-in-Ok-clause-answer
 returns-in-Ok-clause-answer g c =
     let F = g.F.Files in
-    let x = context_in g.H.HashState.hash c.args.config c.args.moment (plain_zone c.args.zone.now) c.args.vars.now (F.file_map c.args.files.now) c.args.input_file.now c.args.cwd.now in
-    (c.loop-mark.records, accepted x c.args.text.now c.loop-mark.mark-iterator c.loop-mark.records c.loop-mark.invariant.passed c.in-None.ensures.steps.0, c.in-Ok.ensures.all)
+    let x = context_of g.H.HashState.hash c.args.context.now (F.file_map c.args.files.now) in
+    (c.loop-mark.records, accepted x c.args.text.now c.loop-mark.mark-iterator c.loop-mark.records c.loop-mark.invariant.passed c.in-None.ensures.steps.0, c.in-Ok.ensures)
