@@ -4,7 +4,7 @@ ghost use Rattle.std.specs.List.{flat_map};
 ghost use Rattle.std.specs.String.{string_bytes};
 ghost use Rattle.cck_entry.specs.Results.{result_in};
 ghost use Rattle.cck_include.specs.Include.{include_in, includes_in};
-ghost use Rattle.cck_explain_entry.specs.Listing.{entry_lines, include_line, result_lines, time_text};
+ghost use Rattle.cck_explain_entry.specs.Listing.{entry_lines, include_line, moment_text, result_lines, time_text};
 
 use cck_entry::PreprocessorCacheEntry;
 use cck_explain_text::push_quoted;
@@ -12,6 +12,15 @@ use cck_include::IncludeEntry;
 use cck_path::Timestamp;
 use std::alloc::{AllocError, Global};
 use std::collections::BTreeMap;
+
+// Returns the seconds and the nanoseconds of a time.
+fn moment_text(alloc: Global, time: Timestamp) -> Result<String, AllocError>
+    ensures { IfOk result (λ text. string_bytes text ≡ moment_text time) }
+{
+    let seconds = time.seconds();
+    let nanoseconds = time.nanoseconds();
+    format!(in alloc; "{seconds}s{nanoseconds}ns")
+}
 
 // Appends a time, or that there is none.
 fn push_time(
@@ -24,9 +33,7 @@ fn push_time(
     match time {
         None => lines.extend_from_slice(b"-"),
         Some(time) => {
-            let seconds = time.seconds();
-            let nanoseconds = time.nanoseconds();
-            let text = format!(in alloc; "{seconds}s{nanoseconds}ns")?;
+            let text = moment_text(alloc, time)?;
             lines.extend_from_slice(text.as_bytes())
         }
     }

@@ -26,6 +26,7 @@ impl From<AllocError> for EntryError {
 }
 
 // Returns the entry whose text these bytes are.
+#[tactic(auto, using(crate::proofs::NoEntryLemmas::no_format, crate::proofs::NoEntryLemmas::no_text))]
 fn read(alloc: Global, bytes: &[u8]) -> Result<PreprocessorCacheEntry, EntryError>
     ensures entry { IfOk result (λ e. IsEntryOf e bytes.now) }
     ensures refused { IfErr result (λ error. IsErrorFor bytes.now error) }

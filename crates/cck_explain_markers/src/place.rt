@@ -54,10 +54,13 @@ pub struct PlacedMark<'a> {
 
 /// Returns the marks of a text, in order, up to the first that is no name, each with its place.
 ///
-/// The only error is lack of memory.
+/// The only error is lack of memory, which is also returned for a text of 2^64 - 1 bytes.
 pub fn placed_marks(alloc: Global, text: &[u8]) -> Result<Vec<PlacedMark<'_>>, AllocError>
     ensures { IfOk result (λ placed. ArePlacedMarks text.now placed.items) }
 {
+    if text.len() == usize::MAX {
+        return Err(AllocError);
+    }
     let mut placed = Vec::new(alloc);
     let mut position = Position::start();
     let mut rest = text;
