@@ -19,7 +19,8 @@ fn moment_text(alloc: Global, time: Timestamp) -> Result<String, AllocError>
 {
     let seconds = time.seconds();
     let nanoseconds = time.nanoseconds();
-    format!(in alloc; "{seconds}s{nanoseconds}ns")
+    let text = format!(in alloc; "{seconds}s{nanoseconds}ns")?;
+    Ok(text)
 }
 
 // Appends a time, or that there is none.

@@ -18,7 +18,10 @@ pub enum EntryError {
 }
 
 impl From<AllocError> for EntryError {
-    ghost from_gives = { λ _ error. error ≡ EntryError.Memory };
+    ghost use Rattle.std.specs.Prelude.{◌≡◌};
+    ghost use Rattle.cck_explain_entry.specs.declared.listing.EntryError.TheVariants.{Memory};
+
+    ghost from_gives = { λ _ error. error ≡ Memory };
 
     fn from(_: AllocError) -> EntryError {
         EntryError::Memory

@@ -1,15 +1,15 @@
 -- the places after more bytes of a text
-use Rattle.std.proofs.Common.{◌≡◌, ℕ, ◌+◌, ◌<◌, ◌==◌, not, Bool, true, false, cond, List, [], ◌∷◌, ◌++◌, length, take, get_or, count_by, reverse, refl, sym, ap, ap₂, ◌∙◌, add-zero, append_assoc, append-nil, arith, eq-eqb, map, subst, Option, Some, None, ◌≤◌}
+use Rattle.std.proofs.Common.{◌≡◌, ℕ, ◌+◌, ◌<◌, ◌==◌, not, Bool, true, false, cond, List, [], ◌∷◌, ◌++◌, length, take, get_or, count_by, reverse, refl, sym, ap, ap₂, ◌∙◌, add-zero, append_assoc, append-nil, arith, eq-eqb, map, subst, All, Option, Some, None, ◌≤◌}
 use Rattle.std.proofs.lemmas.List.{length-reverse, map-append, reverse-append, take_more}
 use Rattle.std.proofs.lemmas.Bool.{ne_eqb}
+use Rattle.std.proofs.lemmas.List.Elements.{All-push}
 use Rattle.std.proofs.lemmas.List.Sums.{count_by-le-length, prefix_len-le-length, sum_by-append}
 use Rattle.std.specs.List.{prefix_len}
 use Rattle.cck_markers.proofs.ItemLemmas.{gives_both}
-use Rattle.cck_markers.specs.Items.{marks_of}
+use Rattle.cck_markers.specs.Items.{IsHere, marks_of}
 use Rattle.cck_markers.specs.Markers.{Gives, Unread, mark_of}
-use Rattle.cck_markers.specs.Marks as marks
 use Rattle.cck_markers.specs.declared.mark.Mark.{Mark}
-use Rattle.cck_explain_markers.specs.Place.{position_after}
+use Rattle.cck_explain_markers.specs.Place.{IsPlacedIn, placed_at, position_after}
 use Rattle.cck_explain_markers.specs.declared.place.PlacedMark.{PlacedMark}
 use Rattle.cck_explain_markers.specs.declared.place.Position.{Position}
 
@@ -58,18 +58,28 @@ module _ (front bytes : List ℕ) (i line column : ℕ) (lt : i < length bytes) 
 
 -- ---- marks
 
--- no mark more
-pub marks_same : (old middle new : Unread) (marks : List marks.Mark) (mark : Option Mark) → mark ≡ None → Gives old marks middle → Gives middle (marks_of mark) new → Gives old marks new
-marks_same old middle new marks mark none before item =
-    subst (λ given. Gives old given new) (ap (λ m. marks ++ marks_of m) none ∙ append-nil marks) (gives_both old middle new marks (marks_of mark) before item)
-
--- a mark more
-pub marks_more : (old middle new : Unread) (placed : List PlacedMark) (one : PlacedMark) (mark : Option Mark) → mark ≡ Some one.mark
-    → Gives old (map (λ p. mark_of p.mark) placed) middle → Gives middle (marks_of mark) new → Gives old (map (λ p. mark_of p.mark) (placed ++ one ∷ [])) new
-marks_more old middle new placed one mark some before item =
+-- the marks after an item, which makes one or none
+pub marks_next : (old middle new : Unread) (held : List PlacedMark) (position : Position) (mark : Option Mark)
+    → Gives old (map (λ p. mark_of p.mark) held) middle → Gives middle (marks_of mark) new
+    → Gives old (map (λ p. mark_of p.mark) (held ++ placed_at position mark)) new
+marks_next old middle new held position None before item =
     subst (λ given. Gives old given new)
-    (ap (λ m. map (λ p. mark_of p.mark) placed ++ marks_of m) some ∙ sym (map-append (λ p. mark_of p.mark) placed (one ∷ [])))
-    (gives_both old middle new (map (λ p. mark_of p.mark) placed) (marks_of mark) before item)
+    (append-nil (map (λ p. mark_of p.mark) held) ∙ ap (λ all. map (λ p. mark_of p.mark) all) (sym (append-nil held)))
+    (gives_both old middle new (map (λ p. mark_of p.mark) held) [] before item)
+marks_next old middle new held position (Some mark) before item =
+    let one : PlacedMark = record { position = position; mark = mark } in
+    subst (λ given. Gives old given new) (sym (map-append (λ p. mark_of p.mark) held (one ∷ [])))
+    (gives_both old middle new (map (λ p. mark_of p.mark) held) (mark_of mark ∷ []) before item)
+
+-- the mark of an item is at its place
+pub places_next : (text front rest : List ℕ) (starts_line : Bool) (held : List PlacedMark) (position : Position) (mark : Option Mark)
+    → text ≡ front ++ rest → position ≡ position_after front → IsHere starts_line rest mark
+    → All (IsPlacedIn text) held → All (IsPlacedIn text) (held ++ placed_at position mark)
+places_next text front rest starts_line held position None is at here so-far = subst (λ all. All (IsPlacedIn text) all) (sym (append-nil held)) so-far
+places_next text front rest starts_line held position (Some mark) is at here so-far =
+    let one : PlacedMark = record { position = position; mark = mark } in
+    let placed : IsPlacedIn text one = record { front = front; rest = rest; is = is; place = at; starts_line = starts_line; here = here } in
+    All-push (IsPlacedIn text) held one so-far placed
 
 -- ---- bounds
 
