@@ -1,7 +1,8 @@
 #!/bin/sh
 # Shows `cck_explain` on real input: three pairs of compilations that share no key, two texts that
-# differ in one byte 5 MiB in, a pipe, and a full device. Each listing's parts are joined again by
-# Python, and their digest is compared with the printed key. Prints a line for each case.
+# differ in one byte 5 MiB in, the line markers of a text of gcc, the entry of a run, a pipe, and a
+# full device. explain.py joins each listing's parts again and compares their digest with the printed
+# key, and compares the other listings with the reference. Prints a line for each case.
 #
 #     tests/explain.sh [PROGRAM]
 #
@@ -13,28 +14,10 @@ folder=$(mktemp -d)
 trap 'rm -rf "$folder"' EXIT
 cd "$folder"
 
-# The key of the listed parts, computed without the program.
-cat > join.py <<'P'
-import ast, hashlib, re, sys
-parts, offset = [], 0
-for line in open(sys.argv[1], encoding="ascii").read().split("\n")[:-1]:
-    if line.startswith("key "):
-        key = line[4:]
-        break
-    at, length, name, shown = line.split(" ", 3)
-    data = ast.literal_eval("b" + shown)
-    assert (int(at), int(length)) == (offset, len(data)), line
-    parts.append(data)
-    offset += len(data)
-digest = hashlib.sha256(b"".join(parts)).digest()
-assert key == "".join("%x%x" % (byte % 16, byte // 16) for byte in digest), key
-print("joined", offset, "bytes:", key[:16] + "..")
-P
-
 # Lists both texts, and prints the first part in which they differ.
 compare() {
-    python3 join.py first.txt
-    python3 join.py second.txt
+    python3 "$top/tests/explain.py" join first.txt
+    python3 "$top/tests/explain.py" join second.txt
     diff first.txt second.txt > difference || true
     grep '^[<>]' difference | head -n "$1" | cut -c1-150
 }
@@ -90,6 +73,23 @@ compare 2
 "$program" key abcd c < second.i > second.txt
 diff first.txt second.txt | grep '^[<>]' | head -n 2
 
+echo '== line markers'
+gcc -E -g -DLEVEL=1 main.c > main.i
+"$program" markers main.c "$PWD" < main.i > listing
+python3 "$top/tests/explain.py" markers main.c "$PWD" main.i listing
+head -n 7 listing | sed "s,$folder,/tmp/F,g"
+{ cat main.i; printf '  __asm__(" .incbin \\"f\\"");\n'; } > incbin.i
+"$program" markers main.c "$PWD" < incbin.i > listing
+python3 "$top/tests/explain.py" markers main.c "$PWD" incbin.i listing
+tail -n 1 listing
+{ cat main.i; printf '# 1 no name, no end'; } > malformed.i
+"$program" markers main.c "$PWD" < malformed.i > listing
+python3 "$top/tests/explain.py" markers main.c "$PWD" malformed.i listing
+tail -n 1 listing
+
+echo '== the entry of a run'
+python3 "$top/tests/explain.py" entries "$program"
+
 echo '== through a pipe'
 cat first.i | "$program" key --full abcd c | cmp - "$(: > listing; "$program" key --full abcd c < first.i > listing; echo listing)"
 echo 'the same'
@@ -97,6 +97,10 @@ echo 'the same'
 echo '== into a full device'
 status=0
 "$program" key --full abcd c < first.i > /dev/full || status=$?
+echo "status $status"
+[ "$status" = 1 ]
+status=0
+"$program" markers main.c "$PWD" < main.i > /dev/full || status=$?
 echo "status $status"
 [ "$status" = 1 ]
 echo '== wrong words'

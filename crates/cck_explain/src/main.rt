@@ -1,8 +1,10 @@
 //! The program `cck_explain`: why two compilations did not share a key.
 //!
 //! `cck_explain key DIGEST LANGUAGE [ARG..]` reads a preprocessed text from standard input and
-//! prints the parts of its key material, a line each, and its key. Errors go to standard error.
-//! `main` only passes the words and the standard streams to [`run`].
+//! prints the parts of its key material, a line each, and its key. `cck_explain entry` reads an entry
+//! of the store and prints its results and their includes. `cck_explain markers INPUT CWD` reads a
+//! preprocessed text and prints its line markers. Errors go to standard error. `main` only passes the
+//! words and the standard streams to [`run`].
 #![tactic(auto)]
 
 use cck_explain_command::{refuse, run};

@@ -1,7 +1,7 @@
 //! The listing of an entry.
 ghost use Rattle.std.specs.Prelude.{IfErr, IfSome, OnErr, OnOk};
 ghost use Rattle.cck_explain_entry.specs.Bytes.{IsListingOf};
-ghost use Rattle.cck_explain_command.specs.Written.{IsErrorFor, WritesOf, BeginsOf};
+ghost use Rattle.cck_explain_command.specs.Written.{BeginsOf, IsErrorFor, WritesOf};
 
 use crate::error::ExplainError;
 use cck_command::print;
@@ -9,6 +9,17 @@ use cck_explain_entry::entry_listing;
 use cck_util::read_all;
 use std::alloc::Global;
 use std::io::{Read, Write};
+
+// Writes the listing of the entry that these bytes are.
+fn write_entry<W: Write>(alloc: Global, bytes: &[u8], writer: &mut W) -> Result<(), ExplainError>
+    ensures listed { OnOk result (WritesOf (IsListingOf bytes.now) (W.contents writer.old) (W.contents writer.new)) }
+    ensures begun { OnErr result (BeginsOf (IsListingOf bytes.now) (W.contents writer.old) (W.contents writer.new)) }
+    ensures refused { IfErr result (λ error. IsErrorFor bytes.now error (W.contents writer.old) (W.contents writer.new)) }
+{
+    let listing = entry_listing(alloc, bytes)?;
+    print(writer, &listing)?;
+    Ok(())
+}
 
 /// Reads bytes to their end, and writes the [listing](entry_listing) of the entry that they are.
 ///
@@ -28,7 +39,5 @@ pub fn explain_entry<R: Read, W: Write>(
         IsErrorFor bytes error (W.contents writer.old) (W.contents writer.new))) }
 {
     let bytes = read_all(alloc, reader)?;
-    let listing = entry_listing(alloc, &bytes)?;
-    print(writer, &listing)?;
-    Ok(())
+    write_entry(alloc, &bytes, writer)
 }

@@ -1,7 +1,4 @@
 //! The error of the program.
-ghost use Rattle.std.specs.Prelude.{◌≡◌};
-ghost use Rattle.cck_explain_command.specs.Written.{explained_by};
-
 use cck_command::Failed;
 use cck_explain_entry::{EntryError, Fault};
 use cck_util::UtilError;
@@ -26,6 +23,9 @@ pub enum ExplainError {
 }
 
 impl From<EntryError> for ExplainError {
+    ghost use Rattle.std.specs.Prelude.{◌≡◌};
+    ghost use Rattle.cck_explain_command.specs.Written.{explained_by};
+
     ghost from_gives = { λ error explained. explained ≡ explained_by error };
 
     fn from(error: EntryError) -> ExplainError {
@@ -37,6 +37,11 @@ impl From<EntryError> for ExplainError {
 }
 
 impl From<UtilError> for ExplainError {
+    ghost use Rattle.std.specs.Prelude.{◌≡◌, ◌⊎◌};
+    ghost use Rattle.cck_explain_command.specs.declared.error.ExplainError.TheVariants.{Memory, Read};
+
+    ghost from_gives = { λ _ explained. (explained ≡ Read) ⊎ (explained ≡ Memory) };
+
     fn from(error: UtilError) -> ExplainError {
         if error == UtilError::Read {
             ExplainError::Read
@@ -47,12 +52,22 @@ impl From<UtilError> for ExplainError {
 }
 
 impl From<Failed> for ExplainError {
+    ghost use Rattle.std.specs.Prelude.{◌≡◌};
+    ghost use Rattle.cck_explain_command.specs.declared.error.ExplainError.TheVariants.{Write};
+
+    ghost from_gives = { λ _ explained. explained ≡ Write };
+
     fn from(_: Failed) -> ExplainError {
         ExplainError::Write
     }
 }
 
 impl From<AllocError> for ExplainError {
+    ghost use Rattle.std.specs.Prelude.{◌≡◌};
+    ghost use Rattle.cck_explain_command.specs.declared.error.ExplainError.TheVariants.{Memory};
+
+    ghost from_gives = { λ _ explained. explained ≡ Memory };
+
     fn from(_: AllocError) -> ExplainError {
         ExplainError::Memory
     }

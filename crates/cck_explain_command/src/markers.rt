@@ -1,7 +1,7 @@
 //! The listing of line markers.
 ghost use Rattle.std.specs.Prelude.{IfSome, OnErr, OnOk};
 ghost use Rattle.cck_explain_markers.specs.Listing.{AreMarkerLines};
-ghost use Rattle.cck_explain_command.specs.Written.{WritesOf, BeginsOf};
+ghost use Rattle.cck_explain_command.specs.Written.{BeginsOf, WritesOf};
 
 use crate::error::ExplainError;
 use crate::request::MarkersRequest;
@@ -10,6 +10,23 @@ use cck_explain_markers::marker_lines;
 use cck_util::read_all;
 use std::alloc::Global;
 use std::io::{Read, Write};
+
+// Writes a line for each mark of a text.
+fn write_markers<W: Write>(
+    alloc: Global,
+    request: MarkersRequest<'_>,
+    text: &[u8],
+    writer: &mut W,
+) -> Result<(), ExplainError>
+    ensures listed { OnOk result (WritesOf (AreMarkerLines request.entry.input.now request.entry.cwd.now text.now)
+        (W.contents writer.old) (W.contents writer.new)) }
+    ensures begun { OnErr result (BeginsOf (AreMarkerLines request.entry.input.now request.entry.cwd.now text.now)
+        (W.contents writer.old) (W.contents writer.new)) }
+{
+    let lines = marker_lines(alloc, text, request.input, request.cwd)?;
+    print(writer, &lines)?;
+    Ok(())
+}
 
 /// Reads a text to its end, and writes a [line](marker_lines) for each of its marks.
 ///
@@ -27,7 +44,5 @@ pub fn explain_markers<R: Read, W: Write>(
         BeginsOf (AreMarkerLines request.entry.input.now request.entry.cwd.now text) (W.contents writer.old) (W.contents writer.new))) }
 {
     let text = read_all(alloc, reader)?;
-    let lines = marker_lines(alloc, &text, request.input, request.cwd)?;
-    print(writer, &lines)?;
-    Ok(())
+    write_markers(alloc, request, &text, writer)
 }

@@ -10,10 +10,14 @@ use Rattle.cck_include.specs.Include.{Include}
 use Rattle.cck_path.specs.Bytes.{Bytes}
 use Rattle.cck_path.specs.Timestamp.{Moment}
 
--- a time by its seconds and nanoseconds, or that there is none
+-- a time by its seconds and nanoseconds
+abbrev pub moment_text : Moment → Bytes
+moment_text time = signed_decimal time.seconds ++ codes "s" ++ decimal time.nanoseconds ++ codes "ns"
+
+-- a time, or that there is none
 abbrev pub time_text : Option Moment → Bytes
 time_text None = codes "-"
-time_text (Some time) = signed_decimal time.seconds ++ codes "s" ++ decimal time.nanoseconds ++ codes "ns"
+time_text (Some time) = moment_text time
 
 -- the line of an include: its path, digest, size, and the times of its last modification and last change
 abbrev pub include_line : Include → Bytes

@@ -1,10 +1,11 @@
 //! The lines of an entry.
 ghost use Rattle.std.specs.Prelude.{◌≡◌, ◌++◌, IfOk, OnOk, map};
+ghost use Rattle.std.specs.Fmt.{signed_decimal};
 ghost use Rattle.std.specs.List.{flat_map};
 ghost use Rattle.std.specs.String.{string_bytes};
 ghost use Rattle.cck_entry.specs.Results.{result_in};
 ghost use Rattle.cck_include.specs.Include.{include_in, includes_in};
-ghost use Rattle.cck_explain_entry.specs.Listing.{entry_lines, include_line, result_lines, time_text};
+ghost use Rattle.cck_explain_entry.specs.Listing.{entry_lines, include_line, moment_text, result_lines, time_text};
 
 use cck_entry::PreprocessorCacheEntry;
 use cck_explain_text::push_quoted;
@@ -12,6 +13,25 @@ use cck_include::IncludeEntry;
 use cck_path::Timestamp;
 use std::alloc::{AllocError, Global};
 use std::collections::BTreeMap;
+
+// Returns the decimal text of seconds.
+fn seconds_text(alloc: Global, seconds: i64) -> Result<String, AllocError>
+    ensures { IfOk result (λ text. string_bytes text ≡ signed_decimal seconds) }
+{
+    let text = format!(in alloc; "{seconds}")?;
+    Ok(text)
+}
+
+// Appends a time.
+fn push_moment(alloc: Global, lines: &mut Vec<u8>, time: Timestamp) -> Result<(), AllocError>
+    ensures { OnOk result (lines.new.items ≡ lines.old.items ++ moment_text time) }
+{
+    let seconds = seconds_text(alloc, time.seconds())?;
+    lines.extend_from_slice(seconds.as_bytes())?;
+    let nanoseconds = time.nanoseconds();
+    let nanoseconds = format!(in alloc; "s{nanoseconds}ns")?;
+    lines.extend_from_slice(nanoseconds.as_bytes())
+}
 
 // Appends a time, or that there is none.
 fn push_time(
@@ -23,12 +43,7 @@ fn push_time(
 {
     match time {
         None => lines.extend_from_slice(b"-"),
-        Some(time) => {
-            let seconds = time.seconds();
-            let nanoseconds = time.nanoseconds();
-            let text = format!(in alloc; "{seconds}s{nanoseconds}ns")?;
-            lines.extend_from_slice(text.as_bytes())
-        }
+        Some(time) => push_moment(alloc, lines, time),
     }
 }
 

@@ -18,7 +18,10 @@ pub enum EntryError {
 }
 
 impl From<AllocError> for EntryError {
-    ghost from_gives = { λ _ error. error ≡ EntryError.Memory };
+    ghost use Rattle.std.specs.Prelude.{◌≡◌};
+    ghost use Rattle.cck_explain_entry.specs.declared.listing.EntryError.TheVariants.{Memory};
+
+    ghost from_gives = { λ _ error. error ≡ Memory };
 
     fn from(_: AllocError) -> EntryError {
         EntryError::Memory
@@ -26,6 +29,7 @@ impl From<AllocError> for EntryError {
 }
 
 // Returns the entry whose text these bytes are.
+#[tactic(auto, using(crate::proofs::NoEntryLemmas::no_format, crate::proofs::NoEntryLemmas::no_text))]
 fn read(alloc: Global, bytes: &[u8]) -> Result<PreprocessorCacheEntry, EntryError>
     ensures entry { IfOk result (λ e. IsEntryOf e bytes.now) }
     ensures refused { IfErr result (λ error. IsErrorFor bytes.now error) }

@@ -7,7 +7,8 @@ use Rattle.cck_explain_text.specs.Quoted.{quoted}
 use Rattle.cck_markers.specs.declared.mark.Mark.{Mark}
 use Rattle.cck_markers.specs.declared.mark.Mark.TheVariants.{Name, Refusal, Malformed}
 use Rattle.cck_path.specs.Bytes.{Bytes}
-use Rattle.cck_path.specs.Path.{Path, components, joined, normal, path_cmp, path_text}
+use Rattle.cck_path.specs.Path.{Path, components, joined, normal, path_cmp}
+use Rattle.cck_path.specs.Text.{path_text}
 use Rattle.cck_explain_markers.specs.Place.{ArePlacedMarks}
 use Rattle.cck_explain_markers.specs.declared.place.PlacedMark.{PlacedMark}
 use Rattle.cck_explain_markers.specs.declared.place.Position.{Position}

@@ -2,7 +2,8 @@
 ghost use Rattle.std.specs.Prelude.{◌≡◌, ◌++◌, IfOk, OnOk};
 ghost use Rattle.std.specs.List.{flat_map};
 ghost use Rattle.std.specs.Ordering.{eq_by_cmp};
-ghost use Rattle.cck_path.specs.Path.{components, path_cmp, path_text};
+ghost use Rattle.cck_path.specs.Path.{components, path_cmp};
+ghost use Rattle.cck_path.specs.Text.{path_text};
 ghost use Rattle.cck_explain_markers.specs.Listing.{AreMarkerLines, is_angled, mark_line, mark_words, name_words, path_named, path_word, path_words};
 
 use crate::place::{PlacedMark, placed_marks};

@@ -1,6 +1,6 @@
 //! The marks of a text with their places.
-ghost use Rattle.std.specs.Prelude.{◌≡◌, ℕ, ◌+◌, ◌<◌, ◌^◌, ◌++◌, List, [], IfOk, length};
-ghost use Rattle.cck_explain_markers.specs.Place.{ArePlacedMarks, position_after};
+ghost use Rattle.std.specs.Prelude.{◌≡◌, ℕ, ◌+◌, ◌<◌, ◌^◌, ◌++◌, List, [], IfOk, OnOk, length};
+ghost use Rattle.cck_explain_markers.specs.Place.{ArePlacedMarks, placed_at, position_after};
 
 use cck_markers::{Mark, read_item};
 use std::alloc::{AllocError, Global};
@@ -52,20 +52,38 @@ pub struct PlacedMark<'a> {
     pub mark: Mark<'a>,
 }
 
+// Appends the mark that is made at this place, if there is one.
+fn push_mark<'a>(
+    placed: &mut Vec<PlacedMark<'a>>,
+    position: Position,
+    mark: Option<Mark<'a>>,
+) -> Result<(), AllocError>
+    ensures { OnOk result (placed.new.items ≡ placed.old.items ++ placed_at position mark.entry) }
+{
+    match mark {
+        None => Ok(()),
+        Some(mark) => {
+            placed.push(PlacedMark { position, mark })?;
+            Ok(())
+        }
+    }
+}
+
 /// Returns the marks of a text, in order, up to the first that is no name, each with its place.
 ///
-/// The only error is lack of memory.
+/// The only error is lack of memory, which is also returned for a text of 2^64 - 1 bytes.
 pub fn placed_marks(alloc: Global, text: &[u8]) -> Result<Vec<PlacedMark<'_>>, AllocError>
     ensures { IfOk result (λ placed. ArePlacedMarks text.now placed.items) }
 {
+    if text.len() == usize::MAX {
+        return Err(AllocError);
+    }
     let mut placed = Vec::new(alloc);
     let mut position = Position::start();
     let mut rest = text;
     let mut starts_line = true;
     while let Some(item) = read_item(rest, starts_line) {
-        if let Some(mark) = item.mark {
-            placed.push(PlacedMark { position, mark })?;
-        }
+        push_mark(&mut placed, position, item.mark)?;
         let (front, after) = rest.split_at(item.size);
         position = position.after(front);
         rest = after;

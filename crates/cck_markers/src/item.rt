@@ -1,6 +1,6 @@
 //! One item of a text: a marker, a line that is skipped, an inclusion, or a byte.
-ghost use Rattle.std.specs.Prelude.{◌≡◌, ◌<◌, Some, false, length};
-ghost use Rattle.cck_markers.specs.Items.{BeginsWith, what_of};
+ghost use Rattle.std.specs.Prelude.{◌≡◌, ◌<◌, IfSome, Some, false, length};
+ghost use Rattle.cck_markers.specs.Items.{BeginsWith, IsHere, what_of};
 ghost use Rattle.cck_markers.specs.Marks.{Marker, is_hidden, is_inclusion, is_marker, what};
 
 use crate::line::{Line, read_line};
@@ -106,7 +106,8 @@ fn what_occurs(text: &[u8], starts_line: bool) -> What
 /// [`Markers`](crate::Markers) yields the marks of these items, and passes over plain bytes sooner.
 /// This function is for a caller that needs the place of each mark.
 pub fn read_item(text: &[u8], starts_line: bool) -> Option<Item<'_>>
-    ensures { BeginsWith starts_line text.now result }
+    ensures begins { BeginsWith starts_line text.now result }
+    ensures here { IfSome result (λ item. IsHere starts_line text.now item.mark) }
 {
     match what_occurs(text, starts_line) {
         What::Short => None,
@@ -135,7 +136,8 @@ pub fn read_item(text: &[u8], starts_line: bool) -> Option<Item<'_>>
 // The item of a marker ends before its line's end or its closing quote, and no line starts there.
 fn read_marker(text: &[u8], starts_line: bool) -> Item<'_>
     requires { what starts_line text.now ≡ Marker }
-    ensures { BeginsWith starts_line text.now (Some result) }
+    ensures begins { BeginsWith starts_line text.now (Some result) }
+    ensures here { IsHere starts_line text.now result.mark }
 {
     match read_line(text) {
         Line::Unnamed { end } => Item {

@@ -19,14 +19,14 @@ invariant_of-self-then-is_some c =
     let rest = c.skip_plain-starts_line.result.0.now in
     let searches = c.skip_plain-starts_line.new.self in
     let item = c.in_ok-item.item in
-    subst (λ (text : List ℕ). AreKnown searches text) (sym (slice_from rest item.size)) (known_after searches rest item.size c.skip_plain-starts_line.ensures.known c.in_ok-item.ensures.1)
+    subst (λ (text : List ℕ). AreKnown searches text) (sym (slice_from rest item.size)) (known_after searches rest item.size c.skip_plain-starts_line.ensures.known c.in_ok-item.ensures.begins.1)
 
 pub loop-item-preserved : goal.loop-item-preserved
 loop-item-preserved c =
     let rest = c.skip_plain-starts_line.result.0.now in
     let searches = c.skip_plain-starts_line.new.self in
     let item = c.in_ok-item.item in
-    let begins = c.in_ok-item.ensures in
+    let begins = c.in_ok-item.ensures.begins in
     let old : Unread = record { starts_line = c.self.inside.starts_line; text = c.self.inside.rest.now } in
     let none = no_mark item.mark (sym c.is_some.ensures ∙ c.if-is_some.false) in
     record {
