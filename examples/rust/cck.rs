@@ -61,8 +61,16 @@ impl KeyParams<'_> {
     pub fn key(&self) -> Result<String, KeyError> {
         let slices = |all: &[&[u8]]| all.iter().map(|one| Slice::from(*one)).collect::<Vec<_>>();
         let (arguments, basedirs) = (slices(self.arguments), slices(self.basedirs));
-        let extra_hashes: Vec<_> = self.extra_hashes.iter().map(|one| Slice::from(one.as_bytes())).collect();
-        let variables: Vec<_> = self.variables.iter().map(|one| Variable(one.0.into(), one.1.into())).collect();
+        let extra_hashes: Vec<_> = self
+            .extra_hashes
+            .iter()
+            .map(|one| Slice::from(one.as_bytes()))
+            .collect();
+        let variables: Vec<_> = self
+            .variables
+            .iter()
+            .map(|one| Variable(one.0.into(), one.1.into()))
+            .collect();
         let params = RawParams {
             compiler_digest: self.compiler_digest.as_bytes().into(),
             language: self.language.as_bytes().into(),
@@ -99,7 +107,13 @@ pub struct Finder {
 
 impl Default for Finder {
     fn default() -> Finder {
-        let mut finder = Finder { time: 0, date: 0, timestamp: 0, length: 0, tail: [0; 12] };
+        let mut finder = Finder {
+            time: 0,
+            date: 0,
+            timestamp: 0,
+            length: 0,
+            tail: [0; 12],
+        };
         // SAFETY: nothing else borrows the finder.
         unsafe { cck_finder_start(&mut finder) };
         finder

@@ -12,12 +12,22 @@ fn main() {
         ..KeyParams::default()
     };
     println!("key {}", params.key().expect("a key"));
-    let unknown = KeyParams { language: "d", ..params };
+    let unknown = KeyParams {
+        language: "d",
+        ..params
+    };
     assert_eq!(unknown.key(), Err(KeyError::Language));
 
     let checkouts: &[&[u8]] = &[b"/one/", b"/two/"];
-    let one = KeyParams { basedirs: checkouts, arguments: &[b"-I/one/include"], ..params };
-    let two = KeyParams { arguments: &[b"-I/two/include"], ..one };
+    let one = KeyParams {
+        basedirs: checkouts,
+        arguments: &[b"-I/one/include"],
+        ..params
+    };
+    let two = KeyParams {
+        arguments: &[b"-I/two/include"],
+        ..one
+    };
     println!("two checkouts share a key: {}", one.key() == two.key());
 
     let mut finder = Finder::default();

@@ -163,6 +163,29 @@ static int32_t make_key(const void *given, void *written) {
   return cck_object_key(given, written);
 }
 
+/* The same call with each digest in turn no UTF-8. */
+static void call_with_wrong_digests(struct call call, struct cck_key_params params) {
+  static const uint8_t text[] = {'a', 0xc3};
+  static const struct cck_bytes extra[] = {{(const uint8_t *)"ab", 2}, {text, sizeof text}};
+  struct cck_key_params wrong_params = params;
+  call.given = &wrong_params;
+  wrong_params.compiler_digest = text;
+  wrong_params.compiler_digest_length = sizeof text;
+  if (make(call) != CCK_DIGEST)
+    wrong("the digest of a compiler was accepted that is not UTF-8");
+  wrong_params = params;
+  wrong_params.extra_hashes = extra;
+  wrong_params.extra_hashes_length = 2;
+  if (make(call) != CCK_DIGEST)
+    wrong("an extra hash was accepted that is not UTF-8");
+  wrong_params = params;
+  wrong_params.assembler_digest = text;
+  wrong_params.assembler_digest_length = sizeof text;
+  wrong_params.has_assembler = 255;
+  if (make(call) != CCK_DIGEST)
+    wrong("the digest of an assembler was accepted that is not UTF-8");
+}
+
 static void call_key(char **field) {
   struct cck_bytes digest = bytes_of(field[0], strlen(field[0]));
   struct cck_bytes language = bytes_of(field[1], strlen(field[1]));
@@ -173,6 +196,7 @@ static void call_key(char **field) {
   uint8_t *key = room(CCK_KEY_LENGTH);
   struct cck_key_params params;
   struct call call;
+  int32_t status;
   memset(&params, 0, sizeof params);
   params.compiler_digest = digest.bytes;
   params.compiler_digest_length = digest.bytes_length;
@@ -196,9 +220,12 @@ static void call_key(char **field) {
   call.given = &params;
   call.written = key;
   call.size = CCK_KEY_LENGTH;
-  printf("%d ", (int)make(call));
+  status = make(call);
+  printf("%d ", (int)status);
   print_bytes(key, CCK_KEY_LENGTH);
   putchar('\n');
+  if (status == CCK_DONE)
+    call_with_wrong_digests(call, params);
   free(key);
   free(variables);
   free_list(assembler);

@@ -6,6 +6,12 @@ import pathlib
 import re
 import sys
 
+# An export with its parameters, and a struct that crosses with its fields.
+EXPORT = re.compile(r'extern "C" fn (\w+)(?:<[^>]*>)?\((.*?)\)[^()]*?\n?\s*(?:->|ensures)', re.S)
+STRUCT = re.compile(
+    r"#\[repr\(C\)\]\s*(?:#\[[^\]]*\]\s*)*pub struct (\w+)[^{]*\{(.*?)\n\}", re.S
+)
+
 CRATE = pathlib.Path(__file__).resolve().parent.parent.parent / "crates" / "cck_c"
 
 
@@ -47,9 +53,9 @@ def of_crate():
     functions, structs, constants = {}, {}, {}
     for path in sorted((CRATE / "src").glob("*.rt")):
         text = without_comments(path.read_text(), "//")
-        for name, given in re.findall(r'extern "C" fn (\w+)(?:<[^>]*>)?\((.*?)\)[^()]*?\n?\s*(?:->|ensures)', text, re.S):
+        for name, given in EXPORT.findall(text):
             functions[name] = sum(width(one.split(": ", 1)[1]) for one in parts(given))
-        for name, body in re.findall(r"#\[repr\(C\)\]\s*(?:#\[[^\]]*\]\s*)*pub struct (\w+)[^{]*\{(.*?)\n\}", text, re.S):
+        for name, body in STRUCT.findall(text):
             fields = [one.removeprefix("pub ").split(": ", 1) for one in parts(body)]
             structs[snake(name)] = [
                 part for field, kind in fields
@@ -60,6 +66,11 @@ def of_crate():
     return functions, structs, constants
 
 
+def field_name(line):
+    """The name of the field that a line of a struct of C declares."""
+    return re.sub(r"\[.*\]", "", line.split()[-1].lstrip("*"))
+
+
 def of_header():
     """The same of the header."""
     text = re.sub(r"/\*.*?\*/", "", (CRATE / "include" / "cck.h").read_text(), flags=re.S)
@@ -68,7 +79,7 @@ def of_header():
         for name, given in re.findall(r"^\w+ (cck_\w+)\(([^;]*)\);", text, re.M)
     }
     structs = {
-        name: [re.sub(r"\[.*\]", "", line.split()[-1].lstrip("*")) for line in body.split(";") if line.strip()]
+        name: [field_name(line) for line in body.split(";") if line.strip()]
         for name, body in re.findall(r"struct (cck_\w+) \{(.*?)\};", text, re.S)
     }
     constants = {name: int(value) for name, value in re.findall(r"(CCK_\w+) = (\d+)", text)}

@@ -1,5 +1,5 @@
-"""Compares what the functions of cck.h return with the vector files: vectors.py PROGRAM [WORD..],
-where PROGRAM is tests/c/calls.c, built, and the words before it, if any, run it (as valgrind).
+"""Compares what the functions of cck.h return with the vector files: vectors.py [WORD..] PROGRAM, where
+PROGRAM is tests/c/calls.c, built, and the words before it, if any, run it (as valgrind).
 
 Each call of a vector file that one of the functions can make is made, over what the file's lines
 give. What it has to return is the file's own expected result.
@@ -101,26 +101,26 @@ def of_prefixes(subject, data, expected):
             yield f"counts\t{data[:end].hex()}", f"{ENTRY}"
 
 
-def mark_field(line):
-    """A mark, as its kind, whether it is of a system header, and its name."""
-    if line == b"refusal":
-        return "10"
-    if line == b"malformed":
-        return "20"
-    word, _, name = line.partition(b" ")
-    return f"0{int(word == b'system')}{name.hex()}"
+def marks_field(expected):
+    """Marks as a field: of each its kind, whether it is of a system header, and its name."""
+    field = ""
+    for line in expected.split(b"\n"):
+        word, _, name = line.partition(b" ")
+        if line == b"refusal":
+            field += "10,"
+        elif line == b"malformed":
+            field += "20,"
+        elif word in (b"name", b"system"):
+            field += f"0{int(word == b'system')}{name.hex()},"
+        else:
+            # A name may have line feeds in it.
+            field = field[:-1] + (b"\n" + line).hex() + ","
+    return field
 
 
 def of_marks(subject, text, expected):
     """`marks TEXT`."""
-    # A name with a line feed looks like two marks, so such a text is left out.
-    if b"\n" in text and any(
-        not line.startswith((b"name ", b"system ")) and line not in (b"refusal", b"malformed", b"")
-        for line in expected.split(b"\n")
-    ):
-        return
-    marks = [mark_field(line) for line in expected.split(b"\n")] if expected else []
-    yield f"marks\t{text.hex()}", "".join(mark + "," for mark in marks)
+    yield f"marks\t{text.hex()}", marks_field(expected) if expected else ""
 
 
 CALLS = {
