@@ -1,0 +1,61 @@
+//! The bytes of a file of the store: its kind, a digest over the whole, and frames.
+use crate::frames::{push_frame, read_frames};
+use cck_digest::{Digest, HashState, UtilError};
+use std::alloc::Global;
+
+/// The number of digits of a hex digest.
+const DIGITS: usize = 64;
+
+// The hex digest over a kind and the frames after it.
+fn digest_over<H: HashState>(
+    alloc: Global,
+    kind: &[u8],
+    frames: &[u8],
+) -> Result<String, UtilError> {
+    let mut digest = Digest::<H>::new();
+    digest.update(kind);
+    digest.update(frames);
+    digest.finish(alloc)
+}
+
+/// The bytes of a file of this kind with these parts: the kind, the hex digest over the kind and
+/// the frames, and a frame for each part.
+///
+/// The only error is [`UtilError::Memory`].
+pub fn write_stored<H: HashState>(
+    alloc: Global,
+    kind: &[u8],
+    parts: &[&[u8]],
+) -> Result<Vec<u8>, UtilError> {
+    let mut frames = Vec::new(alloc);
+    for part in parts {
+        push_frame(&mut frames, part)?;
+    }
+    let text = digest_over::<H>(alloc, kind, &frames)?;
+    let mut bytes = Vec::new(alloc);
+    bytes.extend_from_slice(kind)?;
+    bytes.extend_from_slice(text.as_bytes())?;
+    bytes.extend_from_slice(&frames)?;
+    Ok(bytes)
+}
+
+/// The parts of a file of this kind. `None` where these are not the bytes of such a file.
+///
+/// The only error is [`UtilError::Memory`].
+pub fn read_stored<H: HashState>(
+    alloc: Global,
+    kind: &[u8],
+    bytes: &[u8],
+) -> Result<Option<Vec<Vec<u8>>>, UtilError> {
+    let Some(rest) = bytes.strip_prefix(kind) else {
+        return Ok(None);
+    };
+    if rest.len() < DIGITS {
+        return Ok(None);
+    }
+    let (text, frames) = rest.split_at(DIGITS);
+    if digest_over::<H>(alloc, kind, frames)?.as_bytes() != text {
+        return Ok(None);
+    }
+    Ok(read_frames(alloc, frames)?)
+}
