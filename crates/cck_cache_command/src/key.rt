@@ -29,7 +29,11 @@ pub fn input_snapshot<R: Files + AllocGlobal>(
 ) -> Result<InputSnapshot> {
     let alloc = rt.alloc();
     let mut files = MapFiles::new(alloc);
-    let path = join_path(alloc, request.directory.as_bytes(), request.input.as_bytes())?;
+    let path = join_path(
+        alloc,
+        request.directory.as_bytes(),
+        request.input.as_bytes(),
+    )?;
     let tests_headers = add_file(rt, &mut files, &path)?;
     Ok(InputSnapshot {
         files,

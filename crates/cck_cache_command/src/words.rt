@@ -41,12 +41,7 @@ pub enum Task<'a> {
 }
 
 // A required option that takes a value.
-fn option_arg<'a>(
-    alloc: Global,
-    name: &'a str,
-    value: &'a str,
-    help: &'a str,
-) -> Arg<'a> {
+fn option_arg<'a>(alloc: Global, name: &'a str, value: &'a str, help: &'a str) -> Arg<'a> {
     Arg::new(alloc, name)
         .long(name)
         .value_name(value)
@@ -65,16 +60,18 @@ fn with_request<'a>(alloc: Global, command: Command<'a>) -> Result<Command<'a>, 
         .trailing_var_arg(true)
         .allow_hyphen_values(true)
         .help("The compiler's arguments, without the output");
-    Ok(command
-        .arg(option_arg(
-            alloc,
-            "compiler",
-            "PATHS",
-            "The programs that the compiler runs, with colons between them",
-        ))?
-        .arg(option_arg(alloc, "directory", "DIR", "The working directory"))?
-        .arg(input)?
-        .arg(arguments)?)
+    Ok(
+        command
+            .arg(option_arg(
+                alloc,
+                "compiler",
+                "PATHS",
+                "The programs that the compiler runs, with colons between them",
+            ))?
+            .arg(option_arg(alloc, "directory", "DIR", "The working directory"))?
+            .arg(input)?
+            .arg(arguments)?,
+    )
 }
 
 // The word STORE.
@@ -94,12 +91,7 @@ fn key_command<'a>(alloc: Global) -> Result<Command<'a>, Error> {
 fn look_command<'a>(alloc: Global) -> Result<Command<'a>, Error> {
     let command = Command::new(alloc, "look")
         .about("Writes the object from the store")
-        .arg(option_arg(
-            alloc,
-            "out",
-            "FILE",
-            "Where the object is written",
-        ))?
+        .arg(option_arg(alloc, "out", "FILE", "Where the object is written"))?
         .arg(store_arg(alloc))?;
     with_request(alloc, command)
 }
@@ -108,12 +100,7 @@ fn look_command<'a>(alloc: Global) -> Result<Command<'a>, Error> {
 fn record_command<'a>(alloc: Global) -> Result<Command<'a>, Error> {
     let command = Command::new(alloc, "record")
         .about("Records a compilation, whose preprocessed text is read from standard input")
-        .arg(option_arg(
-            alloc,
-            "since",
-            "STAMP",
-            "The time that the look-up printed",
-        ))?
+        .arg(option_arg(alloc, "since", "STAMP", "The time that the look-up printed"))?
         .arg(option_arg(
             alloc,
             "key",
@@ -139,13 +126,15 @@ fn record_command<'a>(alloc: Global) -> Result<Command<'a>, Error> {
 
 // The whole command line.
 fn program<'a>(alloc: Global) -> Result<Command<'a>, Error> {
-    Ok(Command::new(alloc, "cck_cache")
-        .version(VERSION)
-        .about("Keeps the objects of compilations")
-        .subcommand_required(true)
-        .subcommand(key_command(alloc)?)?
-        .subcommand(look_command(alloc)?)?
-        .subcommand(record_command(alloc)?)?)
+    Ok(
+        Command::new(alloc, "cck_cache")
+            .version(VERSION)
+            .about("Keeps the objects of compilations")
+            .subcommand_required(true)
+            .subcommand(key_command(alloc)?)?
+            .subcommand(look_command(alloc)?)?
+            .subcommand(record_command(alloc)?)?,
+    )
 }
 
 // The bytes of each argument of the compiler.
@@ -160,10 +149,7 @@ fn arguments_of(alloc: Global, matches: &ArgMatches<'_>) -> Result<Vec<Vec<u8>>,
 }
 
 // The request in the words of a command.
-fn request_of<'a>(
-    alloc: Global,
-    matches: &ArgMatches<'a>,
-) -> Result<Option<Request<'a>>, Error> {
+fn request_of<'a>(alloc: Global, matches: &ArgMatches<'a>) -> Result<Option<Request<'a>>, Error> {
     let (Some(compiler), Some(directory), Some(input)) = (
         matches.get_str("compiler"),
         matches.get_str("directory"),

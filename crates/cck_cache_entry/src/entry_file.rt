@@ -34,10 +34,7 @@ impl EntryFile {
     /// What a file holds. `None` where these are not the bytes of an entry file.
     ///
     /// The only error is [`UtilError::Memory`].
-    pub fn read<H: HashState>(
-        alloc: Global,
-        bytes: &[u8],
-    ) -> Result<Option<EntryFile>, UtilError> {
+    pub fn read<H: HashState>(alloc: Global, bytes: &[u8]) -> Result<Option<EntryFile>, UtilError> {
         let Some(parts) = read_stored::<H>(alloc, KIND, bytes)? else {
             return Ok(None);
         };

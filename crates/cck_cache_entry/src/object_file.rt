@@ -37,9 +37,12 @@ impl ObjectFile {
             return Ok(None);
         };
         let mut parts = parts.into_iter();
-        let (Some(key), Some(object), Some(messages), None) =
-            (parts.next(), parts.next(), parts.next(), parts.next())
-        else {
+        let (Some(key), Some(object), Some(messages), None) = (
+            parts.next(),
+            parts.next(),
+            parts.next(),
+            parts.next(),
+        ) else {
             return Ok(None);
         };
         Ok(Some(ObjectFile {

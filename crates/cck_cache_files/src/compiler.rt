@@ -1,9 +1,8 @@
 //! The programs that a compilation runs.
 use cck_digest::{Digest, Sha256State};
-use std::fs;
-use std::io;
 use std::os::unix::fs::MetadataExt;
 use std::rt::Files;
+use std::{fs, io};
 
 /// The hex digest of what the system says of these programs, whose paths are separated by colons:
 /// path, device, inode, size and times of each. A program that is replaced or written to has other
@@ -19,7 +18,8 @@ pub fn compiler_digest<R: Files + AllocGlobal>(rt: &R, paths: &str) -> io::Resul
         let (seconds, nanoseconds) = (found.mtime(), found.mtime_nsec());
         let (changed, changed_nanoseconds) = (found.ctime(), found.ctime_nsec());
         let line = format!(in alloc;
-            "{path} {device} {inode} {size} {seconds}.{nanoseconds} {changed}.{changed_nanoseconds}\n")?;
+            "{path} {device} {inode} {size} {seconds}.{nanoseconds} {changed}.{changed_nanoseconds}\n"
+        )?;
         digest.update(line.as_bytes());
     }
     match digest.finish(alloc) {

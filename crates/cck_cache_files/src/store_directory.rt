@@ -1,11 +1,10 @@
 //! The directory of a store.
 use crate::times::modified;
 use cck_path::Timestamp;
-use std::fs;
 use std::fs::OpenOptions;
-use std::io;
 use std::io::{ErrorKind, Write};
 use std::rt::Files;
+use std::{fs, io};
 
 /// What the file `VERSION` of a store directory holds.
 const VERSION: &[u8] = b"cck store 1\n";
