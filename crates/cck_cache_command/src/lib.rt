@@ -11,10 +11,13 @@ mod environment;
 mod key;
 mod look;
 mod program;
+mod prune;
 mod record;
 mod refusal;
 mod request;
+mod stats;
 mod text_compiler;
+mod why;
 mod words;
 
 pub use entry_calls::{Recorded, look_up, record_entry};

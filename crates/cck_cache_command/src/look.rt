@@ -18,9 +18,11 @@ use std::rt::Files;
 /// What a look-up found.
 #[derive(Drop)]
 pub enum Found {
-    /// The object of this key.
+    /// An object.
     Hit {
-        /// The key.
+        /// The preprocessor key.
+        preprocessor_key: String,
+        /// The key of the object.
         key: String,
         /// What the compiler printed when the object was made.
         object: ObjectFile,
@@ -180,6 +182,7 @@ pub fn look<R: Files + AllocGlobal>(
     };
     match read_object(rt, store, object_key.as_str())? {
         Some(object) => Ok(Found::Hit {
+            preprocessor_key: key,
             key: object_key,
             object,
         }),

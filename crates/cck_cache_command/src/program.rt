@@ -2,11 +2,14 @@
 use crate::environment::Environment;
 use crate::key::{input_snapshot, preprocessor_key};
 use crate::look::{Found, look};
+use crate::prune::prune;
 use crate::record::{Compilation, Outcome, record};
 use crate::request::{Request, hasher_of};
+use crate::stats::print_stats;
+use crate::why::print_why;
 use crate::words::{Task, task_of};
 use anyhow::{Result, bail};
-use cck_cache_files::{StoreDirectory, open_store};
+use cck_cache_files::{Kind, StoreDirectory, open_store};
 use clap::Error;
 use std::io::{Read, Write};
 use std::rt::Files;
@@ -54,10 +57,17 @@ fn run_look<R: Files + AllocGlobal, W: Write, E: Write>(
     errors: &mut E,
 ) -> Result<u8> {
     match look(rt, environment, store, request)? {
-        Found::Hit { key, object } => {
+        Found::Hit {
+            preprocessor_key,
+            key,
+            object,
+        } => {
             store.replace(rt, out, &object.object)?;
             errors.write_all(&object.messages)?;
-            store.count(rt, "hit")?;
+            // Neither a time nor a count decides whether this is a hit.
+            let _ = store.touch(rt, Kind::Object, key.as_str(), environment.now);
+            let _ = store.touch(rt, Kind::Entry, preprocessor_key.as_str(), environment.now);
+            let _ = store.count(rt, "hit");
             writeln!(writer, "hit {key}")?;
             Ok(DONE)
         }
@@ -67,7 +77,7 @@ fn run_look<R: Files + AllocGlobal, W: Write, E: Write>(
             damaged,
         } => {
             let (seconds, nanoseconds) = (since.seconds(), since.nanoseconds());
-            store.count(rt, "miss")?;
+            let _ = store.count(rt, "miss");
             write!(writer, "miss {key} {seconds}.{nanoseconds}")?;
             if let Some(path) = damaged {
                 write!(writer, " damaged {path}")?;
@@ -76,7 +86,7 @@ fn run_look<R: Files + AllocGlobal, W: Write, E: Write>(
             Ok(MISS)
         }
         Found::NoKey => {
-            store.count(rt, "no-key")?;
+            let _ = store.count(rt, "no-key");
             writeln!(writer, "none: the input shows the time")?;
             Ok(MISS)
         }
@@ -95,21 +105,54 @@ fn run_record<R: Files + AllocGlobal, W: Write>(
 ) -> Result<u8> {
     match record(rt, environment, store, request, compilation, text)? {
         Outcome::Recorded(key) => {
-            store.count(rt, "recorded")?;
+            let _ = store.count(rt, "recorded");
             writeln!(writer, "miss {key}")?;
             Ok(DONE)
         }
         Outcome::Refused(refusal) => {
             let name = refusal.as_str();
-            store.count(rt, name)?;
+            let _ = store.count(rt, name);
             writeln!(writer, "{name}")?;
             Ok(MISS)
         }
     }
 }
 
-// Does what was asked for.
-fn run_task<R: Files + AllocGlobal, I: Read, W: Write, E: Write>(
+// Does what was asked for, except for `record`.
+fn run_task<R: Files + AllocGlobal + Clone + Drop, W: Write, E: Write>(
+    rt: &R,
+    environment: &Environment<'_>,
+    task: Task<'_>,
+    writer: &mut W,
+    errors: &mut E,
+) -> Result<u8> {
+    let id = environment.id;
+    match task {
+        Task::Key(request) => return run_key(rt, environment, &request, writer),
+        Task::Look {
+            store,
+            out,
+            request,
+        } => {
+            let store = open_store(rt, store, id)?;
+            return run_look(rt, environment, &store, &request, out, writer, errors);
+        }
+        Task::Stats { store } => print_stats(rt, &open_store(rt, store, id)?, writer)?,
+        Task::Prune { store, max_size } => {
+            let store = open_store(rt, store, id)?;
+            prune(rt, environment, &store, max_size, writer)?;
+        }
+        Task::Why { store, request } => {
+            let store = open_store(rt, store, id)?;
+            print_why(rt, environment, &store, &request, writer)?;
+        }
+        Task::Record { .. } => bail!("a recording has a text"),
+    }
+    Ok(DONE)
+}
+
+// Does what was asked for, with the text that `record` reads.
+fn run_with_text<R: Files + AllocGlobal + Clone + Drop, I: Read, W: Write, E: Write>(
     rt: &R,
     environment: &Environment<'_>,
     task: Task<'_>,
@@ -118,32 +161,12 @@ fn run_task<R: Files + AllocGlobal, I: Read, W: Write, E: Write>(
     errors: &mut E,
 ) -> Result<u8> {
     match task {
-        Task::Key(request) => run_key(rt, environment, &request, writer),
-        Task::Look {
-            store,
-            out,
-            request,
-        } => {
-            let store = open_store(rt, store, environment.id)?;
-            run_look(rt, environment, &store, &request, out, writer, errors)
-        }
         Task::Record {
             store,
-            since,
-            key,
-            object,
-            search,
-            messages,
             request,
+            compilation,
         } => {
             let store = open_store(rt, store, environment.id)?;
-            let compilation = Compilation {
-                since,
-                key,
-                object,
-                search,
-                messages,
-            };
             let mut text = Vec::new(rt.alloc());
             reader.read_to_end(&mut text)?;
             run_record(
@@ -156,6 +179,7 @@ fn run_task<R: Files + AllocGlobal, I: Read, W: Write, E: Write>(
                 writer,
             )
         }
+        task => run_task(rt, environment, task, writer, errors),
     }
 }
 
@@ -174,7 +198,7 @@ fn explain<W: Write, E: Write>(error: &Error, writer: &mut W, errors: &mut E) ->
 /// status.
 ///
 /// The error is of what could not be read or written, or lack of memory.
-pub fn run<R: Files + AllocGlobal, I: Read, W: Write, E: Write>(
+pub fn run<R: Files + AllocGlobal + Clone + Drop, I: Read, W: Write, E: Write>(
     rt: &R,
     environment: &Environment<'_>,
     words: &[String],
@@ -183,8 +207,8 @@ pub fn run<R: Files + AllocGlobal, I: Read, W: Write, E: Write>(
     errors: &mut E,
 ) -> Result<u8> {
     match task_of(rt.alloc(), words) {
-        Ok(Some(task)) => run_task(rt, environment, task, reader, writer, errors),
-        Ok(None) => bail!("a stamp is no time"),
+        Ok(Some(task)) => run_with_text(rt, environment, task, reader, writer, errors),
+        Ok(None) => bail!("a stamp or a size is no number"),
         Err(error) => explain(&error, writer, errors),
     }
 }

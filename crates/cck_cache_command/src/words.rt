@@ -1,4 +1,5 @@
 //! The words of the command line.
+use crate::record::Compilation;
 use crate::request::Request;
 use cck_path::Timestamp;
 use clap::{Arg, ArgAction, ArgMatches, Command, Error};
@@ -25,16 +26,27 @@ pub enum Task<'a> {
     Record {
         /// The path of the store.
         store: &'a str,
-        /// When the look-up ended.
-        since: Timestamp,
-        /// The preprocessor key that the look-up printed.
-        key: &'a str,
-        /// The path of the object.
-        object: &'a str,
-        /// The path of what the compiler printed of its directories.
-        search: &'a str,
-        /// The path of what the compiler printed when the object was made.
-        messages: &'a str,
+        /// The request.
+        request: Request<'a>,
+        /// What is recorded.
+        compilation: Compilation<'a>,
+    },
+    /// What a store has, and what was counted.
+    Stats {
+        /// The path of the store.
+        store: &'a str,
+    },
+    /// The removal of files.
+    Prune {
+        /// The path of the store.
+        store: &'a str,
+        /// The most bytes that its files may have together.
+        max_size: u64,
+    },
+    /// Why a look-up misses.
+    Why {
+        /// The path of the store.
+        store: &'a str,
         /// The request.
         request: Request<'a>,
     },
@@ -124,6 +136,35 @@ fn record_command<'a>(alloc: Global) -> Result<Command<'a>, Error> {
     with_request(alloc, command)
 }
 
+// The command `stats`.
+fn stats_command<'a>(alloc: Global) -> Result<Command<'a>, Error> {
+    Ok(Command::new(alloc, "stats")
+        .about("Prints what a store has, and what was counted")
+        .arg(store_arg(alloc))?)
+}
+
+// The command `prune`.
+fn prune_command<'a>(alloc: Global) -> Result<Command<'a>, Error> {
+    let max_size = option_arg(
+        alloc,
+        "max-size",
+        "BYTES",
+        "The most bytes that the files may have together",
+    );
+    Ok(Command::new(alloc, "prune")
+        .about("Removes the files that were used longest ago")
+        .arg(max_size)?
+        .arg(store_arg(alloc))?)
+}
+
+// The command `why`.
+fn why_command<'a>(alloc: Global) -> Result<Command<'a>, Error> {
+    let command = Command::new(alloc, "why")
+        .about("Prints which paths keep an entry from matching")
+        .arg(store_arg(alloc))?;
+    with_request(alloc, command)
+}
+
 // The whole command line.
 fn program<'a>(alloc: Global) -> Result<Command<'a>, Error> {
     Ok(
@@ -190,17 +231,60 @@ fn look_task<'a>(matches: &ArgMatches<'a>, request: Request<'a>) -> Option<Task<
 fn record_task<'a>(matches: &ArgMatches<'a>, request: Request<'a>) -> Option<Task<'a>> {
     Some(Task::Record {
         store: matches.get_str("STORE")?,
-        since: stamp_of(matches.get_str("since")?)?,
-        key: matches.get_str("key")?,
-        object: matches.get_str("object")?,
-        search: matches.get_str("search")?,
-        messages: matches.get_str("messages")?,
+        request,
+        compilation: Compilation {
+            since: stamp_of(matches.get_str("since")?)?,
+            key: matches.get_str("key")?,
+            object: matches.get_str("object")?,
+            search: matches.get_str("search")?,
+            messages: matches.get_str("messages")?,
+        },
+    })
+}
+
+// The task in the words of `why`.
+fn why_task<'a>(matches: &ArgMatches<'a>, request: Request<'a>) -> Option<Task<'a>> {
+    Some(Task::Why {
+        store: matches.get_str("STORE")?,
         request,
     })
 }
 
+// The task in the words of a command that takes a request.
+fn request_task<'a>(
+    alloc: Global,
+    name: &str,
+    matches: &ArgMatches<'a>,
+) -> Result<Option<Task<'a>>, Error> {
+    let Some(request) = request_of(alloc, matches)? else {
+        return Ok(None);
+    };
+    Ok(match name {
+        "key" => Some(Task::Key(request)),
+        "look" => look_task(matches, request),
+        "record" => record_task(matches, request),
+        "why" => why_task(matches, request),
+        _ => None,
+    })
+}
+
+// The task in the words of `stats`.
+fn stats_task<'a>(matches: &ArgMatches<'a>) -> Option<Task<'a>> {
+    Some(Task::Stats {
+        store: matches.get_str("STORE")?,
+    })
+}
+
+// The task in the words of `prune`.
+fn prune_task<'a>(matches: &ArgMatches<'a>) -> Option<Task<'a>> {
+    Some(Task::Prune {
+        store: matches.get_str("STORE")?,
+        max_size: matches.get_str("max-size")?.parse::<u64>().ok()?,
+    })
+}
+
 /// Reads what these words ask for. The first is the program's name. `None` is returned where a
-/// stamp is no time.
+/// stamp is no time, or a size no number.
 ///
 /// The error is clap's: for wrong words, for `--help` and for `--version`, with the text to be
 /// printed, or for lack of memory.
@@ -209,13 +293,9 @@ pub fn task_of<'a>(alloc: Global, words: &'a [String]) -> Result<Option<Task<'a>
     let Some((name, command)) = matches.subcommand() else {
         return Ok(None);
     };
-    let Some(request) = request_of(alloc, command)? else {
-        return Ok(None);
-    };
-    Ok(match name {
-        "key" => Some(Task::Key(request)),
-        "look" => look_task(command, request),
-        "record" => record_task(command, request),
-        _ => None,
-    })
+    match name {
+        "stats" => Ok(stats_task(command)),
+        "prune" => Ok(prune_task(command)),
+        _ => request_task(alloc, name, command),
+    }
 }
