@@ -5,7 +5,6 @@ use crate::key::{input_snapshot, preprocessor_key};
 use crate::look::{Kept, add_entry_files, read_entry};
 use crate::request::{Request, hasher_of};
 use anyhow::Result;
-use bstr::ByteSlice;
 use cck_cache_entry::EntryFile;
 use cck_cache_files::{Kind, StoreDirectory};
 use cck_entry::PreprocessorCacheEntry;
@@ -14,6 +13,14 @@ use cck_include::{IncludeEntry, KnownFiles, include_matches};
 use cck_util::Sha256State;
 use std::io::Write;
 use std::rt::Files;
+
+// Prints a line with a path, which may be any bytes.
+fn print_path<W: Write>(writer: &mut W, word: &[u8], path: &[u8]) -> Result<()> {
+    writer.write_all(word)?;
+    writer.write_all(path)?;
+    writer.write_all(b"\n")?;
+    Ok(())
+}
 
 // Prints the path of each included file that does not match.
 fn print_changed<R: AllocGlobal, W: Write>(
@@ -36,8 +43,7 @@ fn print_changed<R: AllocGlobal, W: Write>(
             environment.config(),
         )?;
         if !matches {
-            let path = include.path.as_bstr();
-            writeln!(writer, "changed {path}")?;
+            print_path(writer, b"changed ", &include.path)?;
         }
     }
     Ok(())
@@ -52,8 +58,7 @@ fn print_entry<R: Files + AllocGlobal, W: Write>(
     writer: &mut W,
 ) -> Result<()> {
     if let Some(path) = first_present(rt, &file.absent_paths) {
-        let path = path.as_bstr();
-        writeln!(writer, "present {path}")?;
+        print_path(writer, b"present ", path)?;
     }
     add_entry_files(rt, files, &file.entry)?;
     let entry = PreprocessorCacheEntry::read(rt.alloc(), &file.entry)?;

@@ -138,9 +138,11 @@ fn record_command<'a>(alloc: Global) -> Result<Command<'a>, Error> {
 
 // The command `stats`.
 fn stats_command<'a>(alloc: Global) -> Result<Command<'a>, Error> {
-    Ok(Command::new(alloc, "stats")
-        .about("Prints what a store has, and what was counted")
-        .arg(store_arg(alloc))?)
+    Ok(
+        Command::new(alloc, "stats")
+            .about("Prints what a store has, and what was counted")
+            .arg(store_arg(alloc))?,
+    )
 }
 
 // The command `prune`.
@@ -151,10 +153,12 @@ fn prune_command<'a>(alloc: Global) -> Result<Command<'a>, Error> {
         "BYTES",
         "The most bytes that the files may have together",
     );
-    Ok(Command::new(alloc, "prune")
-        .about("Removes the files that were used longest ago")
-        .arg(max_size)?
-        .arg(store_arg(alloc))?)
+    Ok(
+        Command::new(alloc, "prune")
+            .about("Removes the files that were used longest ago")
+            .arg(max_size)?
+            .arg(store_arg(alloc))?,
+    )
 }
 
 // The command `why`.

@@ -2,10 +2,9 @@
 use crate::store_directory::{Kind, StoreDirectory};
 use crate::times::modified;
 use cck_path::Timestamp;
-use std::fs;
-use std::io;
 use std::io::ErrorKind;
 use std::rt::Files;
+use std::{fs, io};
 
 /// A file of a store.
 #[derive(Debug, Drop)]

@@ -1,7 +1,7 @@
 //! The directory of a store.
-use crate::times::modified;
+use crate::times::{modified, system_time};
 use cck_path::Timestamp;
-use std::fs::OpenOptions;
+use std::fs::{FileTimes, OpenFile, OpenOptions};
 use std::io::{ErrorKind, Write};
 use std::rt::Files;
 use std::{fs, io};
@@ -153,6 +153,24 @@ impl StoreDirectory {
         fs::remove_file(rt, path.as_str())?;
         match modified(&metadata) {
             Some(time) => Ok(time),
+            None => Err(io::Error::from(ErrorKind::InvalidData)),
+        }
+    }
+
+    /// Sets the time at which the file of a key was used.
+    pub fn touch<R: Files + AllocGlobal>(
+        &self,
+        rt: &R,
+        kind: Kind,
+        key: &str,
+        now: Timestamp,
+    ) -> io::Result<()> {
+        let path = self.path_of(rt, kind, key)?;
+        let mut options = OpenOptions::new();
+        options.write(true);
+        let file = options.open(rt, path.as_str())?;
+        match system_time(now) {
+            Some(time) => file.set_times(FileTimes::new().set_modified(time)),
             None => Err(io::Error::from(ErrorKind::InvalidData)),
         }
     }

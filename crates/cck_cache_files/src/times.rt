@@ -2,6 +2,7 @@
 use cck_path::Timestamp;
 use std::fs::Metadata;
 use std::os::unix::fs::MetadataExt;
+use std::time::{Duration, SystemTime, UNIX_EPOCH};
 
 // The time of these seconds and nanoseconds, where the nanoseconds are below a second.
 fn time_of(seconds: i64, nanoseconds: i64) -> Option<Timestamp> {
@@ -29,4 +30,13 @@ pub fn changed_before(metadata: &Metadata, since: Timestamp) -> bool {
         (Some(modified), Some(changed)) => modified < since && changed < since,
         _ => false,
     }
+}
+
+/// A time as the system has it. `None` for a time before 1970 or out of range.
+pub fn system_time(time: Timestamp) -> Option<SystemTime> {
+    let seconds = u64::try_from(time.seconds()).ok()?;
+    let since = Duration::from_secs(seconds).checked_add(Duration::from_nanos(u64::from(
+        time.nanoseconds(),
+    )))?;
+    UNIX_EPOCH.checked_add(since)
 }
