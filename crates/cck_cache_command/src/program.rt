@@ -78,7 +78,7 @@ fn run_look<R: Files + AllocGlobal, W: Write, E: Write>(
         } => {
             let (seconds, nanoseconds) = (since.seconds(), since.nanoseconds());
             let _ = store.count(rt, "miss");
-            write!(writer, "miss {key} {seconds}.{nanoseconds}")?;
+            write!(writer, "miss {key} {seconds}.{nanoseconds:09}")?;
             if let Some(path) = damaged {
                 write!(writer, " damaged {path}")?;
             }

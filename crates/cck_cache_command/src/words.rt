@@ -178,7 +178,10 @@ fn program<'a>(alloc: Global) -> Result<Command<'a>, Error> {
             .subcommand_required(true)
             .subcommand(key_command(alloc)?)?
             .subcommand(look_command(alloc)?)?
-            .subcommand(record_command(alloc)?)?,
+            .subcommand(record_command(alloc)?)?
+            .subcommand(stats_command(alloc)?)?
+            .subcommand(prune_command(alloc)?)?
+            .subcommand(why_command(alloc)?)?,
     )
 }
 

@@ -1,7 +1,10 @@
 //! The file that keeps an entry.
-use crate::stored::{read_stored, write_stored};
+ghost use Rattle.std.specs.Prelude.{◌≡◌, IfOk, IfSome};
+ghost use Rattle.cck_cache_entry.specs.Files.{entry_file};
+
+use crate::stored::{parts_of, write_stored};
 use cck_digest::{HashState, UtilError};
-use std::alloc::Global;
+use std::alloc::{AllocError, Global};
 
 /// How an entry file begins.
 const KIND: &[u8] = b"cck entry 1\n";
@@ -17,11 +20,30 @@ pub struct EntryFile {
     pub absent_paths: Vec<Vec<u8>>,
 }
 
+// What these parts say. `None` where there are fewer than two.
+fn file_of(alloc: Global, parts: Vec<Vec<u8>>) -> Result<Option<EntryFile>, AllocError> {
+    let mut parts = parts.into_iter();
+    let (Some(preprocessor_key), Some(entry)) = (parts.next(), parts.next()) else {
+        return Ok(None);
+    };
+    let mut absent_paths = Vec::new(alloc);
+    for path in parts {
+        absent_paths.push(path)?;
+    }
+    Ok(Some(EntryFile {
+        preprocessor_key,
+        entry,
+        absent_paths,
+    }))
+}
+
 impl EntryFile {
     /// The bytes of the file.
     ///
     /// The only error is [`UtilError::Memory`].
-    pub fn write<H: HashState>(&self, alloc: Global) -> Result<Vec<u8>, UtilError> {
+    pub fn write<H: HashState>(&self, alloc: Global) -> Result<Vec<u8>, UtilError>
+        ensures { IfOk result (λ bytes. bytes.items ≡ entry_file H.hash self.now) }
+    {
         let mut parts: Vec<&[u8]> = Vec::new(alloc);
         parts.push(&self.preprocessor_key)?;
         parts.push(&self.entry)?;
@@ -31,25 +53,23 @@ impl EntryFile {
         write_stored::<H>(alloc, KIND, &parts)
     }
 
-    /// What a file holds. `None` where these are not the bytes of an entry file.
+    /// What a file holds. `None` where these are not the bytes of an entry file: what is returned
+    /// has exactly these bytes when it is written.
     ///
     /// The only error is [`UtilError::Memory`].
-    pub fn read<H: HashState>(alloc: Global, bytes: &[u8]) -> Result<Option<EntryFile>, UtilError> {
-        let Some(parts) = read_stored::<H>(alloc, KIND, bytes)? else {
+    pub fn read<H: HashState>(alloc: Global, bytes: &[u8]) -> Result<Option<EntryFile>, UtilError>
+        ensures { IfOk result (λ found. IfSome found (λ file. bytes.now ≡ entry_file H.hash file)) }
+    {
+        let Some(parts) = parts_of(alloc, KIND, bytes)? else {
             return Ok(None);
         };
-        let mut parts = parts.into_iter();
-        let (Some(preprocessor_key), Some(entry)) = (parts.next(), parts.next()) else {
+        let Some(file) = file_of(alloc, parts)? else {
             return Ok(None);
         };
-        let mut absent_paths = Vec::new(alloc);
-        for path in parts {
-            absent_paths.push(path)?;
+        if file.write::<H>(alloc)?.as_slice() == bytes {
+            Ok(Some(file))
+        } else {
+            Ok(None)
         }
-        Ok(Some(EntryFile {
-            preprocessor_key,
-            entry,
-            absent_paths,
-        }))
     }
 }

@@ -1,11 +1,24 @@
 //! Frames: bytes after their length, which is 8 bytes, the lowest first.
+ghost use Rattle.std.specs.Prelude.{◌≡◌, ◌++◌, OnOk};
+ghost use Rattle.cck_digest.specs.Frames.{frame, length_bytes};
+
 use std::alloc::{AllocError, Global};
 
+// The 8 bytes of a length, the lowest first.
+fn length_of(length: usize) -> [u8; 8]
+    ensures { result ≡ length_bytes length }
+{
+    let length = length as u64;
+    length.to_le_bytes()
+}
+
 /// Appends a frame of these bytes.
-pub fn push_frame(all: &mut Vec<u8>, bytes: &[u8]) -> Result<(), AllocError> {
-    let length = bytes.len() as u64;
-    all.extend_from_slice(&length.to_le_bytes())?;
-    all.extend_from_slice(bytes)
+pub fn push_frame(all: &mut Vec<u8>, bytes: &[u8]) -> Result<(), AllocError>
+    ensures { OnOk result (all.new.items ≡ all.old.items ++ frame bytes.now) }
+{
+    all.extend_from_slice(&length_of(bytes.len()))?;
+    all.extend_from_slice(bytes)?;
+    Ok(())
 }
 
 // The length at the beginning of these bytes, and the bytes after it.
