@@ -2,7 +2,9 @@
 use crate::cases::Cases;
 use crate::shown::{write_counts, write_entry, write_includes};
 use cck_cases::{CaseError, FailWriter, Line, Value, number, words_of};
-use cck_entry::{EntryView, Error, JudgeContext, KnownFiles, PreprocessorCacheEntry, gather, includes_match};
+use cck_entry::{
+    EntryView, Error, JudgeContext, KnownFiles, PreprocessorCacheEntry, gather, includes_match,
+};
 use cck_util::{Digest, MapFiles, Sha256State, UtilError};
 use std::alloc::Global;
 

@@ -1,0 +1,88 @@
+//! What a process is given beside its words.
+use anyhow::{Result, bail};
+use cck_path::Timestamp;
+use cck_time::PreprocessorCacheModeConfig;
+use jiff::tz::TimeZone;
+use std::env;
+use std::rt::Env;
+
+// The variables that keys and recorded digests depend on, in the order in which they enter keys.
+const VARIABLES: [&str; 14] = [
+    "SCCACHE_C_CUSTOM_CACHE_BUSTER",
+    "MACOSX_DEPLOYMENT_TARGET",
+    "IPHONEOS_DEPLOYMENT_TARGET",
+    "TVOS_DEPLOYMENT_TARGET",
+    "WATCHOS_DEPLOYMENT_TARGET",
+    "SDKROOT",
+    "CCC_OVERRIDE_OPTIONS",
+    "CPATH",
+    "C_INCLUDE_PATH",
+    "CPLUS_INCLUDE_PATH",
+    "OBJC_INCLUDE_PATH",
+    "OBJCPLUS_INCLUDE_PATH",
+    "SCCACHE_DIRECT",
+    "SOURCE_DATE_EPOCH",
+];
+
+// The variables that the compiler's messages depend on. They are part of the keys as arguments.
+const LOCALE: [&str; 5] = ["LC_ALL", "LC_CTYPE", "LC_MESSAGES", "LANG", "LANGUAGE"];
+
+/// What a process is given beside its words.
+#[derive(Drop)]
+pub struct Environment<'a> {
+    /// The time of the system's clock.
+    pub now: Timestamp,
+    /// The local zone.
+    pub zone: TimeZone<'a>,
+    /// The variables that keys depend on, in a fixed order.
+    pub variables: Vec<(Vec<u8>, Vec<u8>)>,
+    /// The variables of the locale, a line each.
+    pub locale: Vec<u8>,
+    /// The number of the process.
+    pub id: u32,
+}
+
+impl Environment<'_> {
+    /// The options of the preprocessor cache, which are upstream's with the cache on.
+    pub fn config(&self) -> PreprocessorCacheModeConfig {
+        PreprocessorCacheModeConfig::activated()
+    }
+}
+
+// The value of a variable. One that is no UTF-8 is an error: it never counts as absent.
+fn value_of<R: Env + AllocGlobal>(rt: &R, name: &str) -> Result<Option<String>> {
+    match env::var(rt, name) {
+        Ok(value) => Ok(Some(value)),
+        Err(env::VarError::NotPresent) => Ok(None),
+        Err(_) => bail!("a variable can't be read"),
+    }
+}
+
+/// The variables that keys depend on and that are set.
+pub fn variables<R: Env + AllocGlobal>(rt: &R) -> Result<Vec<(Vec<u8>, Vec<u8>)>> {
+    let alloc = rt.alloc();
+    let mut found = Vec::new(alloc);
+    for name in VARIABLES {
+        if let Some(value) = value_of(rt, name)? {
+            found.push((
+                name.as_bytes().to_vec(alloc)?,
+                value.as_bytes().to_vec(alloc)?,
+            ))?;
+        }
+    }
+    Ok(found)
+}
+
+/// The variables of the locale that are set, a line each.
+pub fn locale<R: Env + AllocGlobal>(rt: &R) -> Result<Vec<u8>> {
+    let mut all = Vec::new(rt.alloc());
+    for name in LOCALE {
+        if let Some(value) = value_of(rt, name)? {
+            all.extend_from_slice(name.as_bytes())?;
+            all.push(b'=')?;
+            all.extend_from_slice(value.as_bytes())?;
+            all.push(b'\n')?;
+        }
+    }
+    Ok(all)
+}

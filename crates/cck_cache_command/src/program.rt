@@ -1,0 +1,214 @@
+//! The program, over any files, reader and writers.
+use crate::environment::Environment;
+use crate::key::{input_snapshot, preprocessor_key};
+use crate::look::{Found, look};
+use crate::prune::prune;
+use crate::record::{Compilation, Outcome, record};
+use crate::request::{Request, hasher_of};
+use crate::stats::print_stats;
+use crate::why::print_why;
+use crate::words::{Task, task_of};
+use anyhow::{Result, bail};
+use cck_cache_files::{Kind, StoreDirectory, open_store};
+use clap::Error;
+use std::io::{Read, Write};
+use std::rt::Files;
+
+/// The exit status of a program that did what was asked for.
+const DONE: u8 = 0;
+
+/// The exit status for wrong words.
+const USAGE: u8 = 2;
+
+/// The exit status of a look-up without an object.
+const MISS: u8 = 3;
+
+// Prints the preprocessor key.
+fn run_key<R: Files + AllocGlobal, W: Write>(
+    rt: &R,
+    environment: &Environment<'_>,
+    request: &Request<'_>,
+    writer: &mut W,
+) -> Result<u8> {
+    let alloc = rt.alloc();
+    let hasher = hasher_of(rt, environment, request, None)?;
+    let mut files = input_snapshot(rt, request)?.files;
+    let (directory, now) = (request.directory, environment.now);
+    match preprocessor_key(alloc, environment, &hasher, &mut files, directory, now)? {
+        Some(key) => {
+            writeln!(writer, "{key}")?;
+            Ok(DONE)
+        }
+        None => {
+            writeln!(writer, "none: the input shows the time")?;
+            Ok(MISS)
+        }
+    }
+}
+
+// Looks for an object, and writes it. The compiler's messages go to `errors`.
+fn run_look<R: Files + AllocGlobal, W: Write, E: Write>(
+    rt: &R,
+    environment: &Environment<'_>,
+    store: &StoreDirectory,
+    request: &Request<'_>,
+    out: &str,
+    writer: &mut W,
+    errors: &mut E,
+) -> Result<u8> {
+    match look(rt, environment, store, request)? {
+        Found::Hit {
+            preprocessor_key,
+            key,
+            object,
+        } => {
+            store.replace(rt, out, &object.object)?;
+            errors.write_all(&object.messages)?;
+            // Neither a time nor a count decides whether this is a hit.
+            let _ = store.touch(rt, Kind::Object, key.as_str(), environment.now);
+            let _ = store.touch(rt, Kind::Entry, preprocessor_key.as_str(), environment.now);
+            let _ = store.count(rt, "hit");
+            writeln!(writer, "hit {key}")?;
+            Ok(DONE)
+        }
+        Found::Miss {
+            key,
+            since,
+            damaged,
+        } => {
+            let (seconds, nanoseconds) = (since.seconds(), since.nanoseconds());
+            let _ = store.count(rt, "miss");
+            write!(writer, "miss {key} {seconds}.{nanoseconds:09}")?;
+            if let Some(path) = damaged {
+                write!(writer, " damaged {path}")?;
+            }
+            writeln!(writer)?;
+            Ok(MISS)
+        }
+        Found::NoKey => {
+            let _ = store.count(rt, "no-key");
+            writeln!(writer, "none: the input shows the time")?;
+            Ok(MISS)
+        }
+    }
+}
+
+// Records a compilation.
+fn run_record<R: Files + AllocGlobal, W: Write>(
+    rt: &R,
+    environment: &Environment<'_>,
+    store: &StoreDirectory,
+    request: &Request<'_>,
+    compilation: &Compilation<'_>,
+    text: Vec<u8>,
+    writer: &mut W,
+) -> Result<u8> {
+    match record(rt, environment, store, request, compilation, text)? {
+        Outcome::Recorded(key) => {
+            let _ = store.count(rt, "recorded");
+            writeln!(writer, "miss {key}")?;
+            Ok(DONE)
+        }
+        Outcome::Refused(refusal) => {
+            let name = refusal.as_str();
+            let _ = store.count(rt, name);
+            writeln!(writer, "{name}")?;
+            Ok(MISS)
+        }
+    }
+}
+
+// Does what was asked for, except for `record`.
+fn run_task<R: Files + AllocGlobal + Clone + Drop, W: Write, E: Write>(
+    rt: &R,
+    environment: &Environment<'_>,
+    task: Task<'_>,
+    writer: &mut W,
+    errors: &mut E,
+) -> Result<u8> {
+    let id = environment.id;
+    match task {
+        Task::Key(request) => return run_key(rt, environment, &request, writer),
+        Task::Look {
+            store,
+            out,
+            request,
+        } => {
+            let store = open_store(rt, store, id)?;
+            return run_look(rt, environment, &store, &request, out, writer, errors);
+        }
+        Task::Stats { store } => print_stats(rt, &open_store(rt, store, id)?, writer)?,
+        Task::Prune { store, max_size } => {
+            let store = open_store(rt, store, id)?;
+            prune(rt, environment, &store, max_size, writer)?;
+        }
+        Task::Why { store, request } => {
+            let store = open_store(rt, store, id)?;
+            print_why(rt, environment, &store, &request, writer)?;
+        }
+        Task::Record { .. } => bail!("a recording has a text"),
+    }
+    Ok(DONE)
+}
+
+// Does what was asked for, with the text that `record` reads.
+fn run_with_text<R: Files + AllocGlobal + Clone + Drop, I: Read, W: Write, E: Write>(
+    rt: &R,
+    environment: &Environment<'_>,
+    task: Task<'_>,
+    reader: &mut I,
+    writer: &mut W,
+    errors: &mut E,
+) -> Result<u8> {
+    match task {
+        Task::Record {
+            store,
+            request,
+            compilation,
+        } => {
+            let store = open_store(rt, store, environment.id)?;
+            let mut text = Vec::new(rt.alloc());
+            reader.read_to_end(&mut text)?;
+            run_record(
+                rt,
+                environment,
+                &store,
+                &request,
+                &compilation,
+                text,
+                writer,
+            )
+        }
+        task => run_task(rt, environment, task, writer, errors),
+    }
+}
+
+// Writes what clap says of the words.
+fn explain<W: Write, E: Write>(error: &Error, writer: &mut W, errors: &mut E) -> Result<u8> {
+    if error.use_stderr() {
+        write!(errors, "{error}")?;
+        Ok(USAGE)
+    } else {
+        write!(writer, "{error}")?;
+        Ok(DONE)
+    }
+}
+
+/// Does what these words ask for, of which the first is the program's name. Returns the exit
+/// status.
+///
+/// The error is of what could not be read or written, or lack of memory.
+pub fn run<R: Files + AllocGlobal + Clone + Drop, I: Read, W: Write, E: Write>(
+    rt: &R,
+    environment: &Environment<'_>,
+    words: &[String],
+    reader: &mut I,
+    writer: &mut W,
+    errors: &mut E,
+) -> Result<u8> {
+    match task_of(rt.alloc(), words) {
+        Ok(Some(task)) => run_with_text(rt, environment, task, reader, writer, errors),
+        Ok(None) => bail!("a stamp or a size is no number"),
+        Err(error) => explain(&error, writer, errors),
+    }
+}

@@ -1,0 +1,56 @@
+//! Removes files from a store.
+use crate::environment::Environment;
+use anyhow::Result;
+use cck_cache_files::{Kind, StoreDirectory, StoredFile, list_files};
+use cck_path::Timestamp;
+use std::fs;
+use std::io::Write;
+use std::rt::Files;
+
+/// The seconds after which a file that was not renamed is left over from a killed recording.
+const ABANDONED: i64 = 3600;
+
+// Whether a file is left over from a recording that was killed.
+fn is_abandoned(file: &StoredFile, now: Timestamp) -> bool {
+    file.is_new && file.used.seconds() < now.seconds().saturating_sub(ABANDONED)
+}
+
+// All files of a store, the one that was used longest ago first.
+fn by_use<R: Files + AllocGlobal + Clone + Drop>(
+    rt: &R,
+    store: &StoreDirectory,
+) -> Result<Vec<StoredFile>> {
+    let mut files = list_files(rt, store, Kind::Entry)?;
+    for file in list_files(rt, store, Kind::Object)? {
+        files.push(file)?;
+    }
+    files.sort_by(|a, b| a.used.cmp(&b.used))?;
+    Ok(files)
+}
+
+/// Removes the files that were used longest ago until the entry files and the object files have no
+/// more than this many bytes, and files that are left over from killed recordings. Prints how many
+/// were removed and how many bytes are left.
+pub fn prune<R: Files + AllocGlobal + Clone + Drop, W: Write>(
+    rt: &R,
+    environment: &Environment<'_>,
+    store: &StoreDirectory,
+    max_size: u64,
+    writer: &mut W,
+) -> Result<()> {
+    let files = by_use(rt, store)?;
+    let mut size = 0u64;
+    for file in &files {
+        size = size.saturating_add(file.size);
+    }
+    let mut removed = 0u64;
+    for file in &files {
+        let is_removed = size > max_size || is_abandoned(file, environment.now);
+        if is_removed && fs::remove_file(rt, file.path.as_str()).is_ok() {
+            size = size.saturating_sub(file.size);
+            removed = removed.saturating_add(1);
+        }
+    }
+    writeln!(writer, "removed {removed} files, {size} bytes left")?;
+    Ok(())
+}

@@ -1,0 +1,103 @@
+//! Says why a look-up misses.
+use crate::absence::first_present;
+use crate::environment::Environment;
+use crate::key::{input_snapshot, preprocessor_key};
+use crate::look::{Kept, add_entry_files, read_entry};
+use crate::request::{Request, hasher_of};
+use anyhow::Result;
+use cck_cache_entry::EntryFile;
+use cck_cache_files::{Kind, StoreDirectory};
+use cck_entry::PreprocessorCacheEntry;
+use cck_files::MapFiles;
+use cck_include::{IncludeEntry, KnownFiles, include_matches};
+use cck_util::Sha256State;
+use std::io::Write;
+use std::rt::Files;
+
+// Prints a line with a path, which may be any bytes.
+fn print_path<W: Write>(writer: &mut W, word: &[u8], path: &[u8]) -> Result<()> {
+    writer.write_all(word)?;
+    writer.write_all(path)?;
+    writer.write_all(b"\n")?;
+    Ok(())
+}
+
+// Prints the path of each included file that does not match.
+fn print_changed<R: AllocGlobal, W: Write>(
+    rt: &R,
+    environment: &Environment<'_>,
+    files: &mut MapFiles,
+    known: &mut KnownFiles,
+    includes: &[IncludeEntry],
+    writer: &mut W,
+) -> Result<()> {
+    for include in includes {
+        let matches = include_matches::<Sha256State, MapFiles>(
+            rt.alloc(),
+            files,
+            known,
+            &include.lend(),
+            environment.now,
+            &environment.zone,
+            &environment.variables,
+            environment.config(),
+        )?;
+        if !matches {
+            print_path(writer, b"changed ", &include.path)?;
+        }
+    }
+    Ok(())
+}
+
+// Prints what of an entry does not match.
+fn print_entry<R: Files + AllocGlobal, W: Write>(
+    rt: &R,
+    environment: &Environment<'_>,
+    files: &mut MapFiles,
+    file: &EntryFile,
+    writer: &mut W,
+) -> Result<()> {
+    if let Some(path) = first_present(rt, &file.absent_paths) {
+        print_path(writer, b"present ", path)?;
+    }
+    add_entry_files(rt, files, &file.entry)?;
+    let entry = PreprocessorCacheEntry::read(rt.alloc(), &file.entry)?;
+    let mut known = KnownFiles::new(rt.alloc());
+    for (key, includes) in entry.results().iter() {
+        writeln!(writer, "result {key}")?;
+        print_changed(rt, environment, files, &mut known, includes, writer)?;
+    }
+    Ok(())
+}
+
+/// Prints what the store has of a request and which paths keep it from matching, a line each:
+/// `key KEY`; `no entry` or `damaged PATH`; `present PATH`, for the first path that was absent when
+/// the entry was recorded and is there now; `result KEY`, and after it `changed PATH` for each
+/// included file that does not match.
+pub fn print_why<R: Files + AllocGlobal, W: Write>(
+    rt: &R,
+    environment: &Environment<'_>,
+    store: &StoreDirectory,
+    request: &Request<'_>,
+    writer: &mut W,
+) -> Result<()> {
+    let alloc = rt.alloc();
+    let hasher = hasher_of(rt, environment, request, None)?;
+    let mut files = input_snapshot(rt, request)?.files;
+    let (directory, now) = (request.directory, environment.now);
+    let Some(key) = preprocessor_key(alloc, environment, &hasher, &mut files, directory, now)?
+    else {
+        writeln!(writer, "none: the input shows the time")?;
+        return Ok(());
+    };
+    writeln!(writer, "key {key}")?;
+    match read_entry(rt, store, key.as_str())? {
+        Kept::Nothing => writeln!(writer, "no entry")?,
+        Kept::Damaged => {
+            let path = store.path_of(rt, Kind::Entry, key.as_str())?;
+            writeln!(writer, "damaged {path}")?;
+        }
+        Kept::Entry(file) => print_entry(rt, environment, &mut files, &file, writer)?,
+    }
+    Ok(())
+}

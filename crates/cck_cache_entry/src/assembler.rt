@@ -1,0 +1,108 @@
+//! Directives of the assembler in the strings of a preprocessed text.
+use std::alloc::{AllocError, Global};
+
+/// Where a scan of a text is.
+#[derive(Debug, Clone, Copy, PartialEq, Eq)]
+enum Place {
+    /// In no literal.
+    Code,
+    /// In a string literal.
+    String,
+    /// In a string literal, after a backslash.
+    StringEscape,
+    /// In a character constant.
+    Character,
+    /// In a character constant, after a backslash.
+    CharacterEscape,
+    /// In a line that starts with `#`, such as a line marker.
+    Directive,
+}
+
+// The place after a byte in code, from the byte before it.
+fn after_code(before: u8, byte: u8) -> Place {
+    match byte {
+        b'#' if before == b'\n' => Place::Directive,
+        b'"' => Place::String,
+        b'\'' => Place::Character,
+        _ => Place::Code,
+    }
+}
+
+// The place after a byte in a string literal.
+fn after_string(byte: u8) -> Place {
+    match byte {
+        b'"' => Place::Code,
+        b'\\' => Place::StringEscape,
+        b'\n' => Place::Code,
+        _ => Place::String,
+    }
+}
+
+// The place after a byte in a character constant.
+fn after_character(byte: u8) -> Place {
+    match byte {
+        b'\'' => Place::Code,
+        b'\\' => Place::CharacterEscape,
+        b'\n' => Place::Code,
+        _ => Place::Character,
+    }
+}
+
+// The place after a byte, from the byte before it.
+fn after(place: Place, before: u8, byte: u8) -> Place {
+    match place {
+        Place::Code => after_code(before, byte),
+        Place::Directive if byte == b'\n' => Place::Code,
+        Place::Directive => Place::Directive,
+        Place::String => after_string(byte),
+        Place::StringEscape => Place::String,
+        Place::Character => after_character(byte),
+        Place::CharacterEscape => Place::Character,
+    }
+}
+
+// Whether a literal may be followed by another one of the same string after this byte of code.
+fn joins(byte: u8) -> bool {
+    byte.is_ascii_whitespace() || byte == b'"' || byte == b'#'
+}
+
+// Whether these bytes end in a directive that includes a file, or in the beginning of a macro of
+// the assembler, which may put such a directive together.
+fn ends_in_directive(string: &[u8]) -> bool {
+    string.ends_with(b".incbin")
+        || string.ends_with(b".include")
+        || string.ends_with(b".macro")
+        || string.ends_with(b".irp")
+        || string.ends_with(b".altmacro")
+}
+
+/// Whether the strings of this preprocessed text may make the assembler include a file: adjacent
+/// string literals, joined, have `.incbin` or `.include` in any case, or begin a macro of the
+/// assembler by `.macro`, `.irp` or `.altmacro`; or there is a raw string.
+///
+/// An escape by number, such as `\x2e` for the dot, is not looked at.
+pub fn may_include(alloc: Global, text: &[u8]) -> Result<bool, AllocError> {
+    let mut string = Vec::new(alloc);
+    let mut place = Place::Code;
+    let mut before = b'\n';
+    for byte in text {
+        let byte = *byte;
+        if place == Place::Code && byte == b'"' && before == b'R' {
+            return Ok(true);
+        }
+        match place {
+            Place::Code if !joins(byte) => string.clear(),
+            Place::String if byte != b'"' && byte != b'\\' => {
+                string.push(byte.to_ascii_lowercase())?;
+                if ends_in_directive(&string) {
+                    return Ok(true);
+                }
+            }
+            Place::StringEscape => string.push(b'\\')?,
+            _ => {}
+        }
+        place = after(place, before, byte);
+        before = byte;
+    }
+    Ok(false)
+}

@@ -1,0 +1,75 @@
+//! The file that keeps an entry.
+ghost use Rattle.std.specs.Prelude.{◌≡◌, IfOk, IfSome};
+ghost use Rattle.cck_cache_entry.specs.Files.{entry_file};
+
+use crate::stored::{parts_of, write_stored};
+use cck_digest::{HashState, UtilError};
+use std::alloc::{AllocError, Global};
+
+/// How an entry file begins.
+const KIND: &[u8] = b"cck entry 1\n";
+
+/// What an entry file holds.
+#[derive(Debug, Drop, PartialEq, Eq)]
+pub struct EntryFile {
+    /// The preprocessor key that the entry belongs to.
+    pub preprocessor_key: Vec<u8>,
+    /// The bytes of the entry.
+    pub entry: Vec<u8>,
+    /// Paths at which there was nothing when the entry was recorded.
+    pub absent_paths: Vec<Vec<u8>>,
+}
+
+// What these parts say. `None` where there are fewer than two.
+fn file_of(alloc: Global, parts: Vec<Vec<u8>>) -> Result<Option<EntryFile>, AllocError> {
+    let mut parts = parts.into_iter();
+    let (Some(preprocessor_key), Some(entry)) = (parts.next(), parts.next()) else {
+        return Ok(None);
+    };
+    let mut absent_paths = Vec::new(alloc);
+    for path in parts {
+        absent_paths.push(path)?;
+    }
+    Ok(Some(EntryFile {
+        preprocessor_key,
+        entry,
+        absent_paths,
+    }))
+}
+
+impl EntryFile {
+    /// The bytes of the file.
+    ///
+    /// The only error is [`UtilError::Memory`].
+    pub fn write<H: HashState>(&self, alloc: Global) -> Result<Vec<u8>, UtilError>
+        ensures { IfOk result (λ bytes. bytes.items ≡ entry_file H.hash self.now) }
+    {
+        let mut parts: Vec<&[u8]> = Vec::new(alloc);
+        parts.push(&self.preprocessor_key)?;
+        parts.push(&self.entry)?;
+        for path in &self.absent_paths {
+            parts.push(path)?;
+        }
+        write_stored::<H>(alloc, KIND, &parts)
+    }
+
+    /// What a file holds. `None` where these are not the bytes of an entry file: what is returned
+    /// has exactly these bytes when it is written.
+    ///
+    /// The only error is [`UtilError::Memory`].
+    pub fn read<H: HashState>(alloc: Global, bytes: &[u8]) -> Result<Option<EntryFile>, UtilError>
+        ensures { IfOk result (λ found. IfSome found (λ file. bytes.now ≡ entry_file H.hash file)) }
+    {
+        let Some(parts) = parts_of(alloc, KIND, bytes)? else {
+            return Ok(None);
+        };
+        let Some(file) = file_of(alloc, parts)? else {
+            return Ok(None);
+        };
+        if file.write::<H>(alloc)?.as_slice() == bytes {
+            Ok(Some(file))
+        } else {
+            Ok(None)
+        }
+    }
+}

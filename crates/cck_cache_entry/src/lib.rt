@@ -1,0 +1,27 @@
+//! What a cache keeps beside an entry and an object, and what it reads from a compiler's output.
+//!
+//! All calls are on values: none reads a file.
+//!
+//! - [`EntryFile`] and [`ObjectFile`] are the two kinds of file of a store. Their bytes end in
+//!   frames, under a digest over all of them, so that a file that was cut or changed is not read.
+//! - [`SearchList`] is a compiler's list of directories for headers, as `gcc -v` prints it.
+//! - [`absent_names`] lists the paths at which a named header would have been found earlier.
+//! - [`may_include`] and [`has_include_test`] say whether a text may depend on a file that no line
+//!   marker names.
+#![tactic(auto)]
+
+mod absent;
+mod assembler;
+mod entry_file;
+mod frames;
+mod has_include;
+mod object_file;
+mod search_list;
+mod stored;
+
+pub use absent::absent_names;
+pub use assembler::may_include;
+pub use entry_file::EntryFile;
+pub use has_include::has_include_test;
+pub use object_file::ObjectFile;
+pub use search_list::SearchList;

@@ -1,0 +1,27 @@
+//! Real files as a cache reads and writes them.
+//!
+//! - A *snapshot* is a [`MapFiles`](cck_files::MapFiles) with the files that one call looks at, as
+//!   they are now: [`add_file`] and [`add_named_files`]. What can't be read, or is in doubt, is left
+//!   out.
+//! - [`PathStates`] says of paths whether there is anything at them, and whether a link on the way
+//!   changed of late.
+//! - [`StoreDirectory`] is the directory of a store.
+//! - [`list_files`] and [`list_counts`] list the files of a store.
+//! - [`compiler_digest`] is the digest of a compiler's programs.
+//!
+//! No contract says what a disk holds: these calls are proved to be safe, and no more.
+#![tactic(auto)]
+
+mod compiler;
+mod listing;
+mod path_states;
+mod snapshot;
+mod store_directory;
+mod times;
+
+pub use compiler::compiler_digest;
+pub use listing::{StoredFile, list_counts, list_files};
+pub use path_states::{PathState, PathStates, is_absent};
+pub use snapshot::{add_file, add_named_files};
+pub use store_directory::{Kind, StoreDirectory, open_store};
+pub use times::{changed, modified};

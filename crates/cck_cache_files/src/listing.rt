@@ -1,0 +1,93 @@
+//! The files of a store.
+use crate::store_directory::{Kind, StoreDirectory};
+use crate::times::modified;
+use cck_path::Timestamp;
+use std::io::ErrorKind;
+use std::rt::Files;
+use std::{fs, io};
+
+/// A file of a store.
+#[derive(Debug, Drop)]
+pub struct StoredFile {
+    /// Its path.
+    pub path: String,
+    /// Its size in bytes.
+    pub size: u64,
+    /// When it was last used or written.
+    pub used: Timestamp,
+    /// Whether it was being written beside another one, and was not renamed.
+    pub is_new: bool,
+}
+
+// The paths in a directory. A directory that is not there has none.
+fn paths_in<R: Files + AllocGlobal + Clone + Drop>(
+    rt: &R,
+    directory: &str,
+) -> io::Result<Vec<String>> {
+    let alloc = rt.alloc();
+    let mut paths = Vec::new(alloc);
+    let entries = match fs::read_dir(rt, directory) {
+        Ok(entries) => entries,
+        Err(error) if error.kind() == ErrorKind::NotFound => return Ok(paths),
+        Err(error) => return Err(error),
+    };
+    for entry in entries {
+        let entry = entry?;
+        let name = entry.file_name();
+        paths.push(format!(in alloc; "{directory}/{name}")?)?;
+    }
+    Ok(paths)
+}
+
+// Adds the regular files in a directory. A file that another process removed meanwhile is left out.
+fn add_files<R: Files + AllocGlobal + Clone + Drop>(
+    rt: &R,
+    files: &mut Vec<StoredFile>,
+    directory: &str,
+) -> io::Result<()> {
+    for path in paths_in(rt, directory)? {
+        let Ok(metadata) = fs::symlink_metadata(rt, path.as_str()) else {
+            continue;
+        };
+        if let Some(used) = modified(&metadata)
+            && metadata.is_file()
+        {
+            let is_new = path.as_str().contains(".new");
+            files.push(StoredFile {
+                path,
+                size: metadata.len(),
+                used,
+                is_new,
+            })?;
+        }
+    }
+    Ok(())
+}
+
+/// The files of this kind in a store, in no order.
+pub fn list_files<R: Files + AllocGlobal + Clone + Drop>(
+    rt: &R,
+    store: &StoreDirectory,
+    kind: Kind,
+) -> io::Result<Vec<StoredFile>> {
+    let alloc = rt.alloc();
+    let (directory, kind) = (store.directory(), kind.as_str());
+    let directory = format!(in alloc; "{directory}/{kind}")?;
+    let mut files = Vec::new(alloc);
+    for path in paths_in(rt, directory.as_str())? {
+        add_files(rt, &mut files, path.as_str())?;
+    }
+    Ok(files)
+}
+
+/// The files that count the events of a store, in no order: the size of each is its count.
+pub fn list_counts<R: Files + AllocGlobal + Clone + Drop>(
+    rt: &R,
+    store: &StoreDirectory,
+) -> io::Result<Vec<StoredFile>> {
+    let directory = store.directory();
+    let directory = format!(in rt.alloc(); "{directory}/counts")?;
+    let mut files = Vec::new(rt.alloc());
+    add_files(rt, &mut files, directory.as_str())?;
+    Ok(files)
+}

@@ -1,0 +1,194 @@
+//! The directory of a store.
+use crate::times::{modified, system_time};
+use cck_path::Timestamp;
+use std::fs::{FileTimes, OpenFile, OpenOptions};
+use std::io::{ErrorKind, Write};
+use std::rt::Files;
+use std::{fs, io};
+
+/// What the file `VERSION` of a store directory holds.
+const VERSION: &[u8] = b"cck store 1\n";
+
+/// The kinds of file that a store has.
+#[derive(Debug, Clone, Copy, PartialEq, Eq)]
+pub enum Kind {
+    /// Entry files, by preprocessor keys.
+    Entry,
+    /// Object files, by keys.
+    Object,
+}
+
+impl Kind {
+    /// The name of the directory of this kind.
+    pub fn as_str(self) -> &'static str {
+        match self {
+            Kind::Entry => "entries",
+            Kind::Object => "objects",
+        }
+    }
+}
+
+/// A store directory: `VERSION`, and `entries` and `objects`, in each of which a file is in a
+/// directory that is named by the first two digits of its key.
+#[derive(Drop)]
+pub struct StoreDirectory {
+    directory: String,
+    // The end of the names that this process alone gives to new files.
+    suffix: String,
+}
+
+// Makes a store directory whose `VERSION` is not there.
+fn make_store<R: Files + AllocGlobal>(rt: &R, store: &StoreDirectory) -> io::Result<()> {
+    let directory = store.directory.as_str();
+    fs::create_dir_all(rt, directory)?;
+    let path = format!(in rt.alloc(); "{directory}/VERSION")?;
+    store.replace(rt, path.as_str(), VERSION)
+}
+
+/// The store in a directory, which is made if it is not there. `id` is the number of this process.
+///
+/// The error [`ErrorKind::InvalidData`] is of a directory with another `VERSION`.
+pub fn open_store<R: Files + AllocGlobal>(
+    rt: &R,
+    directory: &str,
+    id: u32,
+) -> io::Result<StoreDirectory> {
+    let alloc = rt.alloc();
+    let store = StoreDirectory {
+        directory: String::from_str(alloc, directory)?,
+        suffix: format!(in alloc; "new{id}")?,
+    };
+    let path = format!(in alloc; "{directory}/VERSION")?;
+    match fs::read(rt, path.as_str()) {
+        Ok(version) if version.as_slice() == VERSION => Ok(store),
+        Ok(_) => Err(io::Error::from(ErrorKind::InvalidData)),
+        Err(error) if error.kind() == ErrorKind::NotFound => {
+            make_store(rt, &store)?;
+            Ok(store)
+        }
+        Err(error) => Err(error),
+    }
+}
+
+impl StoreDirectory {
+    /// The path of the store.
+    pub fn directory(&self) -> &str {
+        self.directory.as_str()
+    }
+
+    // The directory of the file of a key.
+    fn directory_of<R: AllocGlobal>(&self, rt: &R, kind: Kind, key: &str) -> io::Result<String> {
+        let directory = self.directory.as_str();
+        let kind = kind.as_str();
+        let digits = key.get(..2).unwrap_or("00");
+        Ok(format!(in rt.alloc(); "{directory}/{kind}/{digits}")?)
+    }
+
+    /// The path of the file of a key.
+    pub fn path_of<R: AllocGlobal>(&self, rt: &R, kind: Kind, key: &str) -> io::Result<String> {
+        let directory = self.directory_of(rt, kind, key)?;
+        Ok(format!(in rt.alloc(); "{directory}/{key}")?)
+    }
+
+    /// The bytes of the file of a key. `None` where there is no such file.
+    pub fn read<R: Files + AllocGlobal>(
+        &self,
+        rt: &R,
+        kind: Kind,
+        key: &str,
+    ) -> io::Result<Option<Vec<u8>>> {
+        let path = self.path_of(rt, kind, key)?;
+        match fs::read(rt, path.as_str()) {
+            Ok(bytes) => Ok(Some(bytes)),
+            Err(error) if error.kind() == ErrorKind::NotFound => Ok(None),
+            Err(error) => Err(error),
+        }
+    }
+
+    /// Writes bytes beside a path, and renames the new file to the path. A file that could not be
+    /// written whole is removed.
+    pub fn replace<R: Files + AllocGlobal>(
+        &self,
+        rt: &R,
+        path: &str,
+        bytes: &[u8],
+    ) -> io::Result<()> {
+        let suffix = self.suffix.as_str();
+        let beside = format!(in rt.alloc(); "{path}.{suffix}")?;
+        let mut file = fs::create(rt, beside.as_str())?;
+        if let Err(error) = file.write_all(bytes) {
+            let _ = fs::remove_file(rt, beside.as_str());
+            return Err(error);
+        }
+        drop(file);
+        fs::rename(rt, beside.as_str(), path)
+    }
+
+    /// Writes the file of a key, beside it and by a rename.
+    pub fn write<R: Files + AllocGlobal>(
+        &self,
+        rt: &R,
+        kind: Kind,
+        key: &str,
+        bytes: &[u8],
+    ) -> io::Result<()> {
+        let path = self.path_of(rt, kind, key)?;
+        match self.replace(rt, path.as_str(), bytes) {
+            Err(error) if error.kind() == ErrorKind::NotFound => {
+                fs::create_dir_all(rt, self.directory_of(rt, kind, key)?.as_str())?;
+                self.replace(rt, path.as_str(), bytes)
+            }
+            outcome => outcome,
+        }
+    }
+
+    /// The time of now by the clock of the store's file system: when a file that is made now was
+    /// modified. The system's own clock may be ahead of it.
+    pub fn stamp<R: Files + AllocGlobal>(&self, rt: &R) -> io::Result<Timestamp> {
+        let directory = self.directory.as_str();
+        let suffix = self.suffix.as_str();
+        let path = format!(in rt.alloc(); "{directory}/stamp.{suffix}")?;
+        fs::write(rt, path.as_str(), b"x".as_slice())?;
+        let metadata = fs::metadata(rt, path.as_str())?;
+        fs::remove_file(rt, path.as_str())?;
+        match modified(&metadata) {
+            Some(time) => Ok(time),
+            None => Err(io::Error::from(ErrorKind::InvalidData)),
+        }
+    }
+
+    /// Sets the time at which the file of a key was used.
+    pub fn touch<R: Files + AllocGlobal>(
+        &self,
+        rt: &R,
+        kind: Kind,
+        key: &str,
+        now: Timestamp,
+    ) -> io::Result<()> {
+        let path = self.path_of(rt, kind, key)?;
+        let mut options = OpenOptions::new();
+        options.write(true);
+        let file = options.open(rt, path.as_str())?;
+        match system_time(now) {
+            Some(time) => file.set_times(FileTimes::new().set_modified(time)),
+            None => Err(io::Error::from(ErrorKind::InvalidData)),
+        }
+    }
+
+    /// Counts an event of this name: a byte is appended to the file `counts/NAME`.
+    pub fn count<R: Files + AllocGlobal>(&self, rt: &R, name: &str) -> io::Result<()> {
+        let directory = self.directory.as_str();
+        let path = format!(in rt.alloc(); "{directory}/counts/{name}")?;
+        let mut options = OpenOptions::new();
+        options.append(true).create(true);
+        let mut file = match options.open(rt, path.as_str()) {
+            Err(error) if error.kind() == ErrorKind::NotFound => {
+                let parent = format!(in rt.alloc(); "{directory}/counts")?;
+                fs::create_dir_all(rt, parent.as_str())?;
+                options.open(rt, path.as_str())?
+            }
+            outcome => outcome?,
+        };
+        file.write_all(b".")
+    }
+}

@@ -1,0 +1,42 @@
+//! The times of real files.
+use cck_path::Timestamp;
+use std::fs::Metadata;
+use std::os::unix::fs::MetadataExt;
+use std::time::{Duration, SystemTime, UNIX_EPOCH};
+
+// The time of these seconds and nanoseconds, where the nanoseconds are below a second.
+fn time_of(seconds: i64, nanoseconds: i64) -> Option<Timestamp> {
+    let nanoseconds = u32::try_from(nanoseconds).ok()?;
+    if nanoseconds < 1_000_000_000 {
+        Some(Timestamp::new(seconds, nanoseconds))
+    } else {
+        None
+    }
+}
+
+/// When the contents of a file were last modified.
+pub fn modified(metadata: &Metadata) -> Option<Timestamp> {
+    time_of(metadata.mtime(), metadata.mtime_nsec())
+}
+
+/// When the contents or the status of a file last changed.
+pub fn changed(metadata: &Metadata) -> Option<Timestamp> {
+    time_of(metadata.ctime(), metadata.ctime_nsec())
+}
+
+/// Whether a file last changed before this time.
+pub fn changed_before(metadata: &Metadata, since: Timestamp) -> bool {
+    match (modified(metadata), changed(metadata)) {
+        (Some(modified), Some(changed)) => modified < since && changed < since,
+        _ => false,
+    }
+}
+
+/// A time as the system has it. `None` for a time before 1970 or out of range.
+pub fn system_time(time: Timestamp) -> Option<SystemTime> {
+    let seconds = u64::try_from(time.seconds()).ok()?;
+    let since = Duration::from_secs(seconds).checked_add(Duration::from_nanos(u64::from(
+        time.nanoseconds(),
+    )))?;
+    UNIX_EPOCH.checked_add(since)
+}

@@ -1,0 +1,303 @@
+"""Recordings that are killed, stores that are damaged, files that change between two steps, two
+builds at once and a full device: never a wrong object. Run by tests/real_faults.sh, in an empty
+directory, with the program's path in CCK_PROGRAM and the wrapper in PATH."""
+import os
+import random
+import shutil
+import subprocess
+import sys
+import time
+
+PROGRAM = os.environ["CCK_PROGRAM"]
+ROOM = os.getcwd()
+STORE = ROOM + "/store"
+SEED = int(os.environ.get("SEED", "1"))
+chance = random.Random(SEED)
+faults = []
+
+
+def text_of(words, **rest):
+    """The standard output of a command."""
+    return subprocess.run(words, capture_output=True, text=True, check=False, **rest).stdout
+
+
+def programs():
+    """The paths of gcc's programs, with colons between them."""
+    driver = shutil.which("gcc")
+    compiler = text_of(["gcc", "-print-prog-name=cc1"]).strip()
+    assembler = shutil.which(text_of(["gcc", "-print-prog-name=as"]).strip())
+    return ":".join([driver, compiler, assembler])
+
+
+REQUEST = ["--compiler", programs(), "--directory", ROOM]
+
+
+def settle():
+    """Waits until a file that is written now is older than a look-up after this."""
+    time.sleep(0.05)
+
+
+def write(name, text):
+    with open(name, "w", encoding="ascii") as file:
+        file.write(text)
+
+
+def contents(name):
+    with open(name, "rb") as file:
+        return file.read()
+
+
+def look(source, store=STORE):
+    """The words that a look-up prints, and the object that it writes."""
+    if os.path.exists("got.o"):
+        os.unlink("got.o")
+    words = text_of([PROGRAM, "look", store, "--out", "got.o", *REQUEST, source, "--", "-c", source]).split()
+    return words, contents("got.o") if os.path.exists("got.o") else None
+
+
+def preprocess(source):
+    with open("search", "wb") as search:
+        subprocess.run(["gcc", "-c", source, "-E", "-v", "-o", "text"], stderr=search, check=False,
+                       env={**os.environ, "LC_ALL": "C"})
+
+
+def compile_(source, out="o.o"):
+    with open("messages", "wb") as messages:
+        subprocess.run(["gcc", "-c", source, "-o", out], stderr=messages, check=False)
+
+
+def start_record(source, missed, store=STORE):
+    """Begins to record what was compiled after this look-up."""
+    return subprocess.Popen(
+        [PROGRAM, "record", store, "--since", missed[2], "--key", missed[1], "--object", "o.o",
+         "--search", "search", "--messages", "messages", *REQUEST, source, "--", "-c", source],
+        stdin=open("text", "rb"), stdout=subprocess.PIPE, stderr=subprocess.DEVNULL, text=True)
+
+
+def record(source, missed, store=STORE):
+    process = start_record(source, missed, store)
+    return process.communicate()[0].strip()
+
+
+def is_right(source, found, got):
+    """Whether a look-up missed, or wrote the plain compiler's object."""
+    if not found or found[0] != "hit":
+        return True
+    compile_(source, "plain.o")
+    return got == contents("plain.o")
+
+
+def killed(times):
+    """Recordings that are killed at random moments."""
+    counts = {"hit": 0, "miss": 0, "wrong": 0, "other": 0, "left": 0}
+    write("k.c", "#include <stdio.h>\n#include <stdlib.h>\nint v = 1;\n")
+    settle()
+    preprocess("k.c")
+    compile_("k.c")
+    begun = time.time()
+    missed, _ = look("k.c")
+    record("k.c", missed)
+    whole = time.time() - begun
+    for _ in range(times):
+        shutil.rmtree(STORE, ignore_errors=True)
+        missed, _ = look("k.c")
+        process = start_record("k.c", missed)
+        time.sleep(chance.random() * whole)
+        process.kill()
+        process.communicate()
+        counts["left"] += sum(".new" in name for _, _, names in os.walk(STORE) for name in names)
+        found, got = look("k.c")
+        kind = found[0] if found and found[0] in ("hit", "miss") else "other"
+        counts[kind] += 1
+        if not is_right("k.c", found, got):
+            counts["wrong"] += 1
+    print("killed recordings:", counts)
+    if counts["wrong"] or counts["other"] or not counts["hit"] or not counts["miss"]:
+        faults.append("killed recordings")
+
+
+def stored():
+    return sorted(os.path.join(at, name) for kind in ("entries", "objects")
+                  for at, _, names in os.walk(f"{STORE}/{kind}") for name in names)
+
+
+def damage(path, others):
+    """Damages a file of the store in one of some ways. Returns the way."""
+    data = bytearray(contents(path))
+    way = chance.choice(["byte", "cut", "grow", "empty", "zeros", "swap", "front", "other"])
+    if way == "byte" and data:
+        data[chance.randrange(len(data))] ^= 1 << chance.randrange(8)
+    elif way == "cut":
+        del data[chance.randrange(len(data) + 1):]
+    elif way == "grow":
+        data += bytes(chance.randrange(256) for _ in range(chance.randrange(1, 40)))
+    elif way == "empty":
+        data.clear()
+    elif way == "zeros" and data:
+        at = chance.randrange(len(data))
+        data[at:at + 512] = bytes(len(data[at:at + 512]))
+    elif way == "swap":
+        data = bytearray(contents(chance.choice(others)))
+    elif way == "front":
+        del data[:chance.randrange(1, 100)]
+    else:
+        data = bytearray(b"int main(void) { return 0; }\n")
+    with open(path, "wb") as file:
+        file.write(data)
+    return way
+
+
+def damaged(times):
+    """Look-ups in a store with a damaged file."""
+    counts = {"hit": 0, "miss": 0, "wrong": 0, "other": 0}
+    shutil.rmtree(STORE, ignore_errors=True)
+    sources = []
+    for number in range(4):
+        write(f"d{number}.c", f"#include <stddef.h>\nint d{number} = {number};\n")
+        sources.append(f"d{number}.c")
+    settle()
+    for source in sources:
+        missed, _ = look(source)
+        preprocess(source)
+        compile_(source)
+        record(source, missed)
+    plain = {}
+    for source in sources:
+        compile_(source, "plain.o")
+        plain[source] = contents("plain.o")
+    kept = {path: contents(path) for path in stored()}
+    for _ in range(times):
+        damage(chance.choice(sorted(kept)), sorted(kept))
+        for source in sources:
+            found, got = look(source)
+            kind = found[0] if found and found[0] in ("hit", "miss") else "other"
+            counts[kind] += 1
+            if kind == "hit" and got != plain[source]:
+                counts["wrong"] += 1
+        for path, data in kept.items():
+            with open(path, "wb") as file:
+                file.write(data)
+    print("damaged stores:", counts)
+    if counts["wrong"] or counts["other"] or not counts["hit"] or not counts["miss"]:
+        faults.append("damaged stores")
+
+
+def swapped():
+    """A header, or the input, that changes between two steps of a miss."""
+    steps = ["before the text", "before the compilation", "before the recording"]
+    ways = ["written", "moved over", "time set back", "link turned"]
+    for way in ways:
+        for step in steps:
+            shutil.rmtree(STORE, ignore_errors=True)
+            write("s1.h", "int v = 1;\n")
+            write("s2.h", "int v = 2;\n")
+            if os.path.lexists("s.h"):
+                os.unlink("s.h")
+            if way == "link turned":
+                os.symlink("s1.h", "s.h")
+            else:
+                shutil.copy2("s1.h", "s.h")
+            write("s.c", '#include "s.h"\n')
+            settle()
+
+            def change():
+                if way == "written":
+                    write("s.h", "int v = 2;\n")
+                elif way == "moved over":
+                    os.rename("s2.h", "s.h")
+                elif way == "time set back":
+                    before = os.stat("s.h")
+                    write("s.h", "int v = 2;\n")
+                    os.utime("s.h", ns=(before.st_atime_ns, before.st_mtime_ns))
+                else:
+                    os.unlink("s.h")
+                    os.symlink("s2.h", "s.h")
+
+            missed, _ = look("s.c")
+            for place, action in enumerate([preprocess, compile_]):
+                if step == steps[place]:
+                    change()
+                action("s.c")
+            if step == steps[2]:
+                change()
+            said = record("s.c", missed)
+            found, got = look("s.c")
+            right = is_right("s.c", found, got)
+            print(f"header {way} {step}: {said.split()[0] if said else 'error'},",
+                  f"then {found[0] if found else 'error'}, {'right' if right else 'WRONG'}")
+            if not right:
+                faults.append(f"header {way} {step}")
+    shutil.rmtree(STORE, ignore_errors=True)
+    write("i.c", "int v = 1;\n")
+    settle()
+    missed, _ = look("i.c")
+    preprocess("i.c")
+    compile_("i.c")
+    write("i.c", "int v = 2;\n")
+    said = record("i.c", missed)
+    found, got = look("i.c")
+    print(f"input written before the recording: {said}, then {found[0]}")
+    if said != "refused-input-changed" or not is_right("i.c", found, got):
+        faults.append("input written before the recording")
+
+
+def at_once(number):
+    """Two builds at once that share a store, and the keys."""
+    shutil.rmtree(STORE, ignore_errors=True)
+    names = []
+    for place in range(number):
+        write(f"b{place}.c", f"#include <stdio.h>\nint b{place} = {place};\n")
+        names.append(f"b{place}")
+    settle()
+    environment = {**os.environ, "CCK_STORE": STORE}
+    wrong = 0
+    for _ in range(2):
+        running = [subprocess.Popen(["cckcc", "gcc", "-c", f"{name}.c", "-o", f"{name}.{build}.o"], env=environment)
+                   for name in names for build in (1, 2)]
+        for process in running:
+            process.wait()
+        for name in names:
+            compile_(f"{name}.c", "plain.o")
+            plain = contents("plain.o")
+            wrong += sum(contents(f"{name}.{build}.o") != plain for build in (1, 2))
+    print(f"two builds at once: {4 * number} objects, {wrong} wrong")
+    if wrong:
+        faults.append("two builds at once")
+
+
+def full():
+    """A store on a full device."""
+    os.makedirs("device", exist_ok=True)
+    if subprocess.run(["mount", "-t", "tmpfs", "-o", "size=96k", "tmpfs", "device"], check=False,
+                      stderr=subprocess.DEVNULL).returncode:
+        print("full device: not tried, a device could not be mounted")
+        return
+    store = ROOM + "/device/store"
+    try:
+        write("f.c", "#include <stdio.h>\nchar f[60000] = {1};\n")
+        settle()
+        missed, _ = look("f.c", store)
+        preprocess("f.c")
+        compile_("f.c")
+        with open("device/fill", "wb") as file:
+            file.write(bytes(48 * 1024))
+        said = record("f.c", missed, store)
+        found, got = look("f.c", store)
+        right = is_right("f.c", found, got)
+        left = sum(".new" in name for _, _, names in os.walk(store) for name in names)
+        print(f"full device: {said}, then {found[0]}, {'right' if right else 'WRONG'}, {left} files left")
+        if not right or found[0] == "hit":
+            faults.append("full device")
+    finally:
+        subprocess.run(["umount", "device"], check=False)
+
+
+killed(int(os.environ.get("KILLS", "300")))
+damaged(int(os.environ.get("DAMAGES", "1000")))
+swapped()
+at_once(15)
+full()
+if faults:
+    print("FAILED:", ", ".join(faults))
+    sys.exit(1)
+print("all passed")
