@@ -1,0 +1,4 @@
+pub mod AskedKey
+pub mod External
+pub mod Requests
+pub mod Snapshot

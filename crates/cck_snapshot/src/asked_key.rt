@@ -1,0 +1,54 @@
+//! The key under which a store is asked.
+use cck_store::{PreprocessorStore, StoreError};
+use std::alloc::Global;
+use std::marker::Model;
+
+/// A store that holds nothing and notes under which key it was asked last. Its count of store
+/// failures is always the greatest: each get finds nothing, whatever was put.
+#[derive(Drop)]
+pub(crate) struct AskedKey {
+    key: Option<String>,
+}
+
+impl AskedKey {
+    /// A store that was not asked yet.
+    pub(crate) fn new() -> AskedKey {
+        AskedKey { key: None }
+    }
+
+    /// The key under which it was asked last.
+    pub(crate) fn into_key(self) -> Option<String> {
+        self.key
+    }
+}
+
+impl PreprocessorStore for AskedKey {
+    ghost use Rattle.cck_snapshot.specs.AskedKey.{asked_key, asked_key_laws};
+
+    ghost store = { asked_key };
+
+    fn get_preprocessor_cache_entry(
+        &mut self,
+        alloc: Global,
+        key: &str,
+    ) -> Result<Option<Vec<u8>>, StoreError> {
+        match String::from_str(alloc, key) {
+            Ok(key) => {
+                self.key = Some(key);
+                Ok(None)
+            }
+            Err(_) => Err(StoreError::Memory),
+        }
+    }
+
+    fn put_preprocessor_cache_entry(
+        &mut self,
+        _: Global,
+        _: &str,
+        _: &[u8],
+    ) -> Result<(), StoreError> {
+        Err(StoreError::Fault)
+    }
+
+    ghost laws = { asked_key_laws };
+}
