@@ -23,3 +23,6 @@ pub use key::preprocessor_key;
 pub use looking::look_up;
 pub use recording::{Recorded, Recording, record_text};
 pub use requests::Request;
+
+#[cfg(test)]
+mod tests;
