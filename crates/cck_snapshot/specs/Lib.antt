@@ -2,3 +2,4 @@ pub mod AskedKey
 pub mod External
 pub mod Requests
 pub mod Snapshot
+pub mod TextHasher

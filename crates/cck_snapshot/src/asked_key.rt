@@ -1,4 +1,6 @@
 //! The key under which a store is asked.
+ghost use Rattle.std.specs.Prelude.{◌≡◌, None, option_map, string_bytes};
+
 use cck_store::{PreprocessorStore, StoreError};
 use std::alloc::Global;
 use std::marker::Model;
@@ -10,14 +12,27 @@ pub(crate) struct AskedKey {
     key: Option<String>,
 }
 
+impl Model for AskedKey {
+    ghost use Rattle.std.specs.Prelude.{List, Option, ℕ, string_bytes};
+    ghost use Rattle.std.specs.Option.{option_map};
+
+    ghost Value = { Option (List ℕ) };
+
+    ghost view = { λ a. option_map string_bytes a.key };
+}
+
 impl AskedKey {
     /// A store that was not asked yet.
-    pub(crate) fn new() -> AskedKey {
+    pub(crate) fn new() -> AskedKey
+        ensures { result ≡ None }
+    {
         AskedKey { key: None }
     }
 
     /// The key under which it was asked last.
-    pub(crate) fn into_key(self) -> Option<String> {
+    pub(crate) fn into_key(self) -> Option<String>
+        ensures { option_map string_bytes result ≡ self }
+    {
         self.key
     }
 }

@@ -9,6 +9,7 @@ ghost use Rattle.cck_snapshot.specs.External.{no_text};
 ghost use Rattle.cck_snapshot.specs.Requests.{call_for, world_for};
 
 use crate::asked_key::AskedKey;
+use crate::looking::stored_key;
 use crate::requests::Request;
 use c_cache_keys::{CacheControl, KeyError};
 use cck_digest::HashState;
@@ -57,10 +58,11 @@ pub fn preprocessor_key<H: HashState, F: Files>(
         request.basedirs,
         CacheControl::Default,
     );
+    let stored = stored_key(found);
     match asked.into_key() {
         Some(key) => Ok(Some(key)),
-        None => match found {
-            Ok(_) | Err(KeyError::Preprocess(_)) => Ok(None),
+        None => match stored {
+            Ok(_) => Ok(None),
             Err(error) => Err(error),
         },
     }

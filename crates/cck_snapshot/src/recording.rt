@@ -1,13 +1,9 @@
 //! Recordings.
-ghost use Rattle.std.specs.Prelude.{◌≡◌, IfOk, Some};
-ghost use Rattle.cck_compiler.specs.Seen.{arguments_of};
+ghost use Rattle.std.specs.Prelude.{IfErr, IfOk, IsOkUnless, option_map, string_bytes};
 ghost use Rattle.cck_files.specs.Calls.{Keeps, Rose};
-ghost use Rattle.cck_path.specs.Bytes.{variables_of};
-ghost use Rattle.c_cache_keys.specs.Keys.{printed};
-ghost use Rattle.c_cache_keys.specs.declared.call.CacheControl.TheVariants.{ForceRecache};
 ghost use Rattle.cck_snapshot.specs.External.{Prints};
-ghost use Rattle.cck_snapshot.specs.Requests.{call_for, world_for};
-ghost use Rattle.cck_snapshot.specs.Snapshot.{IsRecording};
+ghost use Rattle.cck_snapshot.specs.Snapshot.{IsRecordedIn, IsRecording, IsRecordingError, PrintsText};
+ghost use Rattle.cck_snapshot.specs.TextHasher.{IsTextHasher};
 
 use crate::compiler::ExternalCompiler;
 use crate::key::preprocessor_key;
@@ -65,9 +61,11 @@ pub fn record_text<H: HashState, F: Files>(
 ) -> Result<Recording, KeyError>
     ensures keeps { Keeps F.file_map F.faults F.is_quiet snapshot.old snapshot.new }
     ensures recorded { IfOk result (λ done. (prints : Prints)
-        → printed (world_for H.hash prints request.now) (call_for ForceRecache (F.file_map snapshot.old) request.now) ≡ Some text.now
-        → IsRecording H.hash (F.file_map snapshot.old) request.now
-        (Rose (F.faults snapshot.old) (F.faults snapshot.new)) text.now prints done) }
+        → PrintsText H.hash (F.file_map snapshot.old) request.now prints text.now
+        → IsRecording H.hash (F.file_map snapshot.old) request.now (Rose (F.faults snapshot.old) (F.faults snapshot.new)) prints done) }
+    ensures refused { IfErr result (λ e. (prints : Prints)
+        → PrintsText H.hash (F.file_map snapshot.old) request.now prints text.now
+        → IsRecordingError H.hash (F.file_map snapshot.old) request.now (Rose (F.faults snapshot.old) (F.faults snapshot.new)) prints e) }
 {
     let at = match preprocessor_key::<H, F>(alloc, snapshot, request) {
         Ok(at) => at,
@@ -104,7 +102,10 @@ pub fn record_text<H: HashState, F: Files>(
 }
 
 // What a store in memory, which held nothing, holds after a recording with this preprocessor key.
-fn recorded_in(alloc: Global, store: &MapStore, at: Option<String>) -> Result<Recorded, KeyError> {
+fn recorded_in(alloc: Global, store: &MapStore, at: Option<String>) -> Result<Recorded, KeyError>
+    ensures recorded { IfOk result (IsRecordedIn (option_map string_bytes at) store.now) }
+    ensures refused { IsOkUnless result KeyError.Memory }
+{
     let Some(at) = at else {
         return Ok(Recorded::NoPreprocessorKey);
     };
@@ -125,7 +126,10 @@ fn text_hasher(
     alloc: Global,
     hasher: &CCompilerHasher<ExternalCompiler>,
     text: &[u8],
-) -> Result<CCompilerHasher<TextCompiler>, KeyError> {
+) -> Result<CCompilerHasher<TextCompiler>, KeyError>
+    ensures same { IfOk result (IsTextHasher hasher.now text.now) }
+    ensures refused { IsOkUnless result KeyError.Memory }
+{
     let copy = hasher.copy(alloc)?;
     Ok(CCompilerHasher {
         compiler: TextCompiler {
