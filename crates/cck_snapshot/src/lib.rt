@@ -13,6 +13,7 @@
 mod asked_key;
 mod compiler;
 mod key;
+pub mod laws;
 mod looking;
 mod recording;
 mod requests;
