@@ -1,0 +1,114 @@
+-- The key under which a store is asked is the preprocessor key.
+use Rattle.std.proofs.Common.{◌≡◌, ◌≢◌, inl, inr, true, false, None, Option, Some, String, Ok, Err, refl, sym, ap, ◌∙◌, subst}
+use Rattle.std.proofs.lemmas.Bool.{false≢true}
+use Rattle.std.proofs.lemmas.Option.{none-some, same_Some}
+use Rattle.std.specs.declared.alloc.Global.{Global}
+use Rattle.cck_path.specs.Bytes.{Bytes}
+use Rattle.cck_store.specs.Store.{Returned, Store}
+use Rattle.cck_store.specs.declared.store.StoreError.TheVariants as store
+use Rattle.c_cache_keys.proofs.Stored.{not_both, not_failed}
+use Rattle.c_cache_keys.specs.Call.{Answer, Call, Damaged, Extra, ExtraFault, Input, InputFault, Keyed, Marker, Memory, NoText, Refused, Store as StoreFails, TextFault, Why}
+use Rattle.c_cache_keys.specs.Keys.{is_preprocessed, preprocessor_key_of}
+use Rattle.c_cache_keys.specs.Step.{Asked, Asks, Ends, Failed, Gives, Hit, Makes, Miss, Step, Stores, StopsMaking, StopsOpening, asked, gives, made, stopped, stops}
+use Rattle.c_cache_keys.specs.World.{World}
+use Rattle.c_cache_keys.specs.declared.call.CacheControl.TheVariants.{Default}
+use Rattle.cck_snapshot.specs.AskedKey.{IsNoted, asked_key}
+use Rattle.cck_snapshot.specs.Snapshot.{IsMiss, IsStoredKey}
+
+pub same_why : {a b : Why} → Refused a ≡ Refused b → a ≡ b
+same_why e = cc
+
+miss_hit : {key : Bytes} → Miss ≡ Hit key → ⊥
+miss_hit e = cc
+
+failed_hit : {key : Bytes} {why : Why} → Failed why ≡ Hit key → ⊥
+failed_hit e = cc
+
+failed_miss : {why : Why} → Failed why ≡ Miss → ⊥
+failed_miss e = cc
+
+same_failed : {a b : Why} → Failed a ≡ Failed b → a ≡ b
+same_failed e = cc
+
+-- no error that is a miss comes before the store is asked
+pub not_opening : {V : Type 0} (w : World V) (c : Call V) (F : Type 0) (why : Why) → IsMiss (Refused why) → StopsOpening w c F why → ⊥
+not_opening w c F Memory m h = m
+not_opening w c F Extra m h = m
+not_opening w c F ExtraFault m h = m
+not_opening w c F Input m h = m
+not_opening w c F InputFault m h = m
+not_opening w c F StoreFails m h = m
+not_opening w c F Damaged m h = m
+not_opening w c F NoText m h = h
+not_opening w c F TextFault m h = h
+not_opening w c F Marker m h = m
+
+module _ {V : Type 0} (w : World V) (c : Call V) (F : Type 0) (control : c.control ≡ Default) where
+  puts_nothing : (key : Bytes) (s t : Option Bytes) → Stores w asked_key c F key s t → t ≡ s
+  puts_nothing key s t (inl p) = p.put
+  puts_nothing key s t (inr n) = n.0
+
+  makes_nothing : (s t : Option Bytes) (r : Answer) → Makes w asked_key c F s r t → t ≡ s
+  makes_nothing s t r (stops why cause is same) = same
+  makes_nothing s t r (gives key plain calm is puts) = puts_nothing key s t puts
+
+  -- What a call leaves on this store. It was asked under the preprocessor key. Or it was not asked, and there is none, or the call returned
+  -- an error before.
+  pub data Noted (r : Answer) (t : Option Bytes) : Type 0 where
+    noted : (k : Bytes) → preprocessor_key_of w c ≡ Some k → t ≡ Some k → Noted r t
+    early : (why : Why) → StopsOpening w c F why → r ≡ Refused why → t ≡ None → Noted r t
+    no_key : preprocessor_key_of w c ≡ None → Makes w asked_key c F None r t → t ≡ None → Noted r t
+
+  pub what_is_noted : (r : Answer) (t : Option Bytes) → Step w asked_key c F None r t → Noted r t
+  what_is_noted r t (stopped why cause is same) = early why cause is same
+  what_is_noted r t (made o (inl none) makes) = no_key none makes (makes_nothing None t r makes)
+  what_is_noted r t (made o (inr recache) makes) = absurd (not_both (sym control ∙ recache))
+  what_is_noted r t (asked o k is-k default a mid asks ends) = go asks.answer a asks.got asks.gives ends
+    where
+      go : (answer : Returned) (a : Asked) → IsNoted None k answer mid → Gives w c F answer a → Ends w asked_key c F a mid r t → Noted r t
+      go (Ok None) (Hit key) got given ends = absurd (miss_hit (sym given))
+      go (Ok None) (Failed why) got given ends = absurd (failed_miss given)
+      go (Ok None) Miss got given ends = noted k is-k (makes_nothing mid t r ends ∙ got)
+      go (Ok (Some bytes)) a got given ends = absurd got
+      go (Err store.Fault) a got given ends = absurd got
+      go (Err store.Memory) (Hit key) got given ends = absurd (failed_hit (sym given))
+      go (Err store.Memory) Miss got given ends = absurd (failed_miss (sym given))
+      go (Err store.Memory) (Failed why) got given ends =
+          early Memory tt (ends.0 ∙ ap Refused (same_failed given)) (ends.1 ∙ got)
+
+  -- the noted key
+  pub noted_key : (r : Answer) (k : Bytes) → Noted r (Some k) → preprocessor_key_of w c ≡ Some k
+  noted_key r k (noted other is same) = is ∙ sym same
+  noted_key r k (early why cause is none) = absurd (none-some _ (sym none))
+  noted_key r k (no_key none makes is) = absurd (none-some _ (sym is))
+
+  -- no key was noted, and the call returned a key, or ended as it does where nothing is printed
+  pub none_noted : (r : Answer) (o : Option (String Global)) → IsStoredKey r o → Noted r None → preprocessor_key_of w c ≡ None
+  none_noted r o m (noted k is same) = absurd (none-some _ same)
+  none_noted r None m (early why cause is none) = absurd (not_opening w c F why (subst IsMiss is m) cause)
+  none_noted r (Some key) m (early why cause is none) = absurd (not_failed (sym m ∙ is))
+  none_noted r o m (no_key none makes is) = none
+
+  -- the error is not that there is no text
+  abbrev pub NotTextless : Why → Type 0
+  NotTextless why = (why ≢ NoText) × (why ≢ TextFault)
+
+  no_making : (why : Why) → is_preprocessed c.request ≡ true → preprocessor_key_of w c ≡ None → NotTextless why → StopsMaking w c F why → StopsOpening w c F why
+  no_making Memory needs none other h = tt
+  no_making Extra needs none other h = absurd h
+  no_making ExtraFault needs none other h = absurd h
+  no_making Input needs none other h = absurd (false≢true (sym h.0 ∙ needs))
+  no_making InputFault needs none other h = absurd (false≢true (sym h.0 ∙ needs))
+  no_making StoreFails needs none other h = absurd h
+  no_making Damaged needs none other h = absurd h
+  no_making NoText needs none other h = absurd (other.0 refl)
+  no_making TextFault needs none other h = absurd (other.1 refl)
+  no_making Marker needs none other h = absurd (h.0 none)
+
+  -- no key was noted, and the call returned an error
+  pub why_not_noted : (why : Why) → is_preprocessed c.request ≡ true → NotTextless why → Noted (Refused why) None → StopsOpening w c F why
+  why_not_noted why needs other (noted k is same) = absurd (none-some _ same)
+  why_not_noted why needs other (early why' cause is none) = subst (StopsOpening w c F) (sym (same_why is)) cause
+  why_not_noted why needs other (no_key none (stops why' cause is same) t) =
+      no_making why needs none other (subst (StopsMaking w c F) (sym (same_why is)) cause)
+  why_not_noted why needs other (no_key none (gives key plain calm is puts) t) = absurd (not_failed (sym is))

@@ -1,0 +1,9 @@
+pub mod Hits
+pub mod Keys
+pub mod Looking
+pub mod Names
+pub mod Pairs
+pub mod Parts
+pub mod Recording
+pub mod Stores
+pub mod Texts

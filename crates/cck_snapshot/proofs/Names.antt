@@ -1,0 +1,108 @@
+-- Two calls that name the same paths: what the walk over a text says of both.
+use Rattle.std.proofs.Common.{◌≡◌, inl, inr, Bool, List, [], ◌∷◌, true, Ok, refl, sym, ap, ◌∙◌, subst}
+use Rattle.std.specs.Prelude.{Contains}
+use Rattle.cck_files.specs.FileMap.{FileNode, file_at}
+use Rattle.cck_include.specs.Gathered.{Digested}
+use Rattle.cck_include.specs.Recorded.{recorded}
+use Rattle.cck_markers.specs.Marks.{Malformed, Mark, Name, Refusal}
+use Rattle.cck_path.specs.Bytes.{Bytes}
+use Rattle.cck_path.specs.Path.{Path, components}
+use Rattle.c_cache_keys.specs.Call.{Call}
+use Rattle.c_cache_keys.specs.Walk.{AreRecorded, IsGood, IsLooked, IsNamed, Accepted, IsRecorded, MarksDecide, NotAccepted, Verdict, Walk, input_path, path_of}
+use Rattle.c_cache_keys.specs.World.{World, setting}
+
+not_accepted : Accepted ≡ NotAccepted → ⊥
+not_accepted e = cc
+
+-- two calls that resolve names alike, under options that look at the same names
+pub record SameNames {V U : Type 0} (w : World V) (c : Call V) (x : World U) (d : Call U) : Type 0 where
+  pub config : w.config ≡ x.config
+  pub path : (name : Bytes) → path_of c name ≡ path_of d name
+  pub input : input_path c ≡ input_path d
+
+pub turned : {V U : Type 0} (w : World V) (c : Call V) (x : World U) (d : Call U) → SameNames w c x d → SameNames x d w c
+turned w c x d same = record { config = sym same.config; path = λ name. sym (same.path name); input = sym same.input }
+
+module _ {V U : Type 0} (w : World V) (c : Call V) (x : World U) (d : Call U) (same : SameNames w c x d) where
+  pub looked : (name : Bytes) (system : Bool) → IsLooked w c name system → IsLooked x d name system
+  looked name system l = record {
+    some = l.some;
+    not_angled = l.not_angled;
+    wanted = λ on. l.wanted (ap (λ config. config.skip_system_headers) same.config ∙ on);
+    other = λ e. l.other (same.path name ∙ e ∙ sym (ap components same.input));
+  }
+
+  pub named : (text : Bytes) (p : Path) → IsNamed w c text p → IsNamed x d text p
+  named text p n = record {
+    name = n.name;
+    system = n.system;
+    marks = n.marks;
+    are = n.are;
+    stands = n.stands;
+    looked = looked n.name n.system n.looked;
+    is = n.is ∙ same.path n.name;
+  }
+
+  -- a path is good for the second call where it is for the first
+  abbrev pub KeepsGood : Type 0
+  KeepsGood = (p : Path) → IsGood w c p → IsGood x d p
+
+  abbrev pub ReturnsGood : Type 0
+  ReturnsGood = (p : Path) → IsGood x d p → IsGood w c p
+
+  good_again : KeepsGood → (name : Bytes) → IsGood w c (path_of c name) → IsGood x d (path_of d name)
+  good_again good name g = subst (IsGood x d) (same.path name) (good (path_of c name) g)
+
+  good_before : ReturnsGood → (name : Bytes) → IsGood x d (path_of d name) → IsGood w c (path_of c name)
+  good_before back name g = back (path_of c name) (subst (IsGood x d) (sym (same.path name)) g)
+
+-- the names that are looked at, from the second call to the first
+pub looked_before : {V U : Type 0} (w : World V) (c : Call V) (x : World U) (d : Call U) → SameNames w c x d → (name : Bytes) (system : Bool) → IsLooked x d name system → IsLooked w c name system
+looked_before w c x d same name system l = looked x d w c (turned w c x d same) name system l
+
+module _ {V U : Type 0} (w : World V) (c : Call V) (x : World U) (d : Call U) (same : SameNames w c x d) where
+  -- marks decide the same verdict
+  pub decides : KeepsGood w c x d same → ReturnsGood w c x d same → (marks : List Mark) (v : Verdict) → MarksDecide w c marks v → MarksDecide x d marks v
+  decides good back [] v m = m
+  decides good back (Refusal ∷ marks) v m = m
+  decides good back (Malformed ∷ marks) v m = m
+  decides good back (Name name system ∷ marks) v (inl m) =
+      inl (λ l. good_again w c x d same good name (m.0 (looked_before w c x d same name system l)), decides good back marks v m.1)
+  decides good back (Name name system ∷ marks) v (inr m) =
+      inr (looked w c x d same name system m.0, λ g. m.1 (good_before w c x d same back name g), m.2)
+
+  pub walks : KeepsGood w c x d same → ReturnsGood w c x d same → (text : Bytes) (v : Verdict) → Walk w c text v → Walk x d text v
+  walks good back text v (marks, are, m) = (marks, are, decides good back marks v m)
+
+  -- an accepted text is accepted
+  accepts : KeepsGood w c x d same → (marks : List Mark) → MarksDecide w c marks Accepted → MarksDecide x d marks Accepted
+  accepts good [] m = m
+  accepts good (Refusal ∷ marks) m = m
+  accepts good (Malformed ∷ marks) m = m
+  accepts good (Name name system ∷ marks) (inl m) =
+      inl (λ l. good_again w c x d same good name (m.0 (looked_before w c x d same name system l)), accepts good marks m.1)
+  accepts good (Name name system ∷ marks) (inr m) = absurd (not_accepted m.2)
+
+  pub walk_accepts : KeepsGood w c x d same → (text : Bytes) → Walk w c text Accepted → Walk x d text Accepted
+  walk_accepts good text (marks, are, m) = (marks, are, accepts good marks m)
+
+  -- what is recorded of a named file
+  module _ (text : Bytes) (files : (p : Path) (n : FileNode) → file_at c.files p ≡ Ok n → file_at d.files p ≡ Ok n) (digests : (n : FileNode) → recorded (setting w c) n ≡ recorded (setting x d) n) where
+    recorded_again : (e : Digested) → IsRecorded w c text e → IsRecorded x d text e
+    recorded_again e r = record {
+      path = r.path;
+      written = r.written;
+      named = named w c x d same text r.path r.named;
+      node = r.node;
+      file = files r.path r.node r.file;
+      digest = sym (digests r.node) ∙ r.digest;
+    }
+
+    pub all_recorded : ((p : Path) (n : FileNode) → IsNamed w c text p → file_at d.files p ≡ Ok n → file_at c.files p ≡ Ok n) → (ds : List Digested) → AreRecorded w c text ds → AreRecorded x d text ds
+    all_recorded back ds r = record {
+      ordered = r.ordered;
+      each = λ e at. recorded_again e (r.each e at);
+      all = λ p n is file.
+          let is' : IsNamed w c text p = named x d w c (turned w c x d same) text p is in
+          r.all p n is' (back p n is' file);
+    }

@@ -1,0 +1,28 @@
+-- A store in memory that holds one pair.
+use Rattle.std.proofs.Common.{◌≡◌, Bool, true, false, cond, [], ◌∷◌, Option, Some, None, Ok, Err, refl, sym, ap, ◌∙◌}
+use Rattle.std.specs.Cmp.{tied_itself}
+use Rattle.std.specs.Cmp.Lexicographic.{nat_list_cmp_total}
+use Rattle.std.specs.FinMap.Entries.{find, find-put, put}
+use Rattle.std.specs.Ordering.{is_eq}
+use Rattle.std.proofs.lemmas.Option.{none-some, same_Some}
+use Rattle.cck_path.specs.Bytes.{Bytes}
+use Rattle.cck_path.specs.TextOrder.{text_cmp}
+use Rattle.cck_store.specs.MapStore.{IsPut, State, begun, new_state}
+use Rattle.cck_snapshot.specs.Snapshot.{one_pair}
+
+-- what is found under a key
+pub find_one : (k other bytes x : Bytes) → find text_cmp other ((k, bytes) ∷ []) ≡ Some x → x ≡ bytes
+find_one k other bytes x h = by (is_eq (text_cmp other k)) (sym (find-put text_cmp nat_list_cmp_total other k bytes []) ∙ h)
+  where
+    by : (tied : Bool) → cond tied (Some bytes) (find text_cmp other []) ≡ Some x → x ≡ bytes
+    by true e = sym (same_Some bytes x e)
+    by false e = absurd (none-some _ e)
+
+pub find_own : (k bytes : Bytes) → find text_cmp k ((k, bytes) ∷ []) ≡ Some bytes
+find_own k bytes =
+    find-put text_cmp nat_list_cmp_total k k bytes []
+    ∙ ap (λ o. cond (is_eq o) (Some bytes) (find text_cmp k [])) (tied_itself nat_list_cmp_total k)
+
+-- a put into a new store leaves the one pair
+pub put_one : (s t : State) (k bytes : Bytes) → s ≡ new_state → t ≡ record (begun s) { pairs = put text_cmp k bytes (begun s).pairs } → t ≡ one_pair k bytes
+put_one s t k bytes is p = p ∙ ap (λ v. record (begun v) { pairs = put text_cmp k bytes (begun v).pairs }) is

@@ -1,0 +1,291 @@
+-- What holds over a snapshot of files holds over all of them.
+use Rattle.std.proofs.Common.{◌≡◌, ◌≢◌, ◌⊎◌, inl, inr, ◌∷◌, [], List, map, Bool, false, true, cond, None, Option, Some, Ok, Err, Result, refl, sym, ap, ◌∙◌, subst}
+use Rattle.std.specs.FinMap.{empty, entries, get}
+use Rattle.std.specs.List.{list_all}
+use Rattle.std.specs.Option.{option_and_then, option_map}
+use Rattle.std.specs.Prelude.{Contains}
+use Rattle.std.proofs.lemmas.Option.{none-some, same_Some}
+use Rattle.cck_digest.specs.Digest.{digest_text}
+use Rattle.cck_digest.specs.declared.error.FileError.{FileError}
+use Rattle.cck_entry.proofs.LawLemmas.{one_text_one_entry}
+use Rattle.cck_entry.specs.Entry.{Entry, EntryText, added}
+use Rattle.cck_entry.specs.Find.{IsLookup, found_in}
+use Rattle.cck_entry.specs.Results.{KeyResult}
+use Rattle.cck_files.specs.FileMap.{FileMap, FileNode, file_at, file_in, folder_at, folder_in, metadata_at, metadata_in}
+use Rattle.cck_include.specs.Gathered.{Digested, all_of, gathered, include_at, include_of_metadata}
+use Rattle.cck_include.specs.Include.{Include}
+use Rattle.cck_include.specs.Matching.{file_matches, matches}
+use Rattle.cck_include.specs.Recorded.{recorded}
+use Rattle.cck_include.specs.Setting.{Setting}
+use Rattle.cck_markers.proofs.OneList.{one_list}
+use Rattle.cck_markers.specs.Marks.{Malformed, Mark, Marks, Name, Refusal}
+use Rattle.cck_path.specs.Bytes.{Bytes}
+use Rattle.cck_path.specs.Path.{Path, components}
+use Rattle.cck_store.specs.MapStore.{IsGot, State, map_store, new_state}
+use Rattle.cck_preprocessor_key.specs.PreprocessorKey.{preprocessor_material}
+use Rattle.cck_store.specs.Store.{Returned}
+use Rattle.cck_store.specs.declared.store.StoreError.TheVariants as store
+use Rattle.cck_util.specs.Key.{object_key}
+use Rattle.c_cache_keys.proofs.Decisions.{one_decision}
+use Rattle.c_cache_keys.proofs.Elements.{all_pass, each_passes, none_in, one_of}
+use Rattle.c_cache_keys.proofs.HitPlain.{only_result}
+use Rattle.c_cache_keys.proofs.Includes.{entries-added, same_ok}
+use Rattle.c_cache_keys.proofs.Judgements.{folder_or_file}
+use Rattle.c_cache_keys.proofs.KeySame.{input_known, key_known, material_known, used_prints}
+use Rattle.c_cache_keys.proofs.Stored.{not_both, not_failed}
+use Rattle.c_cache_keys.specs.Call.{Call, Fault, Keyed}
+use Rattle.c_cache_keys.specs.Keys.{extra_texts, input_file, input_recorded, is_preprocessed, key_material, of_both, params, plain_key, preprocessor_key_of, printed, request_parts, text_of, told, uses_cache}
+use Rattle.c_cache_keys.specs.Step.{AreOwnIncludes, Asked, Asks, Ends, Failed, Gives, Hit, Miss, NotErring, Opened, OwnPair, Step, asked, gives, made, matching, stopped, stops}
+use Rattle.c_cache_keys.specs.Walk.{Accepted, Errs, IsGood, IsLooked, IsNamed, MarksDecide, NotAccepted, Walk, input_path, path_of}
+use Rattle.c_cache_keys.specs.World.{World, setting}
+use Rattle.c_cache_keys.specs.declared.call.CacheControl.TheVariants.{ForceRecache}
+use Rattle.cck_snapshot.proofs.Hits.{made_fresh}
+use Rattle.cck_snapshot.proofs.Names.{SameNames, all_recorded, walk_accepts}
+use Rattle.cck_snapshot.proofs.Pairs.{find_one}
+use Rattle.cck_snapshot.specs.Laws.{HasOneResult, HitOverAll, IsPart, IsSnapshot, RecordingOverAll, over}
+use Rattle.cck_snapshot.specs.Snapshot.{one_pair}
+
+-- ---- nodes
+
+file_here : (part whole : FileMap) → IsPart part whole → (p : Path) (n : FileNode) → file_at part p ≡ Ok n → file_at whole p ≡ Ok n
+unfolding file_at
+file_here part whole is p n file = by (get part.nodes p) refl file
+  where
+    by : (o : Option FileNode) → get part.nodes p ≡ o → file_in o ≡ Ok n → file_in (get whole.nodes p) ≡ Ok n
+    by None at file = absurd cc
+    by (Some m) at file = ap file_in (is p m at) ∙ file
+
+folder_here : (part whole : FileMap) → IsPart part whole → (p : Path) → folder_at part p ≡ Ok tt → folder_at whole p ≡ Ok tt
+unfolding folder_at
+folder_here part whole is p folder = by (get part.nodes p) refl folder
+  where
+    by : (o : Option FileNode) → get part.nodes p ≡ o → folder_in o ≡ Ok tt → folder_in (get whole.nodes p) ≡ Ok tt
+    by None at folder = absurd cc
+    by (Some m) at folder = ap folder_in (is p m at) ∙ folder
+
+-- an include that matches still does
+match_here : (s : Setting) (part whole : FileMap) → IsPart part whole → (i : Include) → matches s part i ≡ true → matches s whole i ≡ true
+unfolding matches
+match_here s part whole is i m = by (file_at part (components i.path)) refl m
+  where
+    by : (r : Result FileNode FileError) → file_at part (components i.path) ≡ r → file_matches s i r ≡ true → file_matches s i (file_at whole (components i.path)) ≡ true
+    by (Err e) at m = absurd cc
+    by (Ok n) at m = ap (file_matches s i) (file_here part whole is (components i.path) n at) ∙ m
+
+-- the one result of an entry is found if it matches
+found_one : (m : Include → Bool) (r : KeyResult) → list_all m (r.1) ≡ true → found_in m (r ∷ []) ≡ Some r
+found_one m r all = ap (λ b. cond b (Some r) None) all
+
+not_accepted : Accepted ≡ NotAccepted → ⊥
+not_accepted e = cc
+
+not_erring : Errs ≡ Accepted → ⊥
+not_erring e = cc
+
+first_name : {a b : Bytes} {s t : Bool} → Name a s ≡ Name b t → a ≡ b
+first_name e = cc
+
+second_name : {a b : Bytes} {s t : Bool} → Name a s ≡ Name b t → s ≡ t
+second_name e = cc
+
+not_one_pair : (k bytes : Bytes) → one_pair k bytes ≡ new_state → ⊥
+not_one_pair k bytes e = let ps : ◌≡◌ {A = List (Bytes × Bytes)} ((k, bytes) ∷ []) [] = ap (λ (v : State). v.pairs) e in cc
+
+-- of each that is there, the second function gives the same
+all_again : {D A : Type 0} (f g : D → Option A) → ((d : D) (x : A) → f d ≡ Some x → g d ≡ Some x) → (ds : List D) (xs : List A) → all_of (map f ds) ≡ Some xs → all_of (map g ds) ≡ Some xs
+all_again f g same [] xs e = e
+all_again {D} {A} f g same (d ∷ ds) xs e = by (f d) refl e (all_again f g same ds)
+  where
+    rest : (x : A) (o : Option (List A)) → all_of (map f ds) ≡ o → option_map (λ ys. x ∷ ys) o ≡ Some xs → ((ys : List A) → all_of (map f ds) ≡ Some ys → all_of (map g ds) ≡ Some ys)
+        → option_map (λ ys. x ∷ ys) (all_of (map g ds)) ≡ Some xs
+    rest x None at e more = absurd (none-some _ e)
+    rest x (Some ys) at e more = ap (option_map (λ ys. x ∷ ys)) (more ys at) ∙ e
+
+    by : (o : Option A) → f d ≡ o → all_of (o ∷ map f ds) ≡ Some xs → ((ys : List A) → all_of (map f ds) ≡ Some ys → all_of (map g ds) ≡ Some ys) → all_of (map g (d ∷ ds)) ≡ Some xs
+    by None at e more = absurd (none-some _ e)
+    by (Some x) at e more = ap (λ o. all_of (o ∷ map g ds)) (same d x at) ∙ rest x (all_of (map f ds)) refl e more
+
+-- ---- calls
+
+module _ {V : Type 0} (w : World V) (c : Call V) (whole : FileMap) (snapshot : IsSnapshot w c whole) where
+  abbrev d : Call V
+  d = over whole c
+
+  files : (p : Path) (n : FileNode) → file_at c.files p ≡ Ok n → file_at whole p ≡ Ok n
+  files = file_here c.files whole snapshot.part
+
+  told_here : (n : FileNode) → told (file_at c.files (components (input_path c))) ≡ Some n → told (file_at whole (components (input_path c))) ≡ Some n
+  told_here n is = by (file_at c.files (components (input_path c))) refl is
+    where
+      by : (r : Result FileNode FileError) → file_at c.files (components (input_path c)) ≡ r → told r ≡ Some n → told (file_at whole (components (input_path c))) ≡ Some n
+      by (Err e) at is = absurd (none-some _ is)
+      by (Ok m) at is = ap told (files (components (input_path c)) m at) ∙ is
+
+  input_here : input_file w c ≢ None → input_file w d ≢ None
+  unfolding input_file
+  input_here some none = by (told (file_at c.files (components (input_path c)))) refl
+    where
+      by : (o : Option FileNode) → told (file_at c.files (components (input_path c))) ≡ o → ⊥
+      by None at = some at
+      by (Some n) at = none-some _ (sym none ∙ told_here n at)
+
+  used_same : uses_cache w d.request ≡ uses_cache w c.request
+  used_same = refl
+
+  opened_here : Opened w c → Opened w d
+  opened_here o = record { extra = λ none. o.extra (sym snapshot.extra ∙ none); input = λ used. input_here (o.input used) }
+
+  recorded_here : (r : Bytes) → input_recorded w c ≡ Some r → input_recorded w d ≡ Some r
+  unfolding input_recorded input_file
+  recorded_here r is =
+      let (n, file, digest) = input_known w c r is in
+      ap (λ o. option_and_then (recorded (setting w c)) (told o)) (files (components (input_path c)) n file) ∙ digest
+
+  key_here : (k : Bytes) → preprocessor_key_of w c ≡ Some k → preprocessor_key_of w d ≡ Some k
+  unfolding preprocessor_key_of key_material
+  key_here k is =
+      let (m, is-m, same) = key_known w c k is in
+      let (used, xs, r, is-xs, is-r, made-of) = material_known w c m is-m in
+      ap (option_map (digest_text w.hash)) (material used xs r is-xs is-r ∙ ap Some (sym made-of)) ∙ ap Some (sym same)
+    where
+      material : uses_cache w c.request ≡ true → (xs : List Bytes) (r : Bytes) → extra_texts w c ≡ Some xs → input_recorded w c ≡ Some r
+          → key_material w d ≡ Some (preprocessor_material (request_parts w c.request (input_path c)) xs r)
+      material used xs r is-xs is-r =
+          ap (λ b. cond b (of_both (preprocessor_material (request_parts w c.request (input_path c))) (extra_texts w d) (input_recorded w d)) None) used
+          ∙ ap (λ o. of_both (preprocessor_material (request_parts w c.request (input_path c))) o (input_recorded w d)) (snapshot.extra ∙ is-xs)
+          ∙ ap (option_map (preprocessor_material (request_parts w c.request (input_path c)) xs)) (recorded_here r is-r)
+
+  -- ---- hits
+
+  list_here : (list : List Include) → list_all (matching w c) list ≡ true → list_all (matching w d) list ≡ true
+  list_here list all = all_pass (matching w d) list (λ i at. match_here (setting w c) c.files whole snapshot.part i (each_passes (matching w c) list i all at))
+
+  lookup_here : (F : Type 0) (e : Entry) (bytes key : Bytes) → HasOneResult bytes → EntryText e bytes → IsLookup (matching w c) (entries e) F (Some key) → IsLookup (matching w d) (entries e) F (Some key)
+  lookup_here F e bytes key (own, includes, own_text) text (list, at, all, which) =
+      let is = only_result e own key includes list bytes text own_text at in
+      let same : e ≡ added empty own includes = (one_text_one_entry e (added empty own includes) bytes bytes text own_text).0 refl in
+      let one : entries e ≡ (key, list) ∷ [] = ap entries same ∙ entries-added own includes ∙ ap (λ (r : KeyResult). r ∷ []) (λ i. (sym is.0 i, sym is.1 i)) in
+      let all' = list_here list all in
+      (list, at, all', inl (ap (found_in (matching w d)) one ∙ found_one (matching w d) (key, list) all'))
+
+  gives_here : (F : Type 0) (k other bytes key : Bytes) (answer : Returned) (mid : State) → HasOneResult bytes → IsGot (one_pair k bytes) other answer mid
+      → Gives w c F answer (Hit key) → Gives w d F answer (Hit key)
+  gives_here F k other bytes key (Err store.Fault) mid one got given = given
+  gives_here F k other bytes key (Err store.Memory) mid one got given = given
+  gives_here F k other bytes key (Ok None) mid one got given = given
+  gives_here F k other bytes key (Ok (Some found)) mid one got (e, text, is) =
+      (e, text, lookup_here F e found key (subst HasOneResult (sym (find_one k other bytes found (sym got.1))) one) text is)
+
+  pub hit_here : (F : Type 0) (k bytes key : Bytes) (t : State) → HasOneResult bytes → Step w map_store c F (one_pair k bytes) (Keyed key false) t
+      → Step w map_store d F (one_pair k bytes) (Keyed key false) t
+  hit_here F k bytes key t one (stopped why cause is same) = absurd (not_failed is)
+  hit_here F k bytes key t one (made o not makes) = absurd (made_fresh w map_store c F (one_pair k bytes) t key makes)
+  hit_here F k bytes key t one (asked o other is control a mid asks ends) = go a asks ends
+    where
+      go : (a : Asked) → Asks w map_store c F other (one_pair k bytes) a mid → Ends w map_store c F a mid (Keyed key false) t → Step w map_store d F (one_pair k bytes) (Keyed key false) t
+      go (Hit found) asks ends =
+          asked (opened_here o) other (key_here other is) control (Hit found) mid
+          (record { answer = asks.answer; got = asks.got; gives = gives_here F k other bytes found asks.answer mid one asks.got asks.gives }) ends
+      go (Failed why) asks ends = absurd (not_failed ends.0)
+      go Miss asks ends = absurd (made_fresh w map_store c F mid t key ends)
+
+  -- ---- recordings
+
+  names : SameNames w c w d
+  names = record { config = refl; path = λ name. refl; input = refl }
+
+  good_here : (p : Path) → IsGood w c p → IsGood w d p
+  good_here p (inl folder) = inl (folder_here c.files whole snapshot.part p folder)
+  good_here p (inr (n, file, old, digest)) = inr (n, files p n file, old, digest)
+
+  -- a name of an accepted text is good
+  named_good : (marks : List Mark) (name : Bytes) (system : Bool) → MarksDecide w c marks Accepted → Contains marks (Name name system) → IsLooked w c name system → IsGood w c (path_of c name)
+  named_good [] name system m at looked = absurd (none_in _ at)
+  named_good (Refusal ∷ marks) name system m at looked = absurd (not_accepted m)
+  named_good (Malformed ∷ marks) name system m at looked = absurd (not_erring (sym m))
+  named_good (Name first other ∷ marks) name system (inr m) at looked = absurd (not_accepted m.2)
+  named_good (Name first other ∷ marks) name system (inl m) at looked =
+      elim (one_of (Name first other) (Name name system) marks at) [
+        | inl is ↦ subst (λ v. IsGood w c (path_of c v)) (first_name is) (m.0 (subst (λ v. IsLooked w c v other) (sym (first_name is)) (subst (IsLooked w c name) (sym (second_name is)) looked)))
+        | inr more ↦ named_good marks name system m.1 more looked
+      ]
+
+  -- a file that an accepted text names is in the snapshot
+  named_here : (text : Bytes) → Walk w c text Accepted → (p : Path) (n : FileNode) → IsNamed w c text p → file_at whole p ≡ Ok n → file_at c.files p ≡ Ok n
+  named_here text (marks, are, m) p n is file =
+      by (subst (IsGood w c) (sym is.is) (named_good marks is.name is.system m (subst (λ l. Contains l (Name is.name is.system)) (one_list true text is.marks marks is.are are) is.stands) is.looked))
+    where
+      by : IsGood w c p → file_at c.files p ≡ Ok n
+      by (inl folder) = absurd (folder_or_file w d p n (folder_here c.files whole snapshot.part p folder) file)
+      by (inr (o, own, old, digest)) = own ∙ ap Ok (same_ok o n (sym (files p o own) ∙ file))
+
+  include_again : (e : Digested) (x : Include) → include_at c.files c.moment e ≡ Some x → include_at whole c.moment e ≡ Some x
+  unfolding metadata_at
+  include_again e x is = by (get c.files.nodes (components (e.1))) refl is
+    where
+      by : (o : Option FileNode) → get c.files.nodes (components (e.1)) ≡ o → include_of_metadata c.moment e (metadata_in o) ≡ Some x
+          → include_of_metadata c.moment e (metadata_in (get whole.nodes (components (e.1)))) ≡ Some x
+      by None at is = absurd (none-some _ is)
+      by (Some n) at is = ap (λ o. include_of_metadata c.moment e (metadata_in o)) (snapshot.part (components (e.1)) n at) ∙ is
+
+  gathered_here : (ds : List Digested) (xs : List Include) → gathered c.files c.moment ds ≡ Some xs → gathered whole c.moment ds ≡ Some xs
+  unfolding gathered
+  gathered_here ds xs is = all_again (include_at c.files c.moment) (include_at whole c.moment) include_again ds xs is
+
+  module _ (text_same : printed w d ≡ printed w c) where
+    plain_here : (key : Bytes) → is_preprocessed c.request ≡ true → plain_key w c ≡ Some key → plain_key w d ≡ Some key
+    unfolding plain_key text_of
+    plain_here key needs is =
+        ap (λ o. of_both (λ extra_hashes text. object_key w.hash (params w c.request extra_hashes text)) o (text_of w d)) snapshot.extra
+        ∙ ap (of_both (λ extra_hashes text. object_key w.hash (params w c.request extra_hashes text)) (extra_texts w c))
+        (ap (λ b. cond b (printed w d) (option_map (λ n. n.contents) (input_file w d))) needs ∙ text_same
+        ∙ sym (ap (λ b. cond b (printed w c) (option_map (λ n. n.contents) (input_file w c))) needs))
+        ∙ is
+
+    includes_here : (includes : List Include) → AreOwnIncludes w c includes → AreOwnIncludes w d includes
+    includes_here includes k = record {
+      text = k.text;
+      is_text = text_same ∙ k.is_text;
+      accepted = walk_accepts w c w d names good_here k.text k.accepted;
+      digested = k.digested;
+      recorded = all_recorded w c w d names k.text files (λ n. refl) (named_here k.text k.accepted) k.digested k.recorded;
+      some = k.some;
+      includes_are = gathered_here k.digested includes k.includes_are;
+    }
+
+    own_here : (key k bytes : Bytes) → OwnPair w c key k bytes → OwnPair w d key k bytes
+    own_here key k bytes own =
+        let (m, is-m, same) = key_known w c k own.is_key in
+        let (used, xs, r, is-xs, is-r, made-of) = material_known w c m is-m in
+        record {
+          is_key = key_here k own.is_key;
+          is_plain = plain_here key (used_prints w c.request used) own.is_plain;
+          includes = own.includes;
+          keeps = includes_here own.includes own.keeps;
+          is_text = own.is_text;
+        }
+
+    -- an accepted text does not err
+    calm_here : (F : Type 0) (includes : List Include) → AreOwnIncludes w d includes → NotErring w d F
+    calm_here F includes k text some is (marks, are, m) =
+        let same : text ≡ k.text = same_Some text k.text (sym is ∙ k.is_text) in
+        let (marks', are', m') = k.accepted in
+        let lists : marks ≡ marks' = one_list true k.text marks marks' (subst (λ v. Marks true v marks) same are) are' in
+        absurd (not_erring (one_decision w d marks' Errs Accepted (subst (λ l. MarksDecide w d l Errs) lists m) m'))
+
+    pub recording_here : (F : Type 0) (k bytes key : Bytes) → c.control ≡ ForceRecache → Step w map_store c F new_state (Keyed key true) (one_pair k bytes)
+        → Step w map_store d F new_state (Keyed key true) (one_pair k bytes)
+    recording_here F k bytes key control (stopped why cause is same) = absurd (not_failed is)
+    recording_here F k bytes key control (made o not (stops why cause is same)) = absurd (not_failed is)
+    recording_here F k bytes key control (made o not (gives other plain calm is (inl p))) =
+        let own = own_here other p.k p.bytes p.own in
+        made (opened_here o) (inr control) (gives other own.is_plain (calm_here F own.includes own.keeps) is (inl (record { k = p.k; bytes = p.bytes; own = own; answer = p.answer; put = p.put })))
+    recording_here F k bytes key control (made o not (gives other plain calm is (inr n))) = absurd (not_one_pair k bytes n.0)
+    recording_here F k bytes key control (asked o other is default a mid asks ends) = absurd (not_both (sym default ∙ control))
+
+module _ {V : Type 0} (w : World V) where
+  pub hit_over_all : HitOverAll w
+  hit_over_all d whole k bytes key t snapshot one step = hit_here w d.call whole snapshot (Fault d) k bytes key t one step
+
+  pub recording_over_all : RecordingOverAll w
+  recording_over_all d whole k bytes key snapshot control text step = recording_here w d.call whole snapshot text (Fault d) k bytes key control step

@@ -1,0 +1,109 @@
+-- A step on one pair is a step on each store.
+use Rattle.std.proofs.Common.{◌≡◌, ◌⊎◌, inl, inr, ◌∷◌, [], List, Bool, false, true, cond, None, Option, Some, Ok, Err, refl, sym, ap, ◌∙◌, subst, arith}
+use Rattle.std.specs.Cmp.{Equal-is}
+use Rattle.std.specs.Cmp.Lexicographic.{nat_list_cmp_total}
+use Rattle.std.specs.FinMap.{nat_cmp-IsAntisymmetric, slice_cmp-IsAntisymmetric}
+use Rattle.std.specs.FinMap.Entries.{find, find-put}
+use Rattle.std.specs.Ordering.{is_eq}
+use Rattle.std.proofs.lemmas.Bool.{false≢true}
+use Rattle.std.proofs.lemmas.Option.{none-some}
+use Rattle.cck_path.specs.Bytes.{Bytes}
+use Rattle.cck_path.specs.TextOrder.{text_cmp}
+use Rattle.cck_store.specs.MapStore.{IsGot, IsPut, State, map_store, new_state}
+use Rattle.cck_store.specs.Store.{Returned, Store, Stored}
+use Rattle.cck_store.specs.declared.store.StoreError.TheVariants as store
+use Rattle.c_cache_keys.proofs.Stored.{not_both, not_failed, same_key}
+use Rattle.c_cache_keys.specs.Call.{Call, Fault, Keyed, Why}
+use Rattle.c_cache_keys.specs.Keys.{preprocessor_key_of}
+use Rattle.c_cache_keys.specs.Step.{Asked, Asks, Ends, Failed, Gives, Hit, Miss, NothingNew, OwnPair, Step, Stores, asked, gives, made, stopped, stops}
+use Rattle.c_cache_keys.specs.World.{World}
+use Rattle.c_cache_keys.specs.declared.call.CacheControl.TheVariants.{ForceRecache}
+use Rattle.cck_snapshot.proofs.Hits.{made_fresh}
+use Rattle.cck_snapshot.proofs.Pairs.{find_one, put_one}
+use Rattle.cck_snapshot.specs.Laws.{HitOnAnyStore, NothingOnAnyStore, RecordingOnAnyStore}
+use Rattle.cck_snapshot.specs.Snapshot.{one_pair}
+
+-- a key that something is found under is that of the pair
+find_key : (k other bytes x : Bytes) → find text_cmp other ((k, bytes) ∷ []) ≡ Some x → other ≡ k
+find_key k other bytes x h = by (is_eq (text_cmp other k)) refl (sym (find-put text_cmp nat_list_cmp_total other k bytes []) ∙ h)
+  where
+    by : (tied : Bool) → is_eq (text_cmp other k) ≡ tied → cond tied (Some bytes) (find text_cmp other []) ≡ Some x → other ≡ k
+    by true tied e = slice_cmp-IsAntisymmetric nat_cmp-IsAntisymmetric other k ((Equal-is (text_cmp other k)).0 tied)
+    by false tied e = absurd (none-some _ e)
+
+miss_hit : {key : Bytes} → Miss ≡ Hit key → ⊥
+miss_hit e = cc
+
+failed_hit : {key : Bytes} {why : Why} → Failed why ≡ Hit key → ⊥
+failed_hit e = cc
+
+-- two stores of one pair
+same_pairs : (k l a b : Bytes) → one_pair k a ≡ one_pair l b → (k ≡ l) × (a ≡ b)
+same_pairs k l a b e = let ps : ◌≡◌ {A = List (Bytes × Bytes)} ((k, a) ∷ []) ((l, b) ∷ []) = ap (λ (v : State). v.pairs) e in (cc, cc)
+
+module _ {V S : Type 0} (w : World V) (st : Store S) (c : Call V) (F : Type 0) where
+  -- what a get of one pair returned for a hit is the pair's bytes, under its key
+  got_hit : (k other bytes key : Bytes) (answer : Returned) (mid : State) → IsGot (one_pair k bytes) other answer mid → Gives w c F answer (Hit key)
+      → (other ≡ k) × Gives w c F (Ok (Some bytes)) (Hit key)
+  got_hit k other bytes key (Err store.Fault) mid got given = absurd (failed_hit (sym given))
+  got_hit k other bytes key (Err store.Memory) mid got given = absurd (failed_hit (sym given))
+  got_hit k other bytes key (Ok None) mid got given = absurd (miss_hit (sym given))
+  got_hit k other bytes key (Ok (Some found)) mid got given =
+      (find_key k other bytes found (sym got.1), subst (λ b. Gives w c F (Ok (Some b)) (Hit key)) (find_one k other bytes found (sym got.1)) given)
+
+  hit_there : (k bytes key : Bytes) (t : State) (s u : S) → Step w map_store c F (one_pair k bytes) (Keyed key false) t → st.got s k (Ok (Some bytes)) u → Step w st c F s (Keyed key false) u
+  hit_there k bytes key t s u (stopped why cause is same) got = absurd (not_failed is)
+  hit_there k bytes key t s u (made o not makes) got = absurd (made_fresh w map_store c F (one_pair k bytes) t key makes)
+  hit_there k bytes key t s u (asked o other is control a mid asks ends) got = go a asks ends
+    where
+      go : (a : Asked) → Asks w map_store c F other (one_pair k bytes) a mid → Ends w map_store c F a mid (Keyed key false) t → Step w st c F s (Keyed key false) u
+      go (Hit found) asks ends =
+          let parts = got_hit k other bytes found asks.answer mid asks.got asks.gives in
+          asked o k (subst (λ v. preprocessor_key_of w c ≡ Some v) parts.0 is) control (Hit found) u (record { answer = Ok (Some bytes); got = got; gives = parts.1 }) (ends.0, refl)
+      go (Failed why) asks ends = absurd (not_failed ends.0)
+      go Miss asks ends = absurd (made_fresh w map_store c F mid t key ends)
+
+  -- a put that left one pair is the put of this pair
+  put_was : (key k bytes : Bytes) (p q : Bytes) (answer : Stored) → IsPut new_state p q answer (one_pair k bytes) → (p ≡ k) × (q ≡ bytes)
+  put_was key k bytes p q (Ok done) put = let same = same_pairs k p bytes q (put_one new_state (one_pair k bytes) p q refl put.1) in (sym same.0, sym same.1)
+  put_was key k bytes p q (Err store.Fault) put = absurd (false≢true put.0)
+  put_was key k bytes p q (Err store.Memory) put =
+      let ps : ◌≡◌ {A = List (Bytes × Bytes)} ((k, bytes) ∷ []) [] = ap (λ (v : State). v.pairs) put.1 in cc
+
+  pub own_of : (key k bytes : Bytes) → Stores w map_store c F key new_state (one_pair k bytes) → OwnPair w c key k bytes
+  own_of key k bytes (inl p) =
+      let same = put_was key k bytes p.k p.bytes p.answer p.put in
+      subst (λ v. OwnPair w c key v bytes) same.0 (subst (λ v. OwnPair w c key p.k v) same.1 p.own)
+  own_of key k bytes (inr n) = let ps : ◌≡◌ {A = List (Bytes × Bytes)} ((k, bytes) ∷ []) [] = ap (λ (v : State). v.pairs) n.0 in cc
+
+  nothing_of : (key : Bytes) → Stores w map_store c F key new_state new_state → F ⊎ NothingNew w c
+  nothing_of key (inl p) = absurd (nothing_put p.k p.bytes p.answer p.put)
+    where
+      nothing_put : (k bytes : Bytes) (answer : Stored) → IsPut new_state k bytes answer new_state → ⊥
+      nothing_put k bytes (Ok done) put = let ps : ◌≡◌ {A = List (Bytes × Bytes)} [] ((k, bytes) ∷ []) = ap (λ (v : State). v.pairs) (put_one new_state new_state k bytes refl put.1) in cc
+      nothing_put k bytes (Err store.Fault) put = false≢true put.0
+      nothing_put k bytes (Err store.Memory) put = let no : 0 ≡ 1 = ap (λ (v : State). v.armed.calls) put.1 in omega arith
+  nothing_of key (inr n) = n.1
+
+  recording_there : (k bytes key : Bytes) (answer : Stored) (s u : S) → c.control ≡ ForceRecache → Step w map_store c F new_state (Keyed key true) (one_pair k bytes) → st.put s k bytes answer u → Step w st c F s (Keyed key true) u
+  recording_there k bytes key answer s u control (stopped why cause is same) put = absurd (not_failed is)
+  recording_there k bytes key answer s u control (made o not (stops why cause is same)) put = absurd (not_failed is)
+  recording_there k bytes key answer s u control (made o not (gives other plain calm is puts)) put =
+      made o not (gives other plain calm is (inl (record { k = k; bytes = bytes; own = own_of other k bytes puts; answer = answer; put = put })))
+  recording_there k bytes key answer s u control (asked o other is default a mid asks ends) put = absurd (not_both (sym default ∙ control))
+
+  nothing_there : (key : Bytes) (s : S) → c.control ≡ ForceRecache → Step w map_store c F new_state (Keyed key true) new_state → Step w st c F s (Keyed key true) s
+  nothing_there key s control (stopped why cause is same) = absurd (not_failed is)
+  nothing_there key s control (made o not (stops why cause is same)) = absurd (not_failed is)
+  nothing_there key s control (made o not (gives other plain calm is puts)) = made o not (gives other plain calm is (inr (refl, nothing_of other puts)))
+  nothing_there key s control (asked o other is default a mid asks ends) = absurd (not_both (sym default ∙ control))
+
+module _ {V S : Type 0} (w : World V) (st : Store S) where
+  pub hit_on_any_store : HitOnAnyStore w st
+  hit_on_any_store d k bytes key t s u step got = hit_there w st d.call (Fault d) k bytes key t s u step got
+
+  pub recording_on_any_store : RecordingOnAnyStore w st
+  recording_on_any_store d k bytes key answer s u control step put = recording_there w st d.call (Fault d) k bytes key answer s u control step put
+
+  pub nothing_on_any_store : NothingOnAnyStore w st
+  nothing_on_any_store d key s control step = nothing_there w st d.call (Fault d) key s control step

@@ -1,0 +1,23 @@
+-- requests as calls of the definitions
+use Rattle.cck_files.specs.FileMap.{FileMap}
+use Rattle.cck_path.specs.Bytes.{Bytes, lists_of, variables_of}
+use Rattle.jiff.specs.Words.{plain_zone}
+use Rattle.c_cache_keys.specs.Call.{Call}
+use Rattle.c_cache_keys.specs.Conditions.{Given, call_under, given_by, world_under}
+use Rattle.c_cache_keys.specs.World.{World}
+use Rattle.c_cache_keys.specs.declared.call.CacheControl.{CacheControl}
+use Rattle.c_cache_keys.specs.declared.call.CacheControl.TheVariants.{Default}
+use Rattle.cck_snapshot.specs.External.{External, Prints, external_compiler, external_of}
+use Rattle.cck_snapshot.specs.declared.requests.Request.{Request}
+
+-- the conditions of a request
+abbrev pub given_in : CacheControl → Request → Given
+given_in control r = given_by r.cwd.now (variables_of r.vars.now) r.moment (plain_zone r.zone.now) r.config (lists_of r.basedirs.now) control
+
+-- the world of a request, in which a preprocessor prints this
+abbrev pub world_for : (Bytes → Bytes) → Prints → Request → World External
+world_for hash prints r = world_under hash (external_compiler prints) (given_in Default r)
+
+-- the call of a request over files
+abbrev pub call_for : CacheControl → FileMap → Request → Call External
+call_for control files r = call_under external_of files r.hasher.now (given_in control r)

@@ -1,0 +1,69 @@
+//! The key under which a store is asked.
+ghost use Rattle.std.specs.Prelude.{◌≡◌, None, option_map, string_bytes};
+
+use cck_store::{PreprocessorStore, StoreError};
+use std::alloc::Global;
+use std::marker::Model;
+
+/// A store that holds nothing and notes under which key it was asked last. Its count of store
+/// failures is always the greatest: each get finds nothing, whatever was put.
+#[derive(Drop)]
+pub(crate) struct AskedKey {
+    key: Option<String>,
+}
+
+impl Model for AskedKey {
+    ghost use Rattle.std.specs.Prelude.{List, Option, ℕ, string_bytes};
+    ghost use Rattle.std.specs.Option.{option_map};
+
+    ghost Value = { Option (List ℕ) };
+
+    ghost view = { λ a. option_map string_bytes a.key };
+}
+
+impl AskedKey {
+    /// A store that was not asked yet.
+    pub(crate) fn new() -> AskedKey
+        ensures { result ≡ None }
+    {
+        AskedKey { key: None }
+    }
+
+    /// The key under which it was asked last.
+    pub(crate) fn into_key(self) -> Option<String>
+        ensures { option_map string_bytes result ≡ self }
+    {
+        self.key
+    }
+}
+
+impl PreprocessorStore for AskedKey {
+    ghost use Rattle.cck_snapshot.specs.AskedKey.{asked_key, asked_key_laws};
+
+    ghost store = { asked_key };
+
+    fn get_preprocessor_cache_entry(
+        &mut self,
+        alloc: Global,
+        key: &str,
+    ) -> Result<Option<Vec<u8>>, StoreError> {
+        match String::from_str(alloc, key) {
+            Ok(key) => {
+                self.key = Some(key);
+                Ok(None)
+            }
+            Err(_) => Err(StoreError::Memory),
+        }
+    }
+
+    fn put_preprocessor_cache_entry(
+        &mut self,
+        _: Global,
+        _: &str,
+        _: &[u8],
+    ) -> Result<(), StoreError> {
+        Err(StoreError::Fault)
+    }
+
+    ghost laws = { asked_key_laws };
+}

@@ -1,0 +1,53 @@
+//! Laws about look-ups and recordings. Each is the contract of a function with an empty body, and
+//! holds for every hash function, every store and whatever a preprocessor prints.
+ghost use Rattle.std.specs.Prelude.{ℕ, List};
+ghost use Rattle.cck_time.specs.declared.config.PreprocessorCacheModeConfig.{PreprocessorCacheModeConfig};
+ghost use Rattle.jiff.specs.Types.{TimeZone};
+ghost use Rattle.c_cache_keys.specs.Laws.{Headline};
+ghost use Rattle.c_cache_keys.specs.World.{world_of};
+ghost use Rattle.cck_snapshot.specs.External.{Prints, external_compiler};
+ghost use Rattle.cck_snapshot.specs.Laws.{HitOnAnyStore, HitOverAll, NothingOnAnyStore, RecordingOnAnyStore, RecordingOverAll};
+
+use c_cache_keys::PreprocessorStore;
+use cck_digest::HashState;
+
+/// A hit of [`look_up`](crate::look_up), which is one on a store that holds one pair, is a hit on
+/// each store that returns the pair's bytes. So is a step on one pair a step on all that is held.
+pub fn hit_on_any_store<H: HashState, S: PreprocessorStore>()
+    ensures { (prints : Prints) (zone : TimeZone) (config : PreprocessorCacheModeConfig) (basedirs : List (List ℕ)) →
+        HitOnAnyStore (world_of H.hash (external_compiler prints) zone config basedirs) S.store }
+{}
+
+/// A recording by [`record_text`](crate::record_text), which is one on a store that holds nothing,
+/// is a recording on each store that the entry is put into.
+pub fn recording_on_any_store<H: HashState, S: PreprocessorStore>()
+    ensures { (prints : Prints) (zone : TimeZone) (config : PreprocessorCacheModeConfig) (basedirs : List (List ℕ)) →
+        RecordingOnAnyStore (world_of H.hash (external_compiler prints) zone config basedirs) S.store }
+{}
+
+/// A recording that gives no entry is a step on each store, which stays as it is.
+pub fn nothing_on_any_store<H: HashState, S: PreprocessorStore>()
+    ensures { (prints : Prints) (zone : TimeZone) (config : PreprocessorCacheModeConfig) (basedirs : List (List ℕ)) →
+        NothingOnAnyStore (world_of H.hash (external_compiler prints) zone config basedirs) S.store }
+{}
+
+/// The headline, for calls in order whose steps are such hits and recordings: under the premises,
+/// from a store that holds nothing, each key that is returned is the plain key of its call.
+pub fn headline<H: HashState, S: PreprocessorStore>()
+    ensures { (prints : Prints) (zone : TimeZone) (config : PreprocessorCacheModeConfig) (basedirs : List (List ℕ)) →
+        Headline (world_of H.hash (external_compiler prints) zone config basedirs) S.store }
+{}
+
+/// A hit over a snapshot of files, in an entry of one result, is a hit over all of the files. They
+/// agree with the snapshot at its paths, and the extra files have the same hex digests.
+pub fn hit_over_all<H: HashState>()
+    ensures { (prints : Prints) (zone : TimeZone) (config : PreprocessorCacheModeConfig) (basedirs : List (List ℕ)) →
+        HitOverAll (world_of H.hash (external_compiler prints) zone config basedirs) }
+{}
+
+/// A recording of an entry over a snapshot is a recording of the same entry over all of the files,
+/// if the same text is printed over them.
+pub fn recording_over_all<H: HashState>()
+    ensures { (prints : Prints) (zone : TimeZone) (config : PreprocessorCacheModeConfig) (basedirs : List (List ℕ)) →
+        RecordingOverAll (world_of H.hash (external_compiler prints) zone config basedirs) }
+{}

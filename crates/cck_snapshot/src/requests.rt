@@ -1,0 +1,25 @@
+//! Requests over snapshots.
+use crate::compiler::ExternalCompiler;
+use c_cache_keys::CCompilerHasher;
+use cck_path::Timestamp;
+use cck_time::PreprocessorCacheModeConfig;
+use jiff::tz::TimeZone;
+
+/// All that a call over a snapshot takes beside the snapshot.
+#[derive(Drop)]
+pub struct Request<'a> {
+    /// The compilation.
+    pub hasher: &'a CCompilerHasher<ExternalCompiler>,
+    /// The working directory.
+    pub cwd: &'a [u8],
+    /// The variables of the environment, as pairs of a name and a value.
+    pub vars: &'a [(Vec<u8>, Vec<u8>)],
+    /// The call time.
+    pub moment: Timestamp,
+    /// The zone of local dates and seconds.
+    pub zone: &'a TimeZone<'a>,
+    /// The options by which files are judged.
+    pub config: PreprocessorCacheModeConfig,
+    /// The directories that are cut out of what is hashed for a key.
+    pub basedirs: &'a [Vec<u8>],
+}
