@@ -40,6 +40,10 @@ pub record DigestsAreUtf8 (p : KeyParams) : Type 0 where
   pub extra : AreUtf8 p.extra_hashes.now
   pub assembler : IfSome (assembler_of p) IsUtf8
 
+-- the language has a name, and not every digest is UTF-8
+abbrev pub LacksADigest : KeyParams → Type 0
+LacksADigest p = (language : Language) × (language_name language ≡ p.language.now) × (DigestsAreUtf8 p → ⊥)
+
 -- this is the key of the parts: their language has a name, and their digests are UTF-8
 pub record IsKey (p : KeyParams) (key : List ℕ) : Type 0 where
   pub language : Language
@@ -52,7 +56,7 @@ abbrev pub MakesKey : KeyParams → Result (String Global) KeyError → Type 0
 MakesKey p (Ok key) = IsKey p (string_bytes key)
 MakesKey p (Err Memory) = Unit {0}
 MakesKey p (Err NoLanguage) = NamesNone p.language.now
-MakesKey p (Err NoText) = DigestsAreUtf8 p → ⊥
+MakesKey p (Err NoText) = LacksADigest p
 
 -- copies of these texts as strings
 abbrev pub CopiesStrings : List Bytes → Result (Vec (String Global)) KeyError → Type 0

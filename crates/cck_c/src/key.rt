@@ -4,7 +4,7 @@ ghost use Rattle.std.specs.Option.{option_map};
 ghost use Rattle.sha2.specs.Sha256.{sha256};
 ghost use Rattle.cck_util.specs.Key.{object_key};
 ghost use Rattle.cck_util.specs.Language.{language_name};
-ghost use Rattle.cck_c.specs.Key.{CopiesStrings, DigestsAreUtf8, IsKey, MakesKey, NamesNone, assembler_of, params_of};
+ghost use Rattle.cck_c.specs.Key.{CopiesStrings, IsKey, LacksADigest, MakesKey, NamesNone, assembler_of, params_of};
 ghost use Rattle.cck_c.specs.Status.{IsOneOf};
 
 use crate::bytes::{Bytes, Variable, copy_texts, copy_variables};
@@ -42,13 +42,13 @@ pub(crate) enum KeyError {
 
 /// Writes the key of an object, 64 digits.
 ///
-/// It returns [`status::LANGUAGE`] if no language has the name, [`status::DIGEST`] if a digest is
-/// not UTF-8, or [`status::MEMORY`], and writes nothing then.
+/// It returns [`status::LANGUAGE`] if no language has the name, else [`status::DIGEST`] if a digest
+/// is not UTF-8, or [`status::MEMORY`], and writes nothing then.
 #[unsafe(no_mangle)]
 pub extern "C" fn cck_object_key(alloc: Global, params: &KeyParams<'_>, key: &mut [u8; 64]) -> i32
     ensures done { result ≡ pos 0 → IsKey params.now key.new }
     ensures language { result ≡ pos 3 → NamesNone params.now.language.now }
-    ensures digest { result ≡ pos 4 → DigestsAreUtf8 params.now → ⊥ }
+    ensures digest { result ≡ pos 4 → LacksADigest params.now }
     ensures only { IsOneOf result (0 ∷ 1 ∷ 3 ∷ 4 ∷ []) }
     ensures kept { result ≢ pos 0 → key.new ≡ key.old }
 {
