@@ -1,9 +1,9 @@
 pub mod Hits
 pub mod Keys
-pub mod Looking
+pub mod LookingLemmas
 pub mod Names
 pub mod Pairs
 pub mod Parts
-pub mod Recording
+pub mod RecordingLemmas
 pub mod Stores
 pub mod Texts

@@ -1,6 +1,6 @@
 -- a store that holds nothing and notes under which key it was asked
-use Rattle.std.specs.Prelude.{◌≡◌, ℕ, inr, ◌+◌, ◌-◌, ◌^◌, Option, Some, None, Ok, Err}
-use Rattle.std.proofs.Common.{refl, lit<, lit≤, le_refl}
+use Rattle.std.specs.Prelude.{◌≡◌, Option, Some, None, Ok, Err}
+use Rattle.std.proofs.Common.{inr, lit<, lit≤, le_refl}
 use Rattle.cck_path.specs.Bytes.{Bytes}
 use Rattle.cck_store.specs.Store.{Returned, Store, StoreFailure, StoreLaws, Stored}
 use Rattle.cck_store.specs.declared.store.StoreError.TheVariants as store

@@ -8,9 +8,9 @@ use Rattle.cck_snapshot.specs.declared.compiler.ExternalCompiler.{ExternalCompil
 use Rattle.cck_snapshot.specs.declared.text_compiler.TextCompiler.{TextCompiler}
 
 -- the same compilation, with this text
-pub record IsTextHasher (hasher : CCompilerHasher ExternalCompiler) (text : Bytes) (made : CCompilerHasher TextCompiler) : Type 0 where
+pub record IsTextHasher (hasher : CCompilerHasher ExternalCompiler) (printed : Bytes) (made : CCompilerHasher TextCompiler) : Type 0 where
   pub compiler : external_of made.compiler.compiler ≡ external_of hasher.compiler
-  pub text : made.compiler.text.items ≡ text
+  pub text : made.compiler.text.items ≡ printed
   pub executable : made.executable.items ≡ hasher.executable.items
   pub executable_digest : string_bytes made.executable_digest ≡ string_bytes hasher.executable_digest
   pub arguments : arguments_of made.parsed_args ≡ arguments_of hasher.parsed_args
