@@ -1,5 +1,5 @@
 //! The look-up of the result of an entry whose files are unchanged.
-ghost use Rattle.std.specs.Prelude.{IfOk, IsOkUnless, map};
+ghost use Rattle.std.specs.Prelude.{◌≡◌, IfOk, IsOkUnless, map};
 ghost use Rattle.std.specs.FinMap.{entries};
 ghost use Rattle.std.specs.List.{AllByRecursion, list_all};
 ghost use Rattle.std.specs.Option.{option_map};
@@ -146,6 +146,14 @@ fn find_lent<'a, H: HashState, F: Files>(
     Ok(None)
 }
 
+// The error of an include that is read again: the includes of a view are whole, so memory is lacking.
+fn out_of_memory(error: Error) -> AllocError
+    requires { error ≡ Error.Memory }
+{
+    let _ = error;
+    AllocError
+}
+
 // Returns whether the includes of a view's result are all unchanged.
 fn lent_matches<H: HashState, F: Files>(
     alloc: Global,
@@ -167,8 +175,7 @@ fn lent_matches<H: HashState, F: Files>(
     for _ in 0..lent.count {
         let (include, after) = match read_include(rest) {
             Ok(read) => read,
-            // The includes of a view can all be read, so this does not occur.
-            Err(_) => return Err(AllocError),
+            Err(error) => return Err(out_of_memory(error)),
         };
         let matches = include_matches::<H, F>(alloc, files, known, &include, context)?;
         if !matches {

@@ -7,7 +7,7 @@ use Rattle.cck_include.specs.Include.{include_lent}
 use Rattle.cck_include.specs.Known.{AreKnown}
 use Rattle.cck_include.specs.Matching.{MayMiss, matches}
 use Rattle.cck_entry.specs.Lent.{includes_begun}
-use Rattle.cck_entry.proofs.IncludeLoop.{begun_done, begun_next}
+use Rattle.cck_entry.proofs.IncludeLoop.{begun_done, begun_ends, begun_next}
 use Rattle.cck_entry.proofs.LookupLemmas.{one_misses}
 use Rattle.cck_include.specs.JudgeContext.{setting_of}
 use Rattle.cck_entry.proofs.lookup.lent_matches.Goals as goal
@@ -66,3 +66,6 @@ returns-clause-answer g c = λ right.
     let F = g.F.Files in
     let s = setting_of g.H.HashState.hash c.args.context.now in
     sym (c.loop.invariant.left right) ∙ ap (list_all (matches s (F.file_map c.args.files.now))) (begun_done c.args.lent.now.count c.loop.counter c.loop.rest.now c.loop-test.false)
+
+pub out_of_memory-requires : goal.out_of_memory-requires
+out_of_memory-requires g c = begun_ends c.in-Err.error c.args.lent.now.count c.loop.counter c.loop.rest.now c.loop-test.true c.in-Err.ensures c.loop.invariant.whole
