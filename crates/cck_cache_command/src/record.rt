@@ -1,6 +1,6 @@
 //! Records a compilation in the store.
 use crate::absence::{Absence, absence_of};
-use crate::entry_calls::record_entry;
+use crate::entry_calls::{Recorded, record_entry};
 use crate::environment::Environment;
 use crate::key::{InputSnapshot, input_snapshot, preprocessor_key};
 use crate::refusal::Refusal;
@@ -159,11 +159,11 @@ pub fn record<R: Files + AllocGlobal>(
         compilation.key,
         compilation.since,
     );
-    let recorded = match outcome {
+    let Recorded { key, entry } = match outcome {
         Ok(recorded) => recorded,
         Err(error) => return Err(anyhow!("{error}")),
     };
-    let Some(entry) = recorded.entry else {
+    let Some(entry) = entry else {
         return Ok(Outcome::Refused(Refusal::NamedFile));
     };
     let file = EntryFile {
@@ -171,6 +171,6 @@ pub fn record<R: Files + AllocGlobal>(
         entry,
         absent_paths,
     };
-    write_files(rt, store, compilation, recorded.key.as_str(), &file)?;
-    Ok(Outcome::Recorded(recorded.key))
+    write_files(rt, store, compilation, key.as_str(), &file)?;
+    Ok(Outcome::Recorded(key))
 }
