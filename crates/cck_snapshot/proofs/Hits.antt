@@ -15,8 +15,6 @@ use Rattle.cck_snapshot.specs.External.{External, Prints, external_compiler}
 not_stored : {key other : Bytes} → Keyed key false ≡ Keyed other true → ⊥
 not_stored e = cc
 
-stored_failed : {key : Bytes} {why : _} → Keyed key false ≡ Refused why → ⊥
-
 -- a computed key is no stored one
 pub made_fresh : {V S : Type 0} (w : World V) (st : Store S) (c : Call V) (F : Type 0) (s t : S) (key : Bytes) → Makes w st c F s (Keyed key false) t → ⊥
 made_fresh w st c F s t key (stops why cause is same) = not_failed is

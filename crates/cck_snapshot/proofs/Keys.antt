@@ -1,15 +1,19 @@
 -- The key under which a store is asked is the preprocessor key.
-use Rattle.std.proofs.Common.{◌≡◌, ◌≢◌, inl, inr, true, false, None, Option, Some, String, Ok, Err, refl, sym, ap, ◌∙◌, subst}
+use Rattle.std.proofs.Common.{◌≡◌, ◌≢◌, inl, inr, ◌&&◌, cond, is_none, true, false, None, Option, Some, String, Ok, Err, refl, sym, ap, ◌∙◌, subst}
 use Rattle.std.proofs.lemmas.Bool.{false≢true}
 use Rattle.std.proofs.lemmas.Option.{none-some, same_Some}
 use Rattle.std.specs.declared.alloc.Global.{Global}
+use Rattle.std.specs.Option.{option_map}
+use Rattle.cck_digest.specs.Digest.{digest_text}
 use Rattle.cck_path.specs.Bytes.{Bytes}
+use Rattle.cck_preprocessor_key.specs.PreprocessorKey.{preprocessor_material}
 use Rattle.cck_store.specs.Store.{Returned, Store}
 use Rattle.cck_store.specs.declared.store.StoreError.TheVariants as store
 use Rattle.c_cache_keys.proofs.Stored.{not_both, not_failed}
 use Rattle.c_cache_keys.specs.Call.{Answer, Call, Damaged, Extra, ExtraFault, Input, InputFault, Keyed, Marker, Memory, NoText, Refused, Store as StoreFails, TextFault, Why}
-use Rattle.c_cache_keys.specs.Keys.{is_preprocessed, preprocessor_key_of}
+use Rattle.c_cache_keys.specs.Keys.{extra_texts, input_recorded, is_direct, is_preprocessed, key_material, of_both, preprocessor_key_of, request_parts, uses_cache}
 use Rattle.c_cache_keys.specs.Step.{Asked, Asks, Ends, Failed, Gives, Hit, Makes, Miss, Step, Stores, StopsMaking, StopsOpening, asked, gives, made, stopped, stops}
+use Rattle.c_cache_keys.specs.Walk.{input_path}
 use Rattle.c_cache_keys.specs.World.{World}
 use Rattle.c_cache_keys.specs.declared.call.CacheControl.TheVariants.{Default}
 use Rattle.cck_snapshot.specs.AskedKey.{IsNoted, asked_key}
@@ -112,3 +116,28 @@ module _ {V : Type 0} (w : World V) (c : Call V) (F : Type 0) (control : c.contr
   why_not_noted why needs other (no_key none (stops why' cause is same) t) =
       no_making why needs none other (subst (StopsMaking w c F) (sym (same_why is)) cause)
   why_not_noted why needs other (no_key none (gives key plain calm is puts) t) = absurd (not_failed (sym is))
+
+-- where no preprocessor is needed there is no preprocessor key
+unused : {V : Type 0} (w : World V) (c : Call V) → is_preprocessed c.request ≡ false → uses_cache w c.request ≡ false
+unfolding uses_cache
+unused w c h =
+    ap (λ b. b && (w.config.use_preprocessor_cache_mode && (is_none c.request.arguments.too_hard_for_preprocessor_cache_mode && is_direct c.request.env_vars))) h
+
+pub none_needed : {V : Type 0} (w : World V) (c : Call V) → is_preprocessed c.request ≡ false → preprocessor_key_of w c ≡ None
+unfolding preprocessor_key_of key_material
+none_needed w c h =
+    ap (λ b. option_map (digest_text w.hash) (cond b (of_both (preprocessor_material (request_parts w c.request (input_path c))) (extra_texts w c) (input_recorded w c)) None)) (unused w c h)
+
+-- the same, of a store that was not asked before
+module _ {V : Type 0} (w : World V) (c : Call V) (F : Type 0) (control : c.control ≡ Default) (s t : Option Bytes) (new : s ≡ None) (r : Answer) (step : Step w asked_key c F s r t) where
+  from_new : (o : Option Bytes) → o ≡ t → Noted w c F control r o
+  from_new o at = subst (Noted w c F control r) (sym at) (what_is_noted w c F control r t (subst (λ v. Step w asked_key c F v r t) new step))
+
+  pub asked_some : (key : Bytes) → Some key ≡ t → preprocessor_key_of w c ≡ Some key
+  asked_some key at = noted_key w c F control r key (from_new (Some key) at)
+
+  pub asked_none : (o : Option (String Global)) → IsStoredKey r o → None ≡ t → preprocessor_key_of w c ≡ None
+  asked_none o stored at = none_noted w c F control r o stored (from_new None at)
+
+  pub asked_error : (why : Why) → is_preprocessed c.request ≡ true → r ≡ Refused why → NotTextless w c F control why → None ≡ t → StopsOpening w c F why
+  asked_error why needs is other at = why_not_noted w c F control why needs other (subst (λ v. Noted w c F control v None) is (from_new None at))

@@ -6,4 +6,5 @@ pub mod Pairs
 pub mod Parts
 pub mod RecordingLemmas
 pub mod Stores
+pub mod TextSteps
 pub mod Texts

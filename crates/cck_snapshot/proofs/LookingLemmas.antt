@@ -1,10 +1,13 @@
 -- A look-up in one pair is a step, or a miss.
-use Rattle.std.proofs.Common.{◌≡◌, ◌≢◌, ◌⊎◌, inl, inr, ◌∷◌, [], false, true, None, Option, Some, String, Ok, Err, refl, sym, ap, ◌∙◌, subst}
+use Rattle.std.proofs.Common.{◌≡◌, ◌≢◌, ◌⊎◌, inl, inr, ◌∷◌, [], false, true, None, Option, Some, String, Ok, Err, Result, refl, sym, ap, ◌∙◌, subst}
 use Rattle.std.specs.FinMap.Entries.{find}
+use Rattle.std.specs.Prelude.{IfOk}
 use Rattle.std.specs.declared.alloc.Global.{Global}
 use Rattle.std.proofs.lemmas.Bool.{false≢true}
 use Rattle.std.proofs.lemmas.Option.{none-some}
 use Rattle.cck_files.specs.FileMap.{FileMap}
+use Rattle.cck_key_error.specs.declared.key_error.KeyError.{KeyError}
+use Rattle.cck_key_error.specs.declared.key_error.KeyError.TheVariants as error
 use Rattle.cck_path.specs.Bytes.{Bytes, lists_of}
 use Rattle.cck_path.specs.TextOrder.{text_cmp}
 use Rattle.cck_store.specs.MapStore.{IsGot, State, map_store}
@@ -14,6 +17,7 @@ use Rattle.jiff.specs.Words.{plain_zone}
 use Rattle.c_cache_keys.proofs.Stored.{not_both, not_failed}
 use Rattle.c_cache_keys.specs.Call.{Answer, Call, Damaged, Extra, ExtraFault, Input, InputFault, Keyed, Marker, Memory, NoText, Refused, Store as StoreFails, TextFault, Why}
 use Rattle.c_cache_keys.specs.Keys.{preprocessor_key_of}
+use Rattle.c_cache_keys.specs.Seen.{why_of}
 use Rattle.c_cache_keys.specs.Step.{Asked, Asks, Ends, Failed, Gives, Hit, Miss, ReadsAs, Step, asked, made, stopped}
 use Rattle.c_cache_keys.specs.World.{World}
 use Rattle.c_cache_keys.specs.declared.call.CacheControl.TheVariants.{Default}
@@ -22,7 +26,7 @@ use Rattle.cck_snapshot.proofs.Keys.{not_opening, same_why}
 use Rattle.cck_snapshot.proofs.Pairs.{find_one, find_own}
 use Rattle.cck_snapshot.specs.External.{External, Prints, no_text}
 use Rattle.cck_snapshot.specs.Requests.{call_for, world_for}
-use Rattle.cck_snapshot.specs.Snapshot.{IsLookedUp, IsMiss, IsStoredKey, one_pair}
+use Rattle.cck_snapshot.specs.Snapshot.{IsLookUpError, IsLookedUp, IsMiss, IsStoredKey, one_pair}
 use Rattle.cck_snapshot.specs.declared.requests.Request.{Request}
 
 same_failed : {a b : Why} → Failed a ≡ Failed b → a ≡ b
@@ -97,3 +101,20 @@ module _ (hash : Bytes → Bytes) (files : FileMap) (r : Request) (F : Type 0) (
         | inl other ↦ inl (λ own. other (key_same hash (plain_zone r.zone.now) r.config (lists_of r.basedirs.now) no_text prints (call_for Default files r) ∙ own))
         | inr reads ↦ inr reads
       ]
+
+  -- memory is lacking before the store is asked
+  pub starved : (e : KeyError) → e ≡ error.Memory → IsLookUpError hash files r F k bytes e
+  starved e is = (one_pair k bytes, stopped Memory tt (ap (λ v. Refused (why_of v)) is) refl)
+
+  module _ (s : State) (is : s ≡ one_pair k bytes) (a : Answer) (t : State) (step : Step (world_for hash no_text r) map_store (call_for Default files r) F s a t) where
+    looked_from : Looked a t
+    looked_from = subst (λ v. Step (world_for hash no_text r) map_store (call_for Default files r) F v a t) is step
+
+    -- a key that is returned, or none
+    pub looks : (result : Result (Option (String Global)) KeyError) → IfOk result (IsStoredKey a) → IfOk result (IsLookedUp hash files r F k bytes)
+    looks (Ok o) stored = looked_up a t looked_from o stored
+    looks (Err e) stored = tt
+
+    -- an error
+    pub fails : (e : KeyError) → a ≡ Refused (why_of e) → IsLookUpError hash files r F k bytes e
+    fails e same = (t, subst (λ v. Looked v t) same looked_from)

@@ -1,5 +1,5 @@
 -- A store in memory that holds one pair.
-use Rattle.std.proofs.Common.{◌≡◌, Bool, true, false, cond, [], ◌∷◌, Option, Some, None, Ok, Err, refl, sym, ap, ◌∙◌}
+use Rattle.std.proofs.Common.{◌≡◌, Bool, true, false, cond, List, [], ◌∷◌, Option, Some, None, Ok, Err, refl, sym, ap, ◌∙◌}
 use Rattle.std.specs.Cmp.{tied_itself}
 use Rattle.std.specs.Cmp.Lexicographic.{nat_list_cmp_total}
 use Rattle.std.specs.FinMap.Entries.{find, find-put, put}
@@ -26,3 +26,13 @@ find_own k bytes =
 -- a put into a new store leaves the one pair
 pub put_one : (s t : State) (k bytes : Bytes) → s ≡ new_state → t ≡ record (begun s) { pairs = put text_cmp k bytes (begun s).pairs } → t ≡ one_pair k bytes
 put_one s t k bytes is p = p ∙ ap (λ v. record (begun v) { pairs = put text_cmp k bytes (begun v).pairs }) is
+
+some_pair : (k bytes : Bytes) → ◌≡◌ {A = List (Bytes × Bytes)} ((k, bytes) ∷ []) [] → ⊥
+some_pair k bytes e = cc
+
+-- it is no store that holds nothing
+pub holds_one : (k bytes : Bytes) (s : State) → s.pairs ≡ [] → one_pair k bytes ≡ s → ⊥
+holds_one k bytes s none e = some_pair k bytes (ap (λ (v : State). v.pairs) e ∙ none)
+
+pub not_one_pair : (k bytes : Bytes) → one_pair k bytes ≡ new_state → ⊥
+not_one_pair k bytes e = holds_one k bytes new_state refl e

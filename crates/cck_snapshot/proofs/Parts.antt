@@ -41,7 +41,7 @@ use Rattle.c_cache_keys.specs.World.{World, setting}
 use Rattle.c_cache_keys.specs.declared.call.CacheControl.TheVariants.{ForceRecache}
 use Rattle.cck_snapshot.proofs.Hits.{made_fresh}
 use Rattle.cck_snapshot.proofs.Names.{SameNames, all_recorded, walk_accepts}
-use Rattle.cck_snapshot.proofs.Pairs.{find_one}
+use Rattle.cck_snapshot.proofs.Pairs.{find_one, not_one_pair}
 use Rattle.cck_snapshot.specs.Laws.{HasOneResult, HitOverAll, IsPart, IsSnapshot, RecordingOverAll, over}
 use Rattle.cck_snapshot.specs.Snapshot.{one_pair}
 
@@ -87,9 +87,6 @@ first_name e = cc
 
 second_name : {a b : Bytes} {s t : Bool} → Name a s ≡ Name b t → s ≡ t
 second_name e = cc
-
-not_one_pair : (k bytes : Bytes) → one_pair k bytes ≡ new_state → ⊥
-not_one_pair k bytes e = let ps : ◌≡◌ {A = List (Bytes × Bytes)} ((k, bytes) ∷ []) [] = ap (λ (v : State). v.pairs) e in cc
 
 -- of each that is there, the second function gives the same
 all_again : {D A : Type 0} (f g : D → Option A) → ((d : D) (x : A) → f d ≡ Some x → g d ≡ Some x) → (ds : List D) (xs : List A) → all_of (map f ds) ≡ Some xs → all_of (map g ds) ≡ Some xs

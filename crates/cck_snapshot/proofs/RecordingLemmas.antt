@@ -1,5 +1,5 @@
 -- A recording is a step from a store that holds nothing.
-use Rattle.std.proofs.Common.{◌≡◌, ◌≢◌, inl, inr, ◌∷◌, [], Bool, false, true, None, Option, Some, String, Ok, Err, refl, sym, ap, ◌∙◌, subst, arith}
+use Rattle.std.proofs.Common.{◌≡◌, ◌≢◌, ℕ, inl, inr, ◌∷◌, [], Bool, false, true, None, Option, Some, String, Ok, Err, refl, sym, ap, ◌∙◌, subst, arith}
 use Rattle.std.specs.FinMap.Entries.{find}
 use Rattle.std.specs.Prelude.{string_bytes}
 use Rattle.std.specs.declared.alloc.Global.{Global}
@@ -52,12 +52,12 @@ module _ {V : Type 0} (w : World V) (c : Call V) (control : c.control ≡ ForceR
         held ∙ ap (λ v. one_pair v bytes) same_k ∙ ap (λ v. one_pair (string_bytes other) v) (sym same_b)
     after_put k bytes is held NoPreprocessorKey none = absurd (not_empty k is none)
     after_put k bytes is held NotRecorded (some, calls) =
-        let one : 1 ≡ 0 = ap (λ (v : State). v.armed.calls) (sym held) ∙ calls in absurd (omega arith)
+        let one : ◌≡◌ {A = ℕ} 1 0 = ap (λ (v : State). v.armed.calls) (sym held) ∙ calls in absurd (omega arith)
 
     lost : (k : Bytes) → preprocessor_key_of w c ≡ Some k → t.pairs ≡ [] → t.armed.calls ≡ 1 → (recorded : Recorded) → IsRecordedIn at t recorded → ⊥
     lost k is none one (Entry other found) (key, at_key) = none-some _ (ap (λ ps. find text_cmp (string_bytes other) ps) (sym none) ∙ at_key)
     lost k is none one NoPreprocessorKey no = not_empty k is no
-    lost k is none one NotRecorded (some, calls) = let no : 1 ≡ 0 = sym one ∙ calls in absurd (omega arith)
+    lost k is none one NotRecorded (some, calls) = let no : ◌≡◌ {A = ℕ} 1 0 = sym one ∙ calls in absurd (omega arith)
 
     -- what a put left
     after : (k bytes : Bytes) (answer : Stored) → preprocessor_key_of w c ≡ Some k → IsPut new_state k bytes answer t → (recorded : Recorded) → IsRecordedIn at t recorded → t ≡ stored_by recorded

@@ -1,5 +1,5 @@
 -- A step on one pair is a step on each store.
-use Rattle.std.proofs.Common.{◌≡◌, ◌⊎◌, inl, inr, ◌∷◌, [], List, Bool, false, true, cond, None, Option, Some, Ok, Err, refl, sym, ap, ◌∙◌, subst, arith}
+use Rattle.std.proofs.Common.{◌≡◌, ◌⊎◌, ℕ, inl, inr, ◌∷◌, [], List, Bool, false, true, cond, None, Option, Some, Ok, Err, refl, sym, ap, ◌∙◌, subst, arith}
 use Rattle.std.specs.Cmp.{Equal-is}
 use Rattle.std.specs.Cmp.Lexicographic.{nat_list_cmp_total}
 use Rattle.std.specs.FinMap.{nat_cmp-IsAntisymmetric, slice_cmp-IsAntisymmetric}
@@ -9,7 +9,7 @@ use Rattle.std.proofs.lemmas.Bool.{false≢true}
 use Rattle.std.proofs.lemmas.Option.{none-some}
 use Rattle.cck_path.specs.Bytes.{Bytes}
 use Rattle.cck_path.specs.TextOrder.{text_cmp}
-use Rattle.cck_store.specs.MapStore.{IsGot, IsPut, State, map_store, new_state}
+use Rattle.cck_store.specs.MapStore.{IsGot, IsPut, State, begun, map_store, new_state, set_back}
 use Rattle.cck_store.specs.Store.{Returned, Store, Stored}
 use Rattle.cck_store.specs.declared.store.StoreError.TheVariants as store
 use Rattle.c_cache_keys.proofs.Stored.{not_both, not_failed, same_key}
@@ -19,7 +19,7 @@ use Rattle.c_cache_keys.specs.Step.{Asked, Asks, Ends, Failed, Gives, Hit, Miss,
 use Rattle.c_cache_keys.specs.World.{World}
 use Rattle.c_cache_keys.specs.declared.call.CacheControl.TheVariants.{ForceRecache}
 use Rattle.cck_snapshot.proofs.Hits.{made_fresh}
-use Rattle.cck_snapshot.proofs.Pairs.{find_one, put_one}
+use Rattle.cck_snapshot.proofs.Pairs.{find_one, holds_one, not_one_pair, put_one}
 use Rattle.cck_snapshot.specs.Laws.{HitOnAnyStore, NothingOnAnyStore, RecordingOnAnyStore}
 use Rattle.cck_snapshot.specs.Snapshot.{one_pair}
 
@@ -37,9 +37,12 @@ miss_hit e = cc
 failed_hit : {key : Bytes} {why : Why} → Failed why ≡ Hit key → ⊥
 failed_hit e = cc
 
+same_head : (x y : Bytes × Bytes) (xs ys : List (Bytes × Bytes)) → x ∷ xs ≡ y ∷ ys → x ≡ y
+same_head x y xs ys e = cc
+
 -- two stores of one pair
 same_pairs : (k l a b : Bytes) → one_pair k a ≡ one_pair l b → (k ≡ l) × (a ≡ b)
-same_pairs k l a b e = let ps : ◌≡◌ {A = List (Bytes × Bytes)} ((k, a) ∷ []) ((l, b) ∷ []) = ap (λ (v : State). v.pairs) e in (cc, cc)
+same_pairs k l a b e = let pair = same_head (k, a) (l, b) [] [] (ap (λ (v : State). v.pairs) e) in (ap (λ p. p.0) pair, ap (λ p. p.1) pair)
 
 module _ {V S : Type 0} (w : World V) (st : Store S) (c : Call V) (F : Type 0) where
   -- what a get of one pair returned for a hit is the pair's bytes, under its key
@@ -67,14 +70,13 @@ module _ {V S : Type 0} (w : World V) (st : Store S) (c : Call V) (F : Type 0) w
   put_was : (key k bytes : Bytes) (p q : Bytes) (answer : Stored) → IsPut new_state p q answer (one_pair k bytes) → (p ≡ k) × (q ≡ bytes)
   put_was key k bytes p q (Ok done) put = let same = same_pairs k p bytes q (put_one new_state (one_pair k bytes) p q refl put.1) in (sym same.0, sym same.1)
   put_was key k bytes p q (Err store.Fault) put = absurd (false≢true put.0)
-  put_was key k bytes p q (Err store.Memory) put =
-      let ps : ◌≡◌ {A = List (Bytes × Bytes)} ((k, bytes) ∷ []) [] = ap (λ (v : State). v.pairs) put.1 in cc
+  put_was key k bytes p q (Err store.Memory) put = absurd (holds_one k bytes (set_back (begun new_state)) refl put.1)
 
-  pub own_of : (key k bytes : Bytes) → Stores w map_store c F key new_state (one_pair k bytes) → OwnPair w c key k bytes
+  own_of : (key k bytes : Bytes) → Stores w map_store c F key new_state (one_pair k bytes) → OwnPair w c key k bytes
   own_of key k bytes (inl p) =
       let same = put_was key k bytes p.k p.bytes p.answer p.put in
       subst (λ v. OwnPair w c key v bytes) same.0 (subst (λ v. OwnPair w c key p.k v) same.1 p.own)
-  own_of key k bytes (inr n) = let ps : ◌≡◌ {A = List (Bytes × Bytes)} ((k, bytes) ∷ []) [] = ap (λ (v : State). v.pairs) n.0 in cc
+  own_of key k bytes (inr n) = absurd (not_one_pair k bytes n.0)
 
   nothing_of : (key : Bytes) → Stores w map_store c F key new_state new_state → F ⊎ NothingNew w c
   nothing_of key (inl p) = absurd (nothing_put p.k p.bytes p.answer p.put)
@@ -82,7 +84,7 @@ module _ {V S : Type 0} (w : World V) (st : Store S) (c : Call V) (F : Type 0) w
       nothing_put : (k bytes : Bytes) (answer : Stored) → IsPut new_state k bytes answer new_state → ⊥
       nothing_put k bytes (Ok done) put = let ps : ◌≡◌ {A = List (Bytes × Bytes)} [] ((k, bytes) ∷ []) = ap (λ (v : State). v.pairs) (put_one new_state new_state k bytes refl put.1) in cc
       nothing_put k bytes (Err store.Fault) put = false≢true put.0
-      nothing_put k bytes (Err store.Memory) put = let no : 0 ≡ 1 = ap (λ (v : State). v.armed.calls) put.1 in omega arith
+      nothing_put k bytes (Err store.Memory) put = let no : ◌≡◌ {A = ℕ} 0 1 = ap (λ (v : State). v.armed.calls) put.1 in omega arith
   nothing_of key (inr n) = n.1
 
   recording_there : (k bytes key : Bytes) (answer : Stored) (s u : S) → c.control ≡ ForceRecache → Step w map_store c F new_state (Keyed key true) (one_pair k bytes) → st.put s k bytes answer u → Step w st c F s (Keyed key true) u
