@@ -1,3 +1,4 @@
 pub mod BufferLemmas
 pub mod ListingLemmas
 pub mod PutLemmas
+pub mod WrittenLemmas

@@ -1,0 +1,28 @@
+-- the errors of a listing
+use Rattle.std.proofs.Common.{◌≡◌, ◌⊎◌, Result, Ok, Err, Option, IfErr, IfSome, refl, sym, subst, inl, inr}
+use Rattle.cck_path.specs.Bytes.{Bytes}
+use Rattle.cck_explain_entry.specs.Bytes as entry
+use Rattle.cck_explain_entry.specs.declared.listing.EntryError.{EntryError}
+use Rattle.cck_explain_entry.specs.declared.listing.EntryError.TheVariants as variants
+use Rattle.cck_explain_command.proofs.BufferLemmas.{if_any}
+use Rattle.cck_explain_command.specs.Written.{IsErrorFor, explained_by}
+use Rattle.cck_explain_command.specs.declared.error.ExplainError.{ExplainError}
+use Rattle.cck_explain_command.specs.declared.error.ExplainError.TheVariants.{Memory, Read, Write}
+
+-- what holds of the error holds of the result
+pub err_with : {T E : Type 0} (r : Result T E) (P : E → Type 0) (error : E) → r ≡ Err error → P error → IfErr r P
+err_with r P error is p = subst (λ x. IfErr x P) (sym is) p
+
+-- the error for bytes that have no listing, after which nothing was written
+pub entry_error : (bytes : Bytes) (error : EntryError) (explained : ExplainError) (old : Option Bytes) → entry.IsErrorFor bytes error → explained ≡ explained_by error
+    → IsErrorFor bytes explained old old
+entry_error bytes variants.Memory explained old h is = subst (λ x. IsErrorFor bytes x old old) (sym is) tt
+entry_error bytes (variants.NotEntry fault) explained old h is = subst (λ x. IsErrorFor bytes x old old) (sym is) (refl, h)
+
+pub write_error : (bytes : Bytes) (explained : ExplainError) (old new : Option Bytes) → explained ≡ Write → IsErrorFor bytes explained old new
+write_error bytes explained old new is = subst (λ x. IsErrorFor bytes x old new) (sym is) tt
+
+pub read_error : (o : Option Bytes) (explained : ExplainError) (old new : Option Bytes) → (explained ≡ Read) ⊎ (explained ≡ Memory)
+    → IfSome o (λ bytes. IsErrorFor bytes explained old new)
+read_error o explained old new (inl is) = subst (λ x. IfSome o (λ bytes. IsErrorFor bytes x old new)) (sym is) (if_any o _ (λ bytes. tt))
+read_error o explained old new (inr is) = subst (λ x. IfSome o (λ bytes. IsErrorFor bytes x old new)) (sym is) (if_any o _ (λ bytes. tt))
