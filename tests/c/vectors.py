@@ -18,7 +18,7 @@ CRATES = TESTS.parent / "crates"
 
 DONE, LANGUAGE, FORMAT, ENTRY = 0, 3, 5, 6
 
-# What stands for the 64 bytes of a key that is not written.
+# The 64 bytes of a key that is not written, as the program fills them.
 UNWRITTEN = b"\xa5" * 64
 
 MACROS = ("time", "date", "timestamp")
@@ -160,8 +160,8 @@ def main(words):
         for path in sorted((CRATES / crate / "data").glob("*.txt"))
         for case in lines_of(path, module.Subject(), calls)
     ]
-    asked = "".join(line + "\n" for line, _, _ in cases).encode()
-    run = subprocess.run(words, input=asked, stdout=subprocess.PIPE, stderr=subprocess.PIPE)
+    lines = "".join(line + "\n" for line, _, _ in cases).encode()
+    run = subprocess.run(words, input=lines, stdout=subprocess.PIPE, stderr=subprocess.PIPE)
     got = run.stdout.decode().splitlines()
     counted = {}
     differences = 0

@@ -1,5 +1,5 @@
 -- marks that are read some at a time
-use Rattle.std.proofs.Common.{List, [], ◌≡◌, ◌++◌, subst, append-nil}
+use Rattle.std.proofs.Common.{List, [], subst, append-nil}
 use Rattle.cck_markers.specs.Marks.{Mark}
 use Rattle.cck_markers.specs.Markers.{Gives, MarksLeft, Unread}
 use Rattle.cck_markers.proofs.ItemLemmas.{gives_both}

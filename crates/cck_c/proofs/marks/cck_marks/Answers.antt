@@ -1,4 +1,4 @@
-use Rattle.std.proofs.Common.{◌≡◌, ◌∙◌, sym, subst, map, take, rules}
+use Rattle.std.proofs.Common.{◌≡◌, subst, map, take, rules}
 use Rattle.cck_markers.specs.Markers.{Gives, Unread}
 use Rattle.cck_c.specs.Marks.{mark_in, unread_in}
 use Rattle.cck_c.proofs.MarkLemmas.{gives_to_end}
