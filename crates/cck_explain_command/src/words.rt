@@ -42,8 +42,9 @@ fn key_command<'a>(alloc: Global, languages: &'a [&'a str]) -> Result<Command<'a
 
 // The command `entry`.
 fn entry_command<'a>(alloc: Global) -> Command<'a> {
-    Command::new(alloc, "entry")
-        .about("Lists an entry of the store, which is read from standard input")
+    Command::new(alloc, "entry").about(
+        "Lists an entry of the store, which is read from standard input",
+    )
 }
 
 // The command `markers`.
@@ -87,10 +88,7 @@ fn values_of(alloc: Global, matches: &ArgMatches<'_>, id: &str) -> Result<Vec<Ve
 }
 
 // The request for a key, or `None` for a language that has no such name.
-fn key_request<'a>(
-    alloc: Global,
-    key: &ArgMatches<'a>,
-) -> Result<Option<KeyRequest<'a>>, Error> {
+fn key_request<'a>(alloc: Global, key: &ArgMatches<'a>) -> Result<Option<KeyRequest<'a>>, Error> {
     let (Some(compiler_digest), Some(name)) = (key.get_str("DIGEST"), key.get_str("LANGUAGE"))
     else {
         return Ok(None);

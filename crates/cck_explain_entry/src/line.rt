@@ -34,11 +34,7 @@ fn push_moment(alloc: Global, lines: &mut Vec<u8>, time: Timestamp) -> Result<()
 }
 
 // Appends a time, or that there is none.
-fn push_time(
-    alloc: Global,
-    lines: &mut Vec<u8>,
-    time: Option<Timestamp>,
-) -> Result<(), AllocError>
+fn push_time(alloc: Global, lines: &mut Vec<u8>, time: Option<Timestamp>) -> Result<(), AllocError>
     ensures { OnOk result (lines.new.items ≡ lines.old.items ++ time_text time) }
 {
     match time {

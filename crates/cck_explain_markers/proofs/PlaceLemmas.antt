@@ -88,5 +88,5 @@ pub bounded : (text front rest : List ℕ) (position : Position) → text ≡ fr
 unfolding position_after
 bounded text front rest position is at = (
   let h = count_by-le-length (λ b. b == 10) front in let e = ap (λ p. p.line) at in omega (arith, h, e),
-  let h = prefix_len-le-length (λ b. not (b == 10)) (reverse front) in let e = ap (λ p. p.column) at in let n = length-reverse front in omega (arith, h, e, n)
+  let h = prefix_len-le-length (λ b. not (b == 10)) (reverse front) in let e = ap (λ p. p.column) at in let n = length-reverse front in omega (arith, h, e, n),
 )
