@@ -14,7 +14,7 @@ use Rattle.cck_script.specs.Calls.{script_calls}
 use Rattle.cck_script.specs.Calls as script
 use Rattle.cck_script.specs.Lines.{Line}
 use Rattle.cck_script.specs.Script.{basedirs_of, zone_of}
-use Rattle.cck_script.specs.Surroundings.{AreAfter, AreNamesOf}
+use Rattle.cck_script.specs.Surroundings.{AreAfter, ArePlacesOf}
 use Rattle.cck_script.specs.declared.surroundings.Surroundings.{Surroundings}
 use Rattle.cck_time.specs.Config.{activated}
 use Rattle.cck_time.specs.declared.config.PreprocessorCacheModeConfig.{PreprocessorCacheModeConfig}
@@ -96,7 +96,7 @@ compiler_in hash zone known c e of = subst (λ z. IsRunCompiler hash z c) e of
 
 -- a call changes neither the files nor the variables
 pub after_call : (c : CCompiler MiniCompiler) (asked : script.ScriptCallValue) (old new : Call MiniCompiler FileState) (s : Surroundings) → IsReady c asked old
-    → AreNamesOf old.vars.items s.names.keys → IsCallAfter old new → AreAfter asked.earlier (record s { files = new.files; variables = new.vars })
+    → ArePlacesOf old.vars.items s.places → IsCallAfter old new → AreAfter asked.earlier (record s { files = new.files; variables = new.vars })
 after_call c asked old new s ready named after =
     let none = calm c asked old new ready after in
     let before : fault_count old.files ≡ 0 = none.0 in
@@ -108,7 +108,7 @@ after_call c asked old new s ready named after =
       no_faults = omega (arith, faults);
       unarmed = (after.keeps.stays_quiet (ready.unarmed, room)).0;
       variables_are = rw vars ready.env_vars;
-      names_are = rw vars named;
+      places_are = rw vars named;
     }
 
 -- ---- calls one after another

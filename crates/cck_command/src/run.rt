@@ -117,7 +117,7 @@ fn make_call<H: HashState>(
     let Surroundings {
         files,
         variables,
-        names,
+        places,
     } = surroundings;
     let ready = ready_call(alloc, &setting.compiler, files, variables, asked)?;
     let mut calls = Vec::new(alloc);
@@ -140,7 +140,7 @@ fn make_call<H: HashState>(
     Ok(Surroundings {
         files,
         variables: vars,
-        names,
+        places,
     })
 }
 

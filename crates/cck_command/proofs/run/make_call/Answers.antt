@@ -6,8 +6,8 @@ use Rattle.cck_command.proofs.run.make_call.Goals as goal
 
 pub returns-clause-after : goal.returns-clause-after
 returns-clause-after g c = λ earlier are.
-    after_call c.args.setting.now.compiler (call_after earlier c.args.asked.now) c.in_ok-ready.ready c.in-Some.made (record { files = c.in-Some.made.files; variables = c.in-Some.made.vars; names = c.args.surroundings.names })
-    (c.in_ok-ready.ensures.call earlier are.files are.no_faults are.unarmed are.variables_are) (rw c.in_ok-ready.ensures.vars are.names_are)
+    after_call c.args.setting.now.compiler (call_after earlier c.args.asked.now) c.in_ok-ready.ready c.in-Some.made (record { files = c.in-Some.made.files; variables = c.in-Some.made.vars; places = c.args.surroundings.places })
+    (c.in_ok-ready.ensures.call earlier are.files are.no_faults are.unarmed are.variables_are) (rw c.in_ok-ready.ensures.vars are.places_are)
     (only_call c.in_ok-ready.ready c.in-Some.made _ _ _ _ _
     (c.deref_mut.ensures.value ∙ c.in_ok-push.ensures.items ∙ ap (λ l. l ++ c.in_ok-ready.ready ∷ []) c.new-calls.ensures.items)
     (c.in_ok-push.ensures.items ∙ ap (λ l. l ++ c.in_ok-ready.ready ∷ []) c.new-calls.ensures.items)
