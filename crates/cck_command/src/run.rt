@@ -10,7 +10,7 @@ ghost use Rattle.jiff.specs.Types.{Offset as PlainOffset};
 ghost use Rattle.cck_script.specs.Calls.{call_after, call_of_command};
 ghost use Rattle.cck_script.specs.Lines.{Line};
 ghost use Rattle.cck_script.specs.Seen.{line_of, lines_of};
-ghost use Rattle.cck_script.specs.Surroundings.{AreAfter, AreNamesOf};
+ghost use Rattle.cck_script.specs.Surroundings.{AreAfter, ArePlacesOf};
 ghost use Rattle.cck_time.specs.Config.{activated};
 ghost use Rattle.c_cache_keys.specs.World.{world_of};
 ghost use Rattle.cck_command.specs.MiniCompiler.{mini_compiler};
