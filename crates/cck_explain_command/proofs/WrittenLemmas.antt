@@ -1,5 +1,5 @@
 -- the errors of a listing
-use Rattle.std.proofs.Common.{◌≡◌, ◌⊎◌, Result, Ok, Err, Option, IfErr, IfSome, refl, sym, subst, inl, inr}
+use Rattle.std.proofs.Common.{◌≡◌, ◌⊎◌, Result, Ok, Err, OnOk, OnErr, Option, Some, None, IfErr, IfSome, refl, sym, subst, inl, inr}
 use Rattle.cck_path.specs.Bytes.{Bytes}
 use Rattle.cck_explain_entry.specs.Bytes as entry
 use Rattle.cck_explain_entry.specs.declared.listing.EntryError.{EntryError}
@@ -26,3 +26,18 @@ pub read_error : (o : Option Bytes) (explained : ExplainError) (old new : Option
     → IfSome o (λ bytes. IsErrorFor bytes explained old new)
 read_error o explained old new (inl is) = subst (λ x. IfSome o (λ bytes. IsErrorFor bytes x old new)) (sym is) (if_any o _ (λ bytes. tt))
 read_error o explained old new (inr is) = subst (λ x. IfSome o (λ bytes. IsErrorFor bytes x old new)) (sym is) (if_any o _ (λ bytes. tt))
+
+-- what holds of the bytes that were read holds of what there was to read
+of_stream : (o : Option Bytes) (bytes text : Bytes) (P : Bytes → Type 0) → IfSome o (λ stream. bytes ≡ stream) → text ≡ bytes → P text → IfSome o P
+of_stream None bytes text P e is p = tt
+of_stream (Some stream) bytes text P e is p = subst P e (subst P is p)
+
+pub ok_of_stream : {T E : Type 0} (r : Result T E) (o : Option Bytes) (bytes text : Bytes) (P : Bytes → Type 0) → IfSome o (λ stream. bytes ≡ stream)
+    → text ≡ bytes → OnOk r (P text) → OnOk r (IfSome o P)
+ok_of_stream (Ok x) o bytes text P e is p = of_stream o bytes text P e is p
+ok_of_stream (Err x) o bytes text P e is p = tt
+
+pub err_of_stream : {T E : Type 0} (r : Result T E) (o : Option Bytes) (bytes text : Bytes) (P : Bytes → Type 0) → IfSome o (λ stream. bytes ≡ stream)
+    → text ≡ bytes → OnErr r (P text) → OnErr r (IfSome o P)
+err_of_stream (Ok x) o bytes text P e is p = tt
+err_of_stream (Err x) o bytes text P e is p = of_stream o bytes text P e is p

@@ -2,7 +2,9 @@ use Rattle.std.proofs.Common.{refl, inl}
 use Rattle.std.proofs.lemmas.Result.{err_from_is_err_and}
 use Rattle.cck_digest.proofs.StreamLemmas.{after_error}
 use Rattle.cck_explain_command.proofs.BufferLemmas.{if_any}
-use Rattle.cck_explain_command.proofs.WrittenLemmas.{err_with, read_error}
+use Rattle.cck_explain_command.proofs.WrittenLemmas.{err_of_stream, err_with, ok_of_stream, read_error}
+use Rattle.cck_explain_command.specs.Written.{BeginsOf, WritesOf}
+use Rattle.cck_explain_entry.specs.Bytes.{IsListingOf}
 use Rattle.cck_explain_command.proofs.entry.explain_entry.Goals as goal
 
 pub returns-in_err-bytes-clause-begun : goal.returns-in_err-bytes-clause-begun
@@ -12,3 +14,15 @@ pub returns-in_err-bytes-clause-refused : goal.returns-in_err-bytes-clause-refus
 returns-in_err-bytes-clause-refused g c =
     let p = err_from_is_err_and c.from_residual.result c.from_residual.ensures.1 in
     err_with c.from_residual.result _ p.0 p.1 (read_error _ p.0 _ _ p.2)
+
+pub returns-clause-listed : goal.returns-clause-listed
+returns-clause-listed g c =
+    ok_of_stream c.write_entry.result (g.R.Read.remaining c.args.reader.now) c.in_ok-bytes.bytes.items c.deref.result.now
+    (λ bytes. WritesOf (IsListingOf bytes) (g.W.Write.contents c.args.writer.now) (g.W.Write.contents c.write_entry.new.writer))
+    c.in_ok-bytes.ensures.text c.deref.ensures.value c.write_entry.ensures.listed
+
+pub returns-clause-begun : goal.returns-clause-begun
+returns-clause-begun g c =
+    err_of_stream c.write_entry.result (g.R.Read.remaining c.args.reader.now) c.in_ok-bytes.bytes.items c.deref.result.now
+    (λ bytes. BeginsOf (IsListingOf bytes) (g.W.Write.contents c.args.writer.now) (g.W.Write.contents c.write_entry.new.writer))
+    c.in_ok-bytes.ensures.text c.deref.ensures.value c.write_entry.ensures.begun
