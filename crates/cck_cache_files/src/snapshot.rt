@@ -86,7 +86,8 @@ fn leads_there<R: Files + AllocGlobal>(
     path: &[u8],
 ) -> Result<bool, UtilError> {
     let (_, state) = states.first_other(rt, joined)?;
-    if state != PathState::File && state != PathState::Link {
+    // With -g gcc names the working directory too.
+    if state == PathState::Absent || state == PathState::Doubtful {
         return Ok(false);
     }
     if joined == path {
