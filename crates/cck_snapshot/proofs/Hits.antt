@@ -1,11 +1,11 @@
 -- A hit doesn't depend on what is printed.
-use Rattle.std.proofs.Common.{◌≡◌, inl, inr, List, true, false, None, Some, refl, sym, ◌∙◌}
+use Rattle.std.proofs.Common.{◌≡◌, List, true, false, refl, sym, ◌∙◌}
 use Rattle.cck_path.specs.Bytes.{Bytes}
 use Rattle.cck_store.specs.Store.{Store}
 use Rattle.cck_time.specs.declared.config.PreprocessorCacheModeConfig.{PreprocessorCacheModeConfig}
 use Rattle.jiff.specs.Types.{TimeZone}
 use Rattle.c_cache_keys.proofs.Stored.{not_failed}
-use Rattle.c_cache_keys.specs.Call.{Call, Damaged, Extra, ExtraFault, Input, InputFault, Keyed, Marker, Memory, NoText, Refused, Store as StoreFails, TextFault, Why}
+use Rattle.c_cache_keys.specs.Call.{Call, Damaged, Extra, ExtraFault, Input, InputFault, Keyed, Marker, Memory, NoText, Store as StoreFails, TextFault, Why}
 use Rattle.c_cache_keys.specs.Keys.{extra_texts, input_file, input_recorded, key_material, preprocessor_key_of, request_parts, uses_cache}
 use Rattle.c_cache_keys.specs.Step.{Asked, Asks, Ends, Failed, Hit, Makes, Miss, Opened, Step, StopsOpening, asked, gives, made, stopped, stops}
 use Rattle.c_cache_keys.specs.World.{World, world_of}

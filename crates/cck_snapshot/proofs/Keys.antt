@@ -1,22 +1,22 @@
 -- The key under which a store is asked is the preprocessor key.
 use Rattle.std.proofs.Common.{◌≡◌, ◌≢◌, inl, inr, ◌&&◌, cond, is_none, true, false, None, Option, Some, String, Ok, Err, refl, sym, ap, ◌∙◌, subst}
 use Rattle.std.proofs.lemmas.Bool.{false≢true}
-use Rattle.std.proofs.lemmas.Option.{none-some, same_Some}
+use Rattle.std.proofs.lemmas.Option.{none-some}
 use Rattle.std.specs.declared.alloc.Global.{Global}
 use Rattle.std.specs.Option.{option_map}
 use Rattle.cck_digest.specs.Digest.{digest_text}
 use Rattle.cck_path.specs.Bytes.{Bytes}
 use Rattle.cck_preprocessor_key.specs.PreprocessorKey.{preprocessor_material}
-use Rattle.cck_store.specs.Store.{Returned, Store}
+use Rattle.cck_store.specs.Store.{Returned}
 use Rattle.cck_store.specs.declared.store.StoreError.TheVariants as store
 use Rattle.c_cache_keys.proofs.Stored.{not_both, not_failed}
-use Rattle.c_cache_keys.specs.Call.{Answer, Call, Damaged, Extra, ExtraFault, Input, InputFault, Keyed, Marker, Memory, NoText, Refused, Store as StoreFails, TextFault, Why}
+use Rattle.c_cache_keys.specs.Call.{Answer, Call, Damaged, Extra, ExtraFault, Input, InputFault, Marker, Memory, NoText, Refused, Store as StoreFails, TextFault, Why}
 use Rattle.c_cache_keys.specs.Keys.{extra_texts, input_recorded, is_direct, is_preprocessed, key_material, of_both, preprocessor_key_of, request_parts, uses_cache}
-use Rattle.c_cache_keys.specs.Step.{Asked, Asks, Ends, Failed, Gives, Hit, Makes, Miss, Step, Stores, StopsMaking, StopsOpening, asked, gives, made, stopped, stops}
+use Rattle.c_cache_keys.specs.Step.{Asked, Ends, Failed, Gives, Hit, Makes, Miss, Step, Stores, StopsMaking, StopsOpening, asked, gives, made, stopped, stops}
 use Rattle.c_cache_keys.specs.Walk.{input_path}
 use Rattle.c_cache_keys.specs.World.{World}
 use Rattle.c_cache_keys.specs.declared.call.CacheControl.TheVariants.{Default}
-use Rattle.cck_snapshot.specs.AskedKey.{IsNoted, asked_key}
+use Rattle.cck_snapshot.specs.RequestedKey.{IsNoted, requested_key}
 use Rattle.cck_snapshot.specs.Snapshot.{IsMiss, IsStoredKey}
 
 pub same_why : {a b : Why} → Refused a ≡ Refused b → a ≡ b
@@ -48,11 +48,11 @@ not_opening w c F TextFault m h = h
 not_opening w c F Marker m h = m
 
 module _ {V : Type 0} (w : World V) (c : Call V) (F : Type 0) (control : c.control ≡ Default) where
-  puts_nothing : (key : Bytes) (s t : Option Bytes) → Stores w asked_key c F key s t → t ≡ s
+  puts_nothing : (key : Bytes) (s t : Option Bytes) → Stores w requested_key c F key s t → t ≡ s
   puts_nothing key s t (inl p) = p.put
   puts_nothing key s t (inr n) = n.0
 
-  makes_nothing : (s t : Option Bytes) (r : Answer) → Makes w asked_key c F s r t → t ≡ s
+  makes_nothing : (s t : Option Bytes) (r : Answer) → Makes w requested_key c F s r t → t ≡ s
   makes_nothing s t r (stops why cause is same) = same
   makes_nothing s t r (gives key plain calm is puts) = puts_nothing key s t puts
 
@@ -61,15 +61,15 @@ module _ {V : Type 0} (w : World V) (c : Call V) (F : Type 0) (control : c.contr
   pub data Noted (r : Answer) (t : Option Bytes) : Type 0 where
     noted : (k : Bytes) → preprocessor_key_of w c ≡ Some k → t ≡ Some k → Noted r t
     early : (why : Why) → StopsOpening w c F why → r ≡ Refused why → t ≡ None → Noted r t
-    no_key : preprocessor_key_of w c ≡ None → Makes w asked_key c F None r t → t ≡ None → Noted r t
+    no_key : preprocessor_key_of w c ≡ None → Makes w requested_key c F None r t → t ≡ None → Noted r t
 
-  pub what_is_noted : (r : Answer) (t : Option Bytes) → Step w asked_key c F None r t → Noted r t
+  pub what_is_noted : (r : Answer) (t : Option Bytes) → Step w requested_key c F None r t → Noted r t
   what_is_noted r t (stopped why cause is same) = early why cause is same
   what_is_noted r t (made o (inl none) makes) = no_key none makes (makes_nothing None t r makes)
   what_is_noted r t (made o (inr recache) makes) = absurd (not_both (sym control ∙ recache))
   what_is_noted r t (asked o k is-k default a mid asks ends) = go asks.answer a asks.got asks.gives ends
     where
-      go : (answer : Returned) (a : Asked) → IsNoted None k answer mid → Gives w c F answer a → Ends w asked_key c F a mid r t → Noted r t
+      go : (answer : Returned) (a : Asked) → IsNoted None k answer mid → Gives w c F answer a → Ends w requested_key c F a mid r t → Noted r t
       go (Ok None) (Hit key) got given ends = absurd (miss_hit (sym given))
       go (Ok None) (Failed why) got given ends = absurd (failed_miss given)
       go (Ok None) Miss got given ends = noted k is-k (makes_nothing mid t r ends ∙ got)
@@ -129,9 +129,9 @@ none_needed w c h =
     ap (λ b. option_map (digest_text w.hash) (cond b (of_both (preprocessor_material (request_parts w c.request (input_path c))) (extra_texts w c) (input_recorded w c)) None)) (unused w c h)
 
 -- the same, of a store that was not asked before
-module _ {V : Type 0} (w : World V) (c : Call V) (F : Type 0) (control : c.control ≡ Default) (s t : Option Bytes) (new : s ≡ None) (r : Answer) (step : Step w asked_key c F s r t) where
+module _ {V : Type 0} (w : World V) (c : Call V) (F : Type 0) (control : c.control ≡ Default) (s t : Option Bytes) (new : s ≡ None) (r : Answer) (step : Step w requested_key c F s r t) where
   from_new : (o : Option Bytes) → o ≡ t → Noted w c F control r o
-  from_new o at = subst (Noted w c F control r) (sym at) (what_is_noted w c F control r t (subst (λ v. Step w asked_key c F v r t) new step))
+  from_new o at = subst (Noted w c F control r) (sym at) (what_is_noted w c F control r t (subst (λ v. Step w requested_key c F v r t) new step))
 
   pub asked_some : (key : Bytes) → Some key ≡ t → preprocessor_key_of w c ≡ Some key
   asked_some key at = noted_key w c F control r key (from_new (Some key) at)

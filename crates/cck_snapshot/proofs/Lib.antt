@@ -4,7 +4,4 @@ pub mod LookingLemmas
 pub mod Names
 pub mod Pairs
 pub mod Parts
-pub mod RecordingLemmas
 pub mod Stores
-pub mod TextSteps
-pub mod Texts

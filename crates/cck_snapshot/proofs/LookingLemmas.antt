@@ -1,5 +1,5 @@
 -- A look-up in one pair is a step, or a miss.
-use Rattle.std.proofs.Common.{◌≡◌, ◌≢◌, ◌⊎◌, inl, inr, ◌∷◌, [], false, true, None, Option, Some, String, Ok, Err, Result, refl, sym, ap, ◌∙◌, subst}
+use Rattle.std.proofs.Common.{◌≡◌, ◌≢◌, ◌⊎◌, inl, inr, ◌∷◌, [], None, Option, Some, String, Ok, Err, Result, refl, sym, ap, ◌∙◌, subst}
 use Rattle.std.specs.FinMap.Entries.{find}
 use Rattle.std.specs.Prelude.{IfOk}
 use Rattle.std.specs.declared.alloc.Global.{Global}
@@ -14,17 +14,17 @@ use Rattle.cck_store.specs.MapStore.{IsGot, State, map_store}
 use Rattle.cck_store.specs.Store.{Returned}
 use Rattle.cck_store.specs.declared.store.StoreError.TheVariants as store
 use Rattle.jiff.specs.Words.{plain_zone}
-use Rattle.c_cache_keys.proofs.Stored.{not_both, not_failed}
-use Rattle.c_cache_keys.specs.Call.{Answer, Call, Damaged, Extra, ExtraFault, Input, InputFault, Keyed, Marker, Memory, NoText, Refused, Store as StoreFails, TextFault, Why}
+use Rattle.c_cache_keys.proofs.Stored.{not_both}
+use Rattle.c_cache_keys.specs.Call.{Answer, Call, Damaged, Extra, ExtraFault, Input, InputFault, Marker, Memory, NoText, Refused, Store as StoreFails, TextFault, Why}
 use Rattle.c_cache_keys.specs.Keys.{preprocessor_key_of}
 use Rattle.c_cache_keys.specs.Seen.{why_of}
 use Rattle.c_cache_keys.specs.Step.{Asked, Asks, Ends, Failed, Gives, Hit, Miss, ReadsAs, Step, asked, made, stopped}
 use Rattle.c_cache_keys.specs.World.{World}
 use Rattle.c_cache_keys.specs.declared.call.CacheControl.TheVariants.{Default}
-use Rattle.cck_snapshot.proofs.Hits.{hit_any, in_world, key_same}
-use Rattle.cck_snapshot.proofs.Keys.{not_opening, same_why}
+use Rattle.cck_snapshot.proofs.Hits.{hit_any, key_same}
+use Rattle.cck_snapshot.proofs.Keys.{not_opening}
 use Rattle.cck_snapshot.proofs.Pairs.{find_one, find_own}
-use Rattle.cck_snapshot.specs.External.{External, Prints, no_text}
+use Rattle.cck_snapshot.specs.External.{no_text}
 use Rattle.cck_snapshot.specs.Requests.{call_for, world_for}
 use Rattle.cck_snapshot.specs.Snapshot.{IsLookUpError, IsLookedUp, IsMiss, IsStoredKey, one_pair}
 use Rattle.cck_snapshot.specs.declared.requests.Request.{Request}
@@ -94,7 +94,7 @@ module _ (hash : Bytes → Bytes) (files : FileMap) (r : Request) (F : Type 0) (
       λ prints. (
         t,
         hit_any hash (plain_zone r.zone.now) r.config (lists_of r.basedirs.now) no_text prints (call_for Default files r) map_store F (one_pair k bytes) t _
-        (subst (λ v. Looked v t) is step),
+            (subst (λ v. Looked v t) is step),
       )
   looked_up a t step None m =
       λ prints. elim (missed (world_for hash no_text r) (call_for Default files r) F k bytes t a refl m step) [

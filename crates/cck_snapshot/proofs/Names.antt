@@ -1,6 +1,5 @@
 -- Two calls that name the same paths: what the walk over a text says of both.
-use Rattle.std.proofs.Common.{◌≡◌, inl, inr, Bool, List, [], ◌∷◌, true, Ok, refl, sym, ap, ◌∙◌, subst}
-use Rattle.std.specs.Prelude.{Contains}
+use Rattle.std.proofs.Common.{◌≡◌, inl, inr, Bool, List, [], ◌∷◌, Ok, sym, ap, ◌∙◌, subst}
 use Rattle.cck_files.specs.FileMap.{FileNode, file_at}
 use Rattle.cck_include.specs.Gathered.{Digested}
 use Rattle.cck_include.specs.Recorded.{recorded}

@@ -1,5 +1,5 @@
 -- What holds over a snapshot of files holds over all of them.
-use Rattle.std.proofs.Common.{◌≡◌, ◌≢◌, ◌⊎◌, inl, inr, ◌∷◌, [], List, map, Bool, false, true, cond, None, Option, Some, Ok, Err, Result, refl, sym, ap, ◌∙◌, subst}
+use Rattle.std.proofs.Common.{◌≡◌, ◌≢◌, inl, inr, ◌∷◌, [], List, map, Bool, false, true, cond, None, Option, Some, Ok, Err, Result, refl, sym, ap, ◌∙◌, subst}
 use Rattle.std.specs.FinMap.{empty, entries, get}
 use Rattle.std.specs.List.{list_all}
 use Rattle.std.specs.Option.{option_and_then, option_map}

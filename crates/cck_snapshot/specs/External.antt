@@ -1,5 +1,5 @@
 -- compilers that the caller runs
-use Rattle.std.specs.Prelude.{List, Bool, Option, Some, None, string_bytes}
+use Rattle.std.specs.Prelude.{List, Bool, Option, None, string_bytes}
 use Rattle.std.specs.Option.{option_map}
 use Rattle.cck_compiler.specs.Arguments.{Arguments}
 use Rattle.cck_compiler.specs.Compiler.{Compiler, NotCompilation}
@@ -44,14 +44,3 @@ external_compiler prints = record {
 -- nothing is printed
 abbrev pub no_text : Prints
 no_text v executable arguments cwd env_vars files moment = None
-
--- the same compiler, with a text that it prints whatever the call is
-abbrev pub text_compiler : Compiler (External × Bytes)
-text_compiler = record {
-  kind = λ v. v.0.kind;
-  plusplus = λ v. v.0.plusplus;
-  version = λ v. v.0.version;
-  assembler_digest = λ v. v.0.assembler_digest;
-  parsed = λ v words cwd env_vars. NotCompilation;
-  prints = λ v executable arguments cwd env_vars files moment. Some (v.1);
-}

@@ -1,6 +1,5 @@
-pub mod AskedKey
 pub mod External
 pub mod Laws
+pub mod RequestedKey
 pub mod Requests
 pub mod Snapshot
-pub mod TextHasher

@@ -8,8 +8,8 @@ ghost use Rattle.c_cache_keys.specs.declared.call.CacheControl.TheVariants.{Defa
 ghost use Rattle.cck_snapshot.specs.External.{no_text};
 ghost use Rattle.cck_snapshot.specs.Requests.{call_for, world_for};
 
-use crate::asked_key::AskedKey;
 use crate::looking::stored_key;
+use crate::requested_key::RequestedKey;
 use crate::requests::Request;
 use c_cache_keys::{CacheControl, KeyError};
 use cck_digest::HashState;
@@ -45,8 +45,8 @@ pub fn preprocessor_key<H: HashState, F: Files>(
     if !request.hasher.language().needs_c_preprocessing() {
         return Ok(None);
     }
-    let mut asked = AskedKey::new();
-    let found = request.hasher.generate_hash_key::<H, F, AskedKey>(
+    let mut asked = RequestedKey::new();
+    let found = request.hasher.generate_hash_key::<H, F, RequestedKey>(
         alloc,
         snapshot,
         &mut asked,

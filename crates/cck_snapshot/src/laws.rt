@@ -18,7 +18,7 @@ pub fn hit_on_any_store<H: HashState, S: PreprocessorStore>()
         HitOnAnyStore (world_of H.hash (external_compiler prints) zone config basedirs) S.store }
 {}
 
-/// A recording by [`record_text`](crate::record_text), which is one on a store that holds nothing,
+/// A recording, which is one on a store that holds nothing,
 /// is a recording on each store that the entry is put into.
 pub fn recording_on_any_store<H: HashState, S: PreprocessorStore>()
     ensures { (prints : Prints) (zone : TimeZone) (config : PreprocessorCacheModeConfig) (basedirs : List (List ℕ)) →

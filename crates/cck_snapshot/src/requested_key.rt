@@ -8,11 +8,11 @@ use std::marker::Model;
 /// A store that holds nothing and notes under which key it was asked last. Its count of store
 /// failures is always the greatest: each get finds nothing, whatever was put.
 #[derive(Drop)]
-pub(crate) struct AskedKey {
+pub(crate) struct RequestedKey {
     key: Option<String>,
 }
 
-impl Model for AskedKey {
+impl Model for RequestedKey {
     ghost use Rattle.std.specs.Prelude.{List, Option, ℕ, string_bytes};
     ghost use Rattle.std.specs.Option.{option_map};
 
@@ -21,12 +21,12 @@ impl Model for AskedKey {
     ghost view = { λ a. option_map string_bytes a.key };
 }
 
-impl AskedKey {
+impl RequestedKey {
     /// A store that was not asked yet.
-    pub(crate) fn new() -> AskedKey
+    pub(crate) fn new() -> RequestedKey
         ensures { result ≡ None }
     {
-        AskedKey { key: None }
+        RequestedKey { key: None }
     }
 
     /// The key under which it was asked last.
@@ -37,10 +37,10 @@ impl AskedKey {
     }
 }
 
-impl PreprocessorStore for AskedKey {
-    ghost use Rattle.cck_snapshot.specs.AskedKey.{asked_key, asked_key_laws};
+impl PreprocessorStore for RequestedKey {
+    ghost use Rattle.cck_snapshot.specs.RequestedKey.{requested_key, requested_key_laws};
 
-    ghost store = { asked_key };
+    ghost store = { requested_key };
 
     fn get_preprocessor_cache_entry(
         &mut self,
@@ -65,5 +65,5 @@ impl PreprocessorStore for AskedKey {
         Err(StoreError::Fault)
     }
 
-    ghost laws = { asked_key_laws };
+    ghost laws = { requested_key_laws };
 }

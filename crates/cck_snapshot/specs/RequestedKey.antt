@@ -17,14 +17,14 @@ abbrev pub PutsNothing : Option Bytes → Bytes → Bytes → Stored → Option 
 PutsNothing s key bytes stored t = t ≡ s
 
 -- the state is the key that was noted; the count of store failures is always the greatest
-abbrev pub asked_key : Store (Option Bytes)
-asked_key = record { held = λ s key bytes. ⊥; setbacks = λ s. 18446744073709551615; got = IsNoted; put = PutsNothing }
+abbrev pub requested_key : Store (Option Bytes)
+requested_key = record { held = λ s key bytes. ⊥; setbacks = λ s. 18446744073709551615; got = IsNoted; put = PutsNothing }
 
-failed : (s t : Option Bytes) → StoreFailure asked_key s t
+failed : (s t : Option Bytes) → StoreFailure requested_key s t
 failed s t = inr (lit≤ tt)
 
-pub asked_key_laws : StoreLaws asked_key
-asked_key_laws = record {
+pub requested_key_laws : StoreLaws requested_key
+requested_key_laws = record {
   setbacks_fit = λ s. lit< tt;
   got_count = λ s t key answer got. le_refl _;
   got_old = λ s t key answer got k b held. held;
