@@ -9,7 +9,7 @@ use cck_cache_entry::EntryFile;
 use cck_cache_files::{Kind, StoreDirectory};
 use cck_entry::PreprocessorCacheEntry;
 use cck_files::MapFiles;
-use cck_include::{IncludeEntry, KnownFiles, include_matches};
+use cck_include::{IncludeEntry, JudgeContext, KnownFiles, include_matches};
 use cck_util::Sha256State;
 use std::io::Write;
 use std::rt::Files;
@@ -31,16 +31,19 @@ fn print_changed<R: AllocGlobal, W: Write>(
     includes: &[IncludeEntry],
     writer: &mut W,
 ) -> Result<()> {
+    let context = JudgeContext {
+        moment: environment.now,
+        zone: &environment.zone,
+        vars: &environment.variables,
+        config: environment.config(),
+    };
     for include in includes {
         let matches = include_matches::<Sha256State, MapFiles>(
             rt.alloc(),
             files,
             known,
             &include.lend(),
-            environment.now,
-            &environment.zone,
-            &environment.variables,
-            environment.config(),
+            &context,
         )?;
         if !matches {
             print_path(writer, b"changed ", &include.path)?;
