@@ -1,10 +1,12 @@
 #!/bin/sh
 # Times calls of the static library of crates/cck_c from C, beside the same calls from a program in
 # Rattle that times the call alone, and prints a table: the key of 64 MB of system headers, as gcc -E
-# leaves them, a TimeMacroFinder over them in pieces of 131072 bytes, and strip_basedirs with a base
-# directory that occurs and with one that does not. The library writes what remains to the caller's
-# buffer, where strip_basedirs returns it: so the program times it with such a copy too. The two
-# programs run in turn, eleven times each, and the least time of each counts.
+# leaves them, a TimeMacroFinder over them in pieces of 131072 bytes, strip_basedirs with a base
+# directory that occurs and with one that does not, and strip_basedirs_from_arg of 100 arguments with
+# one base directory, 1000 times, and with 1000, 10 times. From C what remains is written to a buffer,
+# where strip_basedirs allocates it. The two programs run in turn, eleven times each, each first in every
+# other round, and the least time of each counts. Then it prints how many instructions the calls that
+# strip take together, by callgrind, on the first 4 MB of the text.
 #
 #     bench/c.sh [FOLDER]
 #
@@ -25,8 +27,13 @@ build_program c 'cck_digest cck_path cck_strip cck_path_map cck_files cck_file_d
 
 : > "$folder/rounds"
 for round in 1 2 3 4 5 6 7 8 9 10 11; do
-    "$program" < "$folder/headers.i" | sed 's/^/rattle /' >> "$folder/rounds"
-    "$folder/calls" < "$folder/headers.i" | sed 's/^/c /' >> "$folder/rounds"
+    for turn in 1 2; do
+        if [ $(((round + turn) % 2)) -eq 0 ]; then
+            "$program" < "$folder/headers.i" | sed 's/^/rattle /' >> "$folder/rounds"
+        else
+            "$folder/calls" < "$folder/headers.i" | sed 's/^/c /' >> "$folder/rounds"
+        fi
+    done
 done
 
 printf '%-20s %14s %14s %6s   (milliseconds, best of 11)\n' call 'from C' 'from Rattle' ratio
@@ -37,15 +44,28 @@ awk '
         result[$2] = $4
         if (!($2 in seen)) { seen[$2] = 1; names[++count] = $2 }
     }
-    function row(name, beside) {
-        printf "%-20s %14.3f %14.3f %6.3f   %s\n", name, least["c", name] / 1e6, least["rattle", beside] / 1e6,
-            least["c", name] / least["rattle", beside], name == beside ? "" : "with a copy into a buffer"
-    }
     END {
-        row("key", "key")
-        row("finder", "finder")
-        row("strip_some", "strip_some")
-        row("strip_some", "copy_some")
-        row("strip_none", "strip_none")
-        row("strip_none", "copy_none")
+        for (i = 1; i <= count; i++) {
+            name = names[i]
+            printf "%-20s %14.3f %14.3f %6.3f\n", name, least["c", name] / 1e6, least["rattle", name] / 1e6,
+                least["c", name] / least["rattle", name]
+        }
     }' "$folder/rounds"
+
+head -c 4194304 "$folder/headers.i" > "$folder/four.i"
+
+# Prints how many instructions all calls of the function $1 take in a run of the program $2.
+instructions_of() {
+    valgrind --tool=callgrind --callgrind-out-file=/dev/null --toggle-collect="$1" "$2" \
+        < "$folder/four.i" 2>&1 > /dev/null | sed -n 's/.*Collected : //p'
+}
+
+# Prints a row for an export and the function of the library.
+print_instructions() {
+    echo "$1 $(instructions_of "$1" "$folder/calls") $(instructions_of "$2" "$program")" |
+        awk '{ printf "%-20s %14.3f %14.3f %6.3f\n", $1, $2 / 1e6, $3 / 1e6, $2 / $3 }'
+}
+
+printf '\n%-20s %14s %14s %6s   (million instructions)\n' calls 'from C' 'from Rattle' ratio
+print_instructions cck_strip_text cck_strip::text::strip_basedirs
+print_instructions cck_strip_argument cck_strip::argument::strip_basedirs_from_arg

@@ -1,8 +1,9 @@
 #!/bin/sh
 # Shows `cck_explain` on real input: three pairs of compilations that share no key, two texts that
-# differ in one byte 5 MiB in, the line markers of a text of gcc, the entry of a run, a pipe, and a
-# full device. explain.py joins each listing's parts again and compares their digest with the printed
-# key, and compares the other listings with the reference. Prints a line for each case.
+# differ in one byte 5 MiB in, keys with base directories, the calls of scripts, the line markers of a
+# text of gcc, the entry of a run, a pipe, and a full device. explain.py joins each listing's parts again
+# and compares their digest with the printed key, and compares the other listings with the reference.
+# Prints a line for each case.
 #
 #     tests/explain.sh [PROGRAM]
 #
@@ -51,6 +52,9 @@ echo 'int x;' | tee one/a.c > two/a.c
 "$program" key abcd c -g < one.i > first.txt
 "$program" key abcd c -g < two.i > second.txt
 compare 2 | sed "s,$folder,/tmp/F,g"
+"$program" key --basedir "$folder/one" abcd c -g < one.i | tail -n 3 | sed "s,$folder,/tmp/F,g"
+"$program" key --basedir "$folder/one" abcd c -g < one.i | tail -n 1 > first.txt
+"$program" key --basedir "$folder/two" abcd c -g < two.i | tail -n 1 | cmp - first.txt
 
 echo '== a header with __DATE__'
 echo 'const char *built = __DATE__;' > stamp.h
@@ -58,6 +62,13 @@ echo '#include "stamp.h"' > stamped.c
 SOURCE_DATE_EPOCH=0 gcc -E stamped.c | "$program" key abcd c > first.txt
 SOURCE_DATE_EPOCH=86400 gcc -E stamped.c | "$program" key abcd c > second.txt
 compare 2
+cat > day.txt <<'S'
+file /w/stamped.c 1 1 #include "stamp.h"\n
+file /w/stamp.h 1 1 const char *built = __DATE__;\n
+compile 1000000000 stamped.c
+compile 86401000000000 stamped.c
+S
+"$program" script < day.txt
 
 echo '== one byte, 5 MiB in'
 python3 - <<'P'
@@ -72,6 +83,12 @@ compare 2
 "$program" key abcd c < first.i > first.txt
 "$program" key abcd c < second.i > second.txt
 diff first.txt second.txt | grep '^[<>]' | head -n 2
+
+echo '== base directories'
+python3 "$top/tests/explain.py" keys "$program"
+
+echo '== scripts'
+python3 "$top/tests/explain.py" scripts "$program"
 
 echo '== line markers'
 gcc -E -g -DLEVEL=1 main.c > main.i

@@ -4,6 +4,7 @@
 #include "cck.h"
 #include <stdio.h>
 #include <stdlib.h>
+#include <string.h>
 #include <time.h>
 
 #define BYTES(text) (const uint8_t *)(text), sizeof(text) - 1
@@ -50,11 +51,54 @@ static void time_finder(const uint8_t *text, size_t length) {
 
 static void time_strip(const char *name, const struct cck_bytes *basedirs, const uint8_t *text,
                        size_t length, uint8_t *buffer) {
-  size_t written;
+  size_t written = length;
   double start = now();
-  if (cck_strip_text(text, length, basedirs, 1, buffer, length, &written) != CCK_DONE)
+  int32_t status = cck_strip_text(text, length, basedirs, 1, buffer, length, &written);
+  double taken = now() - start;
+  if (status != CCK_DONE && status != CCK_UNCHANGED)
     fail();
-  printf("%s %.0f %lu\n", name, now() - start, (unsigned long)written);
+  printf("%s %.0f %lu\n", name, taken, (unsigned long)written);
+}
+
+enum { ARGUMENTS = 100, BASEDIRS = 1000 };
+
+/* The bytes of a text with a number in it, in memory of their length that is never freed. */
+static struct cck_bytes numbered(const char *before, int number, const char *after) {
+  char text[64];
+  struct cck_bytes made;
+  made.bytes_length = (size_t)snprintf(text, sizeof text, "%s%d%s", before, number, after);
+  made.bytes = malloc(made.bytes_length);
+  if (!made.bytes)
+    fail();
+  memcpy((void *)made.bytes, text, made.bytes_length);
+  return made;
+}
+
+/* Strips a hundred arguments, of which every other one has a base directory. */
+static void time_arguments(const char *name, size_t basedirs_length, size_t rounds) {
+  struct cck_bytes arguments[ARGUMENTS], basedirs[BASEDIRS];
+  uint8_t buffer[64];
+  size_t written, kept = 0, round, i;
+  double start;
+  for (i = 0; i < ARGUMENTS; i++)
+    arguments[i] = i % 2 ? numbered("-DLIBRARY=", (int)i, "") : numbered("-I/usr/include/library", (int)i, "");
+  basedirs[0] = numbered("/usr/include/library", 0, "");
+  basedirs[0].bytes_length = strlen("/usr/include/");
+  for (i = 1; i < BASEDIRS; i++)
+    basedirs[i] = numbered("/usr/share/", (int)i, "/");
+  start = now();
+  for (round = 0; round < rounds; round++)
+    for (i = 0; i < ARGUMENTS; i++) {
+      int32_t status = cck_strip_argument(arguments[i].bytes, arguments[i].bytes_length, basedirs,
+                                          basedirs_length, buffer, sizeof buffer, &written);
+      if (status == CCK_DONE)
+        kept += written;
+      else if (status == CCK_UNCHANGED)
+        kept += arguments[i].bytes_length;
+      else
+        fail();
+    }
+  printf("%s %.0f %lu\n", name, now() - start, (unsigned long)kept);
 }
 
 int main(void) {
@@ -70,5 +114,7 @@ int main(void) {
   time_finder(text, length);
   time_strip("strip_some", some, text, length, buffer);
   time_strip("strip_none", none, text, length, buffer);
+  time_arguments("arguments_1", 1, 1000);
+  time_arguments("arguments_1000", BASEDIRS, 10);
   return 0;
 }

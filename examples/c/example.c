@@ -47,7 +47,8 @@ static void print_macros(void) {
 static int print_stripped(void) {
   const struct cck_bytes basedirs[] = {{BYTES("/home/me/")}};
   static const uint8_t argument[] = "-I/home/me/include", text[] = "# 1 \"/home/me/main.c\"";
-  uint8_t buffer[sizeof text];
+  static const uint8_t other[] = "# 1 \"/usr/include/stdio.h\"";
+  uint8_t buffer[sizeof text + sizeof other];
   size_t written;
   int32_t status = cck_strip_argument(argument, sizeof argument - 1, basedirs, COUNT(basedirs),
                                       buffer, sizeof buffer, &written);
@@ -59,16 +60,47 @@ static int print_stripped(void) {
   if (status != CCK_DONE)
     return status;
   printf("text %.*s\n", (int)written, (const char *)buffer);
+  status = cck_strip_text(other, sizeof other - 1, basedirs, COUNT(basedirs), buffer, sizeof buffer,
+                          &written);
+  if (status != CCK_UNCHANGED)
+    return status;
+  printf("text %s, unchanged\n", (const char *)other);
   return 0;
 }
 
-static int print_counts(void) {
-  static const uint8_t entry[] = "\2\1\0\0\0\0\0\0\0\3\0\0\0\0\0\0\0key\0\0\0\0\0\0\0\0";
+/* The result `key` with one included file, /a, of 3 bytes. */
+static const uint8_t entry[] =
+    "\2\1\0\0\0\0\0\0\0\3\0\0\0\0\0\0\0key\1\0\0\0\0\0\0\0"
+    "\2\0\0\0\0\0\0\0/a\1\0\0\0\0\0\0\0d\3\0\0\0\0\0\0\0"
+    "\1\5\0\0\0\0\0\0\0\7\0\0\0\0";
+
+static void print_include(const struct cck_entry_include *include) {
+  printf("include %.*s, digest %.*s, %d bytes", (int)include->path_length, (const char *)include->path,
+         (int)include->digest_length, (const char *)include->digest, (int)include->size);
+  if (include->modified.is_known)
+    printf(", modified at %d.%09d", (int)include->modified.seconds, (int)include->modified.nanoseconds);
+  printf("\n");
+}
+
+static int print_entry(void) {
   struct cck_entry_counts counts;
+  struct cck_entry_result results[1];
+  struct cck_entry_include includes[1];
+  size_t count;
   int32_t status = cck_entry_counts(entry, sizeof entry - 1, &counts);
   if (status != CCK_DONE)
     return status;
   printf("results %d, includes %d\n", (int)counts.results, (int)counts.includes);
+  results[0].key = entry;
+  status = cck_entry_results(entry, sizeof entry - 1, results, COUNT(results), &count);
+  if (status != CCK_DONE)
+    return status;
+  printf("result %.*s\n", (int)results[0].key_length, (const char *)results[0].key);
+  includes[0].path = includes[0].digest = entry;
+  status = cck_entry_includes(entry, sizeof entry - 1, 0, includes, COUNT(includes), &count);
+  if (status != CCK_DONE)
+    return status;
+  print_include(&includes[0]);
   return 0;
 }
 
@@ -88,7 +120,7 @@ int main(void) {
   print_macros();
   print_marks();
   if ((status = print_key()) != 0 || (status = print_stripped()) != 0
-      || (status = print_counts()) != 0) {
+      || (status = print_entry()) != 0) {
     fprintf(stderr, "status %d\n", status);
     return 1;
   }

@@ -1,4 +1,6 @@
-//! Safe calls of some functions of `cck.h`: keys of objects, and time macros.
+//! Safe calls of some functions of `cck.h`: keys of objects, time macros, and base directories.
+
+use std::borrow::Cow;
 
 /// A pointer and a length.
 #[repr(C)]
@@ -31,6 +33,15 @@ unsafe extern "C" {
     fn cck_object_key(params: *const RawParams, key: *mut [u8; 64]) -> i32;
     fn cck_finder_start(finder: *mut Finder);
     fn cck_finder_push(finder: *mut Finder, piece: *const u8, piece_length: usize);
+    fn cck_strip_text(
+        text: *const u8,
+        text_length: usize,
+        basedirs: *const Slice<u8>,
+        basedirs_length: usize,
+        buffer: *mut u8,
+        buffer_length: usize,
+        written: *mut usize,
+    ) -> i32;
 }
 
 /// Why there is no key.
@@ -59,7 +70,6 @@ pub struct KeyParams<'a> {
 impl KeyParams<'_> {
     /// The key, 64 digits.
     pub fn key(&self) -> Result<String, KeyError> {
-        let slices = |all: &[&[u8]]| all.iter().map(|one| Slice::from(*one)).collect::<Vec<_>>();
         let (arguments, basedirs) = (slices(self.arguments), slices(self.basedirs));
         let extra_hashes: Vec<_> = self
             .extra_hashes
@@ -91,6 +101,39 @@ impl KeyParams<'_> {
             // Texts are UTF-8, so the status for another digest is never returned.
             _ => Err(KeyError::Memory),
         }
+    }
+}
+
+fn slices(all: &[&[u8]]) -> Vec<Slice<u8>> {
+    all.iter().map(|one| Slice::from(*one)).collect()
+}
+
+/// The text without these base directories: the text itself if nothing is cut out. `None` if memory is
+/// lacking.
+pub fn strip_text<'a>(text: &'a [u8], basedirs: &[&[u8]]) -> Option<Cow<'a, [u8]>> {
+    let basedirs = slices(basedirs);
+    let mut buffer = vec![0; text.len()];
+    let mut written = 0;
+    // SAFETY: each slice lives until the call returns, and nothing else borrows `buffer`.
+    let status = unsafe {
+        cck_strip_text(
+            text.as_ptr(),
+            text.len(),
+            basedirs.as_ptr(),
+            basedirs.len(),
+            buffer.as_mut_ptr(),
+            buffer.len(),
+            &mut written,
+        )
+    };
+    match status {
+        0 => {
+            buffer.truncate(written);
+            Some(Cow::Owned(buffer))
+        }
+        7 => Some(Cow::Borrowed(text)),
+        // The buffer is as long as the text.
+        _ => None,
     }
 }
 

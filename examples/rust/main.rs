@@ -1,7 +1,8 @@
 //! Prints a key, and the time macros of a stream in two pieces. `build.sh` builds and runs it.
 mod cck;
 
-use cck::{Finder, KeyError, KeyParams};
+use cck::{Finder, KeyError, KeyParams, strip_text};
+use std::borrow::Cow;
 
 fn main() {
     let params = KeyParams {
@@ -29,6 +30,11 @@ fn main() {
         ..one
     };
     println!("two checkouts share a key: {}", one.key() == two.key());
+
+    let text = strip_text(b"# 1 \"/one/a.c\"", checkouts).expect("memory");
+    println!("text {}", String::from_utf8_lossy(&text));
+    let text = strip_text(b"# 1 \"/three/a.c\"", checkouts).expect("memory");
+    println!("unchanged: {}", matches!(text, Cow::Borrowed(_)));
 
     let mut finder = Finder::default();
     finder.push(b"char *t = __TIMEST");

@@ -254,12 +254,13 @@ static int32_t make_strip(const void *given, void *written) {
                       strip->basedirs.length, (uint8_t *)(length + 1), strip->buffer_length, length);
 }
 
-/* With a buffer of the input's length, and again with one that is a byte too short. */
+/* With a buffer of the input's length, and again with one that is a byte shorter. */
 static void call_strip(char **field, int is_argument) {
   struct strip strip;
   struct call call;
-  size_t *written, length, i;
+  size_t *written, i;
   uint8_t *buffer;
+  int32_t status;
   strip.strip = is_argument ? cck_strip_argument : cck_strip_text;
   strip.basedirs = list_of(field[0]);
   strip.text = bytes_of(field[1], strlen(field[1]));
@@ -270,14 +271,16 @@ static void call_strip(char **field, int is_argument) {
   call.make = make_strip;
   call.given = &strip;
   call.written = written;
-  printf("%d ", (int)make(call));
-  length = written[0];
-  print_bytes(buffer, length);
-  for (i = length; i < strip.buffer_length; i++)
-    if (buffer[i] != 0xa5)
-      wrong("the rest of the buffer was written");
-  if (length > 0) {
-    strip.buffer_length = length - 1;
+  status = make(call);
+  printf("%d ", (int)status);
+  if (status == CCK_DONE) {
+    print_bytes(buffer, *written);
+    for (i = *written; i < strip.buffer_length; i++)
+      if (buffer[i] != 0xa5)
+        wrong("the rest of the buffer was written");
+  }
+  if (strip.buffer_length > 0) {
+    strip.buffer_length--;
     if (make(call) != CCK_LENGTH)
       wrong("a buffer that is too short was accepted");
   }
@@ -287,27 +290,137 @@ static void call_strip(char **field, int is_argument) {
   free_list(strip.basedirs);
 }
 
+/* The bytes of an entry, the index of a result, and how much room its array has. */
+struct entry {
+  struct cck_bytes bytes;
+  size_t index;
+  size_t room;
+};
+
 static int32_t make_counts(const void *given, void *written) {
-  const struct cck_bytes *bytes = given;
-  return cck_entry_counts(bytes->bytes, bytes->bytes_length, written);
+  const struct entry *entry = given;
+  return cck_entry_counts(entry->bytes.bytes, entry->bytes.bytes_length, written);
 }
 
-static void call_counts(char **field) {
-  struct cck_bytes bytes = bytes_of(field[0], strlen(field[0]));
-  struct cck_entry_counts *counts = room(sizeof *counts);
+/* The number first, and the array after it. */
+static int32_t make_results(const void *given, void *written) {
+  const struct entry *entry = given;
+  size_t *count = written;
+  return cck_entry_results(entry->bytes.bytes, entry->bytes.bytes_length, (void *)(count + 1),
+                           entry->room, count);
+}
+
+static int32_t make_includes(const void *given, void *written) {
+  const struct entry *entry = given;
+  size_t *count = written;
+  return cck_entry_includes(entry->bytes.bytes, entry->bytes.bytes_length, entry->index,
+                            (void *)(count + 1), entry->room, count);
+}
+
+/* Makes a call that writes that many items of this size, and again with room for one less. */
+static size_t *filled(struct call call, struct entry entry, size_t length, size_t item) {
+  size_t *count;
+  call.given = &entry;
+  call.size = sizeof *count + length * item;
+  call.written = count = room(call.size);
+  if (length > 0) {
+    entry.room = length - 1;
+    if (make(call) != CCK_LENGTH)
+      wrong("an array that is too short was accepted");
+  }
+  entry.room = length;
+  if (make(call) != CCK_DONE || *count != length)
+    wrong("an entry has another number of items than it was said to have");
+  return count;
+}
+
+static void print_text(const char *text) { print_bytes((const uint8_t *)text, strlen(text)); }
+
+static void print_number(uint64_t number, const char *after) {
+  char text[32];
+  snprintf(text, sizeof text, "%llu", (unsigned long long)number);
+  print_text(text);
+  print_text(after);
+}
+
+static void print_time(struct cck_entry_time time) {
+  char text[64];
+  snprintf(text, sizeof text, " %llds+%luns", (long long)time.seconds, (unsigned long)time.nanoseconds);
+  print_text(time.is_known ? text : " -");
+}
+
+static void print_includes(struct entry entry, size_t length) {
   struct call call;
+  size_t *count, i;
+  const struct cck_entry_include *includes;
+  call.make = make_includes;
+  count = filled(call, entry, length, sizeof *includes);
+  includes = (const void *)(count + 1);
+  for (i = 0; i < length; i++) {
+    print_text("\ninclude ");
+    print_bytes(includes[i].path, includes[i].path_length);
+    print_text(" \"");
+    print_bytes(includes[i].digest, includes[i].digest_length);
+    print_text("\" ");
+    print_number(includes[i].size, "");
+    print_time(includes[i].modified);
+    print_time(includes[i].changed);
+  }
+  free(count);
+}
+
+/* A line for each result and each include. */
+static void print_results(struct entry entry, struct cck_entry_counts counts) {
+  struct call call;
+  size_t *count, i, includes = 0;
+  const struct cck_entry_result *results;
+  call.make = make_results;
+  count = filled(call, entry, counts.results, sizeof *results);
+  results = (const void *)(count + 1);
+  for (i = 0; i < counts.results; i++) {
+    print_text("\nresult ");
+    print_bytes(results[i].key, results[i].key_length);
+    entry.index = i;
+    print_includes(entry, results[i].includes);
+    includes += results[i].includes;
+  }
+  if (includes != counts.includes)
+    wrong("the includes of all results are not as many as an entry has");
+  free(count);
+}
+
+/* The other two calls return the status of the first, or the index is past the last result. */
+static void call_entry(char **field) {
+  struct entry entry;
+  struct cck_entry_counts counts;
+  struct call call;
+  size_t nothing_written;
   int32_t status;
+  entry.bytes = bytes_of(field[0], strlen(field[0]));
+  entry.room = 0;
+  entry.index = 0;
   call.make = make_counts;
-  call.given = &bytes;
-  call.written = counts;
-  call.size = sizeof *counts;
+  call.given = &entry;
+  call.written = &counts;
+  call.size = sizeof counts;
   status = make(call);
-  printf("%d", (int)status);
-  if (status == CCK_DONE)
-    printf(" %lu %lu", (unsigned long)counts->results, (unsigned long)counts->includes);
+  printf("%d ", (int)status);
+  if (status == CCK_DONE) {
+    print_number(counts.results, " results, ");
+    print_number(counts.includes, " includes");
+    print_results(entry, counts);
+    entry.index = counts.results;
+  }
+  call.written = &nothing_written;
+  call.size = sizeof nothing_written;
+  call.make = make_includes;
+  if (make(call) != (status == CCK_DONE ? CCK_INDEX : status))
+    wrong("the includes of an entry have another status");
+  call.make = make_results;
+  if (status != CCK_DONE && make(call) != status)
+    wrong("the results of an entry have another status");
   putchar('\n');
-  free(counts);
-  free_bytes(bytes);
+  free_bytes(entry.bytes);
 }
 
 static void call_find(char **field) {
@@ -372,8 +485,8 @@ static void do_line(char *line) {
     call_strip(field + 1, 0);
   else if (strcmp(field[0], "strip_argument") == 0 && fields == 3)
     call_strip(field + 1, 1);
-  else if (strcmp(field[0], "counts") == 0 && fields == 2)
-    call_counts(field + 1);
+  else if (strcmp(field[0], "entry") == 0 && fields == 2)
+    call_entry(field + 1);
   else if (strcmp(field[0], "find") == 0 && fields == 2)
     call_find(field + 1);
   else if (strcmp(field[0], "marks") == 0 && fields == 2)

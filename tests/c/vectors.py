@@ -16,7 +16,7 @@ from reference.subjects import files, values, walks  # noqa: E402
 
 CRATES = TESTS.parent / "crates"
 
-DONE, LANGUAGE, FORMAT, ENTRY = 0, 3, 5, 6
+DONE, LANGUAGE, FORMAT, ENTRY, UNCHANGED = 0, 3, 5, 6, 7
 
 # The 64 bytes of a key that is not written, as the program fills them.
 UNWRITTEN = b"\xa5" * 64
@@ -54,8 +54,11 @@ def of_strip(call):
     """`strip TEXT` and `strip_argument TEXT`."""
 
     def lines(subject, text, expected):
-        kept = text if expected == b"kept" else expected.removeprefix(b"cut ")
-        yield f"{call}\t{items(subject.given.basedirs)}\t{text.hex()}", f"{DONE} {kept.hex()}"
+        if expected == b"kept":
+            wanted = f"{UNCHANGED}"
+        else:
+            wanted = f"{DONE} {expected.removeprefix(b'cut ').hex()}"
+        yield f"{call}\t{items(subject.given.basedirs)}\t{text.hex()}", wanted
 
     return lines
 
@@ -83,22 +86,21 @@ def of_cuts(subject, text, expected):
 
 
 def of_entry(subject, data, expected):
-    """`read_entry BYTES`: the counts of its first line."""
+    """`read_entry BYTES`: its counts, and a line for each result and each include."""
     if expected.startswith(b"error UnknownFormat"):
         wanted = f"{FORMAT}"
     elif expected == b"error Deserialization":
         wanted = f"{ENTRY}"
     else:
-        results, _, includes = expected.split(b"\n")[0].partition(b" results, ")
-        wanted = f"{DONE} {int(results)} {int(includes.removesuffix(b' includes'))}"
-    yield f"counts\t{data.hex()}", wanted
+        wanted = f"{DONE} {expected.hex()}"
+    yield f"entry\t{data.hex()}", wanted
 
 
 def of_prefixes(subject, data, expected):
     """`read_each_prefix BYTES`: each beginning that isn't empty."""
     if expected == b"each is damaged":
         for end in range(1, len(data)):
-            yield f"counts\t{data[:end].hex()}", f"{ENTRY}"
+            yield f"entry\t{data[:end].hex()}", f"{ENTRY}"
 
 
 def marks_field(expected):

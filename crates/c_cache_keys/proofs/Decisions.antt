@@ -18,7 +18,7 @@ use Rattle.c_cache_keys.proofs.NameTests.{passed_for, taken_for}
 use Rattle.c_cache_keys.proofs.PathEntries.{path_itself}
 use Rattle.c_cache_keys.proofs.Judgements.{IsRegular, folder_or_file, judgement_bad, judgement_folder, judgement_regular}
 use Rattle.c_cache_keys.specs.Call.{Call}
-use Rattle.c_cache_keys.specs.Walk.{MarksDecide, IsGood, IsLooked, Verdict, input_path, path_of}
+use Rattle.c_cache_keys.specs.Walk.{MarksDecide, IsGood, IsLooked, Verdict, input_path, meant_path}
 use Rattle.c_cache_keys.specs.Walked.{verdict_of, walk_context}
 use Rattle.c_cache_keys.specs.World.{World, setting}
 
@@ -34,30 +34,30 @@ module _ {V : Type 0} (w : World V) (c : Call V) where
   -- the outcome of a name, and why
   pub data Does (held : Digests) (name : Bytes) (system : Bool) (o : Outcome) : Type 0 where
     unlooked : (IsLooked w c name system → ⊥) → o ≡ Passes → Does held name system o
-    known : (digest : Bytes) → get held (path_of c name) ≡ Some digest → o ≡ Passes → Does held name system o
-    of_folder : folder_at c.files (path_of c name) ≡ Ok tt → o ≡ Passes → Does held name system o
-    records : (digest : Bytes) → IsLooked w c name system → get held (path_of c name) ≡ None → IsRegular w c (path_of c name) digest → o ≡ Records (path_of c name) digest
+    known : (digest : Bytes) → get held (meant_path c name) ≡ Some digest → o ≡ Passes → Does held name system o
+    of_folder : folder_at c.files (meant_path c name) ≡ Ok tt → o ≡ Passes → Does held name system o
+    records : (digest : Bytes) → IsLooked w c name system → get held (meant_path c name) ≡ None → IsRegular w c (meant_path c name) digest → o ≡ Records (meant_path c name) digest
         → Does held name system o
-    refuses : IsLooked w c name system → (IsGood w c (path_of c name) → ⊥) → o ≡ Refuses → Does held name system o
+    refuses : IsLooked w c name system → (IsGood w c (meant_path c name) → ⊥) → o ≡ Refuses → Does held name system o
 
   module _ (held : Digests) (name : Bytes) (system : Bool) where
-    by_judgement : IsLooked w c name system → get held (path_of c name) ≡ None → (s : Judgement) → judgement_at (setting w c) c.files (path_of c name) ≡ s
-        → (o : Outcome) → o ≡ judgement_outcome (path_of c name) s → Does held name system o
-    by_judgement looked none Folder stands o is = of_folder (judgement_folder w c (path_of c name) stands) is
-    by_judgement looked none (Regular digest) stands o is = records digest looked none (judgement_regular w c (path_of c name) digest stands) is
-    by_judgement looked none Bad stands o is = refuses looked (judgement_bad w c (path_of c name) stands) is
+    by_judgement : IsLooked w c name system → get held (meant_path c name) ≡ None → (s : Judgement) → judgement_at (setting w c) c.files (meant_path c name) ≡ s
+        → (o : Outcome) → o ≡ judgement_outcome (meant_path c name) s → Does held name system o
+    by_judgement looked none Folder present o is = of_folder (judgement_folder w c (meant_path c name) present) is
+    by_judgement looked none (Regular digest) present o is = records digest looked none (judgement_regular w c (meant_path c name) digest present) is
+    by_judgement looked none Bad present o is = refuses looked (judgement_bad w c (meant_path c name) present) is
 
-    by_path : (b : Bool) → is_known (walk_context w c) held (path_of c name) ≡ b → is_passed w.config.skip_system_headers name system ≡ false
-        → (o : Outcome) → o ≡ (if b then Passes else judgement_outcome (path_of c name) (judgement_at (setting w c) c.files (path_of c name))) → Does held name system o
+    by_path : (b : Bool) → is_known (walk_context w c) held (meant_path c name) ≡ b → is_passed w.config.skip_system_headers name system ≡ false
+        → (o : Outcome) → o ≡ (if b then Passes else judgement_outcome (meant_path c name) (judgement_at (setting w c) c.files (meant_path c name))) → Does held name system o
     unfolding is_known
     by_path true is passed o does =
-        let p = path_of c name in
+        let p = meant_path c name in
         elim (or_cases (is_some (get held p)) (eq_by_cmp path_cmp p (components (input_path c))) is) [
           | inl has ↦ (let (digest, at) = is_there (get held p) has in known digest at does)
           | inr input ↦ unlooked (λ looked. looked.other (tied p (components (input_path c)) input)) does
         ]
     by_path false is passed o does =
-        let p = path_of c name in
+        let p = meant_path c name in
         let parts = or_parts (is_some (get held p)) (eq_by_cmp path_cmp p (components (input_path c))) is in
         let (some, angled, wanted) = taken_for w.config.skip_system_headers name system passed in
         by_judgement
@@ -70,9 +70,9 @@ module _ {V : Type 0} (w : World V) (c : Call V) where
         (is_missing (get held p) parts.0) (judgement_at (setting w c) c.files p) refl o does
 
     by_test : (b : Bool) → is_passed w.config.skip_system_headers name system ≡ b
-        → (o : Outcome) → o ≡ (if b then Passes else path_outcome (walk_context w c) held (path_of c name)) → Does held name system o
+        → (o : Outcome) → o ≡ (if b then Passes else path_outcome (walk_context w c) held (meant_path c name)) → Does held name system o
     by_test true is o does = unlooked (λ looked. passed_for w.config.skip_system_headers name system is looked.some looked.not_angled looked.wanted) does
-    by_test false is o does = by_path (is_known (walk_context w c) held (path_of c name)) refl is o does
+    by_test false is o does = by_path (is_known (walk_context w c) held (meant_path c name)) refl is o does
 
     pub happens : Does held name system (outcome (walk_context w c) held name system)
     unfolding outcome
@@ -115,19 +115,19 @@ module _ {V : Type 0} (w : World V) (c : Call V) where
     name_decides : (o : Outcome) → Does held name system o → After o
     unfolding decided
     name_decides o (unlooked not is) = subst After (sym is) (inl (λ looked. absurd (not looked), others held regular))
-    name_decides o (known digest at is) = subst After (sym is) (inl (λ looked. good (path_of c name) digest (regular (path_of c name) digest at), others held regular))
+    name_decides o (known digest at is) = subst After (sym is) (inl (λ looked. good (meant_path c name) digest (regular (meant_path c name) digest at), others held regular))
     name_decides o (of_folder at is) = subst After (sym is) (inl (λ looked. inl at, others held regular))
     name_decides o (records digest looked none one is) =
-        subst After (sym is) (inl (λ looked. good (path_of c name) digest one, others (insert held (path_of c name) digest) (more_regular held (path_of c name) digest regular one)))
+        subst After (sym is) (inl (λ looked. good (meant_path c name) digest one, others (insert held (meant_path c name) digest) (more_regular held (meant_path c name) digest regular one)))
     name_decides o (refuses looked bad is) = subst After (sym is) (inr (looked, bad, refl))
 
   -- marks decide the verdict of their outcomes
-  pub told : (marks : List Mark) (held : Digests) → AreRegular held → MarksDecide w c marks (verdict_of (decided (walk_context w c) (Some held) marks))
+  pub claim : (marks : List Mark) (held : Digests) → AreRegular held → MarksDecide w c marks (verdict_of (decided (walk_context w c) (Some held) marks))
   unfolding decided
-  told [] held regular = refl
-  told (Refusal ∷ marks) held regular = refl
-  told (Malformed ∷ marks) held regular = refl
-  told (Name name system ∷ marks) held regular = name_decides held regular name system marks (told marks) (outcome (walk_context w c) held name system) (happens held name system)
+  claim [] held regular = refl
+  claim (Refusal ∷ marks) held regular = refl
+  claim (Malformed ∷ marks) held regular = refl
+  claim (Name name system ∷ marks) held regular = name_decides held regular name system marks (claim marks) (outcome (walk_context w c) held name system) (happens held name system)
 
   -- marks decide one verdict
   pub one_decision : (marks : List Mark) (u v : Verdict) → MarksDecide w c marks u → MarksDecide w c marks v → u ≡ v
@@ -141,7 +141,7 @@ module _ {V : Type 0} (w : World V) (c : Call V) where
 
   -- these marks have a name that is looked at and means this path
   abbrev pub IsMeant : List Mark → Path → Type 0
-  IsMeant marks p = (name : Bytes) × (system : Bool) × Contains marks (Name name system) × IsLooked w c name system × (p ≡ path_of c name)
+  IsMeant marks p = (name : Bytes) × (system : Bool) × Contains marks (Name name system) × IsLooked w c name system × (p ≡ meant_path c name)
 
   -- The digests at the end are those from before and those of the regular files that are meant.
   pub record AreGathered (marks : List Mark) (held digests : Digests) : Type 0 where
@@ -166,15 +166,15 @@ module _ {V : Type 0} (w : World V) (c : Call V) where
 
   module _ (held digests : Digests) (name : Bytes) (system : Bool) (marks : List Mark) where
     -- a path that is meant is meant by the first name or by a later one
-    meant_by : (p : Path) → IsMeant (Name name system ∷ marks) p → (IsLooked w c name system × (p ≡ path_of c name)) ⊎ IsMeant marks p
+    meant_by : (p : Path) → IsMeant (Name name system ∷ marks) p → (IsLooked w c name system × (p ≡ meant_path c name)) ⊎ IsMeant marks p
     meant_by p (other, more, at, looked, is) =
         elim (one_of (Name name system) (Name other more) marks at) [
-          | inl e ↦ (let (same, also) = same_name name other system more e in inl (subst (λ n. IsLooked w c n system) (sym same) (subst (IsLooked w c other) (sym also) looked), is ∙ ap (path_of c) (sym same)))
+          | inl e ↦ (let (same, also) = same_name name other system more e in inl (subst (λ n. IsLooked w c n system) (sym same) (subst (IsLooked w c other) (sym also) looked), is ∙ ap (meant_path c) (sym same)))
           | inr later ↦ inr (other, more, later, looked, is)
         ]
 
     -- the name adds nothing
-    passes : ((n : FileNode) → IsLooked w c name system → file_at c.files (path_of c name) ≡ Ok n → (digest : Bytes) × (get held (path_of c name) ≡ Some digest))
+    passes : ((n : FileNode) → IsLooked w c name system → file_at c.files (meant_path c name) ≡ Ok n → (digest : Bytes) × (get held (meant_path c name) ≡ Some digest))
         → AreGathered marks held digests → AreGathered (Name name system ∷ marks) held digests
     passes has rest = record {
       kept = rest.kept;
@@ -191,10 +191,10 @@ module _ {V : Type 0} (w : World V) (c : Call V) where
     }
 
     -- the name adds the digest of its file
-    adds : (digest : Bytes) → IsLooked w c name system → get held (path_of c name) ≡ None → IsRegular w c (path_of c name) digest
-        → AreGathered marks (insert held (path_of c name) digest) digests → AreGathered (Name name system ∷ marks) held digests
+    adds : (digest : Bytes) → IsLooked w c name system → get held (meant_path c name) ≡ None → IsRegular w c (meant_path c name) digest
+        → AreGathered marks (insert held (meant_path c name) digest) digests → AreGathered (Name name system ∷ marks) held digests
     adds own looked none one rest =
-        let at = path_of c name in
+        let at = meant_path c name in
         record {
           kept = λ p digest h. rest.kept p digest (kept_beside p digest h (eq_by_cmp path_cmp p at) refl);
           from = λ p digest h. elim (rest.from p digest h) [
@@ -210,9 +210,9 @@ module _ {V : Type 0} (w : World V) (c : Call V) where
           ];
         }
       where
-        kept_beside : (p : Path) (digest : Bytes) → get held p ≡ Some digest → (b : Bool) → eq_by_cmp path_cmp p (path_of c name) ≡ b → get (insert held (path_of c name) own) p ≡ Some digest
-        kept_beside p digest h true is = absurd (none-some _ (sym none ∙ ap (get held) (sym (tied p (path_of c name) is)) ∙ h))
-        kept_beside p digest h false is = get-insert path_cmp_total held (path_of c name) own p ∙ ap (λ b. cond b (Some own) (get held p)) is ∙ h
+        kept_beside : (p : Path) (digest : Bytes) → get held p ≡ Some digest → (b : Bool) → eq_by_cmp path_cmp p (meant_path c name) ≡ b → get (insert held (meant_path c name) own) p ≡ Some digest
+        kept_beside p digest h true is = absurd (none-some _ (sym none ∙ ap (get held) (sym (tied p (meant_path c name) is)) ∙ h))
+        kept_beside p digest h false is = get-insert path_cmp_total held (meant_path c name) own p ∙ ap (λ b. cond b (Some own) (get held p)) is ∙ h
 
     name_gathers : ((more : Digests) → decided (walk_context w c) (Some more) marks ≡ Accepts digests → AreGathered marks more digests)
         → (o : Outcome) → Does held name system o → decided (walk_context w c) (after held o) marks ≡ Accepts digests → AreGathered (Name name system ∷ marks) held digests
@@ -222,9 +222,9 @@ module _ {V : Type 0} (w : World V) (c : Call V) where
     name_gathers others o (known digest at is) h =
         passes (λ n looked file. (digest, at)) (others held (ap (λ e. decided (walk_context w c) (after held e) marks) (sym is) ∙ h))
     name_gathers others o (of_folder at is) h =
-        passes (λ n looked file. absurd (folder_or_file w c (path_of c name) n at file)) (others held (ap (λ e. decided (walk_context w c) (after held e) marks) (sym is) ∙ h))
+        passes (λ n looked file. absurd (folder_or_file w c (meant_path c name) n at file)) (others held (ap (λ e. decided (walk_context w c) (after held e) marks) (sym is) ∙ h))
     name_gathers others o (records digest looked none one is) h =
-        adds digest looked none one (others (insert held (path_of c name) digest) (ap (λ e. decided (walk_context w c) (after held e) marks) (sym is) ∙ h))
+        adds digest looked none one (others (insert held (meant_path c name) digest) (ap (λ e. decided (walk_context w c) (after held e) marks) (sym is) ∙ h))
     name_gathers others o (refuses looked bad is) h = absurd (not_failed digests (ap (λ e. decided (walk_context w c) (after held e) marks) (sym is) ∙ h))
 
   pub gathers : (marks : List Mark) (held digests : Digests) → decided (walk_context w c) (Some held) marks ≡ Accepts digests → AreGathered marks held digests

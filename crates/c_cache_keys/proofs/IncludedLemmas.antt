@@ -5,7 +5,7 @@ use Rattle.std.specs.Global.{Vec}
 use Rattle.std.specs.Prelude.{string_bytes}
 use Rattle.std.specs.declared.alloc.Global.{Global}
 use Rattle.cck_include.specs.Gathered.{Digested, digested_in}
-use Rattle.c_cache_keys.specs.Walked.{digested_of}
+use Rattle.c_cache_keys.specs.Included.{digested_of}
 
 module _ (taken : List (String Global × Vec ℕ)) (all : List Digested) where
   pub taken_more : (path : Vec ℕ) (digest : String Global) (left rest : List (Vec ℕ × String Global)) → left ≡ (path, digest) ∷ rest

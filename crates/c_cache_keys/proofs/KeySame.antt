@@ -21,7 +21,7 @@ use Rattle.cck_util.specs.Key.{KeyParts, material, object_key}
 use Rattle.cck_util.specs.Language.{is_preprocessed_first}
 use Rattle.cck_util.specs.Variables.{include_path_names, object_variable_names, object_variables, request_variables}
 use Rattle.c_cache_keys.specs.Call.{Call, Request}
-use Rattle.c_cache_keys.specs.Keys.{extra_texts, input_file, input_recorded, is_preprocessed, key_material, of_both, params, plain_key, preprocessor_key_of, printed, request_parts, text_of, told, uses_cache}
+use Rattle.c_cache_keys.specs.Keys.{extra_texts, input_file, input_recorded, is_preprocessed, key_material, of_both, params, plain_key, preprocessor_key_of, printed, request_parts, text_of, ok_value, uses_cache}
 use Rattle.c_cache_keys.specs.Premises.{Agree}
 use Rattle.c_cache_keys.specs.Walk.{input_path}
 use Rattle.c_cache_keys.specs.World.{World, setting}
@@ -34,7 +34,7 @@ both_some : {A B C : Type 0} (f : A → B → C) (o : Option A) (p : Option B) (
 both_some f None p c e = absurd (none-some _ e)
 both_some f (Some a) p c e = let (b, is, same) = mapped_some (f a) p c e in (a, b, refl, is, same)
 
-ok_of_some : {X : Type 0} (r : Result X FileError) (x : X) → told r ≡ Some x → r ≡ Ok x
+ok_of_some : {X : Type 0} (r : Result X FileError) (x : X) → ok_value r ≡ Some x → r ≡ Ok x
 ok_of_some (Ok y) x e = ap (λ v. Ok v) (same_Some y x e)
 ok_of_some (Err v) x e = absurd (none-some _ e)
 

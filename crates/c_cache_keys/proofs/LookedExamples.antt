@@ -8,7 +8,7 @@ use Rattle.cck_markers.specs.Marks.{Mark, Marks}
 use Rattle.cck_path.specs.Bytes.{Bytes}
 use Rattle.cck_path.specs.Path.{Path, components, path_cmp}
 use Rattle.cck_walk.proofs.WalkLemmas.{none_asked}
-use Rattle.cck_walk.specs.Decided.{Asked, AsksForNone, Context, LooksForNone, decided, is_angled, is_known, is_looked_for, is_passed, path_named}
+use Rattle.cck_walk.specs.Decided.{IsAskedFor, AsksForNone, Context, LooksForNone, decided, is_angled, is_known, is_looked_for, is_passed, path_named}
 use Rattle.c_cache_keys.proofs.MarkExamples.{inclusion_marks, missing_header_marks, short_text_marks, system_header_marks}
 
 module _ (c : Context) where
@@ -29,7 +29,7 @@ module _ (c : Context) where
   system_header skips = by_marks _ _ system_header_marks (rw skips refl, tt)
 
   -- and no path is looked for after it
-  nothing_asked : (p : Path) → Asked c (codes "x .incbin \"f\"") p → ⊥
+  nothing_asked : (p : Path) → IsAskedFor c (codes "x .incbin \"f\"") p → ⊥
   nothing_asked = none_asked c _ inclusion
 
   module _ (skips : c.setting.config.skip_system_headers ≡ false) (cwd : c.cwd ≡ components (codes "/w")) (input : c.input ≡ components (codes "/w/a.c")) where
@@ -41,7 +41,7 @@ module _ (c : Context) where
     header : LooksForNone c (codes "# 1 \"missing.h\"") → ⊥
     header none = false≢true (sym (none _ missing_header_marks).0 ∙ header_is_looked_for)
 
-    header_asked : Asked c (codes "# 1 \"missing.h\"") (path_named c (codes "missing.h"))
+    header_asked : IsAskedFor c (codes "# 1 \"missing.h\"") (path_named c (codes "missing.h"))
     unfolding decided
     header_asked = record {
       before = [];

@@ -1,7 +1,7 @@
 -- Computing a key.
-use Rattle.std.proofs.Common.{◌≡◌, ◌≢◌, ℕ, suc, ◌⊎◌, inl, inr, Bool, true, false, cond, List, [], ◌∷◌, map, Option, Some, None, Result, Ok, Err, String, refl, sym, ap, ◌∙◌, subst}
+use Rattle.std.proofs.Common.{◌≡◌, ◌≢◌, ℕ, suc, ◌⊎◌, inl, inr, Bool, true, false, cond, List, [], ◌∷◌, map, Option, Some, None, Ok, Err, String, refl, sym, ap, ◌∙◌, subst}
 use Rattle.std.proofs.lemmas.Bool.{eqb-true}
-use Rattle.std.specs.Prelude.{◌==◌, length, Contains, IfOk, IsOkUnless, string_bytes}
+use Rattle.std.specs.Prelude.{◌==◌, length, Contains, string_bytes}
 use Rattle.std.specs.FinMap.{get}
 use Rattle.std.specs.Global.{Vec}
 use Rattle.std.specs.Option.{option_map}
@@ -32,15 +32,18 @@ use Rattle.c_cache_keys.proofs.Elements.{first_in, later_in, none_in}
 use Rattle.c_cache_keys.proofs.HitPlain.{components-named}
 use Rattle.c_cache_keys.proofs.Includes.{include_here}
 use Rattle.c_cache_keys.proofs.Opened.{some_none}
-use Rattle.c_cache_keys.specs.Call.{Call, Refused, Memory}
-use Rattle.c_cache_keys.specs.Hasher.{IsPrintedFor, IsPut, made_of}
-use Rattle.c_cache_keys.specs.Keys.{extra_texts, input_file, is_preprocessed, key_material, params, plain_key, preprocessor_key_of, printed, text_of, told, uses_cache}
+use Rattle.c_cache_keys.specs.Call.{Call, Memory}
+use Rattle.c_cache_keys.specs.Included.{digested_of}
+use Rattle.c_cache_keys.specs.Keys.{extra_texts, input_file, is_preprocessed, key_material, params, plain_key, preprocessor_key_of, printed, text_of, ok_value, uses_cache}
+use Rattle.c_cache_keys.specs.Making.{IsPreprocessed, made_of}
 use Rattle.c_cache_keys.specs.Refusals.{input_error, text_error}
 use Rattle.c_cache_keys.specs.Seen.{why_of}
 use Rattle.c_cache_keys.specs.Step.{AreOwnIncludes, Makes, NotErring, NothingNew, StopsMaking, gives, stops}
+use Rattle.c_cache_keys.specs.Storing.{IsPut}
 use Rattle.c_cache_keys.specs.Walk.{Accepted, AreRecorded, MarksDecide, Errs, IsNamed, IsRecorded, NotAccepted, Verdict, Walk, input_path}
-use Rattle.c_cache_keys.specs.Walked.{IsWalked, digested_of}
+use Rattle.c_cache_keys.specs.Walked.{IsWalked}
 use Rattle.c_cache_keys.specs.World.{World}
+use Rattle.c_cache_keys.specs.declared.hasher.making.PreprocessedInput.{PreprocessedInput}
 
 -- ---- what is recorded
 
@@ -118,13 +121,9 @@ module _ {V S : Type 0} (w : World V) (st : Store S) (c : Call V) (F : Type 0) w
   unfolding preprocessor_key_of key_material uses_cache
   no_key needs = rw needs refl
 
-  -- memory ran out
-  pub stop_memory : (s : S) (e : KeyError) → e ≡ key.Memory → Makes w st c F s (made_of (Err e)) s
-  stop_memory s e is = stops Memory tt (ap (λ e. Refused (why_of e)) is) refl
-
-  -- it ran out while an entry was made
-  pub stop_put : (s t : S) (e : KeyError) → e ≡ key.Memory → t ≡ s → Makes w st c F s (made_of (Err e)) t
-  stop_put s t e is same = stops Memory tt (ap (λ e. Refused (why_of e)) is) same
+  -- memory ran out, and nothing was put
+  pub stop_memory : (s t : S) → t ≡ s → Makes w st c F s (made_of (Err key.Memory)) t
+  stop_memory s t same = stops Memory tt refl same
 
   nothing_new : preprocessor_key_of w c ≡ None → NothingNew w c
   nothing_new none k includes some keeps = some_none some none
@@ -132,22 +131,21 @@ module _ {V S : Type 0} (w : World V) (st : Store S) (c : Call V) (F : Type 0) w
   quiet_without : preprocessor_key_of w c ≡ None → NotErring w c F
   quiet_without none text some prints errs = absurd (some none)
 
-  -- the key of a text of which nothing is stored: it is returned, or memory ran out
-  finished : (s : S) (r : Result (String Global) KeyError) (bytes : Bytes) → plain_key w c ≡ Some bytes → NotErring w c F → F ⊎ NothingNew w c
-      → IfOk r (λ k. string_bytes k ≡ bytes) → IsOkUnless r key.Memory → Makes w st c F s (made_of r) s
-  finished s (Ok k) bytes plain quiet new is unless = gives (string_bytes k) (plain ∙ ap Some (sym is)) quiet refl (inr (refl, new))
-  finished s (Err e) bytes plain quiet new is unless = stop_memory s e unless
+  -- the key of a text of which nothing is stored
+  finished : (s : S) (answer : String Global) (bytes : Bytes) → plain_key w c ≡ Some bytes → NotErring w c F → F ⊎ NothingNew w c
+      → string_bytes answer ≡ bytes → Makes w st c F s (made_of (Ok answer)) s
+  finished s answer bytes plain quiet new is = gives (string_bytes answer) (plain ∙ ap Some (sym is)) quiet refl (inr (refl, new))
 
   -- the input is read where no preprocessor is needed
-  pub from_input : (s : S) (r : Result (String Global) KeyError) (xs : List Bytes) (contents : Bytes) → is_preprocessed c.request ≡ false → extra_texts w c ≡ Some xs
-      → contents_at c.files (components (input_path c)) ≡ Ok contents → IfOk r (λ k. string_bytes k ≡ object_key w.hash (params w c.request xs contents))
-      → IsOkUnless r key.Memory → Makes w st c F s (made_of r) s
+  pub from_input : (s : S) (answer : String Global) (xs : List Bytes) (contents : Bytes) → is_preprocessed c.request ≡ false → extra_texts w c ≡ Some xs
+      → contents_at c.files (components (input_path c)) ≡ Ok contents → string_bytes answer ≡ object_key w.hash (params w c.request xs contents)
+      → Makes w st c F s (made_of (Ok answer)) s
   unfolding contents_at input_file file_at
-  from_input s r xs contents needs extra reads is unless =
+  from_input s answer xs contents needs extra reads is =
       let (n, file, same) = found_with_contents (get c.files.nodes (components (input_path c))) contents reads in
       let none = no_key needs in
-      finished s r (object_key w.hash (params w c.request xs contents)) (is_plain xs contents extra (no_preprocessor contents n needs (ap told file) same))
-      (quiet_without none) (inr (nothing_new none)) is unless
+      finished s answer (object_key w.hash (params w c.request xs contents)) (is_plain xs contents extra (no_preprocessor contents n needs (ap ok_value file) same))
+      (quiet_without none) (inr (nothing_new none)) is
 
   pub stop_input : (s : S) (e : FileError) → is_preprocessed c.request ≡ false → IsErrorOrMemory (contents_at c.files (components (input_path c))) F e
       → Makes w st c F s (made_of (Err (input_error e))) s
@@ -155,7 +153,7 @@ module _ {V S : Type 0} (w : World V) (st : Store S) (c : Call V) (F : Type 0) w
   stop_input s e needs h = stops (why_of (input_error e)) (why e h) refl refl
     where
       no_file : (e : FileError) → contents_at c.files (components (input_path c)) ≡ Err e → input_file w c ≡ None
-      no_file e is = ap told (found_without_contents (get c.files.nodes (components (input_path c))) e is)
+      no_file e is = ap ok_value (found_without_contents (get c.files.nodes (components (input_path c))) e is)
 
       why : (e : FileError) → IsErrorOrMemory (contents_at c.files (components (input_path c))) F e → StopsMaking w c F (why_of (input_error e))
       why file.NotFound h = (needs, no_file file.NotFound h)
@@ -167,31 +165,34 @@ module _ {V S : Type 0} (w : World V) (st : Store S) (c : Call V) (F : Type 0) w
       → Makes w st c F s (made_of (Err (text_error e))) s
   stop_text s text.Fault prints needs same h = stops _ (needs, h) refl refl
   stop_text s text.Failed prints needs same h = stops _ (needs, sym same ∙ h) refl refl
-  stop_text s text.Memory prints needs same h = stop_memory s key.Memory refl
+  stop_text s text.Memory prints needs same h = stop_memory s s refl
 
   -- a text is printed, and there is no preprocessor key
-  pub without_key : (s : S) (r : Result (String Global) KeyError) (xs : List Bytes) (text : Bytes) → is_preprocessed c.request ≡ true → extra_texts w c ≡ Some xs → printed w c ≡ Some text
-      → preprocessor_key_of w c ≡ None → IfOk r (λ k. string_bytes k ≡ object_key w.hash (params w c.request xs text)) → IsOkUnless r key.Memory → Makes w st c F s (made_of r) s
-  without_key s r xs text needs extra prints none is unless =
-      finished s r (object_key w.hash (params w c.request xs text)) (is_plain xs text extra (prints_text text needs prints)) (quiet_without none) (inr (nothing_new none)) is unless
+  pub without_key : (s : S) (answer : String Global) (xs : List Bytes) (text : Bytes) → is_preprocessed c.request ≡ true → extra_texts w c ≡ Some xs → printed w c ≡ Some text
+      → preprocessor_key_of w c ≡ None → string_bytes answer ≡ object_key w.hash (params w c.request xs text) → Makes w st c F s (made_of (Ok answer)) s
+  without_key s answer xs text needs extra prints none is =
+      finished s answer (object_key w.hash (params w c.request xs text)) (is_plain xs text extra (prints_text text needs prints)) (quiet_without none) (inr (nothing_new none)) is
 
-  module _ (k : Bytes) (xs : List Bytes) (text : Bytes) (for : IsPrintedFor w c k xs text) where
+  module _ (input : PreprocessedInput) (for : IsPreprocessed w c input) where
+    abbrev printed_text : Bytes
+    printed_text = input.text.now
+
     abbrev plain : Bytes
-    plain = object_key w.hash (params w c.request xs text)
+    plain = object_key w.hash (params w c.request (map string_bytes input.extra_hashes.now) printed_text)
 
     plain_here : plain_key w c ≡ Some plain
-    plain_here = is_plain xs text for.extra (prints_text text for.first for.prints)
+    plain_here = is_plain (map string_bytes input.extra_hashes.now) printed_text for.extra (prints_text printed_text for.first for.prints)
 
-    same_text : (other : Bytes) → printed w c ≡ Some other → other ≡ text
-    same_text other is = same_Some other text (sym is ∙ for.prints)
+    same_text : (other : Bytes) → printed w c ≡ Some other → other ≡ printed_text
+    same_text other is = same_Some other printed_text (sym is ∙ for.prints)
 
     -- with this verdict on the text no malformed marker decides, and nothing is recorded unless it is accepted
-    quiet_by : (v : Verdict) → Walk w c text v → (v ≡ Errs → ⊥) → NotErring w c F
-    quiet_by v walk not other some prints errs = absurd (not (one_verdict w c text v Errs walk (subst (λ t. Walk w c t Errs) (same_text other prints) errs)))
+    quiet_by : (v : Verdict) → Walk w c printed_text v → (v ≡ Errs → ⊥) → NotErring w c F
+    quiet_by v walk not other some prints errs = absurd (not (one_verdict w c printed_text v Errs walk (subst (λ t. Walk w c t Errs) (same_text other prints) errs)))
 
-    nothing_by : (v : Verdict) → Walk w c text v → (v ≡ Accepted → ⊥) → NothingNew w c
+    nothing_by : (v : Verdict) → Walk w c printed_text v → (v ≡ Accepted → ⊥) → NothingNew w c
     nothing_by v walk not key includes some keeps =
-        not (one_verdict w c text v Accepted walk (subst (λ t. Walk w c t Accepted) (same_text keeps.text keeps.is_text) keeps.accepted))
+        not (one_verdict w c printed_text v Accepted walk (subst (λ t. Walk w c t Accepted) (same_text keeps.text keeps.is_text) keeps.accepted))
 
     not_errs : NotAccepted ≡ Errs → ⊥
     not_errs e = cc
@@ -200,14 +201,14 @@ module _ {V S : Type 0} (w : World V) (st : Store S) (c : Call V) (F : Type 0) w
     not_accepted e = cc
 
     -- the text is refused
-    pub refused : (s : S) (r : Result (String Global) KeyError) → Walk w c text NotAccepted ⊎ F → IfOk r (λ k. string_bytes k ≡ plain) → IsOkUnless r key.Memory → Makes w st c F s (made_of r) s
-    refused s r (inl walk) is unless = finished s r plain plain_here (quiet_by NotAccepted walk not_errs) (inr (nothing_by NotAccepted walk not_accepted)) is unless
-    refused s r (inr fault) is unless = finished s r plain plain_here (λ other some prints errs. fault) (inl fault) is unless
+    pub refused : (s : S) (answer : String Global) → Walk w c printed_text NotAccepted ⊎ F → string_bytes answer ≡ plain → Makes w st c F s (made_of (Ok answer)) s
+    refused s answer (inl walk) is = finished s answer plain plain_here (quiet_by NotAccepted walk not_errs) (inr (nothing_by NotAccepted walk not_accepted)) is
+    refused s answer (inr fault) is = finished s answer plain plain_here (λ other some prints errs. fault) (inl fault) is
 
     -- the walk returns an error
-    pub stop_walked : (s : S) (e : KeyError) → IsWalked w c text F (Err e) → Makes w st c F s (made_of (Err e)) s
+    pub stop_walked : (s : S) (e : KeyError) → IsWalked w c printed_text F (Err e) → Makes w st c F s (made_of (Err e)) s
     stop_walked s key.Memory h = stops Memory tt refl refl
-    stop_walked s key.Marker h = stops _ (some_none for.key, (text, for.prints, h)) refl refl
+    stop_walked s key.Marker h = stops _ (some_none for.key, (printed_text, for.prints, h)) refl refl
     stop_walked s (key.Extra e) h = absurd h
     stop_walked s (key.Input e) h = absurd h
     stop_walked s key.Store h = absurd h
@@ -215,9 +216,9 @@ module _ {V S : Type 0} (w : World V) (st : Store S) (c : Call V) (F : Type 0) w
     stop_walked s (key.Preprocess e) h = absurd h
 
     -- the text is accepted, and names no file that is recorded
-    pub nothing_named : (s : S) (answer : String Global) → string_bytes answer ≡ plain → Walk w c text Accepted → AreRecorded w c text [] → Makes w st c F s (made_of (Ok answer)) s
+    pub nothing_named : (s : S) (answer : String Global) → string_bytes answer ≡ plain → Walk w c printed_text Accepted → AreRecorded w c printed_text [] → Makes w st c F s (made_of (Ok answer)) s
     nothing_named s answer is walk none =
-        finished s (Ok answer) plain plain_here (quiet_by Accepted walk accepts_errs) (inr (λ key includes some keeps. by keeps keeps.digested refl)) is tt
+        finished s answer plain plain_here (quiet_by Accepted walk accepts_errs) (inr (λ key includes some keeps. by keeps keeps.digested refl)) is
       where
         by : {includes : List Include} (keeps : AreOwnIncludes w c includes) (ds : List Digested) → ds ≡ keeps.digested → ⊥
         by keeps [] same = keeps.some (sym same)
@@ -227,28 +228,28 @@ module _ {V S : Type 0} (w : World V) (st : Store S) (c : Call V) (F : Type 0) w
             let (digest, at) = none.all r.path r.node named r.file in
             none_in (digest, path_text r.path) at
 
-    module _ (ds : List Digested) (are : AreRecorded w c text ds) where
+    module _ (ds : List Digested) (are : AreRecorded w c printed_text ds) where
       gathered_all : gathered c.files c.moment ds ≢ None
       unfolding gathered
       gathered_all = all_there (include_at c.files c.moment) ds (λ d at. by d (are.each d at))
         where
-          by : (d : Digested) → IsRecorded w c text d → include_at c.files c.moment d ≢ None
-          by d r = some_none (include_here c.files c.moment d r.path r.node (ap components r.written ∙ components-named w c text r.path r.named) r.file).0
+          by : (d : Digested) → IsRecorded w c printed_text d → include_at c.files c.moment d ≢ None
+          by d r = some_none (include_here c.files c.moment d r.path r.node (ap components r.written ∙ components-named w c printed_text r.path r.named) r.file).0
 
       -- the text is accepted, and the entry of its files is put
-      pub put_for : (s t : S) (answer : String Global) (u : Unit {0}) → string_bytes answer ≡ plain → Walk w c text Accepted → ds ≢ []
-          → IsPut st c.files c.moment ds k (string_bytes answer) F s (Ok u) t → Makes w st c F s (made_of (Ok answer)) t
+      pub put_for : (s t : S) (answer : String Global) (u : Unit {0}) → string_bytes answer ≡ plain → Walk w c printed_text Accepted → ds ≢ []
+          → IsPut st c.files c.moment ds input.key.now (string_bytes answer) F s (Ok u) t → Makes w st c F s (made_of (Ok answer)) t
       put_for s t answer u is walk some put =
           gives (string_bytes answer) (plain_here ∙ ap Some (sym is)) (quiet_by Accepted walk accepts_errs) refl (elim put [
             | inl none ↦ inr (none.0, elim (none.1) [ inl fault ↦ inl fault | inr missing ↦ absurd (gathered_all missing) ])
             | inr (includes, found, bytes, written, said, puts) ↦ inl (record {
-              k = k;
+              k = input.key.now;
               bytes = bytes;
               own = record {
                 is_key = for.key;
                 is_plain = plain_here ∙ ap Some (sym is);
                 includes = includes;
-                keeps = record { text = text; is_text = for.prints; accepted = walk; digested = ds; recorded = are; some = some; includes_are = found };
+                keeps = record { text = printed_text; is_text = for.prints; accepted = walk; digested = ds; recorded = are; some = some; includes_are = found };
                 is_text = written;
               };
               answer = said;

@@ -145,12 +145,12 @@ abbrev pub marks_in : ℕ → (start : Bool) (s : List ℕ) → Found start s
 marks_in zero start s = None
 marks_in (suc n) start s = item (marks_in n) start s (what start s) refl
 
-told : (start : Bool) (s : List ℕ) (f : Found start s) (marks : List Mark) → option_map (λ f. f.0) f ≡ Some marks → Marks start s marks
-told start s None marks e = absurd cc
-told start s (Some (found, are)) marks e =
+claim : (start : Bool) (s : List ℕ) (f : Found start s) (marks : List Mark) → option_map (λ f. f.0) f ≡ Some marks → Marks start s marks
+claim start s None marks e = absurd cc
+claim start s (Some (found, are)) marks e =
     let same : found ≡ marks = cc in
     subst (Marks start s) same are
 
 -- the marks that are read are those of the text
 pub are_marks : (s : List ℕ) (marks : List Mark) → option_map (λ f. f.0) (marks_in (suc (length s)) true s) ≡ Some marks → Marks true s marks
-are_marks s marks e = told true s (marks_in (suc (length s)) true s) marks e
+are_marks s marks e = claim true s (marks_in (suc (length s)) true s) marks e

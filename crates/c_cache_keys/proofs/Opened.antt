@@ -24,8 +24,8 @@ use Rattle.cck_preprocessor_key.specs.PreprocessorKey.{preprocessor_material}
 use Rattle.cck_time.specs.declared.error.Error.{Error}
 use Rattle.cck_time.specs.declared.error.Error.TheVariants as entry
 use Rattle.c_cache_keys.specs.Call.{Call}
-use Rattle.c_cache_keys.specs.Hasher.{IsInputError, IsKeyOfInput, IsOpening}
-use Rattle.c_cache_keys.specs.Keys.{extra_texts, input_file, input_recorded, is_direct, is_preprocessed, key_material, preprocessor_key_of, request_parts, told, uses_cache}
+use Rattle.c_cache_keys.specs.Keys.{extra_texts, input_file, input_recorded, is_direct, is_preprocessed, key_material, preprocessor_key_of, request_parts, ok_value, uses_cache}
+use Rattle.c_cache_keys.specs.Opening.{IsInputError, IsKeyOfInput, IsOpening}
 use Rattle.c_cache_keys.specs.Refusals.{extra_error, key_error_of}
 use Rattle.c_cache_keys.specs.Seen.{why_of}
 use Rattle.c_cache_keys.specs.Step.{StopsOpening}
@@ -93,7 +93,7 @@ module _ {V : Type 0} (w : World V) (c : Call V) (F : Type 0) where
       → IsOkAnd found (λ n. k ≡ option_map (λ r. digest_text w.hash (preprocessor_material (request_parts w c.request (input_path c)) xs r)) (recorded (setting w c) n))
       → IsKeyOfInput w c xs k
   unfolding input_file
-  key_of_input xs k (Ok n) is h = (n, ap told (sym is), h)
+  key_of_input xs k (Ok n) is h = (n, ap ok_value (sym is), h)
   key_of_input xs k (Err e) is h = absurd h
 
   pub input_failed : (e : Error) → IsIoError (file_at c.files (components (input_path c))) F e → IsInputError w c F (key_error_of e)
@@ -113,7 +113,7 @@ module _ {V : Type 0} (w : World V) (c : Call V) (F : Type 0) where
 
   no_input : (e : FileError) → file_at c.files (components (input_path c)) ≡ Err e → input_file w c ≡ None
   unfolding input_file
-  no_input e is = ap told is
+  no_input e is = ap ok_value is
 
   pub stop_input : (e : KeyError) (xs : List Bytes) → uses_cache w c.request ≡ true → extra_texts w c ≡ Some xs → IsInputError w c F e → StopsOpening w c F (why_of e)
   stop_input key.Memory xs used extra h = tt

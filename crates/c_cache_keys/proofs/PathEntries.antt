@@ -78,14 +78,14 @@ module _ {X : Type 0} where
   -- and if the elements have the paths of their entries, they are in the order of these
   pub made_in_order : {Y : Type 0} (f : Path × X → Y) (path : Y → Path) (es : List (Path × X)) → ((e : Path × X) → Contains es e → path (f e) ≡ e.0)
       → T (is_sorted path_cmp es) → AllPairs (λ y z. path_cmp (path y) (path z) ≡ Less) (map f es)
-  made_in_order f path [] told h i j d lt range = absurd (omega (arith, range))
-  made_in_order f path (e ∷ es) told h i zero d lt range = absurd (omega (arith, lt))
-  made_in_order f path (e ∷ es) told h zero (suc j) d lt range =
+  made_in_order f path [] claim h i j d lt range = absurd (omega (arith, range))
+  made_in_order f path (e ∷ es) claim h i zero d lt range = absurd (omega (arith, lt))
+  made_in_order f path (e ∷ es) claim h zero (suc j) d lt range =
       let low : j < length (map f es) = omega (arith, range) in
       let y = get_or (map f es) j d in
       let r = made_from f es y (j, low, get_or_default (map f es) j y d low) in
-      ap (λ p. path_cmp p (path y)) (told e (first_in e es))
-      ∙ ap (path_cmp e.0) (ap path (sym r.2) ∙ told r.0 (later_in e r.0 es r.1))
+      ap (λ p. path_cmp p (path y)) (claim e (first_in e es))
+      ∙ ap (path_cmp e.0) (ap path (sym r.2) ∙ claim r.0 (later_in e r.0 es r.1))
       ∙ below e.0 es (T_parts (below_all path_cmp e.0 es) (is_sorted path_cmp es) h).0 r.0 r.1
-  made_in_order f path (e ∷ es) told h (suc i) (suc j) d lt range =
-      made_in_order f path es (λ g at. told g (later_in e g es at)) (T_parts (below_all path_cmp e.0 es) (is_sorted path_cmp es) h).1 i j d (omega (arith, lt)) (omega (arith, range))
+  made_in_order f path (e ∷ es) claim h (suc i) (suc j) d lt range =
+      made_in_order f path es (λ g at. claim g (later_in e g es at)) (T_parts (below_all path_cmp e.0 es) (is_sorted path_cmp es) h).1 i j d (omega (arith, lt)) (omega (arith, range))

@@ -25,8 +25,8 @@ module _ {V : Type 0} (w : World V) (c : Call V) (F : Type 0) where
     -- and the reason is not that a node of another kind is there
     input_is_not_read_as_directory : IsFileReason w c F (refusal.Input (util.File OtherKind)) → ⊥
     unfolding file_at
-    input_is_not_read_as_directory told =
-        let apart : Err NotFound ≡ Err OtherKind = sym (ap file_in nothing) ∙ told in
+    input_is_not_read_as_directory claim =
+        let apart : Err NotFound ≡ Err OtherKind = sym (ap file_in nothing) ∙ claim in
         cc
 
   -- of two extra files the first is missing

@@ -1,6 +1,6 @@
 -- Each error gives its reason.
-use Rattle.std.proofs.Common.{◌≡◌, Some, Ok, Err, map, subst, sym, List, Result}
-use Rattle.std.specs.Prelude.{IfErr, IsOkUnless}
+use Rattle.std.proofs.Common.{◌≡◌, Ok, Err, map, List, Result}
+use Rattle.std.specs.Prelude.{IfErr}
 use Rattle.std.specs.FinMap.{get}
 use Rattle.cck_digest.specs.declared.error.FileError.{FileError}
 use Rattle.cck_digest.specs.declared.error.FileError.TheVariants as file
@@ -18,14 +18,11 @@ use Rattle.cck_key_error.specs.declared.preprocess_error.PreprocessError.{Prepro
 use Rattle.cck_key_error.specs.declared.preprocess_error.PreprocessError.TheVariants as text
 use Rattle.cck_path.specs.Bytes.{Bytes}
 use Rattle.cck_path.specs.Path.{Path, components}
-use Rattle.cck_store.specs.Store.{Store}
 use Rattle.c_cache_keys.specs.Call.{Call}
-use Rattle.c_cache_keys.specs.Hasher.{IsInputError}
-use Rattle.c_cache_keys.specs.Keys.{preprocessor_key_of}
-use Rattle.c_cache_keys.specs.Reasons.{IsFileReason, IsReason, IsStoreReason}
+use Rattle.c_cache_keys.specs.Opening.{IsInputError}
+use Rattle.c_cache_keys.specs.Reasons.{IsFileReason}
 use Rattle.c_cache_keys.specs.Refusals.{extra_error, input_error, text_error}
 use Rattle.c_cache_keys.specs.Walk.{input_path}
-use Rattle.c_cache_keys.specs.Walked.{IsWalked}
 use Rattle.c_cache_keys.specs.World.{World}
 
 -- ---- a fault of a part is one of the whole
@@ -78,13 +75,6 @@ module _ (F G : Type 0) (more : F → G) where
 -- ---- reasons of files
 
 module _ {V : Type 0} (w : World V) (c : Call V) (F : Type 0) where
-  pub memory_reason : (e : KeyError) → e ≡ key.Memory → IsFileReason w c F e
-  memory_reason e is = subst (IsFileReason w c F) (sym is) tt
-
-  pub unless_reason : {X : Type 0} (r : Result X KeyError) → IsOkUnless r key.Memory → IfErr r (IsFileReason w c F)
-  unless_reason (Ok x) is = tt
-  unless_reason (Err e) is = memory_reason e is
-
   -- an extra file has no digest
   pub extra_reason : (e : UtilError) → IsFirstError w.hash c.files (map components c.request.arguments.extra_hash_files) F e → IsFileReason w c F (extra_error e)
   extra_reason util.Memory r = tt
@@ -120,34 +110,3 @@ module _ {V : Type 0} (w : World V) (c : Call V) (F : Type 0) where
   text_reason text.Fault = λ e. cc
   text_reason text.Failed = λ e. cc
   text_reason text.Memory = tt
-
-  pub walk_reason : (walked : Bytes) (e : KeyError) → IsWalked w c walked F (Err e) → IsFileReason w c F e
-  walk_reason walked key.Memory h = tt
-  walk_reason walked key.Marker h = tt
-  walk_reason walked (key.Extra e) h = absurd h
-  walk_reason walked (key.Input e) h = absurd h
-  walk_reason walked key.Store h = absurd h
-  walk_reason walked (key.Entry e) h = absurd h
-  walk_reason walked (key.Preprocess e) h = absurd h
-
--- ---- reasons of the store, and of both
-
-module _ {V S : Type 0} (w : World V) (st : Store S) (c : Call V) (s t : S) where
-  module _ (F : Type 0) where
-    pub file_reason : (e : KeyError) → IsFileReason w c F e → IsReason w st c F s t e
-    file_reason key.Memory h = h
-    file_reason key.Store h = absurd h
-    file_reason (key.Entry e) h = absurd h
-    file_reason (key.Extra e) h = h
-    file_reason (key.Input e) h = h
-    file_reason (key.Preprocess e) h = h
-    file_reason key.Marker h = h
-
-    pub store_reason : (k : Bytes) → preprocessor_key_of w c ≡ Some k → (e : KeyError) → IsStoreReason st k s t e → IsReason w st c F s t e
-    store_reason k is key.Memory h = h
-    store_reason k is key.Store h = h
-    store_reason k is (key.Entry e) h = (k, is, h)
-    store_reason k is (key.Extra e) h = absurd h
-    store_reason k is (key.Input e) h = absurd h
-    store_reason k is (key.Preprocess e) h = absurd h
-    store_reason k is key.Marker h = absurd h

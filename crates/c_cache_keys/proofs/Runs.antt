@@ -123,9 +123,9 @@ module _ {V S : Type 0} (w : World V) (st : Store S) (size : HasSize w.hash) (la
 
       at_hit : (key' : Bytes) → key' ≡ key → Asks w st c F k s (Hit key') mid → plain_key w c ≡ Some key
       at_hit key' is asks =
-          let (b, held, e, text, list, stands, all_match) = hit_known c F k key' s mid asks in
+          let (b, held, e, text, list, present, all_match) = hit_known c F k key' s mid asks in
           let (c', at, own-key, own) = sound k b held in
-          hit_plain w size (earlier ++ c ∷ later) premises c' c (before c' at) own-key k b own is-k e key' list text stands all_match ∙ ap Some is
+          hit_plain w size (earlier ++ c ∷ later) premises c' c (before c' at) own-key k b own is-k e key' list text present all_match ∙ ap Some is
 
       go : (o : Asked) → Asks w st c F k s o mid → Ends w st c F o mid (Keyed key false) t → plain_key w c ≡ Some key
       go (Hit key') asks ends = let is = ends.0 in at_hit key' (cc) asks

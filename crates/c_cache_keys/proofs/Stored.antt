@@ -151,25 +151,25 @@ module _ {V S : Type 0} (w : World V) (st : Store S) (laws : StoreLaws st) where
 
   -- ---- the count of store failures never falls
 
-  stores_count : (c : Call V) (F : Type 0) (key : Bytes) (s t : S) → Stores w st c F key s t → st.setbacks s ≤ st.setbacks t
+  stores_count : (c : Call V) (F : Type 0) (key : Bytes) (s t : S) → Stores w st c F key s t → st.failures s ≤ st.failures t
   stores_count c F key s t (inl p) = laws.put_count s t p.k p.bytes p.answer p.put
   stores_count c F key s t (inr same) = rw (same.0) (le_refl _)
 
-  makes_count : (c : Call V) (F : Type 0) (s t : S) (r : Answer) → Makes w st c F s r t → st.setbacks s ≤ st.setbacks t
+  makes_count : (c : Call V) (F : Type 0) (s t : S) (r : Answer) → Makes w st c F s r t → st.failures s ≤ st.failures t
   makes_count c F s t r (stops why cause is same) = rw same (le_refl _)
   makes_count c F s t r (gives key is-plain calm is stores) = stores_count c F key s t stores
 
-  ends_count : (c : Call V) (F : Type 0) (o : Asked) (s t : S) (r : Answer) → Ends w st c F o s r t → st.setbacks s ≤ st.setbacks t
+  ends_count : (c : Call V) (F : Type 0) (o : Asked) (s t : S) (r : Answer) → Ends w st c F o s r t → st.failures s ≤ st.failures t
   ends_count c F (Hit key) s t r e = rw (e.1) (le_refl _)
   ends_count c F (Failed why) s t r e = rw (e.1) (le_refl _)
   ends_count c F Miss s t r e = makes_count c F s t r e
 
-  step_count : (c : Call V) (F : Type 0) (s t : S) (r : Answer) → Step w st c F s r t → st.setbacks s ≤ st.setbacks t
+  step_count : (c : Call V) (F : Type 0) (s t : S) (r : Answer) → Step w st c F s r t → st.failures s ≤ st.failures t
   step_count c F s t r (stopped why cause is same) = rw same (le_refl _)
   step_count c F s t r (made opened not makes) = makes_count c F s t r makes
   step_count c F s t r (asked opened k is-k control o mid asks ends) = le_trans (laws.got_count s mid k asks.answer asks.got) (ends_count c F o mid t r ends)
 
-  run_count : (calls : List (Done V)) (answers : List Answer) (s t : S) → Run w st s calls answers t → st.setbacks s ≤ st.setbacks t
+  run_count : (calls : List (Done V)) (answers : List Answer) (s t : S) → Run w st s calls answers t → st.failures s ≤ st.failures t
   run_count [] [] s t run = rw run (le_refl _)
   run_count [] (r ∷ answers) s t run = absurd run
   run_count (c ∷ calls) [] s t run = absurd run

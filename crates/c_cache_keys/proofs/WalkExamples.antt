@@ -19,7 +19,7 @@ use Rattle.c_cache_keys.proofs.Elements.{first_in, later_in, one_of, only_one}
 use Rattle.c_cache_keys.proofs.MarkExamples.{header_mark, header_marks, header_text, header_text_marks, hidden_line_marks, inclusion_marks, input_mark, last_quote_marks, missing_header_marks, no_quote_marks, one_name_marks, short_text_marks, timed_text, timed_text_marks}
 use Rattle.c_cache_keys.proofs.TimeExamples.{time_of_day_not_recorded}
 use Rattle.c_cache_keys.specs.Call.{Call}
-use Rattle.c_cache_keys.specs.Walk.{Accepted, Errs, IsAngled, IsGood, IsLooked, IsNamed, IsOld, NotAccepted, Walk, input_path, path_of}
+use Rattle.c_cache_keys.specs.Walk.{Accepted, Errs, IsAngled, IsGood, IsLooked, IsNamed, IsOld, NotAccepted, Walk, input_path, meant_path}
 use Rattle.c_cache_keys.specs.Witness.{path_in_w as in_w}
 use Rattle.c_cache_keys.specs.World.{World, setting}
 
@@ -74,17 +74,17 @@ too_new : (modified : Option Moment) (moment : Moment) → modified ≡ Some fif
 too_new modified moment is at old = true_false (sym (subst (λ (v : Option Moment). IfSome v (λ t. is_before t fifth_second ≡ true)) is (subst (λ v. IfSome modified (λ t. is_before t v ≡ true)) at old)))
 
 module _ {V : Type 0} (w : World V) (c : Call V) (cwd_is : c.request.cwd ≡ codes "/w") (input_is : c.request.arguments.input ≡ codes "a.c") where
-  meant : (name : Bytes) → path_of c name ≡ normal (joined (components (codes "/w")) (components name))
+  meant : (name : Bytes) → meant_path c name ≡ normal (joined (components (codes "/w")) (components name))
   meant name = ap (λ d. normal (joined (components d) (components name))) cwd_is
 
   pub input_meant : components (input_path c) ≡ in_w (codes "a.c")
   unfolding components join_path
   input_meant = ap₂ (λ d f. components (join_path d f)) cwd_is input_is
 
-  named_itself : (name : Bytes) → path_of c name ≡ in_w (codes "a.c") → (system : Bool) → IsLooked w c name system → ⊥
+  named_itself : (name : Bytes) → meant_path c name ≡ in_w (codes "a.c") → (system : Bool) → IsLooked w c name system → ⊥
   named_itself name same system looked = looked.other (same ∙ sym input_meant)
 
-  looked_at : (x : ℕ) (name other : Bytes) → x ≢ 60 → path_of c (x ∷ name) ≡ in_w other → eq_by_cmp path_cmp (in_w other) (in_w other) ≡ true → eq_by_cmp path_cmp (in_w other) (in_w (codes "a.c")) ≡ false → IsLooked w c (x ∷ name) false
+  looked_at : (x : ℕ) (name other : Bytes) → x ≢ 60 → meant_path c (x ∷ name) ≡ in_w other → eq_by_cmp path_cmp (in_w other) (in_w other) ≡ true → eq_by_cmp path_cmp (in_w other) (in_w (codes "a.c")) ≡ false → IsLooked w c (x ∷ name) false
   looked_at x name other apart is same differs =
       record {
         some = some_nothing;
@@ -93,19 +93,19 @@ module _ {V : Type 0} (w : World V) (c : Call V) (cwd_is : c.request.cwd ≡ cod
         other = λ e. differ (in_w other) (in_w (codes "a.c")) same differs (sym is ∙ e ∙ input_meant);
       }
 
-  input_itself : path_of c (codes "/w/a.c") ≡ in_w (codes "a.c")
+  input_itself : meant_path c (codes "/w/a.c") ≡ in_w (codes "a.c")
   unfolding components
   input_itself = meant (codes "/w/a.c")
 
-  header_path : path_of c (codes "/w/h.h") ≡ in_w (codes "h.h")
+  header_path : meant_path c (codes "/w/h.h") ≡ in_w (codes "h.h")
   unfolding components
   header_path = meant (codes "/w/h.h")
 
-  beside_path : path_of c (codes "x") ≡ in_w (codes "x")
+  beside_path : meant_path c (codes "x") ≡ in_w (codes "x")
   unfolding components
   beside_path = meant (codes "x")
 
-  missing_path : path_of c (codes "missing.h") ≡ in_w (codes "missing.h")
+  missing_path : meant_path c (codes "missing.h") ≡ in_w (codes "missing.h")
   unfolding components
   missing_path = meant (codes "missing.h")
 
@@ -120,7 +120,7 @@ module _ {V : Type 0} (w : World V) (c : Call V) (cwd_is : c.request.cwd ≡ cod
         system = false;
         marks = header_marks;
         are = header_text_marks;
-        stands = later_in input_mark header_mark (header_mark ∷ input_mark ∷ []) (first_in header_mark (input_mark ∷ []));
+        present = later_in input_mark header_mark (header_mark ∷ input_mark ∷ []) (first_in header_mark (input_mark ∷ []));
         looked = header_looked;
         is = sym header_path;
       }
@@ -129,32 +129,32 @@ module _ {V : Type 0} (w : World V) (c : Call V) (cwd_is : c.request.cwd ≡ cod
   header_alone p n =
       let same : n.marks ≡ header_marks = one_list true header_text n.marks header_marks n.are header_text_marks in
       let mark = Name n.name n.system in
-      let at = subst (λ (marks : List Mark). Contains marks mark) same n.stands in
+      let at = subst (λ (marks : List Mark). Contains marks mark) same n.present in
       let input : input_mark ≡ mark → p ≡ in_w (codes "h.h") =
-      λ e. absurd (named_itself n.name (ap (path_of c) (sym (one_name (codes "/w/a.c") n.name false n.system e)) ∙ input_itself) n.system n.looked) in
+      λ e. absurd (named_itself n.name (ap (meant_path c) (sym (one_name (codes "/w/a.c") n.name false n.system e)) ∙ input_itself) n.system n.looked) in
       elim (one_of input_mark mark (header_mark ∷ input_mark ∷ []) at) [
         | inl is ↦ input is
         | inr later ↦ (elim (one_of header_mark mark (input_mark ∷ []) later) [
-          | inl is ↦ n.is ∙ ap (path_of c) (sym (one_name (codes "/w/h.h") n.name false n.system is)) ∙ header_path
+          | inl is ↦ n.is ∙ ap (meant_path c) (sym (one_name (codes "/w/h.h") n.name false n.system is)) ∙ header_path
           | inr last ↦ input (only_one input_mark mark last)
         ])
       ]
 
   -- ---- verdicts
 
-  input_passes : IsLooked w c (codes "/w/a.c") false → IsGood w c (path_of c (codes "/w/a.c"))
+  input_passes : IsLooked w c (codes "/w/a.c") false → IsGood w c (meant_path c (codes "/w/a.c"))
   input_passes looked = absurd (named_itself (codes "/w/a.c") input_itself false looked)
 
   pub header_accepted : (n : FileNode) → file_at c.files (in_w (codes "h.h")) ≡ Ok n → IsOld w c n → recorded (setting w c) n ≢ None → Walk w c header_text Accepted
-  header_accepted n at old told =
-      (header_marks, header_text_marks, inl (input_passes, inl (λ _. subst (IsGood w c) (sym header_path) (inr (n, at, old, told)), inl (input_passes, refl))))
+  header_accepted n at old claim =
+      (header_marks, header_text_marks, inl (input_passes, inl (λ _. subst (IsGood w c) (sym header_path) (inr (n, at, old, claim)), inl (input_passes, refl))))
 
   -- the header was modified at the call time
   new_header_not_recorded : (n : FileNode) → get c.files.nodes (in_w (codes "h.h")) ≡ Some n → n.kind ≡ File → n.modified ≡ Some fifth_second → c.moment ≡ fifth_second → Walk w c header_text NotAccepted
   new_header_not_recorded n at is modified moment =
       let not_good : IsGood w c (in_w (codes "h.h")) → ⊥ = λ good. elim good [
         | inl folder ↦ file_no_folder c.files _ n at is folder
-        | inr (m, file, old, told) ↦ too_new m.modified c.moment (ap (λ (v : FileNode). v.modified) (sym (this_file c.files _ n m at is file)) ∙ modified) moment old.0
+        | inr (m, file, old, claim) ↦ too_new m.modified c.moment (ap (λ (v : FileNode). v.modified) (sym (this_file c.files _ n m at is file)) ∙ modified) moment old.0
       ] in
       (header_marks, header_text_marks, inl (input_passes, inr (header_looked, λ good. not_good (subst (IsGood w c) header_path good), refl)))
 
@@ -163,13 +163,13 @@ module _ {V : Type 0} (w : World V) (c : Call V) (cwd_is : c.request.cwd ≡ cod
   timed_header_not_recorded counts n at is shows =
       let not_good : IsGood w c (in_w (codes "h.h")) → ⊥ = λ good. elim good [
         | inl folder ↦ file_no_folder c.files _ n at is folder
-        | inr (m, file, old, told) ↦ told (time_of_day_not_recorded (setting w c) counts m (ap (λ (v : FileNode). v.contents) (sym (this_file c.files _ n m at is file)) ∙ shows))
+        | inr (m, file, old, claim) ↦ claim (time_of_day_not_recorded (setting w c) counts m (ap (λ (v : FileNode). v.contents) (sym (this_file c.files _ n m at is file)) ∙ shows))
       ] in
       (header_marks, timed_text_marks, inl (input_passes, inr (header_looked, λ good. not_good (subst (IsGood w c) header_path good), refl)))
 
   beside_accepted : (n : FileNode) → file_at c.files (in_w (codes "x")) ≡ Ok n → IsOld w c n → recorded (setting w c) n ≢ None → Walk w c (codes "# 1 \"x\"") Accepted
-  beside_accepted n at old told =
-      (Name (codes "x") false ∷ [], one_name_marks, inl (λ _. subst (IsGood w c) (sym beside_path) (inr (n, at, old, told)), refl))
+  beside_accepted n at old claim =
+      (Name (codes "x") false ∷ [], one_name_marks, inl (λ _. subst (IsGood w c) (sym beside_path) (inr (n, at, old, claim)), refl))
 
   missing_looked : IsLooked w c (codes "missing.h") false
   missing_looked = looked_at 109 (codes "issing.h") (codes "missing.h") (λ e. omega (arith, e)) missing_path refl refl
@@ -178,7 +178,7 @@ module _ {V : Type 0} (w : World V) (c : Call V) (cwd_is : c.request.cwd ≡ cod
   missing_not_recorded nothing =
       let not_good : IsGood w c (in_w (codes "missing.h")) → ⊥ = λ good. elim good [
         | inl folder ↦ no_folder c.files _ nothing folder
-        | inr (m, file, old, told) ↦ no_file c.files _ m nothing file
+        | inr (m, file, old, claim) ↦ no_file c.files _ m nothing file
       ] in
       (Name (codes "missing.h") false ∷ [], missing_header_marks, inr (missing_looked, λ good. not_good (subst (IsGood w c) missing_path good), refl))
 

@@ -5,6 +5,7 @@ use Rattle.std.specs.Global.{Vec}
 use Rattle.std.specs.Prelude.{Contains, string_bytes}
 use Rattle.std.specs.declared.alloc.Global.{Global}
 use Rattle.std.proofs.lemmas.Option.{none-some}
+use Rattle.cck_compiler.specs.Compiler.{Compiler}
 use Rattle.cck_files.specs.FileMap.{FileMap}
 use Rattle.cck_include.specs.Gathered.{Digested}
 use Rattle.cck_key_error.specs.declared.key_error.KeyError.{KeyError}
@@ -17,18 +18,25 @@ use Rattle.cck_path.specs.Text.{path_text}
 use Rattle.cck_path.specs.Timestamp.{Moment}
 use Rattle.cck_walk.specs.Decided.{Accepts, Context, Digests, Errs, IsRefused, context_in, decided}
 use Rattle.cck_walk.specs.Decided as decision
-use Rattle.cck_walk.specs.Digests.{listed, written}
+use Rattle.cck_walk.specs.Digests.{digest_pair, written}
 use Rattle.cck_walk.specs.Walk.{IsWalk}
 use Rattle.cck_walk.specs.declared.walk.Walk as walk
 use Rattle.cck_walk.specs.declared.walk.Walk.TheVariants as answer
-use Rattle.c_cache_keys.proofs.Decisions.{AreGathered, IsMeant, gathers, none_regular, one_decision, told}
+use Rattle.c_cache_keys.proofs.Decisions.{AreGathered, IsMeant, gathers, none_regular, one_decision, claim}
 use Rattle.c_cache_keys.proofs.Includes.{components-meant}
 use Rattle.c_cache_keys.proofs.PathEntries.{entry_of, made_from, made_in_order, made_of, of_entry}
 use Rattle.c_cache_keys.proofs.Judgements.{IsRegular}
+use Rattle.jiff.specs.Words.{plain_zone}
 use Rattle.c_cache_keys.specs.Call.{Call}
+use Rattle.c_cache_keys.specs.Conditions.{call_under, given_of, world_under}
+use Rattle.c_cache_keys.specs.Included.{digested_of}
+use Rattle.c_cache_keys.specs.Making.{IsPreprocessed}
 use Rattle.c_cache_keys.specs.Walk.{AreRecorded, MarksDecide, IsNamed, Verdict, Walk, input_path}
-use Rattle.c_cache_keys.specs.Walked.{IsWalked, VerdictIsDecided, digested_by, digested_of, verdict_of, walk_context}
+use Rattle.c_cache_keys.specs.Walked.{IsWalked, VerdictIsDecided, digested_by, verdict_of, walk_context}
 use Rattle.c_cache_keys.specs.World.{World}
+use Rattle.c_cache_keys.specs.declared.conditions.Conditions.{Conditions}
+use Rattle.c_cache_keys.specs.declared.hasher.CCompilerHasher.{CCompilerHasher}
+use Rattle.c_cache_keys.specs.declared.hasher.making.PreprocessedInput.{PreprocessedInput}
 
 -- a walk takes the parts of a call
 pub same_context : {V : Type 0} (w : World V) (c : Call V) (files : FileMap) (moment : Moment) (variables : List (Vec ℕ × Vec ℕ)) (input cwd : Bytes)
@@ -48,12 +56,12 @@ returned e = (e.1, path_text (e.0))
 
 module _ {V : Type 0} (w : World V) (c : Call V) (text : Bytes) where
   verdict_is_walked : (d : decision.Decided) → decision.TextDecides (walk_context w c) text d → Walk w c text (verdict_of d)
-  verdict_is_walked d (marks, are, is) = (marks, are, subst (λ e. MarksDecide w c marks (verdict_of e)) is (told w c marks empty (none_regular w c)))
+  verdict_is_walked d (marks, are, is) = (marks, are, subst (λ e. MarksDecide w c marks (verdict_of e)) is (claim w c marks empty (none_regular w c)))
 
   verdict_decided : (verdict : Verdict) → Walk w c text verdict → (d : decision.Decided) × decision.TextDecides (walk_context w c) text d × (verdict_of d ≡ verdict)
   verdict_decided verdict (marks, are, decides) =
       let d = decided (walk_context w c) (Some empty) marks in
-      (d, (marks, are, refl), one_decision w c marks (verdict_of d) verdict (told w c marks empty (none_regular w c)) decides)
+      (d, (marks, are, refl), one_decision w c marks (verdict_of d) verdict (claim w c marks empty (none_regular w c)) decides)
 
   module _ (digests : Digests) (marks : List Mark) (are : Marks true text marks) (gathered : AreGathered w c marks empty digests) where
     -- a path with a digest is meant
@@ -61,10 +69,10 @@ module _ {V : Type 0} (w : World V) (c : Call V) (text : Bytes) where
     meant p digest h = elim (gathered.from p digest h) [ inl old ↦ absurd (none-some _ (sym (get-empty path_cmp p) ∙ old)) | inr found ↦ found ]
 
     named : (p : Path) → IsMeant w c marks p → IsNamed w c text p
-    named p (name, system, at, looked, is) = record { name = name; system = system; marks = marks; are = are; stands = at; looked = looked; is = is }
+    named p (name, system, at, looked, is) = record { name = name; system = system; marks = marks; are = are; present = at; looked = looked; is = is }
 
     meant_again : (p : Path) → IsNamed w c text p → IsMeant w c marks p
-    meant_again p n = (n.name, n.system, subst (λ l. Contains l (Name n.name n.system)) (one_list true text n.marks marks n.are are) n.stands, n.looked, n.is)
+    meant_again p n = (n.name, n.system, subst (λ l. Contains l (Name n.name n.system)) (one_list true text n.marks marks n.are are) n.present, n.looked, n.is)
 
     -- the components of its written path are that path
     read_back : (p : Path) → IsMeant w c marks p → components (path_text p) ≡ p
@@ -95,13 +103,13 @@ module _ {V : Type 0} (w : World V) (c : Call V) (text : Bytes) where
   all_recorded : (digests : Digests) → decision.TextDecides (walk_context w c) text (Accepts digests) → AreRecorded w c text (digested_by digests)
   all_recorded digests (marks, are, is) = are_recorded digests marks are (gathers w c marks empty digests is)
 
-  returned_on : (files : List (Vec ℕ × String Global)) (es : List (Path × Bytes)) → map listed files ≡ map written es → digested_of files ≡ map returned es
+  returned_on : (files : List (Vec ℕ × String Global)) (es : List (Path × Bytes)) → map digest_pair files ≡ map written es → digested_of files ≡ map returned es
   returned_on files es h = turned_listed files ∙ ap (map turned) h ∙ turned_written es
     where
       turned : Bytes × Bytes → Digested
       turned e = (e.1, e.0)
 
-      turned_listed : (files : List (Vec ℕ × String Global)) → digested_of files ≡ map turned (map listed files)
+      turned_listed : (files : List (Vec ℕ × String Global)) → digested_of files ≡ map turned (map digest_pair files)
       turned_listed [] = refl
       turned_listed (f ∷ files) = ap (λ l. (string_bytes (f.1), f.0.items) ∷ l) (turned_listed files)
 
@@ -133,3 +141,12 @@ walked_over w c text files moment variables input cwd same-files same-moment sam
 pub verdict_is_decided : {V : Type 0} (w : World V) → VerdictIsDecided w
 verdict_is_decided w c text =
     (λ verdict. (verdict_decided w c text verdict, λ (d, decides, is). subst (Walk w c text) is (verdict_is_walked w c text d decides)), all_recorded w c text)
+
+-- the same for a walk over an input that was preprocessed, under these conditions
+pub walked_for : {I V : Type 0} (hash : Bytes → Bytes) (compiler : Compiler V) (value : I → V) (files : FileMap) (hasher : CCompilerHasher I) (conditions : Conditions) (input : PreprocessedInput)
+    → IsPreprocessed (world_under hash compiler (given_of conditions)) (call_under value files hasher (given_of conditions)) input → (F : Type 0) (r : Result walk.Walk KeyError)
+    → IsWalk (context_in hash conditions.config conditions.moment (plain_zone conditions.zone.now) conditions.vars.now files input.path.now conditions.cwd.now) F input.text.now r
+    → IsWalked (world_under hash compiler (given_of conditions)) (call_under value files hasher (given_of conditions)) input.text.now F r
+walked_for hash compiler value files hasher conditions input is F r =
+    walked_over (world_under hash compiler (given_of conditions)) (call_under value files hasher (given_of conditions)) input.text.now files conditions.moment conditions.vars.now input.path.now conditions.cwd.now
+    refl refl refl (sym is.path) refl F r

@@ -34,7 +34,7 @@ use Rattle.cck_path.specs.Path.{Path, components, path_cmp}
 use Rattle.cck_path.specs.Text.{join_path, path_text}
 use Rattle.cck_path.specs.TextOrder.{text_cmp}
 use Rattle.cck_preprocessor_key.specs.PreprocessorKey.{RequestParts, compiler_material, preprocessor_material}
-use Rattle.cck_store.specs.MapStore.{State, map_store, new_state}
+use Rattle.cck_store.specs.MapStore.{State, map_store, empty_state}
 use Rattle.cck_strip.specs.Cuts.{stripped}
 use Rattle.cck_strip.specs.Text.{longest_prefix, text_site}
 use Rattle.cck_util.specs.Key.{key_parts, material, object_key}
@@ -43,18 +43,18 @@ use Rattle.c_cache_keys.proofs.Elements.{first_in, one_of, only_one}
 use Rattle.c_cache_keys.proofs.Includes.{entries-added, include_here, match_by_digest, same_ok}
 use Rattle.c_cache_keys.proofs.WalkExamples.{header_accepted, header_alone, header_named, input_meant}
 use Rattle.c_cache_keys.specs.Call.{Call, Fault, Keyed, calls_of}
-use Rattle.c_cache_keys.specs.Keys.{extra_texts, input_file, input_recorded, is_direct, key_material, of_both, params, plain_key, preprocessor_key_of, printed, request_parts, text_of, told, uses_cache}
+use Rattle.c_cache_keys.specs.Keys.{extra_texts, input_file, input_recorded, is_direct, key_material, of_both, params, plain_key, preprocessor_key_of, printed, request_parts, text_of, ok_value, uses_cache}
 use Rattle.c_cache_keys.specs.Premises.{IsHashed, CollisionFree, Premises, DeterministicPreprocessor, of_file, of_folder, of_key, of_time}
 use Rattle.c_cache_keys.specs.Step.{AreOwnIncludes, Hit, Miss, Opened, OwnPair, Step, asked, gives, matching}
 use Rattle.c_cache_keys.specs.Walk.{Accepted, AreRecorded, Errs, IsRecorded, MarksDecide, Walk, input_path}
-use Rattle.c_cache_keys.specs.Witness.{PremisesCanHold, file_of, first_call, included_text, input_text, path_in_w, printed_text, second, second_call, sized, witness_call, witness_done, witness_files, witness_hash, witness_nodes, witness_run, witness_world}
+use Rattle.c_cache_keys.specs.Witness.{PremisesCanHold, file_of, first_call, header_text, input_text, path_in_w, printed_text, second, second_call, sized, witness_call, witness_done, witness_files, witness_hash, witness_nodes, witness_run, witness_world}
 use Rattle.c_cache_keys.specs.World.{HasSize, setting}
 
 abbrev pub input_node : FileNode
 input_node = file_of input_text
 
 abbrev included_node : FileNode
-included_node = file_of included_text
+included_node = file_of header_text
 
 abbrev input_in_w : Path
 input_in_w = path_in_w (codes "a.c")
@@ -101,7 +101,7 @@ input_digest : recorded (setting witness_world first_call) input_node ≡ Some (
 unfolding recorded has_time has_date has_timestamp
 input_digest = refl
 
-included_digest : recorded (setting witness_world first_call) included_node ≡ Some (digest_text witness_hash included_text)
+included_digest : recorded (setting witness_world first_call) included_node ≡ Some (digest_text witness_hash header_text)
 unfolding recorded has_time has_date has_timestamp
 included_digest = refl
 
@@ -128,7 +128,7 @@ used object = refl
 
 input_is : (object : Bytes) → input_file witness_world (witness_call object) ≡ Some input_node
 unfolding input_file
-input_is object = ap told (input_read object)
+input_is object = ap ok_value (input_read object)
 
 recorded_is : (object : Bytes) → input_recorded witness_world (witness_call object) ≡ Some (digest_text witness_hash input_text)
 unfolding input_recorded
@@ -171,7 +171,7 @@ material_size = refl
 abbrev hashed_of : Bytes → Bytes
 hashed_of digest =
     cond (bytes_eq digest (digest_text witness_hash input_text)) input_text
-    (cond (bytes_eq digest (digest_text witness_hash included_text)) included_text witness_material)
+    (cond (bytes_eq digest (digest_text witness_hash header_text)) header_text witness_material)
 
 untimed : (n : FileNode) → (n ≡ input_node) ⊎ (n ≡ included_node) → is_timed n.contents ≡ false
 unfolding has_date has_timestamp
@@ -240,7 +240,7 @@ witness_size fed = refl
 -- ---- what is recorded
 
 abbrev witness_digested : Digested
-witness_digested = (digest_text witness_hash included_text, codes "/w/h.h")
+witness_digested = (digest_text witness_hash header_text, codes "/w/h.h")
 
 abbrev witness_include : Include
 witness_include = include_of (second 5) witness_digested (metadata_of included_node)
@@ -272,7 +272,7 @@ are_recorded = record {
       });
   all = λ p n named file.
       let is : p ≡ included_in_w = header_alone witness_world first_call refl refl p named in
-      subst (λ q. (digest : Bytes) × Contains (witness_digested ∷ []) (digest, path_text q)) (sym is) (digest_text witness_hash included_text, first_in witness_digested []);
+      subst (λ q. (digest : Bytes) × Contains (witness_digested ∷ []) (digest, path_text q)) (sym is) (digest_text witness_hash header_text, first_in witness_digested []);
 }
 
 pub own_includes : AreOwnIncludes witness_world first_call (witness_include ∷ [])
@@ -316,7 +316,7 @@ fits_include : Fits witness_include
 fits_include = record {
   path = lit< tt;
   digest = lit< tt;
-  digest_text = ascii_text (digest_text witness_hash included_text) refl;
+  digest_text = ascii_text (digest_text witness_hash header_text) refl;
   size = lit< tt;
   modified = fits_second;
   changed = fits_second;
@@ -354,7 +354,7 @@ matched object = match_by_digest (setting witness_world first_call) witness_file
 
 -- a new store after n calls on it, where it holds these pairs
 abbrev after_calls : ℕ → List (Bytes × Bytes) → State
-after_calls calls pairs = record new_state { pairs = pairs; armed = record new_armed { calls = calls } }
+after_calls calls pairs = record empty_state { pairs = pairs; armed = record new_armed { calls = calls } }
 
 abbrev pub holds_entry : State
 holds_entry = after_calls 2 ((witness_key, witness_bytes) ∷ [])
@@ -377,7 +377,7 @@ not_erring text is (marks, are, decide) =
     cc
 
 module _ (F : Type 0) where
-  pub first_step : Step witness_world map_store first_call F new_state (Keyed witness_object_key true) holds_entry
+  pub first_step : Step witness_world map_store first_call F empty_state (Keyed witness_object_key true) holds_entry
   first_step =
       asked (opened (codes "a.o")) witness_key (key_is (codes "a.o")) refl Miss (after_calls 1 []) (record { answer = Ok None; got = (refl, refl, refl); gives = refl })
       (gives witness_object_key plain_is (λ text asks is errs. absurd (not_erring text is errs)) refl (inl (record {

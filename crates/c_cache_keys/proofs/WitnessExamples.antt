@@ -3,7 +3,7 @@ use Rattle.std.proofs.Common.{◌≡◌, false, true, [], ◌∷◌, codes, refl
 use Rattle.std.proofs.lemmas.Option.{none-some}
 use Rattle.cck_include.specs.Recorded.{has_timestamp}
 use Rattle.cck_store.specs.MapLemmas.{map_store_laws}
-use Rattle.cck_store.specs.MapStore.{map_store, new_state}
+use Rattle.cck_store.specs.MapStore.{map_store, empty_state}
 use Rattle.c_cache_keys.proofs.Runs.{stays_sound}
 use Rattle.c_cache_keys.proofs.Witness.{extra_is, first_step, holds_entry, input_node, input_read, key_is, no_fault, plain_stamp, same_parts, witness_object_key, witness_key, witness_size}
 use Rattle.c_cache_keys.specs.Call.{Fault, Keyed}
@@ -56,5 +56,5 @@ same_files = record {
 -- what the store holds between them is the first one's own pair
 sound : Sound witness_world map_store holds_entry (first_call ∷ [])
 sound =
-    stays_sound witness_world map_store witness_size map_store_laws [] (witness_done first_call) new_state holds_entry (Keyed witness_object_key true) (λ k bytes held. absurd (none-some _ held))
+    stays_sound witness_world map_store witness_size map_store_laws [] (witness_done first_call) empty_state holds_entry (Keyed witness_object_key true) (λ k bytes held. absurd (none-some _ held))
     (first_step (Fault (witness_done first_call)))

@@ -28,9 +28,9 @@ unfoldable pub is_direct : List Variable → Bool
 is_direct env_vars = option_map_or (λ value. not (is_off value)) (first_value env_vars (codes "SCCACHE_DIRECT")) true
 
 -- the value of a result, or nothing for an error
-abbrev pub told : {X : Type 0} → Result X FileError → Option X
-told (Ok x) = Some x
-told (Err e) = None
+abbrev pub ok_value : {X : Type 0} → Result X FileError → Option X
+ok_value (Ok x) = Some x
+ok_value (Err e) = None
 
 -- a function of two values, if both are there
 abbrev pub of_both : {A B C : Type 0} → (A → B → C) → Option A → Option B → Option C
@@ -54,7 +54,7 @@ module _ {V : Type 0} (w : World V) where
 
   -- the input, if it is a regular file
   unfoldable pub input_file : Call V → Option FileNode
-  input_file c = told (file_at c.files (components (input_path c)))
+  input_file c = ok_value (file_at c.files (components (input_path c)))
 
   -- the recorded digest of the input, if it has one
   unfoldable pub input_recorded : Call V → Option Bytes

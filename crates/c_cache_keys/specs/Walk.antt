@@ -26,8 +26,8 @@ abbrev pub input_path : {V : Type 0} → Call V → Bytes
 input_path c = join_path c.request.cwd c.request.arguments.input
 
 -- the path that a name means
-abbrev pub path_of : {V : Type 0} → Call V → Bytes → Path
-path_of c name = normal (joined (components c.request.cwd) (components name))
+abbrev pub meant_path : {V : Type 0} → Call V → Bytes → Path
+meant_path c name = normal (joined (components c.request.cwd) (components name))
 
 module _ {V : Type 0} (w : World V) where
   -- The file of a name is looked at: the name is not empty and no `<..>`, is not of a system header where these are skipped, and its path
@@ -36,7 +36,7 @@ module _ {V : Type 0} (w : World V) where
     pub some : name ≢ []
     pub not_angled : IsAngled name → ⊥
     pub wanted : w.config.skip_system_headers ≡ true → system ≡ false
-    pub other : path_of c name ≢ components (input_path c)
+    pub other : meant_path c name ≢ components (input_path c)
 
   -- the text names this path
   pub record IsNamed (c : Call V) (text : Bytes) (p : Path) : Type 0 where
@@ -44,9 +44,9 @@ module _ {V : Type 0} (w : World V) where
     pub system : Bool
     pub marks : List Mark
     pub are : Marks true text marks
-    pub stands : Contains marks (Name name system)
+    pub present : Contains marks (Name name system)
     pub looked : IsLooked c name system
-    pub is : p ≡ path_of c name
+    pub is : p ≡ meant_path c name
 
   -- both times of the file, where it has them, are before the call time
   abbrev pub IsOld : Call V → FileNode → Type 0
@@ -62,8 +62,8 @@ module _ {V : Type 0} (w : World V) where
   MarksDecide c (Refusal ∷ marks) v = v ≡ NotAccepted
   MarksDecide c (Malformed ∷ marks) v = v ≡ Errs
   MarksDecide c (Name name system ∷ marks) v =
-      ((IsLooked c name system → IsGood c (path_of c name)) × MarksDecide c marks v)
-      ⊎ (IsLooked c name system × (IsGood c (path_of c name) → ⊥) × (v ≡ NotAccepted))
+      ((IsLooked c name system → IsGood c (meant_path c name)) × MarksDecide c marks v)
+      ⊎ (IsLooked c name system × (IsGood c (meant_path c name) → ⊥) × (v ≡ NotAccepted))
 
   -- the verdict on a text
   abbrev pub Walk : Call V → Bytes → Verdict → Type 0

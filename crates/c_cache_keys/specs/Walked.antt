@@ -1,9 +1,6 @@
 -- what a walk takes of a call, and the meaning of its result
-use Rattle.std.specs.Prelude.{◌≡◌, ◌⊎◌, ◌↔◌, ℕ, List, map, Result, Ok, Err, String}
-use Rattle.std.specs.Global.{Vec}
+use Rattle.std.specs.Prelude.{◌≡◌, ◌⊎◌, ◌↔◌, List, map, Result, Ok, Err}
 use Rattle.std.specs.FinMap.{entries}
-use Rattle.std.specs.String.{string_bytes}
-use Rattle.std.specs.declared.alloc.Global.{Global}
 use Rattle.cck_include.specs.Gathered.{Digested}
 use Rattle.cck_key_error.specs.declared.key_error.KeyError.{KeyError}
 use Rattle.cck_key_error.specs.declared.key_error.KeyError.TheVariants.{Memory, Marker}
@@ -15,6 +12,7 @@ use Rattle.cck_walk.specs.Decided as decision
 use Rattle.cck_walk.specs.declared.walk.Walk as walk
 use Rattle.cck_walk.specs.declared.walk.Walk.TheVariants as answer
 use Rattle.c_cache_keys.specs.Call.{Call}
+use Rattle.c_cache_keys.specs.Included.{digested_of}
 use Rattle.c_cache_keys.specs.Walk.{Accepted, AreRecorded, Errs, NotAccepted, Verdict, Walk, input_path}
 use Rattle.c_cache_keys.specs.World.{World, setting}
 
@@ -44,10 +42,6 @@ VerdictIsDecided {V} w =
     (c : Call V) (text : Bytes)
     → ((verdict : Verdict) → Walk w c text verdict ↔ ((d : Decided) × decision.TextDecides (walk_context w c) text d × (verdict_of d ≡ verdict)))
     × ((digests : Digests) → decision.TextDecides (walk_context w c) text (Accepts digests) → AreRecorded w c text (digested_by digests))
-
--- the digests and the paths that a walk recorded
-abbrev pub digested_of : List (Vec ℕ × String Global) → List Digested
-digested_of files = map (λ f. (string_bytes (f.1), f.0.items)) files
 
 -- The result of a walk over a call's text: its verdict, and for an accepted text what is recorded. With a fault the text may be refused
 -- whatever its verdict.

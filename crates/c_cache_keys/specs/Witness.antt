@@ -10,7 +10,7 @@ use Rattle.cck_path.specs.Bytes.{Bytes}
 use Rattle.cck_path.specs.Path.{Name, Path, Root, path_cmp}
 use Rattle.cck_path.specs.Timestamp.{Moment}
 use Rattle.cck_path.specs.declared.metadata.FileKind.TheVariants.{File}
-use Rattle.cck_store.specs.MapStore.{State, map_store, new_state}
+use Rattle.cck_store.specs.MapStore.{State, map_store, empty_state}
 use Rattle.cck_store.specs.Store.{StoreFailure}
 use Rattle.cck_time.specs.Config.{activated}
 use Rattle.cck_util.specs.declared.language.Language.TheVariants.{C}
@@ -35,8 +35,8 @@ witness_hash fed = sized (length fed)
 abbrev pub input_text : Bytes
 input_text = codes "#include \"h.h\"\nint x;\n"
 
-abbrev pub included_text : Bytes
-included_text = codes "int y1;\n"
+abbrev pub header_text : Bytes
+header_text = codes "int y1;\n"
 
 abbrev pub printed_text : Bytes
 printed_text = codes "# 1 \"/w/a.c\"\n# 1 \"/w/h.h\" 1\nint y1;\n# 2 \"/w/a.c\" 2\nint x;\n"
@@ -52,7 +52,7 @@ abbrev pub path_in_w : Bytes → Path
 path_in_w name = Root ∷ Name (codes "w") ∷ Name name ∷ []
 
 abbrev pub witness_nodes : List (Path × FileNode)
-witness_nodes = (path_in_w (codes "a.c"), file_of input_text) ∷ (path_in_w (codes "h.h"), file_of included_text) ∷ []
+witness_nodes = (path_in_w (codes "a.c"), file_of input_text) ∷ (path_in_w (codes "h.h"), file_of header_text) ∷ []
 
 abbrev pub witness_files : FileMap
 witness_files = record { nodes = from_sorted {R = path_cmp} witness_nodes; canonicals = empty }
@@ -130,10 +130,10 @@ witness_run = witness_done first_call ∷ witness_done second_call ∷ []
 pub record PremisesCanHold : Type 0 where
   pub two_requests : first_call.request ≢ second_call.request
   pub size : HasSize witness_hash
-  pub is_empty : IsEmpty witness_world map_store new_state
+  pub is_empty : IsEmpty witness_world map_store empty_state
   pub premises : Premises witness_world (calls_of witness_run)
   pub no_fault : (c : Call (Unit {0})) → Fault (witness_done c) → ⊥
   pub key : Bytes
   pub end : State
-  pub run : Run witness_world map_store new_state witness_run (Keyed key true ∷ Keyed key false ∷ []) end
-  pub no_store_failure : StoreFailure map_store new_state end → ⊥
+  pub run : Run witness_world map_store empty_state witness_run (Keyed key true ∷ Keyed key false ∷ []) end
+  pub no_store_failure : StoreFailure map_store empty_state end → ⊥

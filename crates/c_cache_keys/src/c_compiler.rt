@@ -16,7 +16,7 @@ use cck_compiler::{
 use cck_digest::{Digest, HashState, UtilError};
 use cck_file_digest::DigestFiles;
 use cck_files::Files;
-use std::alloc::Global;
+use std::alloc::{AllocError, Global};
 
 /// A compiler and its executable.
 ///
@@ -54,7 +54,7 @@ impl<I: CCompilerImpl> CCompiler<I> {
         ensures digest { IfOk result (λ made.
             executable_text H.hash (I.compiler.version (I.value compiler)) (F.file_map files.old) (components executable.items)
             ≡ Some (string_bytes made.executable_digest)) }
-        ensures refused { IfErr result (λ e. IsDigestError (F.file_map files.old) (components executable.items)
+        ensures errors { IfErr result (λ e. IsDigestError (F.file_map files.old) (components executable.items)
             (Rose (F.faults files.old) (F.faults files.new)) e) }
     {
         let text = Digest::<H>::file(alloc, files, &executable)?;
@@ -101,7 +101,7 @@ impl<I: CCompilerImpl> CCompiler<I> {
             ≡ completed (F.file_map files.old) (variables_of vars.now)
             (I.compiler.parsed (I.value self.now.compiler) (lists_of arguments.now) cwd.now (variables_of vars.now))) }
         ensures compiler { IfOk result (IsOfCompiler I.value self.now) }
-        ensures refused { IfErr result (λ e. (e ≡ KeyError.Memory)
+        ensures errors { IfErr result (λ e. (e ≡ KeyError.Memory)
             ⊎ (IsHip (I.compiler.parsed (I.value self.now.compiler) (lists_of arguments.now) cwd.now (variables_of vars.now))
             × IsFileFault e (Rose (F.faults files.old) (F.faults files.new)))) }
     {
@@ -128,7 +128,7 @@ impl<I: CCompilerImpl> CCompiler<I> {
         ensures executable { IfOk result (λ copy. copy.executable.items ≡ self.now.executable.items) }
         ensures digest { IfOk result (λ copy.
             string_bytes copy.executable_digest ≡ string_bytes self.now.executable_digest) }
-        ensures refused { IsOkUnless result KeyError.Memory }
+        ensures errors { IsOkUnless result KeyError.Memory }
     {
         let executable = self.executable.to_vec(alloc)?;
         let executable_digest = self.executable_digest.clone()?;
@@ -144,12 +144,13 @@ impl<I: CCompilerImpl> CCompiler<I> {
         &self,
         alloc: Global,
         parsed_args: ParsedArguments,
-    ) -> Result<CCompilerHasher<I>, KeyError>
+    ) -> Result<CCompilerHasher<I>, AllocError>
         ensures compiler { IfOk result (IsOf I.value self.now) }
         ensures arguments { IfOk result (λ hasher. hasher.parsed_args ≡ parsed_args) }
-        ensures refused { IsOkUnless result KeyError.Memory }
     {
-        let copy = self.copy(alloc)?;
+        let Ok(copy) = self.copy(alloc) else {
+            return Err(AllocError);
+        };
         Ok(CCompilerHasher {
             compiler: copy.compiler,
             executable: copy.executable,
@@ -164,12 +165,14 @@ fn text_with_version<H: HashState>(
     alloc: Global,
     text: &str,
     version: &str,
-) -> Result<String, UtilError>
-    ensures text { IfOk result (λ both. string_bytes both ≡ digest_text H.hash (text.now ++ version.now)) }
-    ensures refused { IsOkUnless result UtilError.Memory }
+) -> Result<String, AllocError>
+    ensures { IfOk result (λ both. string_bytes both ≡ digest_text H.hash (text.now ++ version.now)) }
 {
     let mut digest = Digest::<H>::new();
     digest.update(text.as_bytes());
     digest.update(version.as_bytes());
-    digest.finish(alloc)
+    match digest.finish(alloc) {
+        Ok(text) => Ok(text),
+        Err(_) => Err(AllocError),
+    }
 }

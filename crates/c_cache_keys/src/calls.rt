@@ -90,7 +90,7 @@ pub fn run_calls<H: HashState, I: CCompilerImpl, F: Files, S: PreprocessorStore>
         AllReturnStored w S.store store.old (done_all I.value F.file_map F.faults calls.old calls.new) (map answer_of answers.items) store.new) }
     ensures each { IfOk result (λ answers. length answers.items ≡ length calls.old) }
     ensures keeps { AllZip (IsAfter F.file_map F.faults F.is_quiet) calls.old calls.new }
-    ensures refused { IsOkUnless result UtilError.Memory }
+    ensures errors { IsOkUnless result UtilError.Memory }
     ensures untouched { OnErr result ((calls.new ≡ calls.old) × (store.new ≡ store.old)) }
 {
     let mut answers = Vec::with_capacity(alloc, calls.len())?;

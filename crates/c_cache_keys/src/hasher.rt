@@ -28,7 +28,7 @@ use cck_store::PreprocessorStore;
 use cck_time::PreprocessorCacheModeConfig;
 use cck_util::Language;
 use jiff::tz::TimeZone;
-use std::alloc::Global;
+use std::alloc::{AllocError, Global};
 
 /// A compilation whose keys can be computed: a compiler and a parsed command line.
 ///
@@ -99,10 +99,7 @@ impl<I: CCompilerImpl> CCompilerHasher<I> {
         ensures toolchain { IfOk result (λ r. string_bytes r.weak_toolchain_key
             ≡ toolchain_key self.now.executable.items (string_bytes self.now.executable_digest)) }
     {
-        let weak_toolchain_key = match self.weak_toolchain_key(alloc) {
-            Ok(weak_toolchain_key) => weak_toolchain_key,
-            Err(error) => return Err(error),
-        };
+        let weak_toolchain_key = self.weak_toolchain_key(alloc)?;
         let conditions = Conditions {
             cwd,
             vars,
@@ -112,32 +109,21 @@ impl<I: CCompilerImpl> CCompilerHasher<I> {
             basedirs,
             control,
         };
-        let opening = match self.open::<H, F>(alloc, files, &conditions) {
-            Ok(opening) => opening,
-            Err(error) => return Err(error),
-        };
-        let found = match find::<H, F, S>(alloc, files, store, &opening, &conditions) {
-            Ok(found) => found,
-            Err(error) => return Err(error),
-        };
-        match found {
-            Some(key) => {
-                return Ok(HashResult {
-                    key,
-                    weak_toolchain_key,
-                    is_locally_preprocessed: false,
-                });
-            }
-            None => {}
-        }
-        match self.make::<H, F, S>(alloc, files, store, &opening, &conditions) {
-            Ok(key) => Ok(HashResult {
+        let opening = self.open::<H, F>(alloc, files, &conditions)?;
+        let found = find::<H, F, S>(alloc, files, store, &opening, &conditions)?;
+        if let Some(key) = found {
+            return Ok(HashResult {
                 key,
                 weak_toolchain_key,
-                is_locally_preprocessed: true,
-            }),
-            Err(error) => Err(error),
+                is_locally_preprocessed: false,
+            });
         }
+        let key = self.make::<H, F, S>(alloc, files, store, &opening, &conditions)?;
+        Ok(HashResult {
+            key,
+            weak_toolchain_key,
+            is_locally_preprocessed: true,
+        })
     }
 
     /// The language of the input. It takes no memory.
@@ -161,7 +147,7 @@ impl<I: CCompilerImpl> CCompilerHasher<I> {
     pub fn output_pretty(&self, alloc: Global) -> Result<String, KeyError>
         ensures name { IfOk result (λ name.
             string_bytes name ≡ output_name (arguments_of self.now.parsed_args)) }
-        ensures refused { IsOkUnless result KeyError.Memory }
+        ensures errors { IsOkUnless result KeyError.Memory }
     {
         self.parsed_args.output_pretty(alloc)
     }
@@ -176,7 +162,7 @@ impl<I: CCompilerImpl> CCompilerHasher<I> {
             string_bytes copy.executable_digest ≡ string_bytes self.now.executable_digest) }
         ensures arguments { IfOk result (λ copy.
             arguments_of copy.parsed_args ≡ arguments_of self.now.parsed_args) }
-        ensures refused { IsOkUnless result KeyError.Memory }
+        ensures errors { IsOkUnless result KeyError.Memory }
     {
         let executable = self.executable.to_vec(alloc)?;
         let executable_digest = self.executable_digest.clone()?;
@@ -192,10 +178,9 @@ impl<I: CCompilerImpl> CCompilerHasher<I> {
     // The path of the executable with U+FFFD for what is not UTF-8, a `-`, and the hex digest of
     // the executable.
     #[tactic(auto, unfolding(crate::specs::Hasher::toolchain_key))]
-    fn weak_toolchain_key(&self, alloc: Global) -> Result<String, KeyError>
-        ensures key { IfOk result (λ key. string_bytes key
+    fn weak_toolchain_key(&self, alloc: Global) -> Result<String, AllocError>
+        ensures { IfOk result (λ key. string_bytes key
             ≡ toolchain_key self.now.executable.items (string_bytes self.now.executable_digest)) }
-        ensures refused { IsOkUnless result KeyError.Memory }
     {
         let executable = self.executable.as_slice().to_str_lossy(alloc)?;
         let digest = self.executable_digest.as_str();

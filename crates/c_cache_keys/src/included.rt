@@ -1,28 +1,21 @@
 //! What a walk recorded, in the form that an entry takes.
-ghost use Rattle.std.specs.Prelude.{◌≡◌, IfOk, IsOkUnless};
+ghost use Rattle.std.specs.Prelude.{◌≡◌, IfOk};
 ghost use Rattle.cck_include.specs.Gathered.{digested_in};
-ghost use Rattle.c_cache_keys.specs.Walked.{digested_of};
+ghost use Rattle.c_cache_keys.specs.Included.{digested_of};
 
-use cck_compiler::KeyError;
-use std::alloc::Global;
+use std::alloc::{AllocError, Global};
 
 /// The digests and the paths that a walk recorded, in their order, as
 /// [`add_result`](cck_entry::PreprocessorCacheEntry::add_result) takes them.
-///
-/// The only error is [`KeyError::Memory`].
 pub(crate) fn included_of(
     alloc: Global,
     files: Vec<(Vec<u8>, String)>,
-) -> Result<Vec<(String, Vec<u8>)>, KeyError>
-    ensures all { IfOk result (λ included. digested_in included.items ≡ digested_of files.items) }
-    ensures refused { IsOkUnless result KeyError.Memory }
+) -> Result<Vec<(String, Vec<u8>)>, AllocError>
+    ensures { IfOk result (λ included. digested_in included.items ≡ digested_of files.items) }
 {
     let mut included = Vec::new(alloc);
     for (path, digest) in files {
-        match included.push((digest, path)) {
-            Ok(()) => {}
-            Err(_) => return Err(KeyError::Memory),
-        }
+        included.push((digest, path))?;
     }
     Ok(included)
 }

@@ -27,13 +27,15 @@ extern "C" {
 
 /* The statuses that calls return. */
 enum cck_status {
-  CCK_DONE = 0,     /* the call has done what it says */
-  CCK_MEMORY = 1,   /* malloc or realloc returned a null pointer */
-  CCK_LENGTH = 2,   /* the buffer is shorter than what is to be written */
-  CCK_LANGUAGE = 3, /* no language has this name */
-  CCK_DIGEST = 4,   /* a digest is not UTF-8 */
-  CCK_FORMAT = 5,   /* the bytes are an entry in another format */
-  CCK_ENTRY = 6     /* the bytes begin as an entry does, and are the text of no entry */
+  CCK_DONE = 0,      /* the call has done what it says */
+  CCK_MEMORY = 1,    /* malloc or realloc returned a null pointer */
+  CCK_LENGTH = 2,    /* the buffer or array is too short */
+  CCK_LANGUAGE = 3,  /* no language has this name */
+  CCK_DIGEST = 4,    /* a digest is not UTF-8 */
+  CCK_FORMAT = 5,    /* the bytes are an entry in another format */
+  CCK_ENTRY = 6,     /* the bytes begin as an entry does, and are the text of no entry */
+  CCK_UNCHANGED = 7, /* nothing is cut out: the argument or text is its own result */
+  CCK_INDEX = 8      /* the entry has no result of this index */
 };
 
 /* Any bytes. */
@@ -89,7 +91,8 @@ struct cck_key_params {
 /* Writes the key of an object: 64 digits of 0 to 9 and a to f, with no null character after them.
  *
  * CCK_LANGUAGE: no language has the name. CCK_DIGEST: the digest of the compiler or of the assembler,
- * or an extra hash, is not UTF-8. Where both are so, it is CCK_LANGUAGE. CCK_MEMORY. */
+ * or an extra hash, is not UTF-8. Where both are so, it is CCK_LANGUAGE. CCK_MEMORY is returned for
+ * neither of them. */
 int32_t cck_object_key(const struct cck_key_params *params, uint8_t key[CCK_KEY_LENGTH]);
 
 /* ---- time macros */
@@ -118,15 +121,26 @@ void cck_finder_push(struct cck_finder *finder, const uint8_t *piece, size_t pie
 
 /* ---- base directories */
 
-/* Writes the argument without the base directories to the start of the buffer, and its length to
- * written. The rest of the buffer stays as it is. The length is at most that of the argument.
+/* Cuts the base directories out of an argument.
  *
- * CCK_LENGTH: the buffer is shorter than that. CCK_MEMORY. */
+ * CCK_DONE: something is cut out. What remains is at the start of the buffer, and its length, which is
+ * less than that of the argument, in written. The rest of the buffer stays as it is.
+ * CCK_UNCHANGED: nothing is cut out. The argument is its own result, and nothing is written.
+ * CCK_LENGTH: the buffer is shorter than the argument. It must have the argument's length also where
+ * less remains. It takes no memory. */
 int32_t cck_strip_argument(const uint8_t *argument, size_t argument_length,
                            const struct cck_bytes *basedirs, size_t basedirs_length,
                            uint8_t *buffer, size_t buffer_length, size_t *written);
 
-/* The same for a preprocessed text, where other places may begin a base directory. */
+/* The same for a preprocessed text, where other places may begin a base directory. It takes memory if
+ * there are base directories: CCK_MEMORY.
+ *
+ *     size_t written;
+ *     int32_t status = cck_strip_text(text, length, basedirs, count, buffer, length, &written);
+ *     if (status == CCK_DONE)
+ *       use(buffer, written);
+ *     else if (status == CCK_UNCHANGED)
+ *       use(text, length); */
 int32_t cck_strip_text(const uint8_t *text, size_t text_length,
                        const struct cck_bytes *basedirs, size_t basedirs_length,
                        uint8_t *buffer, size_t buffer_length, size_t *written);
@@ -142,8 +156,63 @@ struct cck_entry_counts {
 /* Writes the counts of the entry whose text these bytes are. No bytes are the entry without results.
  *
  * CCK_FORMAT: the first byte is not 2. CCK_ENTRY: the first byte is 2, and the bytes are the text of
- * no entry. CCK_MEMORY. */
+ * no entry. CCK_MEMORY, but not if the bytes name more results than they can hold. */
 int32_t cck_entry_counts(const uint8_t *bytes, size_t bytes_length, struct cck_entry_counts *counts);
+
+/* A result of an entry: the key of an object, and the files that were included for it. */
+struct cck_entry_result {
+  /* The key, inside the bytes that were passed. It is UTF-8. */
+  const uint8_t *key;
+  size_t key_length;
+  /* The number of its included files. */
+  size_t includes;
+};
+
+/* Writes the results of the entry to the start of the array, in the order of the bytes of their keys,
+ * and their number to count. The rest of the array stays as it is.
+ *
+ * CCK_LENGTH: the array is shorter than the number of results, which cck_entry_counts writes.
+ * CCK_FORMAT, CCK_ENTRY and CCK_MEMORY as of cck_entry_counts.
+ *
+ * The pointers in the array must not be null before the call either; they may all point to the
+ * bytes. */
+int32_t cck_entry_results(const uint8_t *bytes, size_t bytes_length, struct cck_entry_result *results,
+                          size_t results_length, size_t *count);
+
+/* A time, in UTC, or none. */
+struct cck_entry_time {
+  int64_t seconds;      /* the whole seconds since 1970-01-01 00:00:00, rounded down */
+  uint32_t nanoseconds; /* the nanoseconds after them, at most 999999999 */
+  uint8_t is_known;     /* 1, or 0 if there is no time; the other fields are 0 then */
+};
+
+/* What an entry records of an included file. */
+struct cck_entry_include {
+  /* The path, inside the bytes that were passed. It is any bytes. */
+  const uint8_t *path;
+  size_t path_length;
+  /* The recorded digest of the file, inside the bytes that were passed. It is UTF-8. */
+  const uint8_t *digest;
+  size_t digest_length;
+  /* The size in bytes. */
+  uint64_t size;
+  /* The times of the last modification and of the last change, if they are to be compared. */
+  struct cck_entry_time modified;
+  struct cck_entry_time changed;
+};
+
+/* Writes what the entry records of the files that one result included to the start of the array, in
+ * their order, and their number to count. The rest of the array stays as it is. The index of a result
+ * is its place among those that cck_entry_results writes, from 0 on.
+ *
+ * CCK_INDEX: the entry has no result of this index. CCK_LENGTH: the array is shorter than the number
+ * of the included files, which cck_entry_results writes. CCK_FORMAT, CCK_ENTRY and CCK_MEMORY as of
+ * cck_entry_counts.
+ *
+ * The pointers in the array must not be null before the call either; they may all point to the
+ * bytes. */
+int32_t cck_entry_includes(const uint8_t *bytes, size_t bytes_length, size_t index,
+                           struct cck_entry_include *includes, size_t includes_length, size_t *count);
 
 /* ---- line markers */
 

@@ -17,8 +17,8 @@ abbrev pub assembler_of : KeyParams → Option (List ℕ)
 assembler_of p = if nat_eq p.has_assembler 0 then None else Some p.assembler_digest.now
 
 -- the parts that are passed, in this language
-abbrev pub params_of : Language → KeyParams → Params
-params_of language p = record {
+abbrev pub passed_params : Language → KeyParams → Params
+passed_params language p = record {
   compiler_digest = p.compiler_digest.now;
   language = language;
   arguments = texts_of p.arguments.now;
@@ -49,18 +49,22 @@ pub record IsKey (p : KeyParams) (key : List ℕ) : Type 0 where
   pub language : Language
   pub named : language_name language ≡ p.language.now
   pub digests : DigestsAreUtf8 p
-  pub value : key ≡ object_key sha256 (params_of language p)
+  pub value : key ≡ object_key sha256 (passed_params language p)
+
+-- the language of the parts has a name, and their digests are UTF-8
+abbrev pub HasKey : KeyParams → Type 0
+HasKey p = (language : Language) × (language_name language ≡ p.language.now) × DigestsAreUtf8 p
 
 -- the result for these parts
 abbrev pub MakesKey : KeyParams → Result (String Global) KeyError → Type 0
 MakesKey p (Ok key) = IsKey p (string_bytes key)
-MakesKey p (Err Memory) = Unit {0}
+MakesKey p (Err Memory) = HasKey p
 MakesKey p (Err NoLanguage) = NamesNone p.language.now
 MakesKey p (Err NoText) = LacksADigest p
 
 -- copies of these texts as strings
 abbrev pub CopiesStrings : List Bytes → Result (Vec (String Global)) KeyError → Type 0
 CopiesStrings all (Ok strings) = (map string_bytes strings.items ≡ texts_of all) × AreUtf8 all
-CopiesStrings all (Err Memory) = Unit {0}
+CopiesStrings all (Err Memory) = AreUtf8 all
 CopiesStrings all (Err NoLanguage) = ⊥
 CopiesStrings all (Err NoText) = AreUtf8 all → ⊥

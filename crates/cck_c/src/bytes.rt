@@ -4,12 +4,21 @@ ghost use Rattle.cck_path.specs.Bytes.{lists_of, variables_of};
 ghost use Rattle.cck_c.specs.Bytes.{passed_variables, texts_of};
 
 use std::alloc::{AllocError, Global};
+use std::convert::AsSlice;
 
 /// Any bytes.
 #[repr(C)]
 #[derive(Clone, Copy)]
 pub struct Bytes<'a> {
     pub bytes: &'a [u8],
+}
+
+impl AsSlice<u8> for Bytes<'_> {
+    ghost items = { λ one. one.bytes.now };
+
+    fn as_slice(&self) -> &[u8] {
+        self.bytes
+    }
 }
 
 /// A variable of the environment.

@@ -1,10 +1,11 @@
 //! The key of an object.
-ghost use Rattle.std.specs.Prelude.{◌≡◌, ◌≢◌, ◌∷◌, [], IfOk, IfSome, IsUtf8, MatchOption, MatchResult, map, pos, string_bytes};
+ghost use Rattle.std.specs.Prelude.{◌≡◌, ◌≢◌, ◌∷◌, [], IfOk, IfSome, IsUtf8, MatchBool, MatchOption, MatchResult, map, pos, string_bytes};
 ghost use Rattle.std.specs.Option.{option_map};
 ghost use Rattle.sha2.specs.Sha256.{sha256};
 ghost use Rattle.cck_util.specs.Key.{object_key};
 ghost use Rattle.cck_util.specs.Language.{language_name};
-ghost use Rattle.cck_c.specs.Key.{CopiesStrings, IsKey, LacksADigest, MakesKey, NamesNone, assembler_of, params_of};
+ghost use Rattle.cck_c.specs.Bytes.{AreUtf8};
+ghost use Rattle.cck_c.specs.Key.{CopiesStrings, HasKey, IsKey, LacksADigest, MakesKey, NamesNone, assembler_of, passed_params};
 ghost use Rattle.cck_c.specs.Status.{IsOneOf};
 
 use crate::bytes::{Bytes, Variable, copy_texts, copy_variables};
@@ -42,13 +43,14 @@ pub(crate) enum KeyError {
 
 /// Writes the key of an object, 64 digits.
 ///
-/// It returns [`status::LANGUAGE`] if no language has the name, else [`status::DIGEST`] if a digest
-/// is not UTF-8, or [`status::MEMORY`], and writes nothing then.
+/// It returns [`status::LANGUAGE`] exactly if no language has the name, else [`status::DIGEST`]
+/// exactly if a digest is not UTF-8, else it may return [`status::MEMORY`], and writes nothing then.
 #[unsafe(no_mangle)]
 pub extern "C" fn cck_object_key(alloc: Global, params: &KeyParams<'_>, key: &mut [u8; 64]) -> i32
     ensures done { result ≡ pos 0 → IsKey params.now key.new }
     ensures language { result ≡ pos 3 → NamesNone params.now.language.now }
     ensures digest { result ≡ pos 4 → LacksADigest params.now }
+    ensures memory { result ≡ pos 1 → HasKey params.now }
     ensures only { IsOneOf result (0 ∷ 1 ∷ 3 ∷ 4 ∷ []) }
     ensures kept { result ≢ pos 0 → key.new ≡ key.old }
 {
@@ -96,7 +98,7 @@ fn compute(
     extra_hashes: &[String],
     assembler: Option<&str>,
 ) -> Result<String, UtilError>
-    ensures { IfOk result (λ key. string_bytes key ≡ object_key sha256 (record (params_of language params.now) {
+    ensures { IfOk result (λ key. string_bytes key ≡ object_key sha256 (record (passed_params language params.now) {
       compiler_digest = digest.now;
       extra_hashes = map string_bytes extra_hashes.now;
       assembler_digest = option_map (λ d. d.now) assembler.entry;
@@ -142,10 +144,26 @@ fn assembler_digest<'a>(params: &KeyParams<'a>) -> Result<Option<&'a str>, KeyEr
     }
 }
 
+// Returns whether each text is UTF-8.
+fn are_utf8(all: &[Bytes<'_>]) -> bool
+    ensures { MatchBool result (AreUtf8 all.now) (AreUtf8 all.now → ⊥) }
+{
+    for one in all {
+        let Ok(_) = std::str::from_utf8(one.bytes) else {
+            return false;
+        };
+    }
+    true
+}
+
 // Copies the texts as strings, if each is UTF-8.
 fn copy_strings(alloc: Global, all: &[Bytes<'_>]) -> Result<Vec<String>, KeyError>
     ensures { CopiesStrings all.now result }
 {
+    // So that it is not taken for a lack of memory if a text is not.
+    if !are_utf8(all) {
+        return Err(KeyError::NoText);
+    }
     let mut strings = Vec::new(alloc);
     for one in all {
         let Ok(text) = std::str::from_utf8(one.bytes) else {

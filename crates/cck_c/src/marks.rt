@@ -1,6 +1,6 @@
 //! The marks of a preprocessed text.
 ghost use Rattle.std.specs.Prelude.{◌≡◌, ◌≤◌, ◌<◌, [], drop, length, map, take};
-ghost use Rattle.cck_markers.specs.Markers.{Gives, MarksLeft, mark_of};
+ghost use Rattle.cck_markers.specs.Markers.{Yields, MarksLeft, mark_of};
 ghost use Rattle.cck_c.specs.Marks.{mark_in, unread_in};
 
 use cck_markers::Markers;
@@ -42,7 +42,7 @@ pub struct UnreadText<'a> {
 #[unsafe(no_mangle)]
 pub extern "C" fn cck_marks<'a>(unread: &mut UnreadText<'a>, marks: &mut [Mark<'a>]) -> usize
     ensures within { result ≤ length marks.old }
-    ensures read { Gives (unread_in unread.old) (map mark_in (take result marks.new)) (unread_in unread.new) }
+    ensures read { Yields (unread_in unread.old) (map mark_in (take result marks.new)) (unread_in unread.new) }
     ensures all { result < length marks.old → MarksLeft (unread_in unread.new) [] }
     ensures kept { drop result marks.new ≡ drop result marks.old }
 {

@@ -6,7 +6,7 @@ pub const DONE: i32 = 0;
 /// Memory is lacking.
 pub const MEMORY: i32 = 1;
 
-/// What is to be written is longer than the buffer that was passed for it.
+/// The buffer or array that was passed is too short.
 pub const LENGTH: i32 = 2;
 
 /// No language has this name.
@@ -20,3 +20,9 @@ pub const FORMAT: i32 = 5;
 
 /// The bytes begin as an entry does, and are the text of no entry.
 pub const ENTRY: i32 = 6;
+
+/// Nothing is cut out of the argument or text: it is its own result.
+pub const UNCHANGED: i32 = 7;
+
+/// The entry has no result of this index.
+pub const INDEX: i32 = 8;

@@ -1,19 +1,18 @@
 //! Looks for an object in the store.
 use crate::absence::first_present;
-use crate::entry_calls::look_up;
 use crate::environment::Environment;
-use crate::key::{input_snapshot, preprocessor_key};
-use crate::request::{Request, hasher_of};
-use crate::text_compiler::TextCompiler;
-use anyhow::{Result, anyhow};
-use c_cache_keys::CCompilerHasher;
+use crate::input::input_snapshot;
+use crate::request::{Request, hasher_of, snapshot_request};
+use anyhow::Result;
 use cck_cache_entry::{EntryFile, ObjectFile};
 use cck_cache_files::{Kind, StoreDirectory, add_file};
 use cck_entry::PreprocessorCacheEntry;
 use cck_files::MapFiles;
 use cck_path::Timestamp;
+use cck_snapshot::{Request as SnapshotRequest, look_up, preprocessor_key};
 use cck_util::Sha256State;
 use std::rt::Files;
+use std::{fs, io};
 
 /// What a look-up found.
 #[derive(Drop)]
@@ -33,7 +32,9 @@ pub enum Found {
         key: String,
         /// When the look-up ended, by the clock of the store's file system.
         since: Timestamp,
-        /// The path of a file of the store that is damaged.
+        /// The key of the object that a result of the entry names, and that the store does not have.
+        object: Option<String>,
+        /// The path of a file that is damaged.
         damaged: Option<String>,
     },
     /// The input has no preprocessor key.
@@ -51,13 +52,30 @@ pub enum Kept {
     Entry(EntryFile),
 }
 
-/// Reads the entry file of a preprocessor key.
+// The bytes of the file at this path, if one is given, and else of the store's entry file. `None`
+// where there are none.
+fn entry_bytes<R: Files + AllocGlobal>(
+    rt: &R,
+    store: &StoreDirectory,
+    path: Option<&str>,
+    key: &str,
+) -> io::Result<Option<Vec<u8>>> {
+    let Some(path) = path else {
+        return store.read(rt, Kind::Entry, key);
+    };
+    let bytes = fs::read(rt, path)?;
+    Ok(if bytes.is_empty() { None } else { Some(bytes) })
+}
+
+/// Reads the entry file of a preprocessor key: that at this path, if one is given, and else the
+/// store's. A file at a path that is empty is no entry file.
 pub fn read_entry<R: Files + AllocGlobal>(
     rt: &R,
     store: &StoreDirectory,
+    path: Option<&str>,
     key: &str,
 ) -> Result<Kept> {
-    let Some(bytes) = store.read(rt, Kind::Entry, key)? else {
+    let Some(bytes) = entry_bytes(rt, store, path, key)? else {
         return Ok(Kept::Nothing);
     };
     match EntryFile::read::<Sha256State>(rt.alloc(), &bytes)? {
@@ -86,9 +104,7 @@ pub fn add_entry_files<R: Files + AllocGlobal>(
 // The key of a result in the entry that matches, if what was absent is absent still.
 fn matching_key<R: Files + AllocGlobal>(
     rt: &R,
-    environment: &Environment<'_>,
-    hasher: &CCompilerHasher<TextCompiler>,
-    request: &Request<'_>,
+    asked: &SnapshotRequest<'_>,
     files: &mut MapFiles,
     key: &str,
     file: &EntryFile,
@@ -99,31 +115,13 @@ fn matching_key<R: Files + AllocGlobal>(
     if !add_entry_files(rt, files, &file.entry)? {
         return Ok(None);
     }
-    let directory = request.directory;
-    match look_up(
-        rt.alloc(),
-        environment,
-        hasher,
-        directory,
-        files,
-        key,
-        &file.entry,
-    ) {
-        Ok(found) => Ok(found),
-        Err(error) => Err(anyhow!("{error}")),
-    }
+    let found = look_up::<Sha256State, MapFiles>(rt.alloc(), files, asked, key, &file.entry)?;
+    Ok(found)
 }
 
-// The object of a key. `None` where the store has none, or a file that is none of this key.
-fn read_object<R: Files + AllocGlobal>(
-    rt: &R,
-    store: &StoreDirectory,
-    key: &str,
-) -> Result<Option<ObjectFile>> {
-    let Some(bytes) = store.read(rt, Kind::Object, key)? else {
-        return Ok(None);
-    };
-    match ObjectFile::read::<Sha256State>(rt.alloc(), &bytes)? {
+/// What these bytes of an object file of a key hold. `None` where they are none of this key.
+pub fn object_in<R: AllocGlobal>(rt: &R, key: &str, bytes: &[u8]) -> Result<Option<ObjectFile>> {
+    match ObjectFile::read::<Sha256State>(rt.alloc(), bytes)? {
         Some(object) if object.key.as_slice() == key.as_bytes() => Ok(Some(object)),
         _ => Ok(None),
     }
@@ -134,61 +132,76 @@ fn miss<R: Files + AllocGlobal>(
     rt: &R,
     store: &StoreDirectory,
     key: String,
+    object: Option<String>,
     damaged: Option<String>,
 ) -> Result<Found> {
     let since = store.stamp(rt)?;
     Ok(Found::Miss {
         key,
         since,
+        object,
         damaged,
     })
 }
 
-/// Looks for the object of a request.
+// What the store has of a key that a result of the entry of a preprocessor key names.
+fn kept_object<R: Files + AllocGlobal>(
+    rt: &R,
+    store: &StoreDirectory,
+    preprocessor_key: String,
+    key: String,
+) -> Result<Found> {
+    let Some(bytes) = store.read(rt, Kind::Object, key.as_str())? else {
+        return miss(rt, store, preprocessor_key, Some(key), None);
+    };
+    match object_in(rt, key.as_str(), &bytes)? {
+        Some(object) => Ok(Found::Hit {
+            preprocessor_key,
+            key,
+            object,
+        }),
+        None => {
+            let path = store.path_of(rt, Kind::Object, key.as_str())?;
+            miss(rt, store, preprocessor_key, Some(key), Some(path))
+        }
+    }
+}
+
+/// Looks for the object of a request. The entry file is that at `entry`, if a path is given, and else
+/// the store's.
 pub fn look<R: Files + AllocGlobal>(
     rt: &R,
     environment: &Environment<'_>,
     store: &StoreDirectory,
+    entry: Option<&str>,
     request: &Request<'_>,
 ) -> Result<Found> {
     let alloc = rt.alloc();
-    let hasher = hasher_of(rt, environment, request, None)?;
+    let hasher = hasher_of(rt, environment, request)?;
     let mut files = input_snapshot(rt, request)?.files;
-    let directory = request.directory;
-    let now = environment.now;
-    let Some(key) = preprocessor_key(alloc, environment, &hasher, &mut files, directory, now)?
-    else {
+    let asked = snapshot_request(
+        environment,
+        &hasher,
+        request.directory,
+        environment.now,
+        &[],
+    );
+    let Some(key) = preprocessor_key::<Sha256State, MapFiles>(alloc, &mut files, &asked)? else {
         return Ok(Found::NoKey);
     };
-    let file = match read_entry(rt, store, key.as_str())? {
-        Kept::Nothing => return miss(rt, store, key, None),
+    let file = match read_entry(rt, store, entry, key.as_str())? {
+        Kept::Nothing => return miss(rt, store, key, None, None),
         Kept::Damaged => {
-            let path = store.path_of(rt, Kind::Entry, key.as_str())?;
-            return miss(rt, store, key, Some(path));
+            let path = match entry {
+                Some(path) => String::from_str(alloc, path)?,
+                None => store.path_of(rt, Kind::Entry, key.as_str())?,
+            };
+            return miss(rt, store, key, None, Some(path));
         }
         Kept::Entry(file) => file,
     };
-    let found = matching_key(
-        rt,
-        environment,
-        &hasher,
-        request,
-        &mut files,
-        key.as_str(),
-        &file,
-    )?;
-    let Some(object_key) = found else {
-        return miss(rt, store, key, None);
-    };
-    match read_object(rt, store, object_key.as_str())? {
-        Some(object) => Ok(Found::Hit {
-            preprocessor_key: key,
-            key: object_key,
-            object,
-        }),
-        None => {
-            let path = store.path_of(rt, Kind::Object, object_key.as_str())?;
-            miss(rt, store, key, Some(path))
-        }
+    match matching_key(rt, &asked, &mut files, key.as_str(), &file)? {
+        Some(object) => kept_object(rt, store, key, object),
+        None => miss(rt, store, key, None, None),
     }
 }

@@ -1,15 +1,19 @@
 //! The program, over any files, reader and writers.
 use crate::environment::Environment;
-use crate::key::{input_snapshot, preprocessor_key};
+use crate::input::input_snapshot;
 use crate::look::{Found, look};
 use crate::prune::prune;
-use crate::record::{Compilation, Outcome, record};
-use crate::request::{Request, hasher_of};
+use crate::record::{Compilation, Outcome, object_key, record};
+use crate::request::{Request, hasher_of, snapshot_request};
 use crate::stats::print_stats;
+use crate::unpack::{Packed, unpack};
 use crate::why::print_why;
-use crate::words::{Task, task_of};
+use crate::words::{Look, Task, task_of};
 use anyhow::{Result, bail};
 use cck_cache_files::{Kind, StoreDirectory, open_store};
+use cck_files::MapFiles;
+use cck_snapshot::preprocessor_key;
+use cck_util::Sha256State;
 use clap::Error;
 use std::io::{Read, Write};
 use std::rt::Files;
@@ -31,10 +35,16 @@ fn run_key<R: Files + AllocGlobal, W: Write>(
     writer: &mut W,
 ) -> Result<u8> {
     let alloc = rt.alloc();
-    let hasher = hasher_of(rt, environment, request, None)?;
+    let hasher = hasher_of(rt, environment, request)?;
     let mut files = input_snapshot(rt, request)?.files;
-    let (directory, now) = (request.directory, environment.now);
-    match preprocessor_key(alloc, environment, &hasher, &mut files, directory, now)? {
+    let asked = snapshot_request(
+        environment,
+        &hasher,
+        request.directory,
+        environment.now,
+        &[],
+    );
+    match preprocessor_key::<Sha256State, MapFiles>(alloc, &mut files, &asked)? {
         Some(key) => {
             writeln!(writer, "{key}")?;
             Ok(DONE)
@@ -51,18 +61,17 @@ fn run_look<R: Files + AllocGlobal, W: Write, E: Write>(
     rt: &R,
     environment: &Environment<'_>,
     store: &StoreDirectory,
-    request: &Request<'_>,
-    out: &str,
+    asked: &Look<'_>,
     writer: &mut W,
     errors: &mut E,
 ) -> Result<u8> {
-    match look(rt, environment, store, request)? {
+    match look(rt, environment, store, asked.entry, &asked.request)? {
         Found::Hit {
             preprocessor_key,
             key,
             object,
         } => {
-            store.replace(rt, out, &object.object)?;
+            store.replace(rt, asked.out, &object.object)?;
             errors.write_all(&object.messages)?;
             // Neither a time nor a count decides whether this is a hit.
             let _ = store.touch(rt, Kind::Object, key.as_str(), environment.now);
@@ -74,11 +83,15 @@ fn run_look<R: Files + AllocGlobal, W: Write, E: Write>(
         Found::Miss {
             key,
             since,
+            object,
             damaged,
         } => {
             let (seconds, nanoseconds) = (since.seconds(), since.nanoseconds());
             let _ = store.count(rt, "miss");
             write!(writer, "miss {key} {seconds}.{nanoseconds:09}")?;
+            if let Some(object) = object {
+                write!(writer, " object {object}")?;
+            }
             if let Some(path) = damaged {
                 write!(writer, " damaged {path}")?;
             }
@@ -93,6 +106,25 @@ fn run_look<R: Files + AllocGlobal, W: Write, E: Write>(
     }
 }
 
+// Writes the object of an object file. The compiler's messages go to `errors`.
+fn run_unpack<R: Files + AllocGlobal, W: Write, E: Write>(
+    rt: &R,
+    store: &StoreDirectory,
+    packed: &Packed<'_>,
+    writer: &mut W,
+    errors: &mut E,
+) -> Result<u8> {
+    if unpack(rt, store, packed, errors)? {
+        let _ = store.count(rt, "unpacked");
+        writeln!(writer, "hit {}", packed.key)?;
+        Ok(DONE)
+    } else {
+        let _ = store.count(rt, "damaged");
+        writeln!(writer, "damaged {}", packed.path)?;
+        Ok(MISS)
+    }
+}
+
 // Records a compilation.
 fn run_record<R: Files + AllocGlobal, W: Write>(
     rt: &R,
@@ -100,7 +132,7 @@ fn run_record<R: Files + AllocGlobal, W: Write>(
     store: &StoreDirectory,
     request: &Request<'_>,
     compilation: &Compilation<'_>,
-    text: Vec<u8>,
+    text: &[u8],
     writer: &mut W,
 ) -> Result<u8> {
     match record(rt, environment, store, request, compilation, text)? {
@@ -129,13 +161,13 @@ fn run_task<R: Files + AllocGlobal + Clone + Drop, W: Write, E: Write>(
     let id = environment.id;
     match task {
         Task::Key(request) => return run_key(rt, environment, &request, writer),
-        Task::Look {
-            store,
-            out,
-            request,
-        } => {
+        Task::Look(asked) => {
+            let store = open_store(rt, asked.store, id)?;
+            return run_look(rt, environment, &store, &asked, writer, errors);
+        }
+        Task::Unpack { store, packed } => {
             let store = open_store(rt, store, id)?;
-            return run_look(rt, environment, &store, &request, out, writer, errors);
+            return run_unpack(rt, &store, &packed, writer, errors);
         }
         Task::Stats { store } => print_stats(rt, &open_store(rt, store, id)?, writer)?,
         Task::Prune { store, max_size } => {
@@ -146,7 +178,7 @@ fn run_task<R: Files + AllocGlobal + Clone + Drop, W: Write, E: Write>(
             let store = open_store(rt, store, id)?;
             print_why(rt, environment, &store, &request, writer)?;
         }
-        Task::Record { .. } => bail!("a recording has a text"),
+        Task::Record { .. } | Task::ObjectKey(_) => bail!("no text"),
     }
     Ok(DONE)
 }
@@ -175,9 +207,16 @@ fn run_with_text<R: Files + AllocGlobal + Clone + Drop, I: Read, W: Write, E: Wr
                 &store,
                 &request,
                 &compilation,
-                text,
+                &text,
                 writer,
             )
+        }
+        Task::ObjectKey(request) => {
+            let mut text = Vec::new(rt.alloc());
+            reader.read_to_end(&mut text)?;
+            let key = object_key(rt, environment, &request, &text)?;
+            writeln!(writer, "{key}")?;
+            Ok(DONE)
         }
         task => run_task(rt, environment, task, writer, errors),
     }
@@ -208,7 +247,7 @@ pub fn run<R: Files + AllocGlobal + Clone + Drop, I: Read, W: Write, E: Write>(
 ) -> Result<u8> {
     match task_of(rt.alloc(), words) {
         Ok(Some(task)) => run_with_text(rt, environment, task, reader, writer, errors),
-        Ok(None) => bail!("a stamp or a size is no number"),
+        Ok(None) => bail!("a stamp or a size is no number, or an option is missing"),
         Err(error) => explain(&error, writer, errors),
     }
 }

@@ -1,20 +1,22 @@
 //! Records a compilation in the store.
 use crate::absence::{Absence, absence_of};
-use crate::entry_calls::{Recorded, record_entry};
+use crate::base::{bases_of, shows_base};
 use crate::environment::Environment;
-use crate::key::{InputSnapshot, input_snapshot, preprocessor_key};
+use crate::input::{InputSnapshot, input_snapshot};
 use crate::refusal::Refusal;
-use crate::request::{Request, hasher_of};
-use crate::text_compiler::TextCompiler;
-use anyhow::{Result, anyhow};
-use c_cache_keys::CCompilerHasher;
+use crate::request::{Request, hasher_of, snapshot_request};
+use anyhow::Result;
 use cck_cache_entry::{EntryFile, ObjectFile, may_include};
 use cck_cache_files::{Kind, PathStates, StoreDirectory, add_named_files};
+use cck_files::MapFiles;
 use cck_path::Timestamp;
+use cck_snapshot::{
+    RecordedEntry, Recording, Request as SnapshotRequest, preprocessor_key, record_text,
+};
 use cck_util::Sha256State;
 use jiff::tz::TimeZone;
-use std::fs;
 use std::rt::Files;
+use std::{fs, io};
 
 /// What is recorded beside the compilation that was asked for.
 #[derive(Drop)]
@@ -23,10 +25,21 @@ pub struct Compilation<'a> {
     pub since: Timestamp,
     /// The preprocessor key that the look-up printed.
     pub key: &'a str,
-    /// The path of the object.
-    pub object: &'a str,
     /// The path of what the compiler printed of its directories.
     pub search: &'a str,
+    /// What the compiler made. `None` where the object is there, and the entry alone is recorded.
+    pub made: Option<Made<'a>>,
+    /// The path to which the entry file is written in place of the store's.
+    pub entry_out: Option<&'a str>,
+    /// The path to which the object file is written in place of the store's.
+    pub object_out: Option<&'a str>,
+}
+
+/// What a compiler made.
+#[derive(Drop)]
+pub struct Made<'a> {
+    /// The path of the object.
+    pub object: &'a str,
     /// The path of what the compiler printed when the object was made.
     pub messages: &'a str,
 }
@@ -51,25 +64,61 @@ fn is_one_day(zone: &TimeZone<'_>, a: Timestamp, b: Timestamp) -> bool {
     zone.to_datetime(a).date() == zone.to_datetime(b).date()
 }
 
-// Why a compilation is refused by its input, its time or its text alone.
-fn refusal_of<R: Files + AllocGlobal>(
+// What a recording looks at.
+enum Seen {
+    // The input and the files that the text names, and the paths that must stay absent.
+    Files(InputSnapshot, Vec<Vec<u8>>),
+    // The compilation is not recorded.
+    Refused(Refusal),
+}
+
+// Reads the files that a text names.
+fn see<R: Files + AllocGlobal>(
     rt: &R,
-    environment: &Environment<'_>,
-    hasher: &CCompilerHasher<TextCompiler>,
-    snapshot: &mut InputSnapshot,
     request: &Request<'_>,
     compilation: &Compilation<'_>,
+    text: &[u8],
+) -> Result<Seen> {
+    let mut snapshot = input_snapshot(rt, request)?;
+    let directory = request.directory;
+    let mut states = PathStates::new(rt, compilation.since);
+    let printed = fs::read(rt, compilation.search)?;
+    if may_include(rt.alloc(), text)? {
+        return Ok(Seen::Refused(Refusal::AssemblerInclude));
+    }
+    let absent_paths = match absence_of(rt, &mut states, directory, text, &printed)? {
+        Absence::Refused(refusal) => return Ok(Seen::Refused(refusal)),
+        Absence::Paths(paths) => paths,
+    };
+    let tests = add_named_files(
+        rt,
+        &mut snapshot.files,
+        &mut states,
+        directory.as_bytes(),
+        text,
+    )?;
+    if tests {
+        return Ok(Seen::Refused(Refusal::HeaderTest));
+    }
+    Ok(Seen::Files(snapshot, absent_paths))
+}
+
+// Why a compilation is refused by its input or its time alone.
+fn refusal_of<R: AllocGlobal>(
+    rt: &R,
+    environment: &Environment<'_>,
+    asked: &SnapshotRequest<'_>,
+    snapshot: &mut InputSnapshot,
+    key: &str,
 ) -> Result<Option<Refusal>> {
-    let alloc = rt.alloc();
-    let (directory, since) = (request.directory, compilation.since);
     let files = &mut snapshot.files;
-    let Some(key) = preprocessor_key(alloc, environment, hasher, files, directory, since)? else {
+    let Some(found) = preprocessor_key::<Sha256State, MapFiles>(rt.alloc(), files, asked)? else {
         return Ok(Some(Refusal::NoKey));
     };
-    if key.as_str() != compilation.key {
+    if found.as_str() != key {
         return Ok(Some(Refusal::InputChanged));
     }
-    if !is_one_day(&environment.zone, since, environment.now) {
+    if !is_one_day(asked.zone, asked.moment, environment.now) {
         return Ok(Some(Refusal::DayChanged));
     }
     if snapshot.tests_headers {
@@ -78,34 +127,103 @@ fn refusal_of<R: Files + AllocGlobal>(
     Ok(None)
 }
 
-// Why a compilation is refused by its text.
-fn text_refusal<R: AllocGlobal>(rt: &R, text: &[u8]) -> Result<Option<Refusal>> {
-    if may_include(rt.alloc(), text)? {
-        Ok(Some(Refusal::AssemblerInclude))
-    } else {
-        Ok(None)
+// Writes a file of the store, to this path, if one is given, in place of the store's.
+fn write_file<R: Files + AllocGlobal>(
+    rt: &R,
+    store: &StoreDirectory,
+    kind: Kind,
+    key: &str,
+    path: Option<&str>,
+    bytes: &[u8],
+) -> io::Result<()> {
+    match path {
+        Some(path) => store.replace(rt, path, bytes),
+        None => store.write(rt, kind, key, bytes),
     }
 }
 
-// Writes the object file, and then the entry file.
+// Writes the object file, if the compiler made an object, and then the entry file.
 fn write_files<R: Files + AllocGlobal>(
     rt: &R,
     store: &StoreDirectory,
     compilation: &Compilation<'_>,
+    object: Option<&ObjectFile>,
     key: &str,
     file: &EntryFile,
 ) -> Result<()> {
     let alloc = rt.alloc();
-    let object = ObjectFile {
-        key: key.as_bytes().to_vec(alloc)?,
-        object: fs::read(rt, compilation.object)?,
-        messages: fs::read(rt, compilation.messages)?,
-    };
-    let bytes = object.write::<Sha256State>(alloc)?;
-    store.write(rt, Kind::Object, key, &bytes)?;
+    if let Some(object) = object {
+        let bytes = object.write::<Sha256State>(alloc)?;
+        write_file(rt, store, Kind::Object, key, compilation.object_out, &bytes)?;
+    }
     let bytes = file.write::<Sha256State>(alloc)?;
-    store.write(rt, Kind::Entry, compilation.key, &bytes)?;
+    write_file(
+        rt,
+        store,
+        Kind::Entry,
+        compilation.key,
+        compilation.entry_out,
+        &bytes,
+    )?;
     Ok(())
+}
+
+// The object file of what the compiler made.
+fn object_of<R: Files + AllocGlobal>(
+    rt: &R,
+    compilation: &Compilation<'_>,
+    key: &str,
+) -> Result<Option<ObjectFile>> {
+    match &compilation.made {
+        Some(made) => Ok(Some(ObjectFile {
+            key: key.as_bytes().to_vec(rt.alloc())?,
+            object: fs::read(rt, made.object)?,
+            messages: fs::read(rt, made.messages)?,
+        })),
+        None => Ok(None),
+    }
+}
+
+// Whether one of these base directories is in the object or in the messages.
+fn object_shows_base(bases: &[Vec<u8>], object: Option<&ObjectFile>) -> bool {
+    match object {
+        Some(object) => shows_base(bases, &object.object) || shows_base(bases, &object.messages),
+        None => false,
+    }
+}
+
+/// The key of the object that is compiled from this preprocessed text.
+pub fn object_key<R: Files + AllocGlobal>(
+    rt: &R,
+    environment: &Environment<'_>,
+    request: &Request<'_>,
+    text: &[u8],
+) -> Result<String> {
+    let alloc = rt.alloc();
+    let mut files = input_snapshot(rt, request)?.files;
+    let bases = bases_of(alloc, request, text)?;
+    let hasher = hasher_of(rt, environment, request)?;
+    let (directory, now) = (request.directory, environment.now);
+    let asked = snapshot_request(environment, &hasher, directory, now, &bases);
+    let recording = record_text::<Sha256State, MapFiles>(alloc, &mut files, &asked, text)?;
+    Ok(recording.key)
+}
+
+// Writes what was recorded of a compilation, unless a base directory is in what the compiler made.
+fn keep<R: Files + AllocGlobal>(
+    rt: &R,
+    store: &StoreDirectory,
+    compilation: &Compilation<'_>,
+    bases: &[Vec<u8>],
+    key: &str,
+    file: &EntryFile,
+) -> Result<Option<Refusal>> {
+    let object = object_of(rt, compilation, key)?;
+    if object_shows_base(bases, object.as_ref()) {
+        return Ok(Some(Refusal::BaseDirectory));
+    }
+    write_files(rt, store, compilation, object.as_ref(), key, file)?;
+    Ok(None)
 }
 
 /// Records a compilation whose preprocessed text is this, after it was compiled.
@@ -115,62 +233,39 @@ pub fn record<R: Files + AllocGlobal>(
     store: &StoreDirectory,
     request: &Request<'_>,
     compilation: &Compilation<'_>,
-    text: Vec<u8>,
+    text: &[u8],
 ) -> Result<Outcome> {
     let alloc = rt.alloc();
-    let mut snapshot = input_snapshot(rt, request)?;
-    let directory = request.directory;
-    let mut states = PathStates::new(rt, compilation.since);
-    let printed = fs::read(rt, compilation.search)?;
-    if let Some(refusal) = text_refusal(rt, &text)? {
+    let (mut snapshot, absent_paths) = match see(rt, request, compilation, text)? {
+        Seen::Refused(refusal) => return Ok(Outcome::Refused(refusal)),
+        Seen::Files(snapshot, absent_paths) => (snapshot, absent_paths),
+    };
+    let bases = bases_of(alloc, request, text)?;
+    let hasher = hasher_of(rt, environment, request)?;
+    let (directory, since) = (request.directory, compilation.since);
+    let asked = snapshot_request(environment, &hasher, directory, since, &bases);
+    let key = compilation.key;
+    if let Some(refusal) = refusal_of(rt, environment, &asked, &mut snapshot, key)? {
         return Ok(Outcome::Refused(refusal));
     }
-    let absent_paths = match absence_of(rt, &mut states, directory, &text, &printed)? {
-        Absence::Refused(refusal) => return Ok(Outcome::Refused(refusal)),
-        Absence::Paths(paths) => paths,
-    };
-    let tests = add_named_files(
-        rt,
-        &mut snapshot.files,
-        &mut states,
-        directory.as_bytes(),
-        &text,
-    )?;
-    if tests {
-        return Ok(Outcome::Refused(Refusal::HeaderTest));
-    }
-    let hasher = hasher_of(rt, environment, request, Some(text))?;
-    if let Some(refusal) = refusal_of(
-        rt,
-        environment,
-        &hasher,
-        &mut snapshot,
-        request,
-        compilation,
-    )? {
-        return Ok(Outcome::Refused(refusal));
-    }
-    let outcome = record_entry(
-        alloc,
-        environment,
-        &hasher,
-        directory,
-        &mut snapshot.files,
-        compilation.key,
-        compilation.since,
-    );
-    let Recorded { key, entry } = match outcome {
-        Ok(recorded) => recorded,
-        Err(error) => return Err(anyhow!("{error}")),
-    };
-    let Some(entry) = entry else {
+    let files = &mut snapshot.files;
+    let Recording { key, put } = record_text::<Sha256State, MapFiles>(alloc, files, &asked, text)?;
+    let Some(
+        RecordedEntry {
+            preprocessor_key,
+            bytes,
+        },
+    ) = put
+    else {
         return Ok(Outcome::Refused(Refusal::NamedFile));
     };
     let file = EntryFile {
-        preprocessor_key: compilation.key.as_bytes().to_vec(alloc)?,
-        entry,
+        preprocessor_key: preprocessor_key.into_bytes(),
+        entry: bytes,
         absent_paths,
     };
-    write_files(rt, store, compilation, key.as_str(), &file)?;
-    Ok(Outcome::Recorded(key))
+    match keep(rt, store, compilation, &bases, key.as_str(), &file)? {
+        Some(refusal) => Ok(Outcome::Refused(refusal)),
+        None => Ok(Outcome::Recorded(key)),
+    }
 }

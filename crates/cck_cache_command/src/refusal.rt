@@ -21,6 +21,8 @@ pub enum Refusal {
     EarlierPath,
     /// The walk over the text's files refused one.
     NamedFile,
+    /// The object or the messages have the base directory.
+    BaseDirectory,
 }
 
 impl Refusal {
@@ -36,6 +38,7 @@ impl Refusal {
             Refusal::AssemblerInclude => "refused-assembler-include",
             Refusal::EarlierPath => "refused-earlier-path",
             Refusal::NamedFile => "refused-named-file",
+            Refusal::BaseDirectory => "refused-base-directory",
         }
     }
 }

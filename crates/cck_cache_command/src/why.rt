@@ -1,15 +1,16 @@
 //! Says why a look-up misses.
 use crate::absence::first_present;
 use crate::environment::Environment;
-use crate::key::{input_snapshot, preprocessor_key};
+use crate::input::input_snapshot;
 use crate::look::{Kept, add_entry_files, read_entry};
-use crate::request::{Request, hasher_of};
+use crate::request::{Request, hasher_of, snapshot_request};
 use anyhow::Result;
 use cck_cache_entry::EntryFile;
 use cck_cache_files::{Kind, StoreDirectory};
 use cck_entry::PreprocessorCacheEntry;
 use cck_files::MapFiles;
 use cck_include::{IncludeEntry, JudgeContext, KnownFiles, include_matches};
+use cck_snapshot::preprocessor_key;
 use cck_util::Sha256State;
 use std::io::Write;
 use std::rt::Files;
@@ -85,16 +86,21 @@ pub fn print_why<R: Files + AllocGlobal, W: Write>(
     writer: &mut W,
 ) -> Result<()> {
     let alloc = rt.alloc();
-    let hasher = hasher_of(rt, environment, request, None)?;
+    let hasher = hasher_of(rt, environment, request)?;
     let mut files = input_snapshot(rt, request)?.files;
-    let (directory, now) = (request.directory, environment.now);
-    let Some(key) = preprocessor_key(alloc, environment, &hasher, &mut files, directory, now)?
-    else {
+    let asked = snapshot_request(
+        environment,
+        &hasher,
+        request.directory,
+        environment.now,
+        &[],
+    );
+    let Some(key) = preprocessor_key::<Sha256State, MapFiles>(alloc, &mut files, &asked)? else {
         writeln!(writer, "none: the input shows the time")?;
         return Ok(());
     };
     writeln!(writer, "key {key}")?;
-    match read_entry(rt, store, key.as_str())? {
+    match read_entry(rt, store, None, key.as_str())? {
         Kept::Nothing => writeln!(writer, "no entry")?,
         Kept::Damaged => {
             let path = store.path_of(rt, Kind::Entry, key.as_str())?;

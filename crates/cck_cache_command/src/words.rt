@@ -1,6 +1,7 @@
 //! The words of the command line.
-use crate::record::Compilation;
+use crate::record::{Compilation, Made};
 use crate::request::Request;
+use crate::unpack::Packed;
 use cck_path::Timestamp;
 use clap::{Arg, ArgAction, ArgMatches, Command, Error};
 use std::alloc::Global;
@@ -8,19 +9,34 @@ use std::alloc::Global;
 /// The version of the program.
 const VERSION: &str = "0.19.0";
 
+/// What the words of `look` ask for.
+#[derive(Drop)]
+pub struct Look<'a> {
+    /// The path of the store.
+    pub store: &'a str,
+    /// The path of an entry file that is read in place of the store's.
+    pub entry: Option<&'a str>,
+    /// The path to which the object is written.
+    pub out: &'a str,
+    /// The request.
+    pub request: Request<'a>,
+}
+
 /// What the words ask for.
 #[derive(Drop)]
 pub enum Task<'a> {
     /// The preprocessor key of a request.
     Key(Request<'a>),
+    /// The key of the object of a request, from its preprocessed text.
+    ObjectKey(Request<'a>),
     /// The object of a request, from the store.
-    Look {
+    Look(Look<'a>),
+    /// The object of an object file.
+    Unpack {
         /// The path of the store.
         store: &'a str,
-        /// The path to which the object is written.
-        out: &'a str,
-        /// The request.
-        request: Request<'a>,
+        /// The object file.
+        packed: Packed<'a>,
     },
     /// The recording of a compilation.
     Record {
@@ -52,14 +68,18 @@ pub enum Task<'a> {
     },
 }
 
-// A required option that takes a value.
-fn option_arg<'a>(alloc: Global, name: &'a str, value: &'a str, help: &'a str) -> Arg<'a> {
+// An option that takes a value and may be left out.
+fn extra_arg<'a>(alloc: Global, name: &'a str, value: &'a str, help: &'a str) -> Arg<'a> {
     Arg::new(alloc, name)
         .long(name)
         .value_name(value)
-        .required(true)
         .action(ArgAction::Set)
         .help(help)
+}
+
+// A required option that takes a value.
+fn option_arg<'a>(alloc: Global, name: &'a str, value: &'a str, help: &'a str) -> Arg<'a> {
+    extra_arg(alloc, name, value, help).required(true)
 }
 
 // A command with the words of a request after its own.
@@ -81,6 +101,18 @@ fn with_request<'a>(alloc: Global, command: Command<'a>) -> Result<Command<'a>, 
                 "The programs that the compiler runs, with colons between them",
             ))?
             .arg(option_arg(alloc, "directory", "DIR", "The working directory"))?
+            .arg(extra_arg(
+                alloc,
+                "digests",
+                "STORE",
+                "Counts the programs by their contents, whose digests this store keeps",
+            ))?
+            .arg(extra_arg(
+                alloc,
+                "base",
+                "DIR",
+                "The base directory, which objects that do not depend on it are shared without",
+            ))?
             .arg(input)?
             .arg(arguments)?,
     )
@@ -99,11 +131,37 @@ fn key_command<'a>(alloc: Global) -> Result<Command<'a>, Error> {
     with_request(alloc, command)
 }
 
+// The command `object-key`.
+fn object_key_command<'a>(alloc: Global) -> Result<Command<'a>, Error> {
+    let command = Command::new(alloc, "object-key").about(
+        "Prints the key of the object whose preprocessed text is read from standard input",
+    );
+    with_request(alloc, command)
+}
+
+// The command `unpack`.
+fn unpack_command<'a>(alloc: Global) -> Result<Command<'a>, Error> {
+    Ok(
+        Command::new(alloc, "unpack")
+            .about("Writes the object that an object file has")
+            .arg(option_arg(alloc, "key", "KEY", "The key of the object"))?
+            .arg(option_arg(alloc, "object", "FILE", "The object file"))?
+            .arg(option_arg(alloc, "out", "FILE", "Where the object is written"))?
+            .arg(store_arg(alloc))?,
+    )
+}
+
 // The command `look`.
 fn look_command<'a>(alloc: Global) -> Result<Command<'a>, Error> {
     let command = Command::new(alloc, "look")
         .about("Writes the object from the store")
         .arg(option_arg(alloc, "out", "FILE", "Where the object is written"))?
+        .arg(extra_arg(
+            alloc,
+            "entry",
+            "FILE",
+            "An entry file that is read in place of the store's",
+        ))?
         .arg(store_arg(alloc))?;
     with_request(alloc, command)
 }
@@ -119,18 +177,35 @@ fn record_command<'a>(alloc: Global) -> Result<Command<'a>, Error> {
             "KEY",
             "The preprocessor key that the look-up printed",
         ))?
-        .arg(option_arg(alloc, "object", "FILE", "The object"))?
         .arg(option_arg(
             alloc,
             "search",
             "FILE",
             "What `-E -v` printed on standard error",
         ))?
-        .arg(option_arg(
+        .arg(extra_arg(
+            alloc,
+            "object",
+            "FILE",
+            "The object; without it the entry alone is recorded",
+        ))?
+        .arg(extra_arg(
             alloc,
             "messages",
             "FILE",
             "What the compilation printed on standard error",
+        ))?
+        .arg(extra_arg(
+            alloc,
+            "entry-out",
+            "FILE",
+            "Where the entry file is written in place of the store's",
+        ))?
+        .arg(extra_arg(
+            alloc,
+            "object-out",
+            "FILE",
+            "Where the object file is written in place of the store's",
         ))?
         .arg(store_arg(alloc))?;
     with_request(alloc, command)
@@ -177,7 +252,9 @@ fn program<'a>(alloc: Global) -> Result<Command<'a>, Error> {
             .about("Keeps the objects of compilations")
             .subcommand_required(true)
             .subcommand(key_command(alloc)?)?
+            .subcommand(object_key_command(alloc)?)?
             .subcommand(look_command(alloc)?)?
+            .subcommand(unpack_command(alloc)?)?
             .subcommand(record_command(alloc)?)?
             .subcommand(stats_command(alloc)?)?
             .subcommand(prune_command(alloc)?)?
@@ -210,6 +287,8 @@ fn request_of<'a>(alloc: Global, matches: &ArgMatches<'a>) -> Result<Option<Requ
         directory,
         input,
         arguments: arguments_of(alloc, matches)?,
+        digests: matches.get_str("digests"),
+        base: matches.get_str("base"),
     }))
 }
 
@@ -227,11 +306,33 @@ fn stamp_of(text: &str) -> Option<Timestamp> {
 
 // The task in the words of `look`.
 fn look_task<'a>(matches: &ArgMatches<'a>, request: Request<'a>) -> Option<Task<'a>> {
-    Some(Task::Look {
+    Some(Task::Look(Look {
         store: matches.get_str("STORE")?,
+        entry: matches.get_str("entry"),
         out: matches.get_str("out")?,
         request,
+    }))
+}
+
+// The task in the words of `unpack`.
+fn unpack_task<'a>(matches: &ArgMatches<'a>) -> Option<Task<'a>> {
+    Some(Task::Unpack {
+        store: matches.get_str("STORE")?,
+        packed: Packed {
+            key: matches.get_str("key")?,
+            path: matches.get_str("object")?,
+            out: matches.get_str("out")?,
+        },
     })
+}
+
+// What the compiler made, in the words of `record`: both paths, or none of them.
+fn made_of<'a>(matches: &ArgMatches<'a>) -> Option<Option<Made<'a>>> {
+    match (matches.get_str("object"), matches.get_str("messages")) {
+        (Some(object), Some(messages)) => Some(Some(Made { object, messages })),
+        (None, None) => Some(None),
+        _ => None,
+    }
 }
 
 // The task in the words of `record`.
@@ -242,9 +343,10 @@ fn record_task<'a>(matches: &ArgMatches<'a>, request: Request<'a>) -> Option<Tas
         compilation: Compilation {
             since: stamp_of(matches.get_str("since")?)?,
             key: matches.get_str("key")?,
-            object: matches.get_str("object")?,
             search: matches.get_str("search")?,
-            messages: matches.get_str("messages")?,
+            made: made_of(matches)?,
+            entry_out: matches.get_str("entry-out"),
+            object_out: matches.get_str("object-out"),
         },
     })
 }
@@ -268,6 +370,7 @@ fn request_task<'a>(
     };
     Ok(match name {
         "key" => Some(Task::Key(request)),
+        "object-key" => Some(Task::ObjectKey(request)),
         "look" => look_task(matches, request),
         "record" => record_task(matches, request),
         "why" => why_task(matches, request),
@@ -303,6 +406,7 @@ pub fn task_of<'a>(alloc: Global, words: &'a [String]) -> Result<Option<Task<'a>
     match name {
         "stats" => Ok(stats_task(command)),
         "prune" => Ok(prune_task(command)),
+        "unpack" => Ok(unpack_task(command)),
         _ => request_task(alloc, name, command),
     }
 }

@@ -1,0 +1,7 @@
+pub mod AbsentLemmas
+mod AssemblerExamples
+pub mod NameLemmas
+pub mod ReadingLemmas
+pub mod SearchLemmas
+pub mod SetLemmas
+pub mod StoredLemmas

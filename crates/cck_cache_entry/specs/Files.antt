@@ -1,15 +1,48 @@
 -- the bytes of entry files and of object files
-use Rattle.std.specs.Prelude.{ℕ, List, [], ◌∷◌, map, codes}
+use Rattle.std.specs.Prelude.{ℕ, List, [], ◌∷◌, codes}
 use Rattle.cck_cache_entry.specs.Stored.{stored_file}
+use Rattle.cck_cache_entry.specs.Reading.{byte_lists}
 use Rattle.cck_cache_entry.specs.declared.entry_file.EntryFile.{EntryFile}
 use Rattle.cck_cache_entry.specs.declared.object_file.ObjectFile.{ObjectFile}
 
--- an entry file: the preprocessor key, the entry and each absent path
-abbrev pub entry_file : (List ℕ → List ℕ) → EntryFile → List ℕ
-entry_file hash file = stored_file hash (codes "cck entry 1\n")
-    (file.preprocessor_key.items ∷ file.entry.items ∷ map (λ p. p.items) file.absent_paths.items)
+-- what an entry file holds
+pub record EntryFields : Type 0 where
+  pub preprocessor_key : List ℕ
+  pub entry : List ℕ
+  pub absent_paths : List (List ℕ)
 
--- an object file of the store: the key, the object and the messages
-abbrev pub object_file : (List ℕ → List ℕ) → ObjectFile → List ℕ
-object_file hash file = stored_file hash (codes "cck object 1\n")
-    (file.key.items ∷ file.object.items ∷ file.messages.items ∷ [])
+abbrev pub entry_fields : EntryFile → EntryFields
+entry_fields file = record {
+  preprocessor_key = file.preprocessor_key.items;
+  entry = file.entry.items;
+  absent_paths = byte_lists file.absent_paths;
+}
+
+-- what an object file of the store holds
+pub record ObjectFields : Type 0 where
+  pub key : List ℕ
+  pub object : List ℕ
+  pub messages : List ℕ
+
+abbrev pub object_fields : ObjectFile → ObjectFields
+object_fields file = record {
+  key = file.key.items;
+  object = file.object.items;
+  messages = file.messages.items;
+}
+
+-- the parts of an entry file: the preprocessor key, the entry and each absent path
+abbrev pub entry_parts : EntryFields → List (List ℕ)
+entry_parts file = file.preprocessor_key ∷ file.entry ∷ file.absent_paths
+
+-- the parts of an object file: the key, the object and the messages
+abbrev pub object_parts : ObjectFields → List (List ℕ)
+object_parts file = file.key ∷ file.object ∷ file.messages ∷ []
+
+-- an entry file
+abbrev pub entry_file : (List ℕ → List ℕ) → EntryFields → List ℕ
+entry_file hash file = stored_file hash (codes "cck entry 1\n") (entry_parts file)
+
+-- an object file of the store
+abbrev pub object_file : (List ℕ → List ℕ) → ObjectFields → List ℕ
+object_file hash file = stored_file hash (codes "cck object 1\n") (object_parts file)

@@ -1,2 +1,9 @@
+pub mod Absent
+pub mod Assembler
 pub mod Files
+pub mod Frames
+pub mod Names
+pub mod Reading
+pub mod SearchList
+pub mod Sets
 pub mod Stored

@@ -1,104 +1,117 @@
 //! The paths at which a preprocessor looked for headers in vain.
+ghost use Rattle.std.specs.Prelude.{◌≡◌, ◌<◌, ◌↔◌, ◌++◌, Contains, IfOk, IsTrue, List, OnOk, [], get_or, length, map, true, ℕ};
+ghost use Rattle.std.specs.Option.{option_map};
+ghost use Rattle.cck_markers.specs.Marks as spec;
+ghost use Rattle.cck_markers.specs.Marks.{Marks};
+ghost use Rattle.cck_cache_entry.specs.Absent.{AreAbsentNames, AreAdded, IsBefore, IsBeside, IsForName, IsListed, IsWithin, path_in};
+ghost use Rattle.cck_cache_entry.specs.Reading.{Reads, byte_lists};
+ghost use Rattle.cck_cache_entry.specs.SearchList.{search_fields};
+ghost use Rattle.cck_cache_entry.specs.Sets.{Adds, IsSetOf, has};
+
+use crate::names::{Named, names_in};
 use crate::search_list::SearchList;
-use cck_markers::{Mark, Markers};
 use std::alloc::{AllocError, Global};
 use std::collections::BTreeSet;
 
-/// The names of the files that a text was made of.
-#[derive(Drop)]
-struct Named {
-    /// All names.
-    names: BTreeSet<Vec<u8>>,
-    /// Those of system headers.
-    systems: BTreeSet<Vec<u8>>,
-    /// The directories of all names, each empty or ending in a slash.
-    directories: BTreeSet<Vec<u8>>,
-}
-
-// Whether a name is of no file: `<built-in>` and the like, or a working directory.
-fn is_no_file(name: &[u8]) -> bool {
-    name.is_empty() || name.starts_with(b"<") || name.ends_with(b"//")
-}
-
-// A name up to its last slash, which is part of it.
-fn directory_of(name: &[u8]) -> &[u8] {
-    match name.iter().rposition(|byte| *byte == b'/') {
-        Some(at) if at < name.len() => &name[..=at],
-        _ => b"",
-    }
-}
-
-// The names in a text. The working directory is always among the directories.
-fn names_in(alloc: Global, text: &[u8]) -> Result<Named, AllocError> {
-    let mut named = Named {
-        names: BTreeSet::new(alloc),
-        systems: BTreeSet::new(alloc),
-        directories: BTreeSet::new(alloc),
-    };
-    named.directories.insert(Vec::new(alloc))?;
-    let mut last: &[u8] = b"";
-    for mark in Markers::new(text) {
-        let Mark::Name { name, is_system } = mark else {
-            continue;
-        };
-        if name == last || is_no_file(name) {
-            continue;
-        }
-        last = name;
-        if !named.names.contains(name) {
-            named.names.insert(name.to_vec(alloc)?)?;
-            named.directories.insert(directory_of(name).to_vec(alloc)?)?;
-            if is_system {
-                named.systems.insert(name.to_vec(alloc)?)?;
-            }
-        }
-    }
-    Ok(named)
-}
-
 // A name in a directory, without the slash between them.
-fn within<'a>(name: &'a [u8], directory: &[u8]) -> Option<&'a [u8]> {
+fn within<'a>(name: &'a [u8], directory: &[u8]) -> Option<&'a [u8]>
+    ensures { Reads (path_in directory.now) name.now (option_map (λ rest. rest.now) result) }
+{
     name.strip_prefix(directory)?.strip_prefix(b"/".as_slice())
 }
 
 // These three, one after the other.
-fn joined(alloc: Global, a: &[u8], b: &[u8], c: &[u8]) -> Result<Vec<u8>, AllocError> {
+fn joined(alloc: Global, a: &[u8], b: &[u8], c: &[u8]) -> Result<Vec<u8>, AllocError>
+    ensures { IfOk result (λ all. all.items ≡ a.now ++ b.now ++ c.now) }
+{
     let mut all = a.to_vec(alloc)?;
     all.extend_from_slice(b)?;
     all.extend_from_slice(c)?;
     Ok(all)
 }
 
-// Adds a path, and the path of its precompiled header.
+// Adds a path.
+fn add(paths: &mut BTreeSet<Vec<u8>>, path: Vec<u8>) -> Result<(), AllocError>
+    ensures { OnOk result (Adds (λ absent. absent ≡ path.items) paths.old paths.new) }
+{
+    paths.insert(path)?;
+    Ok(())
+}
+
+// Adds the path of a precompiled header, and the path itself unless the text names it.
 fn add_path(
     alloc: Global,
     paths: &mut BTreeSet<Vec<u8>>,
     named: &Named,
     path: Vec<u8>,
-) -> Result<(), AllocError> {
-    paths.insert(joined(alloc, &path, b".gch", b"")?)?;
+) -> Result<(), AllocError>
+    ensures { OnOk result (Adds (IsBeside (has named.now.names) path.items) paths.old paths.new) }
+{
+    add(paths, joined(alloc, &path, b".gch", b"")?)?;
     if !named.names.contains(path.as_slice()) {
-        paths.insert(path)?;
+        add(paths, path)?;
     }
     Ok(())
 }
 
-// Adds the paths at which a name that was found in the directory at this place of the list would
-// have been found earlier.
-fn add_earlier(
+// Adds the rest of a name in the directory of each file of the text.
+fn add_in_places(
     alloc: Global,
     paths: &mut BTreeSet<Vec<u8>>,
     named: &Named,
-    earlier: &[Vec<u8>],
-    name: &[u8],
-) -> Result<(), AllocError> {
+    rest: &[u8],
+) -> Result<(), AllocError>
+    ensures { OnOk result (Adds (λ absent. (directory : List ℕ)
+        × IsTrue (has named.now.directories directory)
+        × IsBeside (has named.now.names) (directory ++ rest.now) absent) paths.old paths.new) }
+{
     for directory in &named.directories {
-        add_path(alloc, paths, named, joined(alloc, directory, name, b"")?)?;
-    }
-    for directory in earlier {
-        add_path(alloc, paths, named, joined(alloc, directory, b"/", name)?)?;
+        add_path(alloc, paths, named, joined(alloc, directory, rest, b"")?)?;
     }
     Ok(())
+}
+
+// Adds the rest of a name in each of these directories.
+fn add_in(
+    alloc: Global,
+    paths: &mut BTreeSet<Vec<u8>>,
+    named: &Named,
+    directories: &[Vec<u8>],
+    rest: &[u8],
+) -> Result<(), AllocError>
+    ensures { OnOk result (Adds (λ absent. (place : ℕ) × (place < length directories.now)
+        × IsBeside (has named.now.names)
+        (path_in (get_or (map (λ d. d.items) directories.now) place []) rest.now) absent)
+        paths.old paths.new) }
+{
+    for directory in directories {
+        add_path(alloc, paths, named, joined(alloc, directory, b"/", rest)?)?;
+    }
+    Ok(())
+}
+
+// Adds the paths at which a name that is in the directory at this place of the list would have been
+// found earlier. Returns whether it is there.
+fn add_before(
+    alloc: Global,
+    paths: &mut BTreeSet<Vec<u8>>,
+    named: &Named,
+    directories: &[Vec<u8>],
+    place: usize,
+    name: &[u8],
+) -> Result<bool, AllocError>
+    requires { place < length directories.now }
+    ensures found { IfOk result (λ found.
+        IsTrue found ↔ IsWithin (map (λ d. d.items) directories.now) name.now place) }
+    ensures added { OnOk result (Adds (IsBefore (has named.now.directories) (has named.now.names)
+        (map (λ d. d.items) directories.now) name.now place) paths.old paths.new) }
+{
+    let Some(rest) = within(name, &directories[place]) else {
+        return Ok(false);
+    };
+    add_in_places(alloc, paths, named, rest)?;
+    add_in(alloc, paths, named, &directories[..place], rest)?;
+    Ok(true)
 }
 
 // Adds the paths for one name. Returns whether the name is in a directory of the list.
@@ -106,27 +119,58 @@ fn add_name(
     alloc: Global,
     paths: &mut BTreeSet<Vec<u8>>,
     named: &Named,
-    search: &SearchList,
+    directories: &[Vec<u8>],
     name: &[u8],
-) -> Result<bool, AllocError> {
-    paths.insert(joined(alloc, name, b".gch", b"")?)?;
+) -> Result<bool, AllocError>
+    ensures found { IfOk result (λ found.
+        IsTrue found ↔ IsListed (map (λ d. d.items) directories.now) name.now) }
+    ensures added { OnOk result (Adds (IsForName (has named.now.directories) (has named.now.names)
+        (map (λ d. d.items) directories.now) name.now) paths.old paths.new) }
+{
+    add(paths, joined(alloc, name, b".gch", b"")?)?;
     let mut is_found = false;
-    for (place, directory) in search.directories.iter().enumerate() {
-        if let Some(rest) = within(name, directory)
-            && place <= search.directories.len()
-        {
-            is_found = true;
-            let earlier = &search.directories[..place];
-            add_earlier(alloc, paths, named, earlier, rest)?;
-        }
+    for place in 0..directories.len() {
+        is_found |= add_before(alloc, paths, named, directories, place, name)?;
     }
     Ok(is_found)
+}
+
+// Adds the paths for all names. Returns `false` where a system header is in no directory of the
+// list.
+fn add_names(
+    alloc: Global,
+    paths: &mut BTreeSet<Vec<u8>>,
+    named: &Named,
+    directories: &[Vec<u8>],
+) -> Result<bool, AllocError>
+    ensures { IfOk result (AreAdded (has named.now.directories) (has named.now.names)
+        (has named.now.systems) (map (λ d. d.items) directories.now) paths.old paths.new) }
+{
+    for name in &named.names {
+        let is_found = add_name(alloc, paths, named, directories, name)?;
+        if !is_found && named.systems.contains(name.as_slice()) {
+            return Ok(false);
+        }
+    }
+    Ok(true)
+}
+
+// A set of these paths.
+fn set_of(alloc: Global, all: &[Vec<u8>]) -> Result<BTreeSet<Vec<u8>>, AllocError>
+    ensures { IfOk result (IsSetOf (Contains (map (λ path. path.items) all.now))) }
+{
+    let mut paths = BTreeSet::new(alloc);
+    for path in all {
+        add(&mut paths, path.to_vec(alloc)?)?;
+    }
+    Ok(paths)
 }
 
 /// The paths at which a header that this preprocessed text names would have been found earlier, in
 /// order: for each name in a directory of the list, that name in the directory of each file of the
 /// text and in each directory before it in the list; beside each path and each name its
-/// precompiled header `NAME.gch`; and the directories that the compiler left out of the list.
+/// precompiled header `NAME.gch`; and the directories that the compiler left out of the list. A
+/// path that the text names is not among them, unless it is a precompiled header or was left out.
 /// Paths may be relative to the working directory.
 ///
 /// `None` where a system header is in no directory of the list, so that it is not known where it
@@ -135,17 +179,15 @@ pub fn absent_names(
     alloc: Global,
     text: &[u8],
     search: &SearchList,
-) -> Result<Option<BTreeSet<Vec<u8>>>, AllocError> {
+) -> Result<Option<BTreeSet<Vec<u8>>>, AllocError>
+    ensures { IfOk result (λ found. (marks : List spec.Mark) → Marks true text.now marks
+        → AreAbsentNames marks (search_fields search.now) found) }
+{
     let named = names_in(alloc, text)?;
-    let mut paths = BTreeSet::new(alloc);
-    for directory in &search.missing {
-        paths.insert(directory.to_vec(alloc)?)?;
+    let mut paths = set_of(alloc, &search.missing)?;
+    if add_names(alloc, &mut paths, &named, &search.directories)? {
+        Ok(Some(paths))
+    } else {
+        Ok(None)
     }
-    for name in &named.names {
-        let is_found = add_name(alloc, &mut paths, &named, search, name)?;
-        if !is_found && named.systems.contains(name.as_slice()) {
-            return Ok(None);
-        }
-    }
-    Ok(Some(paths))
 }

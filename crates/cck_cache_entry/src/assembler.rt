@@ -1,4 +1,8 @@
 //! Directives of the assembler in the strings of a preprocessed text.
+ghost use Rattle.std.specs.Prelude.{◌≡◌, IfOk, OnOk};
+ghost use Rattle.cck_cache_entry.specs.Assembler.{after, ends_in_directive, is_found, joined_string, joins, may_include};
+ghost use Rattle.cck_cache_entry.specs.declared.assembler.Place.TheVariants as place;
+
 use std::alloc::{AllocError, Global};
 
 /// Where a scan of a text is.
@@ -19,7 +23,9 @@ enum Place {
 }
 
 // The place after a byte in code, from the byte before it.
-fn after_code(before: u8, byte: u8) -> Place {
+fn after_code(before: u8, byte: u8) -> Place
+    ensures { result ≡ after place.Code before byte }
+{
     match byte {
         b'#' if before == b'\n' => Place::Directive,
         b'"' => Place::String,
@@ -29,7 +35,9 @@ fn after_code(before: u8, byte: u8) -> Place {
 }
 
 // The place after a byte in a string literal.
-fn after_string(byte: u8) -> Place {
+fn after_string(byte: u8) -> Place
+    ensures { result ≡ after place.String 0 byte }
+{
     match byte {
         b'"' => Place::Code,
         b'\\' => Place::StringEscape,
@@ -39,7 +47,9 @@ fn after_string(byte: u8) -> Place {
 }
 
 // The place after a byte in a character constant.
-fn after_character(byte: u8) -> Place {
+fn after_character(byte: u8) -> Place
+    ensures { result ≡ after place.Character 0 byte }
+{
     match byte {
         b'\'' => Place::Code,
         b'\\' => Place::CharacterEscape,
@@ -49,7 +59,9 @@ fn after_character(byte: u8) -> Place {
 }
 
 // The place after a byte, from the byte before it.
-fn after(place: Place, before: u8, byte: u8) -> Place {
+fn after(place: Place, before: u8, byte: u8) -> Place
+    ensures { result ≡ after place before byte }
+{
     match place {
         Place::Code => after_code(before, byte),
         Place::Directive if byte == b'\n' => Place::Code,
@@ -62,13 +74,17 @@ fn after(place: Place, before: u8, byte: u8) -> Place {
 }
 
 // Whether a literal may be followed by another one of the same string after this byte of code.
-fn joins(byte: u8) -> bool {
+fn joins(byte: u8) -> bool
+    ensures { result ≡ joins byte }
+{
     byte.is_ascii_whitespace() || byte == b'"' || byte == b'#'
 }
 
 // Whether these bytes end in a directive that includes a file, or in the beginning of a macro of
 // the assembler, which may put such a directive together.
-fn ends_in_directive(string: &[u8]) -> bool {
+fn ends_in_directive(string: &[u8]) -> bool
+    ensures { result ≡ ends_in_directive string.now }
+{
     string.ends_with(b".incbin")
         || string.ends_with(b".include")
         || string.ends_with(b".macro")
@@ -76,30 +92,46 @@ fn ends_in_directive(string: &[u8]) -> bool {
         || string.ends_with(b".altmacro")
 }
 
+// Adds what a byte adds to the contents of the literals that belong together.
+fn grow(string: &mut Vec<u8>, place: Place, byte: u8) -> Result<(), AllocError>
+    ensures { OnOk result (string.new.items ≡ joined_string place string.old.items byte) }
+{
+    match place {
+        Place::Code if !joins(byte) => string.clear(),
+        Place::String if byte != b'"' && byte != b'\\' => string.push(byte.to_ascii_lowercase())?,
+        Place::StringEscape => string.push(b'\\')?,
+        _ => {}
+    }
+    Ok(())
+}
+
+// Whether this byte begins a raw string, or ends a directive of these contents.
+fn is_found(place: Place, before: u8, byte: u8, string: &[u8]) -> bool
+    ensures { result ≡ is_found place before byte string.now }
+{
+    match place {
+        Place::Code => byte == b'"' && before == b'R',
+        Place::String => byte != b'"' && byte != b'\\' && ends_in_directive(string),
+        _ => false,
+    }
+}
+
 /// Whether the strings of this preprocessed text may make the assembler include a file: adjacent
 /// string literals, joined, have `.incbin` or `.include` in any case, or begin a macro of the
 /// assembler by `.macro`, `.irp` or `.altmacro`; or there is a raw string.
 ///
 /// An escape by number, such as `\x2e` for the dot, is not looked at.
-pub fn may_include(alloc: Global, text: &[u8]) -> Result<bool, AllocError> {
+pub fn may_include(alloc: Global, text: &[u8]) -> Result<bool, AllocError>
+    ensures { IfOk result (λ found. found ≡ may_include text.now) }
+{
     let mut string = Vec::new(alloc);
     let mut place = Place::Code;
     let mut before = b'\n';
     for byte in text {
         let byte = *byte;
-        if place == Place::Code && byte == b'"' && before == b'R' {
+        grow(&mut string, place, byte)?;
+        if is_found(place, before, byte, &string) {
             return Ok(true);
-        }
-        match place {
-            Place::Code if !joins(byte) => string.clear(),
-            Place::String if byte != b'"' && byte != b'\\' => {
-                string.push(byte.to_ascii_lowercase())?;
-                if ends_in_directive(&string) {
-                    return Ok(true);
-                }
-            }
-            Place::StringEscape => string.push(b'\\')?,
-            _ => {}
         }
         place = after(place, before, byte);
         before = byte;

@@ -1,8 +1,10 @@
 //! The file that keeps an entry.
-ghost use Rattle.std.specs.Prelude.{◌≡◌, IfOk, IfSome};
-ghost use Rattle.cck_cache_entry.specs.Files.{entry_file};
+ghost use Rattle.std.specs.Prelude.{◌≡◌, IfOk, IsOkUnless};
+ghost use Rattle.std.specs.Option.{option_map};
+ghost use Rattle.cck_cache_entry.specs.Files.{entry_fields, entry_file, entry_parts};
+ghost use Rattle.cck_cache_entry.specs.Reading.{Reads, byte_lists};
 
-use crate::stored::{parts_of, write_stored};
+use crate::stored::{read_stored, write_stored};
 use cck_digest::{HashState, UtilError};
 use std::alloc::{AllocError, Global};
 
@@ -21,7 +23,9 @@ pub struct EntryFile {
 }
 
 // What these parts say. `None` where there are fewer than two.
-fn file_of(alloc: Global, parts: Vec<Vec<u8>>) -> Result<Option<EntryFile>, AllocError> {
+fn file_of(alloc: Global, parts: Vec<Vec<u8>>) -> Result<Option<EntryFile>, AllocError>
+    ensures { IfOk result (λ found. Reads entry_parts (byte_lists parts) (option_map entry_fields found)) }
+{
     let mut parts = parts.into_iter();
     let (Some(preprocessor_key), Some(entry)) = (parts.next(), parts.next()) else {
         return Ok(None);
@@ -42,7 +46,8 @@ impl EntryFile {
     ///
     /// The only error is [`UtilError::Memory`].
     pub fn write<H: HashState>(&self, alloc: Global) -> Result<Vec<u8>, UtilError>
-        ensures { IfOk result (λ bytes. bytes.items ≡ entry_file H.hash self.now) }
+        ensures file { IfOk result (λ bytes. bytes.items ≡ entry_file H.hash (entry_fields self.now)) }
+        ensures errors { IsOkUnless result UtilError.Memory }
     {
         let mut parts: Vec<&[u8]> = Vec::new(alloc);
         parts.push(&self.preprocessor_key)?;
@@ -53,23 +58,17 @@ impl EntryFile {
         write_stored::<H>(alloc, KIND, &parts)
     }
 
-    /// What a file holds. `None` where these are not the bytes of an entry file: what is returned
-    /// has exactly these bytes when it is written.
+    /// The file that has these bytes when it is written. `None` where no file has.
     ///
     /// The only error is [`UtilError::Memory`].
     pub fn read<H: HashState>(alloc: Global, bytes: &[u8]) -> Result<Option<EntryFile>, UtilError>
-        ensures { IfOk result (λ found. IfSome found (λ file. bytes.now ≡ entry_file H.hash file)) }
+        ensures read { IfOk result (λ found.
+            Reads (entry_file H.hash) bytes.now (option_map entry_fields found)) }
+        ensures errors { IsOkUnless result UtilError.Memory }
     {
-        let Some(parts) = parts_of(alloc, KIND, bytes)? else {
+        let Some(parts) = read_stored::<H>(alloc, KIND, bytes)? else {
             return Ok(None);
         };
-        let Some(file) = file_of(alloc, parts)? else {
-            return Ok(None);
-        };
-        if file.write::<H>(alloc)?.as_slice() == bytes {
-            Ok(Some(file))
-        } else {
-            Ok(None)
-        }
+        Ok(file_of(alloc, parts)?)
     }
 }

@@ -1,6 +1,10 @@
 //! Frames: bytes after their length, which is 8 bytes, the lowest first.
-ghost use Rattle.std.specs.Prelude.{◌≡◌, ◌++◌, OnOk};
+ghost use Rattle.std.specs.Prelude.{◌≡◌, ◌++◌, ◌<◌, IfOk, MatchOption, OnOk, length};
+ghost use Rattle.std.specs.List.{flat_map};
+ghost use Rattle.std.specs.Option.{option_map};
 ghost use Rattle.cck_digest.specs.Frames.{frame, length_bytes};
+ghost use Rattle.cck_cache_entry.specs.Frames.{frame_before};
+ghost use Rattle.cck_cache_entry.specs.Reading.{Reads, byte_lists};
 
 use std::alloc::{AllocError, Global};
 
@@ -22,7 +26,9 @@ pub fn push_frame(all: &mut Vec<u8>, bytes: &[u8]) -> Result<(), AllocError>
 }
 
 // The length at the beginning of these bytes, and the bytes after it.
-fn read_length(bytes: &[u8]) -> Option<(u64, &[u8])> {
+fn read_length(bytes: &[u8]) -> Option<(u64, &[u8])>
+    ensures { MatchOption result (length bytes.now < 8) (λ r. bytes.now ≡ length_bytes r.0 ++ r.1.now) }
+{
     if bytes.len() < 8 {
         return None;
     }
@@ -34,7 +40,9 @@ fn read_length(bytes: &[u8]) -> Option<(u64, &[u8])> {
 }
 
 /// The bytes of the frame at the beginning, and what is after it. `None` where there is no frame.
-pub fn read_frame(bytes: &[u8]) -> Option<(&[u8], &[u8])> {
+pub fn read_frame(bytes: &[u8]) -> Option<(&[u8], &[u8])>
+    ensures { Reads frame_before bytes.now (option_map (λ r. (r.0.now, r.1.now)) result) }
+{
     let (length, rest) = read_length(bytes)?;
     if (rest.len() as u64) < length {
         return None;
@@ -43,13 +51,12 @@ pub fn read_frame(bytes: &[u8]) -> Option<(&[u8], &[u8])> {
 }
 
 /// The bytes of all frames, of which these bytes consist. `None` where they do not.
-pub fn read_frames(alloc: Global, bytes: &[u8]) -> Result<Option<Vec<Vec<u8>>>, AllocError> {
+pub fn read_frames(alloc: Global, bytes: &[u8]) -> Result<Option<Vec<Vec<u8>>>, AllocError>
+    ensures { IfOk result (λ found. Reads (flat_map frame) bytes.now (option_map byte_lists found)) }
+{
     let mut all = Vec::new(alloc);
     let mut rest = bytes;
-    for _ in 0..bytes.len() {
-        if rest.is_empty() {
-            break;
-        }
+    while !rest.is_empty() {
         let Some((frame, after)) = read_frame(rest) else {
             return Ok(None);
         };

@@ -15,6 +15,7 @@ mod assembler;
 mod entry_file;
 mod frames;
 mod has_include;
+mod names;
 mod object_file;
 mod search_list;
 mod stored;

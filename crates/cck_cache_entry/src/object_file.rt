@@ -1,8 +1,10 @@
 //! The file that keeps an object.
-ghost use Rattle.std.specs.Prelude.{◌≡◌, IfOk, IfSome};
-ghost use Rattle.cck_cache_entry.specs.Files.{object_file};
+ghost use Rattle.std.specs.Prelude.{◌≡◌, IfOk, IsOkUnless};
+ghost use Rattle.std.specs.Option.{option_map};
+ghost use Rattle.cck_cache_entry.specs.Files.{object_fields, object_file, object_parts};
+ghost use Rattle.cck_cache_entry.specs.Reading.{Reads, byte_lists};
 
-use crate::stored::{parts_of, write_stored};
+use crate::stored::{read_stored, write_stored};
 use cck_digest::{HashState, UtilError};
 use std::alloc::Global;
 
@@ -21,7 +23,9 @@ pub struct ObjectFile {
 }
 
 // What these parts say. `None` where there are not three.
-fn file_of(parts: Vec<Vec<u8>>) -> Option<ObjectFile> {
+fn file_of(parts: Vec<Vec<u8>>) -> Option<ObjectFile>
+    ensures { Reads object_parts (byte_lists parts) (option_map object_fields result) }
+{
     let mut parts = parts.into_iter();
     let (Some(key), Some(object), Some(messages), None) = (
         parts.next(),
@@ -43,29 +47,24 @@ impl ObjectFile {
     ///
     /// The only error is [`UtilError::Memory`].
     pub fn write<H: HashState>(&self, alloc: Global) -> Result<Vec<u8>, UtilError>
-        ensures { IfOk result (λ bytes. bytes.items ≡ object_file H.hash self.now) }
+        ensures file { IfOk result (λ bytes. bytes.items ≡ object_file H.hash (object_fields self.now)) }
+        ensures errors { IsOkUnless result UtilError.Memory }
     {
         let parts: [&[u8]; 3] = [&self.key, &self.object, &self.messages];
         write_stored::<H>(alloc, KIND, &parts)
     }
 
-    /// What a file holds. `None` where these are not the bytes of an object file: what is returned
-    /// has exactly these bytes when it is written.
+    /// The file that has these bytes when it is written. `None` where no file has.
     ///
     /// The only error is [`UtilError::Memory`].
     pub fn read<H: HashState>(alloc: Global, bytes: &[u8]) -> Result<Option<ObjectFile>, UtilError>
-        ensures { IfOk result (λ found. IfSome found (λ file. bytes.now ≡ object_file H.hash file)) }
+        ensures read { IfOk result (λ found.
+            Reads (object_file H.hash) bytes.now (option_map object_fields found)) }
+        ensures errors { IsOkUnless result UtilError.Memory }
     {
-        let Some(parts) = parts_of(alloc, KIND, bytes)? else {
+        let Some(parts) = read_stored::<H>(alloc, KIND, bytes)? else {
             return Ok(None);
         };
-        let Some(file) = file_of(parts) else {
-            return Ok(None);
-        };
-        if file.write::<H>(alloc)?.as_slice() == bytes {
-            Ok(Some(file))
-        } else {
-            Ok(None)
-        }
+        Ok(file_of(parts))
     }
 }

@@ -7,9 +7,11 @@
 //!   changed of late.
 //! - [`StoreDirectory`] is the directory of a store.
 //! - [`list_files`] and [`list_counts`] list the files of a store.
-//! - [`compiler_digest`] is the digest of a compiler's programs.
+//! - [`compiler_digest`] is the digest of a compiler's programs on this machine, and
+//!   [`shared_compiler_digest`] that of their contents.
 //!
-//! No contract says what a disk holds: these calls are proved to be safe, and no more.
+//! No contract says what a disk holds. The contracts here are on values alone, as on the parts of a
+//! time; beyond them these calls are proved to be safe.
 #![tactic(auto)]
 
 mod compiler;
@@ -19,7 +21,7 @@ mod snapshot;
 mod store_directory;
 mod times;
 
-pub use compiler::compiler_digest;
+pub use compiler::{compiler_digest, shared_compiler_digest};
 pub use listing::{StoredFile, list_counts, list_files};
 pub use path_states::{PathState, PathStates, is_absent};
 pub use snapshot::{add_file, add_named_files};

@@ -1,4 +1,6 @@
 //! What there is on the way to a path.
+ghost use Rattle.std.specs.Prelude.{◌≡◌};
+
 use crate::times::changed_before;
 use cck_path::Timestamp;
 use std::alloc::AllocError;
@@ -53,7 +55,9 @@ pub fn is_absent<R: Files>(rt: &R, path: &[u8]) -> bool {
 
 impl PathStates {
     /// No states. Files and links must have changed before this time.
-    pub fn new<R: AllocGlobal>(rt: &R, since: Timestamp) -> PathStates {
+    pub fn new<R: AllocGlobal>(rt: &R, since: Timestamp) -> PathStates
+        ensures { result.since ≡ since }
+    {
         PathStates {
             since,
             states: BTreeMap::new(rt.alloc()),

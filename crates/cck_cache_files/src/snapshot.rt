@@ -1,4 +1,6 @@
 //! Real files, as they are now, in memory.
+ghost use Rattle.std.specs.Prelude.{◌≡◌, [], IsOkUnless, IsTrue};
+
 use crate::path_states::{PathState, PathStates};
 use crate::times::{changed, modified};
 use cck_cache_entry::has_include_test;
@@ -13,7 +15,10 @@ use std::os::unix::fs::MetadataExt;
 use std::rt::Files;
 
 // A node without contents.
-fn node_of<R: AllocGlobal>(rt: &R, kind: FileKind, metadata: &Metadata) -> Node {
+fn node_of<R: AllocGlobal>(rt: &R, kind: FileKind, metadata: &Metadata) -> Node
+    ensures kind { result.kind ≡ kind }
+    ensures empty { result.contents.items ≡ [] }
+{
     Node {
         kind,
         contents: Vec::new(rt.alloc()),
@@ -51,7 +56,9 @@ pub fn add_file<R: Files + AllocGlobal>(
     rt: &R,
     files: &mut MapFiles,
     path: &[u8],
-) -> Result<bool, UtilError> {
+) -> Result<bool, UtilError>
+    ensures { IsOkUnless result UtilError.Memory }
+{
     let Ok(text) = std::str::from_utf8(path) else {
         return Ok(false);
     };
@@ -64,7 +71,9 @@ pub fn add_file<R: Files + AllocGlobal>(
 }
 
 // Whether two paths lead to one file.
-fn is_one_file<R: Files>(rt: &R, a: &[u8], b: &[u8]) -> bool {
+fn is_one_file<R: Files>(rt: &R, a: &[u8], b: &[u8]) -> bool
+    ensures { a.now ≡ b.now → IsTrue result }
+{
     if a == b {
         return true;
     }
@@ -84,7 +93,9 @@ fn leads_there<R: Files + AllocGlobal>(
     states: &mut PathStates,
     joined: &[u8],
     path: &[u8],
-) -> Result<bool, UtilError> {
+) -> Result<bool, UtilError>
+    ensures { IsOkUnless result UtilError.Memory }
+{
     let (_, state) = states.first_other(rt, joined)?;
     // With -g gcc names the working directory too.
     if state == PathState::Absent || state == PathState::Doubtful {
@@ -107,7 +118,9 @@ pub fn add_named_files<R: Files + AllocGlobal>(
     states: &mut PathStates,
     cwd: &[u8],
     text: &[u8],
-) -> Result<bool, UtilError> {
+) -> Result<bool, UtilError>
+    ensures { IsOkUnless result UtilError.Memory }
+{
     let alloc = rt.alloc();
     let mut tests_headers = false;
     let mut last: &[u8] = b"";

@@ -1,4 +1,7 @@
 //! The directory of a store.
+ghost use Rattle.std.specs.Prelude.{◌≡◌};
+ghost use Rattle.cck_cache_files.specs.Paths.{directory_bytes, kind_name};
+
 use crate::times::{modified, system_time};
 use cck_path::Timestamp;
 use std::fs::{FileTimes, OpenFile, OpenOptions};
@@ -20,7 +23,9 @@ pub enum Kind {
 
 impl Kind {
     /// The name of the directory of this kind.
-    pub fn as_str(self) -> &'static str {
+    pub fn as_str(self) -> &'static str
+        ensures { result.now ≡ kind_name self }
+    {
         match self {
             Kind::Entry => "entries",
             Kind::Object => "objects",
@@ -72,7 +77,9 @@ pub fn open_store<R: Files + AllocGlobal>(
 
 impl StoreDirectory {
     /// The path of the store.
-    pub fn directory(&self) -> &str {
+    pub fn directory(&self) -> &str
+        ensures { result.now ≡ directory_bytes self.now }
+    {
         self.directory.as_str()
     }
 
@@ -140,6 +147,25 @@ impl StoreDirectory {
             }
             outcome => outcome,
         }
+    }
+
+    /// The path of the file that keeps the digest of a compiler of this name.
+    pub fn digest_path<R: AllocGlobal>(&self, rt: &R, name: &str) -> io::Result<String> {
+        let directory = self.directory.as_str();
+        Ok(format!(in rt.alloc(); "{directory}/digests/{name}")?)
+    }
+
+    /// Writes the file that keeps the digest of a compiler of this name, beside it and by a rename.
+    pub fn keep_digest<R: Files + AllocGlobal>(
+        &self,
+        rt: &R,
+        name: &str,
+        digest: &[u8],
+    ) -> io::Result<()> {
+        let path = self.digest_path(rt, name)?;
+        let directory = self.directory.as_str();
+        fs::create_dir_all(rt, format!(in rt.alloc(); "{directory}/digests")?.as_str())?;
+        self.replace(rt, path.as_str(), digest)
     }
 
     /// The time of now by the clock of the store's file system: when a file that is made now was

@@ -1,11 +1,16 @@
 //! The times of real files.
+ghost use Rattle.std.specs.Prelude.{◌≡◌, ◌<◌, MatchOption, pos, ℕ};
+
 use cck_path::Timestamp;
 use std::fs::Metadata;
 use std::os::unix::fs::MetadataExt;
 use std::time::{Duration, SystemTime, UNIX_EPOCH};
 
 // The time of these seconds and nanoseconds, where the nanoseconds are below a second.
-fn time_of(seconds: i64, nanoseconds: i64) -> Option<Timestamp> {
+fn time_of(seconds: i64, nanoseconds: i64) -> Option<Timestamp>
+    ensures { MatchOption result ((n : ℕ) → n < 1_000_000_000 → nanoseconds ≡ pos n → ⊥)
+        (λ time. (time.seconds ≡ seconds) × (nanoseconds ≡ pos time.nanoseconds)) }
+{
     let nanoseconds = u32::try_from(nanoseconds).ok()?;
     if nanoseconds < 1_000_000_000 {
         Some(Timestamp::new(seconds, nanoseconds))

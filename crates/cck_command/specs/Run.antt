@@ -7,7 +7,7 @@ use Rattle.cck_compiler.specs.Compiler.{Compilation}
 use Rattle.cck_compiler.specs.ExtraFiles.{completed}
 use Rattle.cck_files.specs.ArmedCalls.{new_armed}
 use Rattle.cck_path.specs.Bytes.{Bytes}
-use Rattle.cck_store.specs.MapStore.{State, map_store, new_state}
+use Rattle.cck_store.specs.MapStore.{State, map_store, empty_state}
 use Rattle.jiff.specs.Words.{fixed_zone}
 use Rattle.jiff.specs.Types.{Offset}
 use Rattle.cck_digest.specs.Digest.{digest_text}
@@ -74,7 +74,7 @@ run_world hash zone lines = world_of hash mini_compiler (fixed_zone zone) activa
 
 -- a new store, armed as these lines say
 abbrev pub armed_by : List Line → State
-armed_by lines = record new_state { forget = unwrap_or (forget_of lines) 0; armed = record new_armed { one = unwrap_or (fail_of lines) 0 } }
+armed_by lines = record empty_state { forget = unwrap_or (forget_of lines) 0; armed = record new_armed { one = unwrap_or (fail_of lines) 0 } }
 
 -- This is printed for a run over the calls of these lines. The headline holds for all of them: under the premises each key is its call's
 -- plain key, and without them each stored key that matches is returned. It is not said that a script meets the premises: the small

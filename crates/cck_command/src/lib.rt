@@ -50,6 +50,7 @@ mod request;
 mod run;
 mod status;
 
+pub use answers::add_result_lines;
 pub use calls::{compiler_of, ready_calls};
 pub use failed::Failed;
 pub use mini_compiler::MiniCompiler;

@@ -106,7 +106,7 @@ fn parsed_arguments(
 ) -> Result<ParsedArguments, KeyError>
     ensures value { IfOk result (λ parsed.
         arguments_of parsed ≡ compilation_of input.now (lists_of common_args.now)) }
-    ensures refused { IsOkUnless result KeyError.Memory }
+    ensures errors { IsOkUnless result KeyError.Memory }
 {
     Ok(ParsedArguments {
         input: input.to_vec(alloc)?,
@@ -147,7 +147,7 @@ fn language_of(input: &[u8]) -> Language
 fn one_output(alloc: Global) -> Result<BTreeMap<String, ArtifactDescriptor>, KeyError>
     ensures value { IfOk result (λ outputs.
         map output_of outputs.entries ≡ outputs_seen) }
-    ensures refused { IsOkUnless result KeyError.Memory }
+    ensures errors { IsOkUnless result KeyError.Memory }
 {
     let mut outputs = BTreeMap::new(alloc);
     let object = ArtifactDescriptor {

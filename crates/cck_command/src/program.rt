@@ -155,7 +155,7 @@ pub fn engine<H: HashState, R: Read, W: Write>(
     ensures printed { result ≢ Status.Refused → (text : Bytes)
         × IsOutput H.hash (map string_bytes words.now) (R.remaining reader.old) result text
         × Appends (W.contents writer.old) (W.contents writer.new) text }
-    ensures refused { result ≡ Status.Refused →
+    ensures errors { result ≡ Status.Refused →
         IsCutShort (IsSomeOutput H.hash (map string_bytes words.now) (R.remaining reader.old))
         (W.contents writer.old) (W.contents writer.new) }
     ensures unread { IsUsageError (map string_bytes words.now) → reader.new ≡ reader.old }

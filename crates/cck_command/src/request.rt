@@ -22,9 +22,9 @@ impl<'a> Model for KeyRequest<'a> {
 
     ghost Value = { KeyCommand };
 
-    ghost use Rattle.cck_command.specs.KeyRequest.{request_of};
+    ghost use Rattle.cck_command.specs.KeyRequest.{key_command_of};
 
-    ghost view = { request_of };
+    ghost view = { key_command_of };
 }
 
 impl<'a> KeyRequest<'a> {
@@ -62,7 +62,7 @@ pub fn asks_to_run(words: &[String]) -> bool
 /// Returns the bytes of each word. The only error is [`UtilError::Memory`].
 pub fn bytes_of(alloc: Global, words: &[String]) -> Result<Vec<Vec<u8>>, UtilError>
     ensures bytes { IfOk result (λ all. map (λ bytes. bytes.items) all.items ≡ map string_bytes words.now) }
-    ensures refused { IsOkUnless result UtilError.Memory }
+    ensures errors { IsOkUnless result UtilError.Memory }
 {
     let mut all = Vec::new(alloc);
     for word in words {

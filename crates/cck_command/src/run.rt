@@ -3,7 +3,7 @@ ghost use Rattle.std.specs.Prelude.{◌≡◌, ◌↔◌, ◌∷◌, [], List, �
 ghost use Rattle.std.specs.Option.{option_to_list, unwrap_or};
 ghost use Rattle.cck_files.specs.ArmedCalls.{new_armed};
 ghost use Rattle.cck_path.specs.Bytes.{lists_of};
-ghost use Rattle.cck_store.specs.MapStore.{new_state};
+ghost use Rattle.cck_store.specs.MapStore.{empty_state};
 ghost use Rattle.jiff_core.specs.Timestamp.{IsOffsetSeconds};
 ghost use Rattle.jiff.specs.Words.{fixed_zone, plain_zone};
 ghost use Rattle.jiff.specs.Types.{Offset as PlainOffset};
@@ -160,7 +160,7 @@ pub fn zone_at(seconds: i32) -> Result<TimeZone<'static>, Failed>
 
 // An empty store that forgets and fails at these calls.
 fn store_of(alloc: Global, forget_at: Option<u64>, fail_at: Option<u64>) -> MapStore
-    ensures { result ≡ record new_state {
+    ensures { result ≡ record empty_state {
       forget = unwrap_or forget_at 0;
       armed = record new_armed { one = unwrap_or fail_at 0 };
     } }

@@ -105,7 +105,7 @@ impl ParsedArguments {
     pub fn archs(&self, alloc: Global) -> Result<Vec<&[u8]>, KeyError>
         ensures archs { IfOk result (λ found.
             map (λ arch. arch.now) found.items ≡ archs (arguments_of self.now)) }
-        ensures refused { IsOkUnless result KeyError.Memory }
+        ensures errors { IsOkUnless result KeyError.Memory }
     {
         let mut found: Vec<&[u8]> = Vec::new(alloc);
         for arg in &self.arch_args {
@@ -124,7 +124,7 @@ impl ParsedArguments {
     pub fn output_pretty(&self, alloc: Global) -> Result<String, KeyError>
         ensures name { IfOk result (λ name.
             string_bytes name ≡ output_name (arguments_of self.now)) }
-        ensures refused { IsOkUnless result KeyError.Memory }
+        ensures errors { IsOkUnless result KeyError.Memory }
     {
         let Some(output) = self.outputs.get("obj") else {
             return Ok(unknown_name(alloc)?);

@@ -103,7 +103,7 @@ pub trait CCompilerImpl {
     ) -> Result<CompilerArguments<ParsedArguments>, KeyError>
         ensures parsed { IfOk result (λ parsed. parsed_of parsed
             ≡ compiler.parsed (value self.now) (lists_of arguments.now) cwd.now (variables_of vars.now)) }
-        ensures refused { IsOkUnless result KeyError.Memory };
+        ensures errors { IsOkUnless result KeyError.Memory };
 
     /// Returns the preprocessed text of a parsed command line. `moment` is the call time.
     ///
@@ -125,7 +125,7 @@ pub trait CCompilerImpl {
         moment: Timestamp,
     ) -> Result<Vec<u8>, PreprocessError>
         ensures keeps { Keeps F.file_map F.faults F.is_quiet files.old files.new }
-        ensures answer { IsPrinted
+        ensures outcome { IsPrinted
             (compiler.prints (value self.now) executable.now (arguments_of parsed_args.now) cwd.now
             (variables_of vars.now) (F.file_map files.old) moment)
             (Rose (F.faults files.old) (F.faults files.new)) result };
@@ -135,5 +135,5 @@ pub trait CCompilerImpl {
     /// The only error is [`KeyError::Memory`].
     fn copy(&self, alloc: Global) -> Result<Self, KeyError>
         ensures same { IfOk result (λ copy. value copy ≡ value self.now) }
-        ensures refused { IsOkUnless result KeyError.Memory };
+        ensures errors { IsOkUnless result KeyError.Memory };
 }

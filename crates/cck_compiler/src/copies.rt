@@ -18,7 +18,7 @@ impl ArtifactDescriptor {
     pub fn copy(&self, alloc: Global) -> Result<ArtifactDescriptor, KeyError>
         ensures path { IfOk result (λ copy. copy.path.items ≡ self.now.path.items) }
         ensures optional { IfOk result (λ copy. copy.optional ≡ self.now.optional) }
-        ensures refused { IsOkUnless result KeyError.Memory }
+        ensures errors { IsOkUnless result KeyError.Memory }
     {
         Ok(ArtifactDescriptor {
             path: self.path.to_vec(alloc)?,
@@ -33,7 +33,7 @@ impl ParsedArguments {
     /// The only error is [`KeyError::Memory`].
     pub fn copy(&self, alloc: Global) -> Result<ParsedArguments, KeyError>
         ensures value { IfOk result (λ copy. arguments_of copy ≡ arguments_of self.now) }
-        ensures refused { IsOkUnless result KeyError.Memory }
+        ensures errors { IsOkUnless result KeyError.Memory }
     {
         Ok(ParsedArguments {
             input: self.input.to_vec(alloc)?,
@@ -81,7 +81,7 @@ fn copy_outputs(
 ) -> Result<BTreeMap<String, ArtifactDescriptor>, KeyError>
     ensures value { IfOk result (λ copies.
         map output_of copies.entries ≡ map output_of outputs.now.entries) }
-    ensures refused { IsOkUnless result KeyError.Memory }
+    ensures errors { IsOkUnless result KeyError.Memory }
 {
     let mut copies = BTreeMap::new(alloc);
     for (name, output) in outputs {

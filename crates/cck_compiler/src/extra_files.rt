@@ -46,7 +46,7 @@ pub fn add_extra_files<F: Files>(
     ensures keeps { Keeps F.file_map F.faults F.is_quiet files.old files.new }
     ensures added { OnOk result (arguments_of args.new
         ≡ with_extra_files (F.file_map files.old) (variables_of vars.now) (arguments_of args.old)) }
-    ensures refused { IfErr result (λ e. (e ≡ KeyError.Memory)
+    ensures errors { IfErr result (λ e. (e ≡ KeyError.Memory)
         ⊎ ((is_hip args.old.language ≡ true) × IsFileFault e (Rose (F.faults files.old) (F.faults files.new)))) }
 {
     push_named_files(alloc, &mut args.extra_hash_files, vars)?;
@@ -188,7 +188,7 @@ fn push_libraries<F: Files>(
     ensures keeps { Keeps F.file_map F.faults F.is_quiet files.old files.new }
     ensures pushed { OnOk result (lists_of all.new.items
         ≡ lists_of all.old.items ++ libraries (F.file_map files.old) folder.now) }
-    ensures refused { IfErr result (λ e. (e ≡ KeyError.Memory)
+    ensures errors { IfErr result (λ e. (e ≡ KeyError.Memory)
         ⊎ IsFileFault e (Rose (F.faults files.old) (F.faults files.new))) }
 {
     match sorted_names(alloc, files, folder) {

@@ -152,8 +152,8 @@ part_taken takes part_takes part taken (piece ∷ pieces) first last (mid, step,
     (part mid, taken first piece mid step, part_taken takes part_takes part taken pieces mid last folds)
 
 -- what a result says of every list with a property, it says of the reader's stream
-pub stream_is_known : {T E : Type 0} (r : Result T E) (known : Option (List ℕ)) (holds : List ℕ → Type 0) (told : T → List ℕ → Type 0)
-    → IfOk r (λ x. (fed : List ℕ) → holds fed → told x fed) → IfSome known holds → IfOk r (λ x. IfSome known (told x))
-stream_is_known (Ok x) None holds told says h = tt
-stream_is_known (Ok x) (Some stream) holds told says h = says stream h
-stream_is_known (Err e) known holds told says h = tt
+pub stream_is_known : {T E : Type 0} (r : Result T E) (known : Option (List ℕ)) (holds : List ℕ → Type 0) (claim : T → List ℕ → Type 0)
+    → IfOk r (λ x. (fed : List ℕ) → holds fed → claim x fed) → IfSome known holds → IfOk r (λ x. IfSome known (claim x))
+stream_is_known (Ok x) None holds claim says h = tt
+stream_is_known (Ok x) (Some stream) holds claim says h = says stream h
+stream_is_known (Err e) known holds claim says h = tt

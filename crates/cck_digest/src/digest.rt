@@ -54,7 +54,7 @@ impl<H: HashState> Digest<H> {
     pub fn finish(self, alloc: Global) -> Result<String, UtilError>
         ensures text { IfOk result (λ text. (fed : List ℕ) → H.holds self fed → string_bytes text ≡ digest_text H.hash fed) }
         ensures digits { IfOk result (λ text. length (string_bytes text) ≡ 64) }
-        ensures refused { IsOkUnless result UtilError.Memory }
+        ensures errors { IsOkUnless result UtilError.Memory }
     {
         let out = self.state.out();
         hex(alloc, &out)
@@ -98,7 +98,7 @@ fn digit(half: u8) -> char
 /// only error is [`UtilError::Memory`].
 pub fn hex(alloc: Global, bytes: &[u8]) -> Result<String, UtilError>
     ensures text { IfOk result (λ text. string_bytes text ≡ hex_text bytes.now) }
-    ensures refused { IsOkUnless result UtilError.Memory }
+    ensures errors { IsOkUnless result UtilError.Memory }
 {
     let mut text = String::new(alloc);
     for byte in bytes {

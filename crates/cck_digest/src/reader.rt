@@ -54,7 +54,7 @@ impl<H: HashState> WatchedDigest<H> {
             → string_bytes pair.0 ≡ digest_text H.hash fed) }
         ensures digits { IfOk result (λ pair. length (string_bytes pair.0) ≡ 64) }
         ensures finder { IfOk result (λ pair. pair.1 ≡ self.finder) }
-        ensures refused { IsOkUnless result UtilError.Memory }
+        ensures errors { IsOkUnless result UtilError.Memory }
     {
         let WatchedDigest { digest, finder } = self;
         Ok((digest.finish(alloc)?, finder))
@@ -102,7 +102,7 @@ impl<H: HashState> Digest<H> {
             string_bytes text ≡ digest_text H.hash stream)) }
         ensures digits { IfOk result (λ text. length (string_bytes text) ≡ 64) }
         ensures end { OnOk result (IsAtEnd (R.remaining reader.new)) }
-        ensures refused { IfErr result (λ e. (e ≡ UtilError.Memory) ⊎ (e ≡ UtilError.Read)) }
+        ensures errors { IfErr result (λ e. (e ≡ UtilError.Memory) ⊎ (e ≡ UtilError.Read)) }
     {
         let mut digest = Digest::<H>::new();
         read_to_end(alloc, reader, &mut digest)?;
@@ -124,7 +124,7 @@ impl<H: HashState> Digest<H> {
             × All IsPiece pieces × H.holds digest (concatenation pieces)
             × IfSome (R.remaining reader.old) (λ stream. stream ≡ concatenation pieces)) }
         ensures end { OnOk result (IsAtEnd (R.remaining reader.new)) }
-        ensures refused { IfErr result (λ e. (e ≡ UtilError.Memory) ⊎ (e ≡ UtilError.Read)) }
+        ensures errors { IfErr result (λ e. (e ≡ UtilError.Memory) ⊎ (e ≡ UtilError.Read)) }
     {
         let mut shown = Each {
             digest: Digest::<H>::new(),
@@ -146,7 +146,7 @@ impl<H: HashState> Digest<H> {
         ensures digits { IfOk result (λ pair. length (string_bytes pair.0) ≡ 64) }
         ensures macros { IfOk result (λ pair. IfSome (R.remaining reader.old) (λ stream. Follows pair.1 stream)) }
         ensures end { OnOk result (IsAtEnd (R.remaining reader.new)) }
-        ensures refused { IfErr result (λ e. (e ≡ UtilError.Memory) ⊎ (e ≡ UtilError.Read)) }
+        ensures errors { IfErr result (λ e. (e ≡ UtilError.Memory) ⊎ (e ≡ UtilError.Read)) }
     {
         let mut watched = WatchedDigest::<H>::new();
         read_to_end(alloc, reader, &mut watched)?;

@@ -82,7 +82,7 @@ pub(crate) fn read_through<S: OpenSink, R: Read>(
         → HasTaken S.takes sink.old sink.new (R.remaining reader.old) (R.remaining reader.new) }
     ensures begun { OnErr result (IfSome (R.remaining reader.old) (λ stream.
         TakesBeginning S.takes sink.old stream sink.new)) }
-    ensures refused { IfErr result (λ e. (e ≡ UtilError.Memory) ⊎ (e ≡ UtilError.Read)) }
+    ensures errors { IfErr result (λ e. (e ≡ UtilError.Memory) ⊎ (e ≡ UtilError.Read)) }
 {
     for _ in 0..u64::MAX {
         let count = match reader.read(buffer) {
@@ -118,7 +118,7 @@ pub fn read_to_end<S: Sink, R: Read>(
         → HasTaken S.takes sink.old sink.new (R.remaining reader.old) (R.remaining reader.new) }
     ensures begun { OnErr result (IfSome (R.remaining reader.old) (λ stream.
         TakesBeginning S.takes sink.old stream sink.new)) }
-    ensures refused { IfErr result (λ e. (e ≡ UtilError.Memory) ⊎ (e ≡ UtilError.Read)) }
+    ensures errors { IfErr result (λ e. (e ≡ UtilError.Memory) ⊎ (e ≡ UtilError.Read)) }
 {
     let mut buffer = new_hash_buffer(alloc)?;
     read_through(&mut buffer, reader, sink)
@@ -128,7 +128,7 @@ pub fn read_to_end<S: Sink, R: Read>(
 pub fn read_all<R: Read>(alloc: Global, reader: &mut R) -> Result<Vec<u8>, UtilError>
     ensures text { IfOk result (λ text. IfSome (R.remaining reader.old) (λ stream. text.items ≡ stream)) }
     ensures end { OnOk result (IsAtEnd (R.remaining reader.new)) }
-    ensures refused { IfErr result (λ e. (e ≡ UtilError.Memory) ⊎ (e ≡ UtilError.Read)) }
+    ensures errors { IfErr result (λ e. (e ≡ UtilError.Memory) ⊎ (e ≡ UtilError.Read)) }
 {
     let mut text = Vec::new(alloc);
     read_to_end(alloc, reader, &mut text)?;

@@ -4,7 +4,7 @@ use Rattle.std.specs.Option.{option_map}
 use Rattle.cck_time.specs.declared.error.Error.{Error}
 use Rattle.cck_time.specs.declared.error.Error.TheVariants.{Io, Deserialization, UnknownFormat, Memory}
 use Rattle.cck_include.specs.Include.{Include}
-use Rattle.cck_entry.specs.Lent.{begun, includes_begun}
+use Rattle.cck_entry.specs.Lent.{includes_read, includes_begun}
 use Rattle.cck_entry.specs.Reading.{◌>>=◌, Fails, include_at, includes_at}
 
 abbrev Read : Type 0
@@ -59,7 +59,7 @@ is_after count i bytes total le so_far = sym so_far ∙ ap following (done_at co
 
 -- ---- includes that are known to be readable
 
-from_one : (n : Include) (read : Read) → IsSome (with_one n read) → (begun (with_one n read) ≡ n ∷ begun read) × IsSome read
+from_one : (n : Include) (read : Read) → IsSome (with_one n read) → (includes_read (with_one n read) ≡ n ∷ includes_read read) × IsSome read
 from_one n (Some x) h = (refl, refl)
 from_one n None h = absurd cc
 
@@ -68,7 +68,7 @@ pub begun_next : (count i : ℕ) (bytes : List ℕ) (n : Include) (after : List 
 begun_next count i bytes n after lt h whole =
     let is = next_at count i bytes n after lt h in
     let one = from_one n (includes_at (count - (i + 1)) after) (subst IsSome is whole) in
-    (ap begun is ∙ one.0, one.1)
+    (ap includes_read is ∙ one.0, one.1)
 
 -- only memory can be missing
 pub begun_ends : (e : Error) (count i : ℕ) (bytes : List ℕ) → i < count → Fails e (include_at bytes) → IsSome (includes_at (count - i) bytes) → e ≡ Memory
@@ -79,11 +79,31 @@ begun_ends Deserialization count i bytes lt h whole =
 begun_ends (Io e) count i bytes lt h whole = absurd h
 begun_ends (UnknownFormat b) count i bytes lt h whole = absurd h
 
+-- the first of these includes, if there is one
+pub begun_first : (count : ℕ) (bytes : List ℕ) (n : Include) (after : List ℕ) → 0 < count → include_at bytes ≡ Some (n, after) → IsSome (includes_at count bytes)
+    → (includes_begun count bytes ≡ n ∷ includes_begun (count - 1) after) × IsSome (includes_at (count - 1) after)
+begun_first count bytes n after some h whole =
+    let all : count - 0 ≡ count = omega arith in
+    let less : count - (0 + 1) ≡ count - 1 = omega arith in
+    subst (λ (k : ℕ). (includes_begun count bytes ≡ n ∷ includes_begun k after) × IsSome (includes_at k after)) less
+    (subst (λ (k : ℕ). (includes_begun k bytes ≡ n ∷ includes_begun (count - (0 + 1)) after) × IsSome (includes_at (count - (0 + 1)) after)) all
+    (begun_next count 0 bytes n after some h (subst (λ (k : ℕ). IsSome (includes_at k bytes)) (sym all) whole)))
+
+-- it can be read
+pub begun_reads : (e : Error) (count : ℕ) (bytes : List ℕ) → 0 < count → e ≡ Deserialization → Fails e (include_at bytes) → IsSome (includes_at count bytes) → ⊥
+begun_reads e count bytes some is h whole =
+    let all : count - 0 ≡ count = omega arith in
+    let memory : e ≡ Memory = begun_ends e count 0 bytes some h (subst (λ (k : ℕ). IsSome (includes_at k bytes)) (sym all) whole) in
+    cc
+
 pub begun_done : (count i : ℕ) (bytes : List ℕ) → count ≤ i → includes_begun (count - i) bytes ≡ []
-begun_done count i bytes le = ap begun (done_at count i bytes le)
+begun_done count i bytes le = ap includes_read (done_at count i bytes le)
+
+pub begun_none : (count : ℕ) (bytes : List ℕ) → count ≡ 0 → includes_begun count bytes ≡ []
+begun_none count bytes none = ap (λ (k : ℕ). includes_begun k bytes) none ∙ begun_done 0 0 bytes (omega arith)
 
 -- all of what was skipped
-pub begun_all : (read : Read) (rest : List ℕ) → following read ≡ Some rest → read ≡ Some (begun read, rest)
+pub begun_all : (read : Read) (rest : List ℕ) → following read ≡ Some rest → read ≡ Some (includes_read read, rest)
 begun_all (Some x) rest h = let same : x.1 ≡ rest = cc in ap (λ (r : List ℕ). Some (x.0, r)) same
 begun_all None rest h = absurd cc
 

@@ -23,7 +23,7 @@ use Rattle.cck_entry.specs.Entry.{include_count}
 use Rattle.cck_entry.specs.Lent.{IsWhole, counts, entry_lent, includes_begun, result_lent}
 use Rattle.cck_entry.specs.Reading.{comes_after}
 use Rattle.cck_entry.specs.Results.{KeyResult}
-use Rattle.cck_entry.specs.declared.lent.ResultRef.{ResultRef}
+use Rattle.cck_entry.specs.declared.result_ref.ResultRef.{ResultRef}
 use Rattle.cck_entry.proofs.EntryLemmas.{after_front, entries_of_empty}
 use Rattle.cck_entry.proofs.IncludeLoop.{begun_length}
 

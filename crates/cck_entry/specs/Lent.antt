@@ -7,16 +7,16 @@ use Rattle.cck_path.specs.TextOrder.{text_cmp}
 use Rattle.cck_entry.specs.Entry.{Entry, include_count}
 use Rattle.cck_entry.specs.Reading.{includes_at}
 use Rattle.cck_entry.specs.Results.{KeyResult}
-use Rattle.cck_entry.specs.declared.lent.ResultRef.{ResultRef}
+use Rattle.cck_entry.specs.declared.result_ref.ResultRef.{ResultRef}
 
 -- the includes that were read, if they were
-abbrev pub begun : Option (List Include × List ℕ) → List Include
-begun None = []
-begun (Some x) = x.0
+abbrev pub includes_read : Option (List Include × List ℕ) → List Include
+includes_read None = []
+includes_read (Some x) = x.0
 
 -- the first n includes of bytes, or none where they do not begin with n includes
 abbrev pub includes_begun : ℕ → List ℕ → List Include
-includes_begun n bytes = begun (includes_at n bytes)
+includes_begun n bytes = includes_read (includes_at n bytes)
 
 -- the value of a borrowed result
 abbrev pub result_lent : ResultRef → KeyResult

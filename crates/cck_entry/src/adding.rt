@@ -34,7 +34,7 @@ impl PreprocessorCacheEntry {
         included: &[(String, Vec<u8>)],
     ) -> Result<(), Error>
         ensures keeps { Keeps F.file_map F.faults F.is_quiet files.old files.new }
-        ensures answer { let found = gathered (F.file_map files.old) moment (digested_in included.now) in
+        ensures outcome { let found = gathered (F.file_map files.old) moment (digested_in included.now) in
             MatchResult result
             (λ _. (includes : List Include) × (found ≡ Some includes) × (self.new ≡ added self.old key.now includes))
             (λ e. (self.new ≡ self.old) × IsMissing (found ≡ None) (Rose (F.faults files.old) (F.faults files.new)) e) }

@@ -11,22 +11,12 @@ ghost use Rattle.cck_entry.specs.Reading.{comes_after, includes_at};
 ghost use Rattle.cck_entry.specs.Results.{result_in};
 
 use crate::reading::read_include;
+use crate::result_ref::ResultRef;
 use crate::results::{Results, put_last};
 use cck_include::IncludeEntry;
 use cck_time::Error;
 use std::alloc::Global;
 use std::collections::BTreeMap;
-
-/// A result, borrowed from the bytes of an entry.
-#[derive(Clone, Copy)]
-pub(crate) struct ResultRef<'a> {
-    /// Its key.
-    pub(crate) key: &'a str,
-    /// The number of its includes.
-    pub(crate) count: u64,
-    /// The bytes from the first of its includes on, to the end of the entry's.
-    pub(crate) includes: &'a [u8],
-}
 
 /// Returns the number of includes of all results together.
 pub(crate) fn total(results: &[ResultRef<'_>]) -> usize
@@ -72,8 +62,7 @@ fn copy_includes(alloc: Global, count: u64, bytes: &[u8]) -> Result<Vec<IncludeE
 
 /// Returns copies of the results.
 pub(crate) fn copy_results(alloc: Global, results: &[ResultRef<'_>]) -> Result<Results, Error>
-    requires ascend { is_sorted text_cmp (map result_lent results.now) ≡ true }
-    requires whole { AllByRecursion IsWhole results.now }
+    requires { is_sorted text_cmp (map result_lent results.now) ≡ true }
     ensures value { IfOk result (λ copy.
         map result_in copy.entries ≡ map result_lent results.now) }
     ensures ordered { IfOk result (λ copy. IsOrdered string_cmp copy) }

@@ -15,7 +15,8 @@
 //!   reads it back. For other bytes it returns an error, by their cause.
 //! - [`EntryView`] is an entry borrowed from its bytes; [`EntryView::read`] accepts the same bytes.
 //!   [`EntryView::lookup_result_digest`] finds the same result, and nothing but the places of the
-//!   results is kept in memory.
+//!   results is kept in memory. [`EntryView::results`] are its results, each a [`ResultRef`], and
+//!   [`ResultRef::includes`] yields the [`Includes`] of one.
 //! - [`laws`] has what is proved of the definitions alone.
 //!
 //! The types that these calls take and return are exported again: hash functions and errors of
@@ -52,10 +53,12 @@
 
 mod adding;
 mod entry;
+mod includes;
 pub mod laws;
 mod lent;
 mod lookup;
 mod reading;
+mod result_ref;
 mod results;
 mod view;
 mod writing;
@@ -71,4 +74,6 @@ pub use cck_preprocessor_key::{FORMAT_VERSION, preprocessor_cache_entry_hash_key
 pub use cck_time::{Error, PreprocessorCacheModeConfig, local_time_part};
 pub use cck_util::{Language, UnknownLanguage};
 pub use entry::PreprocessorCacheEntry;
+pub use includes::Includes;
+pub use result_ref::ResultRef;
 pub use view::EntryView;

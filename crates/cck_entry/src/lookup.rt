@@ -13,8 +13,8 @@ ghost use Rattle.cck_entry.specs.Find.{IsLookup};
 ghost use Rattle.cck_entry.specs.Lent.{IsWhole, includes_begun, result_lent};
 ghost use Rattle.cck_entry.specs.Results.{result_in};
 
-use crate::lent::ResultRef;
 use crate::reading::read_include;
+use crate::result_ref::ResultRef;
 use crate::results::Results;
 use crate::{EntryView, PreprocessorCacheEntry};
 use cck_digest::HashState;
@@ -46,10 +46,10 @@ impl PreprocessorCacheEntry {
         config: PreprocessorCacheModeConfig,
     ) -> Result<Option<&str>, Error>
         ensures keeps { Keeps F.file_map F.faults F.is_quiet files.old files.new }
-        ensures answer { IfOk result (λ key. IsLookup
+        ensures outcome { IfOk result (λ key. IsLookup
             (matches (setting_in H.hash config moment (plain_zone zone.now) vars.now) (F.file_map files.old))
             (entries self.now) (Rose (F.faults files.old) (F.faults files.new)) (option_map (λ k. k.now) key)) }
-        ensures refused { IsOkUnless result Error.Memory }
+        ensures errors { IsOkUnless result Error.Memory }
     {
         let context = JudgeContext {
             moment,
@@ -83,10 +83,10 @@ impl<'a> EntryView<'a> {
         config: PreprocessorCacheModeConfig,
     ) -> Result<Option<&'a str>, Error>
         ensures keeps { Keeps F.file_map F.faults F.is_quiet files.old files.new }
-        ensures answer { IfOk result (λ key. IsLookup
+        ensures outcome { IfOk result (λ key. IsLookup
             (matches (setting_in H.hash config moment (plain_zone zone.now) vars.now) (F.file_map files.old))
             (entries self.now) (Rose (F.faults files.old) (F.faults files.new)) (option_map (λ k. k.now) key)) }
-        ensures refused { IsOkUnless result Error.Memory }
+        ensures errors { IsOkUnless result Error.Memory }
     {
         let context = JudgeContext {
             moment,
@@ -109,7 +109,7 @@ fn find_result<'a, H: HashState, F: Files>(
     context: &JudgeContext<'_>,
 ) -> Result<Option<&'a str>, AllocError>
     ensures keeps { Keeps F.file_map F.faults F.is_quiet files.old files.new }
-    ensures answer { IfOk result (λ key. IsLookup
+    ensures outcome { IfOk result (λ key. IsLookup
         (matches (setting_of H.hash context.now) (F.file_map files.old))
         (map result_in results.now.entries) (Rose (F.faults files.old) (F.faults files.new)) (option_map (λ k. k.now) key)) }
 {
@@ -130,9 +130,8 @@ fn find_lent<'a, H: HashState, F: Files>(
     files: &mut F,
     context: &JudgeContext<'_>,
 ) -> Result<Option<&'a str>, AllocError>
-    requires { AllByRecursion IsWhole results.now }
     ensures keeps { Keeps F.file_map F.faults F.is_quiet files.old files.new }
-    ensures answer { IfOk result (λ key. IsLookup
+    ensures outcome { IfOk result (λ key. IsLookup
         (matches (setting_of H.hash context.now) (F.file_map files.old))
         (map result_lent results.now) (Rose (F.faults files.old) (F.faults files.new)) (option_map (λ k. k.now) key)) }
 {
@@ -162,11 +161,10 @@ fn lent_matches<H: HashState, F: Files>(
     lent: &ResultRef<'_>,
     context: &JudgeContext<'_>,
 ) -> Result<bool, AllocError>
-    requires { IsWhole lent.now }
     ensures keeps { Keeps F.file_map F.faults F.is_quiet files.old files.new }
     ensures known { let s = setting_of H.hash context.now in
         AreKnown s (F.file_map files.old) known.old → AreKnown s (F.file_map files.old) known.new }
-    ensures answer { let s = setting_of H.hash context.now in
+    ensures outcome { let s = setting_of H.hash context.now in
         AreKnown s (F.file_map files.old) known.old
         → IfOk result (λ answer. MayMiss (Rose (F.faults files.old) (F.faults files.new)) answer
         (list_all (matches s (F.file_map files.old)) (includes_begun lent.now.count lent.now.includes.now))) }

@@ -8,8 +8,9 @@ ghost use Rattle.cck_entry.specs.Entry.{Entry, EntryText, IsEntryOrMemory, IsRea
 ghost use Rattle.cck_entry.specs.Lent.{IsWhole, result_lent};
 ghost use Rattle.cck_entry.specs.Reading.{IsOvercounted};
 
-use crate::lent::{ResultRef, total};
+use crate::lent::total;
 use crate::reading::read_entry;
+use crate::result_ref::ResultRef;
 use cck_preprocessor_key::FORMAT_VERSION;
 use cck_time::Error;
 use std::alloc::Global;
@@ -57,13 +58,14 @@ impl<'a> EntryView<'a> {
     /// [`Error::UnknownFormat`] with a first byte other than 2, [`Error::Deserialization`] if the
     /// bytes begin with 2 and are the text of no entry, and [`Error::Memory`] if memory is lacking.
     /// Memory is taken once, for the number of results that the bytes say, after this number was
-    /// compared with the remaining bytes. If they can't hold it, the error is never
-    /// [`Error::Memory`].
+    /// compared with the remaining bytes. If they can't hold it, or there is no byte, or the first
+    /// is not 2, the error is never [`Error::Memory`].
     pub fn read(alloc: Global, bytes: &'a [u8]) -> Result<EntryView<'a>, Error>
         ensures reads { Reads result bytes.now }
         ensures only { (e : Entry) → EntryText e bytes.now → IsEntryOrMemory e result }
         ensures counted { (rest : List ℕ) → bytes.now ≡ format_version ∷ rest → IsOvercounted rest
             → result ≡ Err Error.Deserialization }
+        ensures memory { result ≡ Err Error.Memory → (rest : List ℕ) × (bytes.now ≡ format_version ∷ rest) × (IsOvercounted rest → ⊥) }
     {
         let Some((version, rest)) = bytes.split_first() else {
             return Ok(EntryView::new(alloc));
@@ -88,11 +90,10 @@ impl<'a> EntryView<'a> {
         self.number_of_entries
     }
 
-    /// The results, in the order of their keys' bytes.
-    pub(crate) fn results(&self) -> &[ResultRef<'a>]
+    /// Returns the results, in the order of their keys' bytes.
+    pub fn results(&self) -> &[ResultRef<'a>]
         ensures entries { entries self.now ≡ map result_lent result.now }
         ensures ascend { is_sorted text_cmp (map result_lent result.now) ≡ true }
-        ensures whole { AllByRecursion IsWhole result.now }
     {
         &self.results
     }

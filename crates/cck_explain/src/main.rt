@@ -3,11 +3,12 @@
 //! `cck_explain key DIGEST LANGUAGE [ARG..]` reads a preprocessed text from standard input and
 //! prints the parts of its key material, a line each, and its key. `cck_explain entry` reads an entry
 //! of the store and prints its results and their includes. `cck_explain markers INPUT CWD` reads a
-//! preprocessed text and prints its line markers. Errors go to standard error. `main` only passes the
-//! words and the standard streams to [`run`].
+//! preprocessed text and prints its line markers. `cck_explain script` reads a script of `cck run` and
+//! prints what each of its calls did. Errors go to standard error. `main` only passes what the words ask
+//! for and the standard streams to [`run`].
 #![tactic(auto)]
 
-use cck_explain_command::{refuse, run};
+use cck_explain_command::{language_names, refuse, request_of, run};
 use cck_util::Sha256State;
 use std::env;
 use std::io::ErrorKind;
@@ -24,15 +25,15 @@ fn main(rt: HostRuntime) -> ExitCode {
         Err(error) if error.kind() != ErrorKind::OutOfMemory => Some(Vec::new(alloc)),
         Err(_) => None,
     };
-    let status = match words {
-        Some(words) => run::<Sha256State, _, _, _>(
+    let status = match (words, language_names(alloc)) {
+        (Some(words), Ok(languages)) => run::<Sha256State, _, _, _>(
             alloc,
-            &words,
+            &request_of(alloc, &languages, &words),
             &mut reader,
             &mut writer,
             &mut errors,
         ),
-        None => refuse(&mut errors, b"out of memory"),
+        _ => refuse(&mut errors, b"out of memory"),
     };
     ExitCode::from(status.code())
 }

@@ -1,29 +1,30 @@
 -- listings, part by part, and the bytes of what is listed
-use Rattle.std.proofs.Common.{◌≡◌, ℕ, zero, suc, ◌+◌, ◌-◌, ◌/◌, ◌<◌, ◌≤◌, List, [], ◌∷◌, ◌++◌, Bool, true, false, Option, Some, None, length, take, drop, refl, sym, ap, ◌∙◌, append_assoc, append-nil, arith, length-append, length-drop, length-take, take-append-drop, map}
+use Rattle.std.proofs.Common.{◌≡◌, ℕ, zero, suc, ◌+◌, ◌-◌, ◌/◌, ◌<◌, ◌≤◌, List, [], ◌∷◌, ◌++◌, Bool, true, false, Option, Some, None, length, take, drop, refl, sym, ap, ◌∙◌, append_assoc, append-nil, arith, length-append, length-drop, take-append-drop, map}
 use Rattle.std.proofs.lemmas.Grind.{flat_map-append}
 use Rattle.std.specs.List.{flat_map}
 use Rattle.std.proofs.lemmas.List.{length-take-le}
-use Rattle.cck_path.specs.Bytes.{Bytes}
+use Rattle.std.specs.Global.{Vec}
+use Rattle.cck_explain_cuts.specs.Listing.{argument_cut_lines}
+use Rattle.cck_path.specs.Bytes.{Bytes, lists_of}
 use Rattle.cck_path.specs.Variables.{Variable}
 use Rattle.cck_digest.specs.Frames.{frame, framed_list, framed_option, length_bytes}
 use Rattle.cck_util.specs.Key.{KeyParts, cache_version, flag_byte, material}
 use Rattle.cck_util.specs.Language.{language_name}
 use Rattle.cck_util.specs.Variables.{variable_frames}
-use Rattle.cck_explain_command.specs.Key.{PartsAreMaterial, frame_parts, frames_parts, item_name, length_part, list_parts, material_parts, option_parts, part, variables_parts}
+use Rattle.cck_explain_command.specs.Key.{PartsAreMaterial, arguments_cut_lines, frame_parts, frames_parts, item_name, length_part, list_parts, material_parts, option_parts, part, variables_parts}
 use Rattle.cck_explain_command.specs.Listing.{Part, cut_into, joined, listed, listed_part, part_line, part_lines, row_size, rows}
 use Rattle.std.proofs.Common.{codes, get_or, drop-cons}
 use Rattle.std.proofs.lemmas.List.{length-map, map-append, take_more}
-use Rattle.std.specs.Fmt.{decimal}
 
-pub part_lines-append : (hash : Bytes → Bytes) (offset : ℕ) (xs ys : List Part)
-    → part_lines hash offset (xs ++ ys) ≡ part_lines hash offset xs ++ part_lines hash (offset + length (joined xs)) ys
-part_lines-append hash offset [] ys = ap (λ n. part_lines hash n ys) (omega arith)
-part_lines-append hash offset (x ∷ xs) ys =
-    let line = part_line hash offset x.name x.bytes in
+pub part_lines-append : (offset : ℕ) (xs ys : List Part)
+    → part_lines offset (xs ++ ys) ≡ part_lines offset xs ++ part_lines (offset + length (joined xs)) ys
+part_lines-append offset [] ys = ap (λ n. part_lines n ys) (omega arith)
+part_lines-append offset (x ∷ xs) ys =
+    let line = part_line offset x.name x.bytes in
     let n : (offset + length x.bytes) + length (joined xs) ≡ offset + length (joined (x ∷ xs)) = omega (arith, length-append x.bytes (joined xs)) in
-    ap (λ l. line ++ l) (part_lines-append hash (offset + length x.bytes) xs ys
-    ∙ ap (λ m. part_lines hash (offset + length x.bytes) xs ++ part_lines hash m ys) n)
-    ∙ sym (append_assoc line (part_lines hash (offset + length x.bytes) xs) (part_lines hash (offset + length (joined (x ∷ xs))) ys))
+    ap (λ l. line ++ l) (part_lines-append (offset + length x.bytes) xs ys
+    ∙ ap (λ m. part_lines (offset + length x.bytes) xs ++ part_lines m ys) n)
+    ∙ sym (append_assoc line (part_lines (offset + length x.bytes) xs) (part_lines (offset + length (joined (x ∷ xs))) ys))
 
 pub joined-cut_into : (n : ℕ) (name bytes : Bytes) → joined (cut_into n name bytes) ≡ bytes
 joined-cut_into zero name bytes = append-nil bytes
@@ -43,11 +44,11 @@ joined-listed is_full (p ∷ parts) =
     ∙ ap (λ l. p.bytes ++ l) (joined-listed is_full parts)
 
 -- the lines of a part and of the parts after it
-pub one_part : (hash : Bytes → Bytes) (is_full : Bool) (offset : ℕ) (p : Part) (parts : List Part)
-    → part_lines hash offset (listed is_full (p ∷ parts)) ≡ part_lines hash offset (listed_part is_full p) ++ part_lines hash (offset + length p.bytes) (listed is_full parts)
-one_part hash is_full offset p parts =
-    part_lines-append hash offset (listed_part is_full p) (listed is_full parts)
-    ∙ ap (λ l. part_lines hash offset (listed_part is_full p) ++ part_lines hash (offset + length l) (listed is_full parts)) (joined-listed_part is_full p)
+pub one_part : (is_full : Bool) (offset : ℕ) (p : Part) (parts : List Part)
+    → part_lines offset (listed is_full (p ∷ parts)) ≡ part_lines offset (listed_part is_full p) ++ part_lines (offset + length p.bytes) (listed is_full parts)
+one_part is_full offset p parts =
+    part_lines-append offset (listed_part is_full p) (listed is_full parts)
+    ∙ ap (λ l. part_lines offset (listed_part is_full p) ++ part_lines (offset + length l) (listed is_full parts)) (joined-listed_part is_full p)
 
 -- ---- rows
 
@@ -55,22 +56,22 @@ next_rows : (n : ℕ) → 256 < n → (n - 1) / 256 ≡ suc (((n - 256) - 1) / 2
 next_rows n h = omega (arith, h)
 
 -- the first row of a part of more than 256 bytes, and the others
-pub row_of_more : (hash : Bytes → Bytes) (offset : ℕ) (name bytes : Bytes) → 256 < length bytes
-    → part_lines hash offset (rows (part name bytes))
-    ≡ part_line hash offset name (take 256 bytes) ++ part_lines hash (offset + 256) (rows (part name (drop 256 bytes)))
-row_of_more hash offset name bytes h =
-    ap (λ n. part_lines hash offset (cut_into n name bytes)) (next_rows (length bytes) h ∙ ap (λ m. suc ((m - 1) / 256)) (sym (length-drop 256 bytes)))
-    ∙ ap (λ m. part_line hash offset name (take 256 bytes) ++ part_lines hash (offset + m) (rows (part name (drop 256 bytes))))
+pub row_of_more : (offset : ℕ) (name bytes : Bytes) → 256 < length bytes
+    → part_lines offset (rows (part name bytes))
+    ≡ part_line offset name (take 256 bytes) ++ part_lines (offset + 256) (rows (part name (drop 256 bytes)))
+row_of_more offset name bytes h =
+    ap (λ n. part_lines offset (cut_into n name bytes)) (next_rows (length bytes) h ∙ ap (λ m. suc ((m - 1) / 256)) (sym (length-drop 256 bytes)))
+    ∙ ap (λ m. part_line offset name (take 256 bytes) ++ part_lines (offset + m) (rows (part name (drop 256 bytes))))
     (length-take-le 256 bytes (omega (arith, h)))
 
 no_rows : (n : ℕ) → n ≤ 256 → (n - 1) / 256 ≡ 0
 no_rows n h = omega (arith, h)
 
 -- the one row of a part of at most 256 bytes
-pub row_of_rest : (hash : Bytes → Bytes) (offset : ℕ) (name bytes : Bytes) → length bytes ≤ 256
-    → part_lines hash offset (rows (part name bytes)) ≡ part_line hash offset name bytes
-row_of_rest hash offset name bytes h =
-    ap (λ n. part_lines hash offset (cut_into n name bytes)) (no_rows (length bytes) h) ∙ append-nil (part_line hash offset name bytes)
+pub row_of_rest : (offset : ℕ) (name bytes : Bytes) → length bytes ≤ 256
+    → part_lines offset (rows (part name bytes)) ≡ part_line offset name bytes
+row_of_rest offset name bytes h =
+    ap (λ n. part_lines offset (cut_into n name bytes)) (no_rows (length bytes) h) ∙ append-nil (part_line offset name bytes)
 
 -- ---- the parts of key material
 
@@ -162,12 +163,32 @@ frames_more h g name xs i x named bytes lt at e f =
     ∙ ap (λ b. frames_parts name 0 so-far ++ frame_parts named b) (sym f)
 
 -- the lines of the parts from one on
-pub lines_from : (hash : Bytes → Bytes) (is_full : Bool) (offset end : ℕ) (parts : List Part) (i : ℕ) (p : Part)
+pub lines_from : (is_full : Bool) (offset end : ℕ) (parts : List Part) (i : ℕ) (p : Part)
     → i < length parts → p ≡ get_or parts i p → end ≡ offset + length p.bytes
-    → part_lines hash offset (listed is_full (drop i parts))
-    ≡ part_lines hash offset (listed_part is_full p) ++ part_lines hash end (listed is_full (drop (i + 1) parts))
-lines_from hash is_full offset end parts i p lt at e =
+    → part_lines offset (listed is_full (drop i parts))
+    ≡ part_lines offset (listed_part is_full p) ++ part_lines end (listed is_full (drop (i + 1) parts))
+lines_from is_full offset end parts i p lt at e =
     let next : suc i ≡ i + 1 = omega arith in
-    ap (λ l. part_lines hash offset (listed is_full l)) (drop-cons parts i p lt ∙ ap (λ q. q ∷ drop (suc i) parts) (sym at) ∙ ap (λ n. p ∷ drop n parts) next)
-    ∙ one_part hash is_full offset p (drop (i + 1) parts)
-    ∙ ap (λ n. part_lines hash offset (listed_part is_full p) ++ part_lines hash n (listed is_full (drop (i + 1) parts))) (sym e)
+    ap (λ l. part_lines offset (listed is_full l)) (drop-cons parts i p lt ∙ ap (λ q. q ∷ drop (suc i) parts) (sym at) ∙ ap (λ n. p ∷ drop n parts) next)
+    ∙ one_part is_full offset p (drop (i + 1) parts)
+    ∙ ap (λ n. part_lines offset (listed_part is_full p) ++ part_lines n (listed is_full (drop (i + 1) parts))) (sym e)
+
+-- ---- cuts
+
+-- the lines of the cuts of one argument more
+pub one_argument : (basedirs : List Bytes) (arguments : List (Vec ℕ)) (i : ℕ) (argument : Vec ℕ) (lines after total named bytes : Bytes)
+    → lines ++ arguments_cut_lines basedirs i (lists_of (drop i arguments)) ≡ total → i < length arguments → argument ≡ get_or arguments i argument
+    → named ≡ item_name (codes "arguments") i → bytes ≡ argument.items → after ≡ lines ++ argument_cut_lines basedirs named bytes
+    → after ++ arguments_cut_lines basedirs (i + 1) (lists_of (drop (i + 1) arguments)) ≡ total
+one_argument basedirs arguments i argument lines after total named bytes so-far lt at e f is =
+    let next : suc i ≡ i + 1 = omega arith in
+    let split : drop i arguments ≡ argument ∷ drop (i + 1) arguments =
+    drop-cons arguments i argument lt ∙ ap (λ q. q ∷ drop (suc i) arguments) (sym at) ∙ ap (λ n. argument ∷ drop n arguments) next in
+    let others = lists_of (drop (i + 1) arguments) in
+    let rest = arguments_cut_lines basedirs (i + 1) others in
+    let one = argument_cut_lines basedirs (item_name (codes "arguments") i) argument.items in
+    let all : arguments_cut_lines basedirs i (lists_of (drop i arguments)) ≡ one ++ rest =
+    ap (λ l. arguments_cut_lines basedirs i (lists_of l)) split ∙ ap (λ n. one ++ arguments_cut_lines basedirs n others) next in
+    let line : argument_cut_lines basedirs named bytes ≡ one =
+    ap (λ n. argument_cut_lines basedirs n bytes) e ∙ ap (argument_cut_lines basedirs (item_name (codes "arguments") i)) f in
+    ap (λ l. l ++ rest) (is ∙ ap (λ l. lines ++ l) line) ∙ append_assoc lines one rest ∙ sym (ap (λ l. lines ++ l) all) ∙ so-far

@@ -1,14 +1,14 @@
 -- the lines of rows and of parts, put in one after the other
-use Rattle.std.proofs.Common.{◌≡◌, ℕ, ◌+◌, ◌<◌, ◌≤◌, List, [], ◌∷◌, ◌++◌, Bool, Option, length, take, drop, refl, sym, ap, ◌∙◌, subst, append_assoc, append-nil}
+use Rattle.std.proofs.Common.{◌≡◌, ℕ, ◌+◌, ◌<◌, ◌≤◌, [], ◌++◌, Option, length, take, drop, refl, sym, ap, ◌∙◌, subst, append_assoc}
 use Rattle.std.proofs.KnownBytes.{Appends-trans}
 use Rattle.std.specs.Io.KnownBytes.{Appends}
 use Rattle.cck_path.specs.Bytes.{Bytes}
 use Rattle.cck_command.specs.Printing.{AppendsBeginning}
 use Rattle.cck_explain_command.specs.Buffer.{Puts}
 use Rattle.cck_explain_command.specs.Key.{part}
-use Rattle.cck_explain_command.specs.Listing.{Part, listed, listed_part, part_line, part_lines, rows}
+use Rattle.cck_explain_command.specs.Listing.{part_line, part_lines, rows}
 use Rattle.cck_explain_command.proofs.BufferLemmas.{begun_between, begun_later, begun_nothing, begun_sooner, puts_trans}
-use Rattle.cck_explain_command.proofs.ListingLemmas.{one_part, row_of_more, row_of_rest}
+use Rattle.cck_explain_command.proofs.ListingLemmas.{row_of_more, row_of_rest}
 
 -- these lines were put in, and with the lines that are left they are the whole
 pub record PutSoFar (old : Option Bytes) (waiting : Bytes) (now : Option Bytes) (kept rest whole : Bytes) : Type 0 where
@@ -43,18 +43,18 @@ so_far_stopped a b waiting kept rest whole so =
     (begun_later a b b waiting kept so.done rest so.put (begun_nothing b (kept ++ rest)))
 
 -- the lines of a row and of the rows after it
-pub of_row : (hash : Bytes → Bytes) (at : ℕ) (name named rest row next : Bytes) → 256 < length rest → named ≡ name → row ≡ take 256 rest → next ≡ drop 256 rest
-    → part_lines hash at (rows (part name rest)) ≡ part_line hash at named row ++ part_lines hash (at + 256) (rows (part name next))
-of_row hash at name named rest row next h n e f =
-    row_of_more hash at name rest h
-    ∙ ap (λ l. part_line hash at name l ++ part_lines hash (at + 256) (rows (part name (drop 256 rest)))) (sym e)
-    ∙ ap (λ l. part_line hash at name row ++ part_lines hash (at + 256) (rows (part name l))) (sym f)
-    ∙ ap (λ m. part_line hash at m row ++ part_lines hash (at + 256) (rows (part name next))) (sym n)
+pub of_row : (at : ℕ) (name named rest row next : Bytes) → 256 < length rest → named ≡ name → row ≡ take 256 rest → next ≡ drop 256 rest
+    → part_lines at (rows (part name rest)) ≡ part_line at named row ++ part_lines (at + 256) (rows (part name next))
+of_row at name named rest row next h n e f =
+    row_of_more at name rest h
+    ∙ ap (λ l. part_line at name l ++ part_lines (at + 256) (rows (part name (drop 256 rest)))) (sym e)
+    ∙ ap (λ l. part_line at name row ++ part_lines (at + 256) (rows (part name l))) (sym f)
+    ∙ ap (λ m. part_line at m row ++ part_lines (at + 256) (rows (part name next))) (sym n)
 
 -- the line of the last row
-pub of_last_row : (hash : Bytes → Bytes) (at : ℕ) (name named rest : Bytes) → length rest ≤ 256 → named ≡ name
-    → part_lines hash at (rows (part name rest)) ≡ part_line hash at named rest
-of_last_row hash at name named rest h n = row_of_rest hash at name rest h ∙ ap (λ m. part_line hash at m rest) (sym n)
+pub of_last_row : (at : ℕ) (name named rest : Bytes) → length rest ≤ 256 → named ≡ name
+    → part_lines at (rows (part name rest)) ≡ part_line at named rest
+of_last_row at name named rest h n = row_of_rest at name rest h ∙ ap (λ m. part_line at m rest) (sym n)
 
 -- From an empty buffer on: the first bytes, and then the others, which the buffer got and which were then written.
 module _ (a b c : Option Bytes) (waiting kept all xs ys : Bytes) (none : waiting ≡ []) where

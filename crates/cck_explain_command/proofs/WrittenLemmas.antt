@@ -1,11 +1,14 @@
 -- the errors of a listing
 use Rattle.std.proofs.Common.{◌≡◌, ◌⊎◌, Result, Ok, Err, OnOk, OnErr, Option, Some, None, IfErr, IfSome, refl, sym, subst, inl, inr}
 use Rattle.cck_path.specs.Bytes.{Bytes}
+use Rattle.cck_script.specs.Script.{IsScriptError}
+use Rattle.cck_script.specs.declared.error.ScriptError.{ScriptError}
+use Rattle.cck_script.specs.declared.error.ScriptError.TheVariants as script
 use Rattle.cck_explain_entry.specs.Bytes as entry
 use Rattle.cck_explain_entry.specs.declared.listing.EntryError.{EntryError}
 use Rattle.cck_explain_entry.specs.declared.listing.EntryError.TheVariants as variants
 use Rattle.cck_explain_command.proofs.BufferLemmas.{if_any}
-use Rattle.cck_explain_command.specs.Written.{IsErrorFor, explained_by}
+use Rattle.cck_explain_command.specs.Written.{IsErrorFor, explained_by, explained_by_script}
 use Rattle.cck_explain_command.specs.declared.error.ExplainError.{ExplainError}
 use Rattle.cck_explain_command.specs.declared.error.ExplainError.TheVariants.{Memory, Read, Write}
 
@@ -18,6 +21,12 @@ pub entry_error : (bytes : Bytes) (error : EntryError) (explained : ExplainError
     → IsErrorFor bytes explained old old
 entry_error bytes variants.Memory explained old h is = subst (λ x. IsErrorFor bytes x old old) (sym is) tt
 entry_error bytes (variants.NotEntry fault) explained old h is = subst (λ x. IsErrorFor bytes x old old) (sym is) (refl, h)
+
+-- the error for a script that has no listing
+pub script_error : (bytes : Bytes) (error : ScriptError) (explained : ExplainError) (old : Option Bytes) → IsScriptError bytes error → explained ≡ explained_by_script error
+    → IsErrorFor bytes explained old old
+script_error bytes script.Memory explained old h is = subst (λ x. IsErrorFor bytes x old old) (sym is) tt
+script_error bytes (script.Line number) explained old h is = subst (λ x. IsErrorFor bytes x old old) (sym is) (refl, h)
 
 pub write_error : (bytes : Bytes) (explained : ExplainError) (old new : Option Bytes) → explained ≡ Write → IsErrorFor bytes explained old new
 write_error bytes explained old new is = subst (λ x. IsErrorFor bytes x old new) (sym is) tt

@@ -1,11 +1,12 @@
 -- the parts of key material
-use Rattle.std.specs.Prelude.{◌≡◌, ℕ, zero, suc, List, [], ◌∷◌, ◌++◌, Bool, Option, Some, None, codes, length}
+use Rattle.std.specs.Prelude.{◌≡◌, ℕ, suc, List, [], ◌∷◌, ◌++◌, Bool, Option, Some, None, codes, length}
 use Rattle.std.specs.Fmt.{decimal}
 use Rattle.cck_digest.specs.Frames.{length_bytes}
 use Rattle.cck_path.specs.Bytes.{Bytes}
 use Rattle.cck_path.specs.Variables.{Variable}
 use Rattle.cck_util.specs.Key.{KeyParts, Params, cache_version, flag_byte, key_parts, material, object_key}
 use Rattle.cck_util.specs.Language.{language_name}
+use Rattle.cck_explain_cuts.specs.Listing.{argument_cut_lines, text_cut_lines}
 use Rattle.cck_explain_command.specs.Listing.{Part, joined, listed, part_lines}
 
 -- a part of this name
@@ -66,6 +67,18 @@ PartsAreMaterial = (is_full : Bool) (p : KeyParts) → joined (listed is_full (m
 abbrev pub key_line : Bytes → Bytes
 key_line key = codes "key " ++ key ++ 10 ∷ []
 
--- the listing of a key: its parts, and the key
+-- a line for each base directory that is cut out of these arguments, the first of which has the number i
+abbrev pub arguments_cut_lines : List Bytes → ℕ → List Bytes → Bytes
+arguments_cut_lines basedirs i [] = []
+arguments_cut_lines basedirs i (argument ∷ arguments) =
+    argument_cut_lines basedirs (item_name (codes "arguments") i) argument ++ arguments_cut_lines basedirs (suc i) arguments
+
+-- a line for each base directory that is cut out of what is passed for a key
+abbrev pub all_cut_lines : List Bytes → List Bytes → Bytes → Bytes
+all_cut_lines basedirs arguments text = arguments_cut_lines basedirs 0 arguments ++ text_cut_lines basedirs (codes "preprocessor_output") text
+
+-- the listing of a key: its parts, what is cut out, and the key
 abbrev pub key_listing : (Bytes → Bytes) → Bool → Params → Bytes
-key_listing hash is_full p = part_lines hash 0 (listed is_full (material_parts (key_parts p))) ++ key_line (object_key hash p)
+key_listing hash is_full p =
+    part_lines 0 (listed is_full (material_parts (key_parts p)))
+    ++ (all_cut_lines p.basedirs p.arguments p.preprocessor_output ++ key_line (object_key hash p))

@@ -3,4 +3,5 @@ pub mod Key
 pub mod KeyRequest
 pub mod Listing
 pub mod Part
+pub mod Run
 pub mod Written

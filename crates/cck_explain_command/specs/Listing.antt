@@ -2,8 +2,8 @@
 use Rattle.std.specs.Prelude.{ℕ, zero, suc, ◌+◌, ◌-◌, ◌/◌, List, [], ◌∷◌, ◌++◌, Bool, true, false, codes, length, take, drop, nat_le, if◌then◌else◌}
 use Rattle.std.specs.Fmt.{decimal}
 use Rattle.std.specs.List.{flat_map}
-use Rattle.cck_digest.specs.Digest.{digest_text}
 use Rattle.cck_path.specs.Bytes.{Bytes}
+use Rattle.cck_explain_text.specs.Checksum.{checksum}
 use Rattle.cck_explain_text.specs.Quoted.{quoted}
 
 -- some bytes of a text, and what they are
@@ -19,20 +19,20 @@ joined parts = flat_map (λ part. part.bytes) parts
 abbrev pub row_size : ℕ
 row_size = 256
 
--- what a line shows of bytes: their escape in quotation marks, or their hex digest
-abbrev pub shown : (Bytes → Bytes) → Bytes → Bytes
-shown hash bytes = if nat_le (length bytes) row_size then quoted bytes else codes "digest " ++ digest_text hash bytes
+-- what a line shows of bytes: their escape in quotation marks, or their checksum
+abbrev pub shown : Bytes → Bytes
+shown bytes = if nat_le (length bytes) row_size then quoted bytes else codes "checksum " ++ decimal (checksum bytes)
 
 -- the line of bytes with this name at this offset
-abbrev pub part_line : (Bytes → Bytes) → ℕ → Bytes → Bytes → Bytes
-part_line hash offset name bytes =
-    decimal offset ++ codes " " ++ decimal (length bytes) ++ codes " " ++ name ++ codes " " ++ shown hash bytes ++ 10 ∷ []
+abbrev pub part_line : ℕ → Bytes → Bytes → Bytes
+part_line offset name bytes =
+    decimal offset ++ codes " " ++ decimal (length bytes) ++ codes " " ++ name ++ codes " " ++ shown bytes ++ 10 ∷ []
 
 -- the lines of parts, the first of which is at this offset
-abbrev pub part_lines : (Bytes → Bytes) → ℕ → List Part → Bytes
-part_lines hash offset [] = []
-part_lines hash offset (part ∷ parts) =
-    part_line hash offset part.name part.bytes ++ part_lines hash (offset + length part.bytes) parts
+abbrev pub part_lines : ℕ → List Part → Bytes
+part_lines offset [] = []
+part_lines offset (part ∷ parts) =
+    part_line offset part.name part.bytes ++ part_lines (offset + length part.bytes) parts
 
 -- the part cut into n parts of row_size bytes and one with the rest
 abbrev pub cut_into : ℕ → Bytes → Bytes → List Part

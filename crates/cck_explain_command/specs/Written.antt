@@ -1,14 +1,16 @@
 -- what is written of a listing
-use Rattle.std.specs.Prelude.{◌≡◌, ◌⊎◌, Option}
+use Rattle.std.specs.Prelude.{◌≡◌, ◌⊎◌, Option, Some}
 use Rattle.std.specs.Io.KnownBytes.{Appends}
 use Rattle.cck_command.specs.Printing.{AppendsBeginning}
-use Rattle.cck_explain_entry.specs.Bytes.{IsEntryOf}
+use Rattle.cck_explain_entry.specs.Bytes as entry
 use Rattle.cck_explain_entry.specs.declared.listing.EntryError.{EntryError}
-use Rattle.cck_explain_entry.specs.declared.listing.EntryError.TheVariants as entry
-use Rattle.cck_entry.specs.Entry.{Entry}
+use Rattle.cck_explain_entry.specs.declared.listing.EntryError.TheVariants as variants
 use Rattle.cck_path.specs.Bytes.{Bytes}
+use Rattle.cck_script.specs.Script.{wrong_line}
+use Rattle.cck_script.specs.declared.error.ScriptError.{ScriptError}
+use Rattle.cck_script.specs.declared.error.ScriptError.TheVariants as script
 use Rattle.cck_explain_command.specs.declared.error.ExplainError.{ExplainError}
-use Rattle.cck_explain_command.specs.declared.error.ExplainError.TheVariants.{Memory, Read, Write, NotEntry}
+use Rattle.cck_explain_command.specs.declared.error.ExplainError.TheVariants.{Memory, Read, Write, NotEntry, Line}
 
 -- such a listing was written
 abbrev pub WritesOf : (Bytes → Type 0) → Option Bytes → Option Bytes → Type 0
@@ -20,12 +22,18 @@ BeginsOf IsListing old new = (new ≡ old) ⊎ ((listing : Bytes) × IsListing l
 
 -- the program's error for that of an entry
 abbrev pub explained_by : EntryError → ExplainError
-explained_by entry.Memory = Memory
-explained_by (entry.NotEntry fault) = NotEntry fault
+explained_by variants.Memory = Memory
+explained_by (variants.NotEntry fault) = NotEntry fault
 
--- bytes are called no entry only if they are none, and then nothing was written
+-- the program's error for that of a script
+abbrev pub explained_by_script : ScriptError → ExplainError
+explained_by_script script.Memory = Memory
+explained_by_script (script.Line number) = Line number
+
+-- bytes are called no entry only if they are none, and a line of a script wrong only if it is the first wrong one; nothing was written then
 abbrev pub IsErrorFor : Bytes → ExplainError → Option Bytes → Option Bytes → Type 0
 IsErrorFor bytes Memory old new = Unit {0}
 IsErrorFor bytes Read old new = Unit {0}
 IsErrorFor bytes Write old new = Unit {0}
-IsErrorFor bytes (NotEntry fault) old new = (new ≡ old) × ((e : Entry) → IsEntryOf e bytes → ⊥)
+IsErrorFor bytes (NotEntry fault) old new = (new ≡ old) × entry.IsErrorFor bytes (variants.NotEntry fault)
+IsErrorFor bytes (Line number) old new = (new ≡ old) × (wrong_line bytes ≡ Some number)

@@ -14,7 +14,7 @@ use std::io::{Read, Write};
 fn write_entry<W: Write>(alloc: Global, bytes: &[u8], writer: &mut W) -> Result<(), ExplainError>
     ensures listed { OnOk result (WritesOf (IsListingOf bytes.now) (W.contents writer.old) (W.contents writer.new)) }
     ensures begun { OnErr result (BeginsOf (IsListingOf bytes.now) (W.contents writer.old) (W.contents writer.new)) }
-    ensures refused { IfErr result (λ error. IsErrorFor bytes.now error (W.contents writer.old) (W.contents writer.new)) }
+    ensures errors { IfErr result (λ error. IsErrorFor bytes.now error (W.contents writer.old) (W.contents writer.new)) }
 {
     let listing = entry_listing(alloc, bytes)?;
     print(writer, &listing)?;
@@ -35,7 +35,7 @@ pub fn explain_entry<R: Read, W: Write>(
         WritesOf (IsListingOf bytes) (W.contents writer.old) (W.contents writer.new))) }
     ensures begun { OnErr result (IfSome (R.remaining reader.old) (λ bytes.
         BeginsOf (IsListingOf bytes) (W.contents writer.old) (W.contents writer.new))) }
-    ensures refused { IfErr result (λ error. IfSome (R.remaining reader.old) (λ bytes.
+    ensures errors { IfErr result (λ error. IfSome (R.remaining reader.old) (λ bytes.
         IsErrorFor bytes error (W.contents writer.old) (W.contents writer.new))) }
 {
     let bytes = read_all(alloc, reader)?;

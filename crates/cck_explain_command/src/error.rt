@@ -1,6 +1,7 @@
 //! The error of the program.
 use cck_command::Failed;
 use cck_explain_entry::{EntryError, Fault};
+use cck_script::ScriptError;
 use cck_util::UtilError;
 use std::alloc::{AllocError, AllocFailed};
 use thiserror::Error;
@@ -20,6 +21,9 @@ pub enum ExplainError {
     /// The bytes are no entry.
     #[error("no entry")]
     NotEntry(Fault),
+    /// The line of this number is the first wrong one of a script.
+    #[error("line {0} is wrong")]
+    Line(u64),
 }
 
 impl From<EntryError> for ExplainError {
@@ -32,6 +36,20 @@ impl From<EntryError> for ExplainError {
         match error {
             EntryError::Memory => ExplainError::Memory,
             EntryError::NotEntry(fault) => ExplainError::NotEntry(fault),
+        }
+    }
+}
+
+impl From<ScriptError> for ExplainError {
+    ghost use Rattle.std.specs.Prelude.{◌≡◌};
+    ghost use Rattle.cck_explain_command.specs.Written.{explained_by_script};
+
+    ghost from_gives = { λ error explained. explained ≡ explained_by_script error };
+
+    fn from(error: ScriptError) -> ExplainError {
+        match error {
+            ScriptError::Memory => ExplainError::Memory,
+            ScriptError::Line(number) => ExplainError::Line(number),
         }
     }
 }

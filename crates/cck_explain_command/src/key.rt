@@ -2,7 +2,8 @@
 ghost use Rattle.std.specs.Prelude.{◌≡◌, ◌++◌, IfOk, IfSome, OnErr, OnOk, string_bytes};
 ghost use Rattle.std.specs.Io.KnownBytes.{Appends};
 ghost use Rattle.cck_command.specs.Printing.{AppendsBeginning};
-ghost use Rattle.cck_explain_command.specs.Key.{key_line, key_listing};
+ghost use Rattle.cck_explain_command.specs.Key.{all_cut_lines, arguments_cut_lines, key_line, key_listing};
+ghost use Rattle.cck_path.specs.Bytes.{lists_of};
 ghost use Rattle.cck_explain_command.specs.KeyRequest.{params_for};
 ghost use Rattle.cck_explain_command.specs.Listing.{listed, part_lines};
 ghost use Rattle.cck_util.specs.Key.{object_key};
@@ -12,6 +13,7 @@ use crate::line::put_parts;
 use crate::part::{Part, material_parts};
 use crate::request::KeyRequest;
 use cck_command::print;
+use cck_explain_cuts::{push_argument_cuts, push_text_cuts};
 use cck_util::{HashKeyParams, HashState, read_all};
 use std::alloc::Global;
 use std::io::{Read, Write};
@@ -44,30 +46,66 @@ fn key_of<H: HashState>(
     Ok(params.compute::<H>(alloc)?)
 }
 
-// Writes the lines of these parts and the line of the key.
+// Appends a line for each base directory that is cut out of these arguments.
+fn push_arguments_cuts(
+    alloc: Global,
+    lines: &mut Vec<u8>,
+    arguments: &[Vec<u8>],
+    basedirs: &[Vec<u8>],
+) -> Result<(), ExplainError>
+    ensures { OnOk result (lines.new.items
+        ≡ lines.old.items ++ arguments_cut_lines (lists_of basedirs.now) 0 (lists_of arguments.now)) }
+{
+    for (index, argument) in arguments.iter().enumerate() {
+        let name = format!(in alloc; "arguments[{index}]")?;
+        push_argument_cuts(alloc, lines, name.as_str(), argument, basedirs)?;
+    }
+    Ok(())
+}
+
+// Returns a line for each base directory that is cut out of the arguments and the text.
+fn cuts_of(alloc: Global, request: &KeyRequest<'_>, text: &[u8]) -> Result<Vec<u8>, ExplainError>
+    ensures { IfOk result (λ lines. lines.items
+        ≡ all_cut_lines (lists_of request.now.basedirs.items) (lists_of request.now.arguments.items) text.now) }
+{
+    let mut lines = Vec::new(alloc);
+    push_arguments_cuts(alloc, &mut lines, &request.arguments, &request.basedirs)?;
+    push_text_cuts(
+        alloc,
+        &mut lines,
+        "preprocessor_output",
+        text,
+        &request.basedirs,
+    )?;
+    Ok(lines)
+}
+
+// Writes the lines of these parts, those of the cuts and the line of the key.
 //
 // The errors are those of [`put_parts`]. A prefix of the lines is then written.
-fn write_listing<H: HashState, W: Write>(
+fn write_listing<W: Write>(
     alloc: Global,
     writer: &mut W,
     parts: &[Part<'_>],
+    cuts: &[u8],
     key: &str,
     is_full: bool,
 ) -> Result<(), ExplainError>
     ensures listed { OnOk result (Appends (W.contents writer.old) (W.contents writer.new)
-        (part_lines H.hash 0 (listed is_full parts.now) ++ key_line key.now)) }
+        (part_lines 0 (listed is_full parts.now) ++ (cuts.now ++ key_line key.now))) }
     ensures begun { OnErr result (AppendsBeginning (W.contents writer.old) (W.contents writer.new)
-        (part_lines H.hash 0 (listed is_full parts.now) ++ key_line key.now)) }
+        (part_lines 0 (listed is_full parts.now) ++ (cuts.now ++ key_line key.now))) }
 {
     let mut buffer = Vec::new(alloc);
-    put_parts::<H, W>(alloc, writer, &mut buffer, parts, is_full)?;
+    put_parts(alloc, writer, &mut buffer, parts, is_full)?;
+    buffer.extend_from_slice(cuts)?;
     push_key(&mut buffer, key)?;
     print(writer, &buffer)?;
     Ok(())
 }
 
 /// Reads a text to its end, and writes the parts of the key material of this request and text, a
-/// line each, and the key.
+/// line each, then a line for each base directory that is cut out, and the key.
 ///
 /// The errors are [`ExplainError::Read`], [`ExplainError::Write`] and [`ExplainError::Memory`]. A
 /// prefix of the listing is then written, which may be empty or all of it.
@@ -85,6 +123,7 @@ pub fn explain_key<H: HashState, R: Read, W: Write>(
     let text = read_all(alloc, reader)?;
     let key = key_of::<H>(alloc, request, &text)?;
     let parts = material_parts(alloc, request, &text)?;
-    write_listing::<H, W>(alloc, writer, &parts, key.as_str(), request.is_full)?;
+    let cuts = cuts_of(alloc, request, &text)?;
+    write_listing(alloc, writer, &parts, &cuts, key.as_str(), request.is_full)?;
     Ok(())
 }

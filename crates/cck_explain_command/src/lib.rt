@@ -11,6 +11,7 @@ mod markers;
 mod part;
 mod program;
 mod request;
+mod script;
 mod words;
 
 pub use entry::explain_entry;
@@ -18,4 +19,6 @@ pub use error::ExplainError;
 pub use key::explain_key;
 pub use markers::explain_markers;
 pub use program::{refuse, run};
-pub use request::{KeyRequest, MarkersRequest};
+pub use request::{KeyRequest, MarkersRequest, Request};
+pub use script::explain_script;
+pub use words::{language_names, request_of};

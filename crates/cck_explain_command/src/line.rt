@@ -7,8 +7,7 @@ ghost use Rattle.cck_explain_command.specs.Listing.{listed, listed_part, part_li
 use crate::buffer::spill;
 use crate::error::ExplainError;
 use crate::part::Part;
-use cck_explain_text::push_quoted;
-use cck_util::{Digest, HashState};
+use cck_explain_text::{checksum, push_quoted};
 use std::alloc::Global;
 use std::io::Write;
 
@@ -16,46 +15,40 @@ use std::io::Write;
 const ROW_SIZE: usize = 256;
 
 // Appends what a line shows of bytes: up to 256 of them escaped and in quotation marks, or else
-// their hex digest.
-fn push_shown<H: HashState>(
-    alloc: Global,
-    line: &mut Vec<u8>,
-    bytes: &[u8],
-) -> Result<(), ExplainError>
-    ensures { OnOk result (line.new.items ≡ line.old.items ++ shown H.hash bytes.now) }
+// their checksum.
+fn push_shown(alloc: Global, line: &mut Vec<u8>, bytes: &[u8]) -> Result<(), ExplainError>
+    ensures { OnOk result (line.new.items ≡ line.old.items ++ shown bytes.now) }
 {
     if bytes.len() <= ROW_SIZE {
         push_quoted(line, bytes)?;
         return Ok(());
     }
-    let mut digest = Digest::<H>::new();
-    digest.update(bytes);
-    let text = digest.finish(alloc)?;
-    line.extend_from_slice(b"digest ")?;
+    let sum = checksum(bytes);
+    let text = format!(in alloc; "checksum {sum}")?;
     line.extend_from_slice(text.as_bytes())?;
     Ok(())
 }
 
 // Appends the line of bytes with this name at this offset.
-fn push_line<H: HashState>(
+fn push_line(
     alloc: Global,
     line: &mut Vec<u8>,
     offset: usize,
     name: &str,
     bytes: &[u8],
 ) -> Result<(), ExplainError>
-    ensures { OnOk result (line.new.items ≡ line.old.items ++ part_line H.hash offset name.now bytes.now) }
+    ensures { OnOk result (line.new.items ≡ line.old.items ++ part_line offset name.now bytes.now) }
 {
     let length = bytes.len();
     let head = format!(in alloc; "{offset} {length} {name} ")?;
     line.extend_from_slice(head.as_bytes())?;
-    push_shown::<H>(alloc, line, bytes)?;
+    push_shown(alloc, line, bytes)?;
     line.push(b'\n')?;
     Ok(())
 }
 
 // Puts the line of bytes with this name at this offset into the writer.
-fn put_line<H: HashState, W: Write>(
+fn put_line<W: Write>(
     alloc: Global,
     writer: &mut W,
     buffer: &mut Vec<u8>,
@@ -64,16 +57,16 @@ fn put_line<H: HashState, W: Write>(
     bytes: &[u8],
 ) -> Result<(), ExplainError>
     ensures put { OnOk result (Puts (W.contents writer.old) buffer.old.items
-        (W.contents writer.new) buffer.new.items (part_line H.hash offset name.now bytes.now)) }
+        (W.contents writer.new) buffer.new.items (part_line offset name.now bytes.now)) }
     ensures begun { OnErr result (AppendsBeginning (W.contents writer.old) (W.contents writer.new)
-        (buffer.old.items ++ part_line H.hash offset name.now bytes.now)) }
+        (buffer.old.items ++ part_line offset name.now bytes.now)) }
 {
-    push_line::<H>(alloc, buffer, offset, name, bytes)?;
+    push_line(alloc, buffer, offset, name, bytes)?;
     spill(writer, buffer)
 }
 
 // Puts the lines of a part's rows into the writer.
-fn put_rows<H: HashState, W: Write>(
+fn put_rows<W: Write>(
     alloc: Global,
     writer: &mut W,
     buffer: &mut Vec<u8>,
@@ -82,24 +75,24 @@ fn put_rows<H: HashState, W: Write>(
 ) -> Result<(), ExplainError>
     requires { offset + length part.now.bytes < 2 ^ 64 }
     ensures put { OnOk result (Puts (W.contents writer.old) buffer.old.items
-        (W.contents writer.new) buffer.new.items (part_lines H.hash offset (rows part.now))) }
+        (W.contents writer.new) buffer.new.items (part_lines offset (rows part.now))) }
     ensures begun { OnErr result (AppendsBeginning (W.contents writer.old) (W.contents writer.new)
-        (buffer.old.items ++ part_lines H.hash offset (rows part.now))) }
+        (buffer.old.items ++ part_lines offset (rows part.now))) }
 {
     let mut rest = part.bytes();
     let mut at = offset;
     while rest.len() > ROW_SIZE {
         let (row, next) = rest.split_at(ROW_SIZE);
-        put_line::<H, W>(alloc, writer, buffer, at, part.name(), row)?;
+        put_line(alloc, writer, buffer, at, part.name(), row)?;
         at += ROW_SIZE;
         rest = next;
     }
-    put_line::<H, W>(alloc, writer, buffer, at, part.name(), rest)?;
+    put_line(alloc, writer, buffer, at, part.name(), rest)?;
     Ok(())
 }
 
 // Puts what is listed of a part into the writer.
-fn put_part<H: HashState, W: Write>(
+fn put_part<W: Write>(
     alloc: Global,
     writer: &mut W,
     buffer: &mut Vec<u8>,
@@ -109,25 +102,25 @@ fn put_part<H: HashState, W: Write>(
 ) -> Result<(), ExplainError>
     requires { offset + length part.now.bytes < 2 ^ 64 }
     ensures put { OnOk result (Puts (W.contents writer.old) buffer.old.items
-        (W.contents writer.new) buffer.new.items (part_lines H.hash offset (listed_part is_full part.now))) }
+        (W.contents writer.new) buffer.new.items (part_lines offset (listed_part is_full part.now))) }
     ensures begun { OnErr result (AppendsBeginning (W.contents writer.old) (W.contents writer.new)
-        (buffer.old.items ++ part_lines H.hash offset (listed_part is_full part.now))) }
+        (buffer.old.items ++ part_lines offset (listed_part is_full part.now))) }
 {
     if is_full {
-        put_rows::<H, W>(alloc, writer, buffer, offset, part)?;
+        put_rows(alloc, writer, buffer, offset, part)?;
     } else {
-        put_line::<H, W>(alloc, writer, buffer, offset, part.name(), part.bytes())?;
+        put_line(alloc, writer, buffer, offset, part.name(), part.bytes())?;
     }
     Ok(())
 }
 
 /// Puts the lines of these parts into the writer through the buffer, each with its offset in all of
 /// them. With `is_full` a part is listed in rows of 256 bytes; else a part of more than 256 bytes is
-/// listed by its hex digest.
+/// listed by its checksum.
 ///
 /// The errors are [`ExplainError::Write`], and [`ExplainError::Memory`], also where the parts have
 /// 2^64 bytes or more together. A prefix of what the buffer held and of the lines is then written.
-pub fn put_parts<H: HashState, W: Write>(
+pub fn put_parts<W: Write>(
     alloc: Global,
     writer: &mut W,
     buffer: &mut Vec<u8>,
@@ -135,16 +128,16 @@ pub fn put_parts<H: HashState, W: Write>(
     is_full: bool,
 ) -> Result<(), ExplainError>
     ensures put { OnOk result (Puts (W.contents writer.old) buffer.old.items
-        (W.contents writer.new) buffer.new.items (part_lines H.hash 0 (listed is_full parts.now))) }
+        (W.contents writer.new) buffer.new.items (part_lines 0 (listed is_full parts.now))) }
     ensures begun { OnErr result (AppendsBeginning (W.contents writer.old) (W.contents writer.new)
-        (buffer.old.items ++ part_lines H.hash 0 (listed is_full parts.now))) }
+        (buffer.old.items ++ part_lines 0 (listed is_full parts.now))) }
 {
     let mut offset: usize = 0;
     for part in parts {
         let end = offset
             .checked_add(part.bytes().len())
             .ok_or(ExplainError::Memory)?;
-        put_part::<H, W>(alloc, writer, buffer, offset, part, is_full)?;
+        put_part(alloc, writer, buffer, offset, part, is_full)?;
         offset = end;
     }
     Ok(())

@@ -1,29 +1,53 @@
 //! The program, over any reader and any writers.
-ghost use Rattle.std.specs.Prelude.{◌≡◌};
+ghost use Rattle.std.specs.Prelude.{◌≡◌, ◌≢◌, IfErr, IfSome, MatchOption, MatchResult, OnErr, OnOk};
+ghost use Rattle.clap.specs.Values.{kind_of};
+ghost use Rattle.cck_command.specs.Printing.{AppendsBeginning};
+ghost use Rattle.cck_explain_command.specs.Run.{Answers, Lists, Refuses, StatusOf, refusal};
+ghost use Rattle.cck_explain_command.specs.Written.{BeginsOf, WritesOf};
 
 use crate::entry::explain_entry;
 use crate::error::ExplainError;
 use crate::key::explain_key;
 use crate::markers::explain_markers;
 use crate::request::Request;
-use crate::words::request_of;
+use crate::script::explain_script;
 use cck_command::{Failed, Status, print};
 use cck_explain_entry::Fault;
-use cck_util::{HashState, Language};
+use cck_util::HashState;
 use clap::Error;
 use clap::error::ErrorKind;
 use std::alloc::Global;
 use std::io::{Read, Write};
 
+// Writes a line with the program's name and this text.
+fn print_refusal<E: Write>(errors: &mut E, why: &[u8]) -> Result<(), Failed>
+    ensures { AppendsBeginning (E.contents errors.old) (E.contents errors.new) (refusal why.now) }
+{
+    print(errors, b"cck_explain: ")?;
+    print(errors, why)?;
+    print(errors, b"\n")
+}
+
 /// Tries once to write a line with the program's name and this text, and returns
 /// [`Status::Refused`], whether or not the line could be written.
 pub fn refuse<E: Write>(errors: &mut E, why: &[u8]) -> Status
-    ensures { result ≡ Status.Refused }
+    ensures status { result ≡ Status.Refused }
+    ensures line { AppendsBeginning (E.contents errors.old) (E.contents errors.new) (refusal why.now) }
 {
-    let _ = print(errors, b"cck_explain: ");
-    let _ = print(errors, why);
-    let _ = print(errors, b"\n");
+    let _ = print_refusal(errors, why);
     Status::Refused
+}
+
+// Writes this text, which was asked for in place of a listing.
+fn show<W: Write, E: Write>(text: &[u8], writer: &mut W, errors: &mut E) -> Status
+    ensures status { result ≢ Status.Usage }
+    ensures done { result ≡ Status.Done → errors.new ≡ errors.old }
+    ensures errors { result ≡ Status.Refused → Refuses (E.contents errors.old) (E.contents errors.new) }
+{
+    match print(writer, text) {
+        Ok(()) => Status::Done,
+        Err(Failed) => refuse(errors, b"a write failed"),
+    }
 }
 
 // Writes what the words ask for instead of a listing: help or the version to the writer, and what
@@ -33,42 +57,60 @@ fn answer<W: Write, E: Write>(
     error: &Error,
     writer: &mut W,
     errors: &mut E,
-) -> Status {
-    if error.kind() == ErrorKind::OutOfMemory {
-        return refuse(errors, b"out of memory");
-    }
+) -> Status
+    ensures status { StatusOf (kind_of error.now) result }
+    ensures usage { result ≡ Status.Usage → writer.new ≡ writer.old }
+    ensures done { result ≡ Status.Done → errors.new ≡ errors.old }
+    ensures errors { result ≡ Status.Refused → Refuses (E.contents errors.old) (E.contents errors.new) }
+{
     let Ok(text) = format!(in alloc; "{error}") else {
         return refuse(errors, b"out of memory");
     };
-    if error.use_stderr() {
-        let _ = print(errors, text.as_bytes());
-        return Status::Usage;
-    }
-    match print(writer, text.as_bytes()) {
-        Ok(()) => Status::Done,
-        Err(Failed) => refuse(errors, b"a write failed"),
+    match error.kind() {
+        ErrorKind::OutOfMemory => refuse(errors, b"out of memory"),
+        ErrorKind::DisplayHelp | ErrorKind::DisplayVersion => {
+            show(text.as_bytes(), writer, errors)
+        }
+        _ => {
+            let _ = print(errors, text.as_bytes());
+            Status::Usage
+        }
     }
 }
 
 // Tries once to write which error it was.
 fn refuse_for<E: Write>(alloc: Global, errors: &mut E, error: ExplainError) -> Status
-    ensures { result ≡ Status.Refused }
+    ensures status { result ≡ Status.Refused }
+    ensures line { Refuses (E.contents errors.old) (E.contents errors.new) }
 {
     match error {
         ExplainError::Memory => refuse(errors, b"out of memory"),
         ExplainError::Read => refuse(errors, b"a read failed"),
         ExplainError::Write => refuse(errors, b"a write failed"),
         ExplainError::NotEntry(fault) => refuse_bytes(alloc, errors, fault),
+        ExplainError::Line(number) => refuse_script(alloc, errors, number),
     }
 }
 
 // Tries once to write where bytes stop being an entry, and why.
 fn refuse_bytes<E: Write>(alloc: Global, errors: &mut E, fault: Fault) -> Status
-    ensures { result ≡ Status.Refused }
+    ensures status { result ≡ Status.Refused }
+    ensures line { Refuses (E.contents errors.old) (E.contents errors.new) }
 {
     let offset = fault.offset;
     let cause = fault.cause.as_str();
     match format!(in alloc; "no entry from byte {offset} on: {cause}") {
+        Ok(text) => refuse(errors, text.as_bytes()),
+        Err(_) => refuse(errors, b"out of memory"),
+    }
+}
+
+// Tries once to write which line of a script is wrong.
+fn refuse_script<E: Write>(alloc: Global, errors: &mut E, number: u64) -> Status
+    ensures status { result ≡ Status.Refused }
+    ensures line { Refuses (E.contents errors.old) (E.contents errors.new) }
+{
+    match format!(in alloc; "line {number} is wrong") {
         Ok(text) => refuse(errors, text.as_bytes()),
         Err(_) => refuse(errors, b"out of memory"),
     }
@@ -80,51 +122,68 @@ fn explain<H: HashState, R: Read, W: Write>(
     request: &Request<'_>,
     reader: &mut R,
     writer: &mut W,
-) -> Result<(), ExplainError> {
+) -> Result<(), ExplainError>
+    ensures listed { OnOk result (IfSome (R.remaining reader.old) (λ bytes.
+        WritesOf (Lists H.hash request.now bytes) (W.contents writer.old) (W.contents writer.new))) }
+    ensures begun { OnErr result (IfSome (R.remaining reader.old) (λ bytes.
+        BeginsOf (Lists H.hash request.now bytes) (W.contents writer.old) (W.contents writer.new))) }
+{
     match request {
         Request::Key(request) => explain_key::<H, R, W>(alloc, request, reader, writer),
         Request::Entry => explain_entry(alloc, reader, writer),
         Request::Markers(request) => explain_markers(alloc, *request, reader, writer),
+        Request::Script => explain_script::<H, R, W>(alloc, reader, writer),
     }
 }
 
-// The name of each language.
-fn language_names(alloc: Global) -> Result<Vec<&'static str>, ExplainError> {
-    let mut names = Vec::new(alloc);
-    for language in &Language::ALL {
-        names.push(language.as_str())?;
-    }
-    Ok(names)
-}
-
-/// Runs the program on these words, of which the first is the program's name, and writes its
-/// listing.
-///
-/// - `key [--full] [--basedir DIR].. DIGEST LANGUAGE [ARG..]`: [`explain_key`] is called, and
-///   [`Status::Done`] is returned.
-/// - `entry`: [`explain_entry`] is called, and [`Status::Done`] is returned.
-/// - `markers INPUT CWD`: [`explain_markers`] is called, and [`Status::Done`] is returned.
-/// - `--help` and `--version`: the text is written, and [`Status::Done`] is returned.
-/// - For any other words what is wrong with them is written to `errors`, and [`Status::Usage`] is
-///   returned. Nothing is read.
-/// - If a read, a write or an allocation failed, or the bytes are no entry, [`Status::Refused`] is
-///   returned, after one try to write to `errors` which it was.
-pub fn run<H: HashState, R: Read, W: Write, E: Write>(
+// Writes the listing that is asked for, or which error it was.
+fn list<H: HashState, R: Read, W: Write, E: Write>(
     alloc: Global,
-    words: &[String],
+    request: &Request<'_>,
     reader: &mut R,
     writer: &mut W,
     errors: &mut E,
-) -> Status {
-    let Ok(languages) = language_names(alloc) else {
-        return refuse(errors, b"out of memory");
-    };
-    match request_of(alloc, &languages, words) {
-        Ok(Some(request)) => match explain::<H, R, W>(alloc, &request, reader, writer) {
-            Ok(()) => Status::Done,
-            Err(error) => refuse_for(alloc, errors, error),
-        },
+) -> Status
+    ensures answered { Answers H.hash request.now (R.remaining reader.old) result (W.contents writer.old) (W.contents writer.new) }
+    ensures done { result ≡ Status.Done → errors.new ≡ errors.old }
+    ensures errors { result ≡ Status.Refused → Refuses (E.contents errors.old) (E.contents errors.new) }
+{
+    match explain::<H, R, W>(alloc, request, reader, writer) {
+        Ok(()) => Status::Done,
+        Err(error) => refuse_for(alloc, errors, error),
+    }
+}
+
+/// Runs the program on what the words ask for, as [`request_of`](crate::request_of) returned it, and
+/// writes its listing.
+///
+/// - A request: the input is read to its end. [`Status::Done`] is returned after all of the listing was
+///   written, and nothing to `errors`. [`Status::Refused`] is returned if a read, a write or an
+///   allocation failed, the bytes are no entry, or a line of the script is wrong: a prefix of the
+///   listing is then written, which may be empty or all of it.
+/// - Help and the version: the text is written, and [`Status::Done`] is returned.
+/// - Any other error: what is wrong with the words is written to `errors`, and [`Status::Usage`] is
+///   returned. Nothing is read or written.
+/// - With [`Status::Refused`] there was one try to write a line to `errors` that says why.
+pub fn run<H: HashState, R: Read, W: Write, E: Write>(
+    alloc: Global,
+    asked: &Result<Option<Request<'_>>, Error>,
+    reader: &mut R,
+    writer: &mut W,
+    errors: &mut E,
+) -> Status
+    ensures answered { MatchResult asked.now
+        (λ request. MatchOption request (result ≡ Status.Usage) (λ request.
+        Answers H.hash request (R.remaining reader.old) result (W.contents writer.old) (W.contents writer.new)))
+        (λ error. StatusOf (kind_of error) result) }
+    ensures unread { IfErr asked.now (λ _. reader.new ≡ reader.old) }
+    ensures usage { result ≡ Status.Usage → writer.new ≡ writer.old }
+    ensures done { result ≡ Status.Done → errors.new ≡ errors.old }
+    ensures errors { result ≡ Status.Refused → Refuses (E.contents errors.old) (E.contents errors.new) }
+{
+    match asked {
+        Ok(Some(request)) => list::<H, R, W, E>(alloc, request, reader, writer, errors),
         Ok(None) => Status::Usage,
-        Err(error) => answer(alloc, &error, writer, errors),
+        Err(error) => answer(alloc, error, writer, errors),
     }
 }

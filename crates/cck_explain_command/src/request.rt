@@ -12,7 +12,7 @@ pub struct KeyRequest<'a> {
     pub arguments: Vec<Vec<u8>>,
     /// The base directories.
     pub basedirs: Vec<Vec<u8>>,
-    /// Whether a part of more than 256 bytes is listed whole, in rows, and not by its digest.
+    /// Whether a part of more than 256 bytes is listed whole, in rows, and not by its checksum.
     pub is_full: bool,
 }
 
@@ -34,4 +34,6 @@ pub enum Request<'a> {
     Entry,
     /// The line markers of a text.
     Markers(MarkersRequest<'a>),
+    /// The calls of a script.
+    Script,
 }

@@ -2,7 +2,7 @@
 use crate::request::{KeyRequest, MarkersRequest, Request};
 use cck_util::Language;
 use clap::{Arg, ArgAction, ArgMatches, Command, Error};
-use std::alloc::Global;
+use std::alloc::{AllocError, Global};
 
 /// The version of the program.
 const VERSION: &str = "0.19.0";
@@ -62,6 +62,13 @@ fn markers_command<'a>(alloc: Global) -> Result<Command<'a>, Error> {
     Ok(command)
 }
 
+// The command `script`.
+fn script_command<'a>(alloc: Global) -> Command<'a> {
+    Command::new(alloc, "script").about(
+        "Makes the calls of a script of `cck run`, which is read from standard input, and lists what each did",
+    )
+}
+
 // The whole command line.
 fn program<'a>(alloc: Global, languages: &'a [&'a str]) -> Result<Command<'a>, Error> {
     let key = key_command(alloc, languages)?;
@@ -72,7 +79,8 @@ fn program<'a>(alloc: Global, languages: &'a [&'a str]) -> Result<Command<'a>, E
         .subcommand_required(true)
         .subcommand(key)?
         .subcommand(entry_command(alloc))?
-        .subcommand(markers)?;
+        .subcommand(markers)?
+        .subcommand(script_command(alloc))?;
     Ok(command)
 }
 
@@ -113,6 +121,15 @@ fn markers_request<'a>(markers: &ArgMatches<'a>) -> Option<MarkersRequest<'a>> {
     })
 }
 
+/// Returns the name of each language, for [`request_of`]. The only error is lack of memory.
+pub fn language_names(alloc: Global) -> Result<Vec<&'static str>, AllocError> {
+    let mut names = Vec::new(alloc);
+    for language in &Language::ALL {
+        names.push(language.as_str())?;
+    }
+    Ok(names)
+}
+
 /// Reads what these words ask for. The first is the program's name.
 ///
 /// The error is clap's: for wrong words, for `--help` and for `--version`, with the text to be
@@ -132,6 +149,9 @@ pub fn request_of<'a>(
     }
     if name == "entry" {
         return Ok(Some(Request::Entry));
+    }
+    if name == "script" {
+        return Ok(Some(Request::Script));
     }
     Ok(markers_request(of_command).map(Request::Markers))
 }

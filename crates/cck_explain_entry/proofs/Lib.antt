@@ -1,1 +1,3 @@
+pub mod FaultLemmas
 pub mod NoEntryLemmas
+pub mod RestLemmas

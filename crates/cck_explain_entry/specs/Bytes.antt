@@ -1,9 +1,10 @@
 -- the listing of bytes that may be an entry
-use Rattle.std.specs.Prelude.{◌≡◌, ◌≢◌, ◌⊎◌, [], ◌∷◌, ◌++◌, codes}
+use Rattle.std.specs.Prelude.{◌≡◌, ◌⊎◌, [], ◌∷◌, ◌++◌, codes}
 use Rattle.std.specs.FinMap.{empty}
 use Rattle.std.specs.Fmt.{decimal}
 use Rattle.cck_entry.specs.Entry.{Entry, EntryText}
 use Rattle.cck_path.specs.Bytes.{Bytes}
+use Rattle.cck_explain_entry.specs.Fault.{fault_at, wrong_in}
 use Rattle.cck_explain_entry.specs.Listing.{entry_lines}
 use Rattle.cck_explain_entry.specs.declared.listing.EntryError.{EntryError}
 use Rattle.cck_explain_entry.specs.declared.listing.EntryError.TheVariants.{Memory, NotEntry}
@@ -21,7 +22,7 @@ format_line (format ∷ rest) = codes "format " ++ decimal format ++ 10 ∷ []
 abbrev pub IsListingOf : Bytes → Bytes → Type 0
 IsListingOf bytes listing = (e : Entry) × IsEntryOf e bytes × (listing ≡ format_line bytes ++ entry_lines e)
 
--- the bytes are no entry, or memory ran out
+-- the bytes are no entry, and this is their first wrong field; or memory ran out
 abbrev pub IsErrorFor : Bytes → EntryError → Type 0
 IsErrorFor bytes Memory = Unit {0}
-IsErrorFor bytes (NotEntry fault) = (e : Entry) → IsEntryOf e bytes → ⊥
+IsErrorFor bytes (NotEntry fault) = ((e : Entry) → IsEntryOf e bytes → ⊥) × (fault ≡ fault_at bytes (wrong_in bytes))

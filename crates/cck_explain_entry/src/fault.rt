@@ -1,5 +1,7 @@
 //! Where bytes stop being an entry, and why.
-ghost use Rattle.std.specs.Prelude.{◌<◌, ◌≤◌, length};
+ghost use Rattle.std.specs.Prelude.{◌≡◌, ◌<◌, None, option_map};
+ghost use Rattle.std.specs.Int.{w32, w64};
+ghost use Rattle.cck_explain_entry.specs.Fault.{Is, and_then, after_counted, after_include, after_includes, after_moment, after_results, after_time, bytes_in, comes_next, count_in, fault_at, number_in, text_in, wrong_in};
 
 use cck_preprocessor_key::FORMAT_VERSION;
 use std::str::from_utf8;
@@ -59,25 +61,27 @@ pub struct Fault {
     pub cause: Cause,
 }
 
-// What is left at the field that is wrong, and what is wrong with it.
+// The bytes from the field that is wrong on, and what is wrong with it.
 #[derive(Clone, Copy)]
-struct Stop {
-    left: usize,
+struct Stop<'a> {
+    left: &'a [u8],
     cause: Cause,
 }
 
-impl Stop {
+impl<'a> Stop<'a> {
     // This cause, at the start of what is left.
-    fn new(left: &[u8], cause: Cause) -> Stop {
-        Stop {
-            left: left.len(),
-            cause,
-        }
+    fn new(left: &'a [u8], cause: Cause) -> Stop<'a>
+        ensures left { result.left.now ≡ left.entry.now }
+        ensures cause { result.cause ≡ cause }
+    {
+        Stop { left, cause }
     }
 }
 
 // A number of 8 bytes, and what is after it.
-fn read_number(bytes: &[u8]) -> Result<(u64, &[u8]), Stop> {
+fn read_u64(bytes: &[u8]) -> Result<(u64, &[u8]), Stop<'_>>
+    ensures { Is (λ x. (x.0, x.1.now)) result (number_in w64 bytes.now) }
+{
     if bytes.len() < 8 {
         return Err(Stop::new(bytes, Cause::TooShort));
     }
@@ -88,11 +92,24 @@ fn read_number(bytes: &[u8]) -> Result<(u64, &[u8]), Stop> {
     Ok((number, rest))
 }
 
-// The number of results or includes that each have this many bytes or more, and what is after it.
-fn read_count(bytes: &[u8], shortest: usize) -> Result<(u64, &[u8]), Stop>
-    requires { 0 < shortest }
+// A number of 4 bytes, and what is after it.
+fn read_u32(bytes: &[u8]) -> Result<(u32, &[u8]), Stop<'_>>
+    ensures { Is (λ x. (x.0, x.1.now)) result (number_in w32 bytes.now) }
 {
-    let (count, rest) = read_number(bytes)?;
+    if bytes.len() < 4 {
+        return Err(Stop::new(bytes, Cause::TooShort));
+    }
+    let (front, rest) = bytes.split_at(4);
+    let number = u32::from_le_bytes([front[0], front[1], front[2], front[3]]);
+    Ok((number, rest))
+}
+
+// The number of results or includes that each have this many bytes or more, and what is after it.
+fn read_count(bytes: &[u8], shortest: usize) -> Result<(u64, &[u8]), Stop<'_>>
+    requires { 0 < shortest }
+    ensures { Is (λ x. (x.0, x.1.now)) result (count_in shortest bytes.now) }
+{
+    let (count, rest) = read_u64(bytes)?;
     if ((rest.len() / shortest) as u64) < count {
         return Err(Stop::new(bytes, Cause::TooMany));
     }
@@ -100,16 +117,22 @@ fn read_count(bytes: &[u8], shortest: usize) -> Result<(u64, &[u8]), Stop>
 }
 
 // Bytes with their length before them, and what is after them.
-fn read_bytes(bytes: &[u8]) -> Result<(&[u8], &[u8]), Stop> {
-    let (length, rest) = read_number(bytes)?;
+#[tactic(auto, unfolding(cck_entry::specs::Reading::length_prefixed_at))]
+fn read_bytes(bytes: &[u8]) -> Result<(&[u8], &[u8]), Stop<'_>>
+    ensures { Is (λ x. (x.0.now, x.1.now)) result (bytes_in bytes.now) }
+{
+    let (length, rest) = read_u64(bytes)?;
     if (rest.len() as u64) < length {
         return Err(Stop::new(bytes, Cause::TooShort));
     }
     Ok(rest.split_at(length as usize))
 }
 
-// What is after a text with its length before it, and the text.
-fn read_text(bytes: &[u8]) -> Result<(&str, &[u8]), Stop> {
+// A text with its length before it, and what is after it.
+#[tactic(auto, using(cck_entry::proofs::Utf8Lemmas::tested))]
+fn read_text(bytes: &[u8]) -> Result<(&str, &[u8]), Stop<'_>>
+    ensures { Is (λ x. (x.0.now, x.1.now)) result (text_in bytes.now) }
+{
     let (text, rest) = read_bytes(bytes)?;
     match from_utf8(text) {
         Ok(text) => Ok((text, rest)),
@@ -117,8 +140,24 @@ fn read_text(bytes: &[u8]) -> Result<(&str, &[u8]), Stop> {
     }
 }
 
-// What is after a time.
-fn skip_time(bytes: &[u8]) -> Result<&[u8], Stop> {
+// What is after seconds and nanoseconds.
+#[tactic(auto, unfolding(crate::specs::Fault::after_moment))]
+fn skip_moment(bytes: &[u8]) -> Result<&[u8], Stop<'_>>
+    ensures { Is (λ rest. rest.now) result (after_moment bytes.now) }
+{
+    let (_, rest) = read_u64(bytes)?;
+    let (nanoseconds, after) = read_u32(rest)?;
+    if nanoseconds >= NANOS_IN_A_SECOND {
+        return Err(Stop::new(rest, Cause::TooManyNanoseconds));
+    }
+    Ok(after)
+}
+
+// What is after a time or none.
+#[tactic(auto, unfolding(crate::specs::Fault::after_time))]
+fn skip_time(bytes: &[u8]) -> Result<&[u8], Stop<'_>>
+    ensures { Is (λ rest. rest.now) result (after_time bytes.now) }
+{
     match bytes {
         [] => Err(Stop::new(bytes, Cause::TooShort)),
         [0, rest @ ..] => Ok(rest),
@@ -127,88 +166,112 @@ fn skip_time(bytes: &[u8]) -> Result<&[u8], Stop> {
     }
 }
 
-// What is after seconds and nanoseconds.
-fn skip_moment(bytes: &[u8]) -> Result<&[u8], Stop> {
-    let (_, rest) = read_number(bytes)?;
-    if rest.len() < 4 {
-        return Err(Stop::new(rest, Cause::TooShort));
-    }
-    let (front, after) = rest.split_at(4);
-    if u32::from_le_bytes([front[0], front[1], front[2], front[3]]) >= NANOS_IN_A_SECOND {
-        return Err(Stop::new(rest, Cause::TooManyNanoseconds));
-    }
-    Ok(after)
-}
-
 // What is after an include.
-fn skip_include(bytes: &[u8]) -> Result<&[u8], Stop> {
-    let (_, rest) = read_bytes(bytes)?;
-    let (_, rest) = read_text(rest)?;
-    let (_, rest) = read_number(rest)?;
-    skip_time(skip_time(rest)?)
+#[tactic(auto, unfolding(crate::specs::Fault::after_include))]
+fn skip_include(bytes: &[u8]) -> Result<&[u8], Stop<'_>>
+    ensures { Is (λ rest. rest.now) result (after_include bytes.now) }
+{
+    let (_, after_path) = read_bytes(bytes)?;
+    let (_, after_digest) = read_text(after_path)?;
+    let (_, after_size) = read_u64(after_digest)?;
+    let after_modified = skip_time(after_size)?;
+    skip_time(after_modified)
 }
 
-// What is after the number of a result's includes and after the includes.
-fn skip_includes(bytes: &[u8]) -> Result<&[u8], Stop> {
-    let (count, mut rest) = read_count(bytes, SHORTEST_INCLUDE)?;
+// What is after this number of includes.
+fn skip_includes(count: u64, bytes: &[u8]) -> Result<&[u8], Stop<'_>>
+    ensures { Is (λ rest. rest.now) result (after_includes count bytes.now) }
+{
+    let mut rest = bytes;
     for _ in 0..count {
-        rest = skip_include(rest)?;
+        match skip_include(rest) {
+            Ok(after) => rest = after,
+            Err(stop) => return Err(stop),
+        }
     }
     Ok(rest)
 }
 
-// What is after the results, each of whose keys is greater than the one before it.
-fn skip_results(count: u64, bytes: &[u8]) -> Result<&[u8], Stop> {
+// What is after the number of a result's includes and after the includes.
+#[tactic(auto, unfolding(crate::specs::Fault::after_counted))]
+fn skip_counted(bytes: &[u8]) -> Result<&[u8], Stop<'_>>
+    ensures { Is (λ rest. rest.now) result (after_counted bytes.now) }
+{
+    let (count, rest) = read_count(bytes, SHORTEST_INCLUDE)?;
+    skip_includes(count, rest)
+}
+
+// Whether a key is greater than the one before it, if there is one.
+fn comes_next(previous: Option<&str>, key: &str) -> bool
+    ensures { result ≡ comes_next (option_map (λ k. k.now) previous.entry) key.now }
+{
+    match previous {
+        Some(previous) => previous < key,
+        None => true,
+    }
+}
+
+// What is after this number of results, each of whose keys is greater than the one before it.
+fn skip_results(count: u64, bytes: &[u8]) -> Result<&[u8], Stop<'_>>
+    ensures { Is (λ rest. rest.now) result (after_results None count bytes.now) }
+{
     let mut rest = bytes;
     let mut previous: Option<&str> = None;
     for _ in 0..count {
-        let (key, after) = read_text(rest)?;
-        if !is_greater(key, previous) {
+        let (key, after_key) = match read_text(rest) {
+            Ok(read) => read,
+            Err(stop) => return Err(stop),
+        };
+        if !comes_next(previous, key) {
             return Err(Stop::new(rest, Cause::KeyOrder));
         }
-        rest = skip_includes(after)?;
+        match skip_counted(after_key) {
+            Ok(after) => rest = after,
+            Err(stop) => return Err(stop),
+        }
         previous = Some(key);
     }
     Ok(rest)
 }
 
-// Whether a key is greater than the one before it, if there is one.
-fn is_greater(key: &str, previous: Option<&str>) -> bool {
-    match previous {
-        Some(previous) => previous.as_bytes() < key.as_bytes(),
-        None => true,
-    }
+// What is after the number of results and after the results.
+fn skip_body(bytes: &[u8]) -> Result<&[u8], Stop<'_>>
+    ensures { Is (λ rest. rest.now) result (and_then (count_in 16 bytes.now) (λ count. after_results None count.0 count.1)) }
+{
+    let (count, rest) = read_count(bytes, SHORTEST_RESULT)?;
+    skip_results(count, rest)
 }
 
-// Reads an entry, up to the first field that is wrong.
-fn read_entry(bytes: &[u8]) -> Result<(), Stop> {
-    let Some((version, rest)) = bytes.split_first() else {
-        return Ok(());
+// The first field of these bytes that is wrong, if there is one.
+#[tactic(auto, unfolding(crate::specs::Fault::wrong_in))]
+fn first_wrong(bytes: &[u8]) -> Option<Stop<'_>>
+    ensures { option_map (λ stop. (stop.left.now, stop.cause)) result ≡ wrong_in bytes.now }
+{
+    let Some((format, body)) = bytes.split_first() else {
+        return None;
     };
-    if *version != FORMAT_VERSION {
-        return Err(Stop::new(bytes, Cause::UnknownFormat));
+    if *format != FORMAT_VERSION {
+        return Some(Stop::new(bytes, Cause::UnknownFormat));
     }
-    let (count, rest) = read_count(rest, SHORTEST_RESULT)?;
-    let rest = skip_results(count, rest)?;
-    if rest.is_empty() {
-        Ok(())
-    } else {
-        Err(Stop::new(rest, Cause::Trailing))
+    match skip_body(body) {
+        Ok([]) => None,
+        Ok(rest) => Some(Stop::new(rest, Cause::Trailing)),
+        Err(stop) => Some(stop),
     }
 }
 
 /// Returns the first field of these bytes for which they are no entry. A length and a count are fields
-/// of their own. For bytes that are an entry it is their end, as [`Cause::TooShort`].
+/// of their own. For bytes without a wrong field it is their end, as [`Cause::TooShort`].
 pub fn fault_of(bytes: &[u8]) -> Fault
-    ensures { result.offset ≤ length bytes.now }
+    ensures { result ≡ fault_at bytes.now (wrong_in bytes.now) }
 {
-    match read_entry(bytes) {
-        Ok(()) => Fault {
+    match first_wrong(bytes) {
+        None => Fault {
             offset: bytes.len(),
             cause: Cause::TooShort,
         },
-        Err(stop) => Fault {
-            offset: bytes.len().saturating_sub(stop.left),
+        Some(stop) => Fault {
+            offset: bytes.len().saturating_sub(stop.left.len()),
             cause: stop.cause,
         },
     }

@@ -5,6 +5,7 @@
 #![tactic(auto)]
 
 mod fault;
+pub mod laws;
 mod line;
 mod listing;
 

@@ -32,7 +32,7 @@ impl From<AllocError> for EntryError {
 #[tactic(auto, using(crate::proofs::NoEntryLemmas::no_format, crate::proofs::NoEntryLemmas::no_text))]
 fn read(alloc: Global, bytes: &[u8]) -> Result<PreprocessorCacheEntry, EntryError>
     ensures entry { IfOk result (λ e. IsEntryOf e bytes.now) }
-    ensures refused { IfErr result (λ error. IsErrorFor bytes.now error) }
+    ensures errors { IfErr result (λ error. IsErrorFor bytes.now error) }
 {
     match PreprocessorCacheEntry::read(alloc, bytes) {
         Ok(entry) => Ok(entry),
@@ -66,7 +66,7 @@ fn format_line(alloc: Global, bytes: &[u8]) -> Result<Vec<u8>, AllocError>
 /// [`EntryError::Memory`] for lack of memory.
 pub fn entry_listing(alloc: Global, bytes: &[u8]) -> Result<Vec<u8>, EntryError>
     ensures listed { IfOk result (λ listing. IsListingOf bytes.now listing.items) }
-    ensures refused { IfErr result (λ error. IsErrorFor bytes.now error) }
+    ensures errors { IfErr result (λ error. IsErrorFor bytes.now error) }
 {
     let entry = read(alloc, bytes)?;
     let mut listing = format_line(alloc, bytes)?;

@@ -7,7 +7,7 @@ use Rattle.std.proofs.lemmas.List.Sums.{count_by-le-length, prefix_len-le-length
 use Rattle.std.specs.List.{prefix_len}
 use Rattle.cck_markers.proofs.ItemLemmas.{gives_both}
 use Rattle.cck_markers.specs.Items.{IsHere, marks_of}
-use Rattle.cck_markers.specs.Markers.{Gives, Unread, mark_of}
+use Rattle.cck_markers.specs.Markers.{Yields, Unread, mark_of}
 use Rattle.cck_markers.specs.declared.mark.Mark.{Mark}
 use Rattle.cck_explain_markers.specs.Place.{IsPlacedIn, placed_at, position_after}
 use Rattle.cck_explain_markers.specs.declared.place.PlacedMark.{PlacedMark}
@@ -60,15 +60,15 @@ module _ (front bytes : List ℕ) (i line column : ℕ) (lt : i < length bytes) 
 
 -- the marks after an item, which makes one or none
 pub marks_next : (old middle new : Unread) (held : List PlacedMark) (position : Position) (mark : Option Mark)
-    → Gives old (map (λ p. mark_of p.mark) held) middle → Gives middle (marks_of mark) new
-    → Gives old (map (λ p. mark_of p.mark) (held ++ placed_at position mark)) new
+    → Yields old (map (λ p. mark_of p.mark) held) middle → Yields middle (marks_of mark) new
+    → Yields old (map (λ p. mark_of p.mark) (held ++ placed_at position mark)) new
 marks_next old middle new held position None before item =
-    subst (λ given. Gives old given new)
+    subst (λ given. Yields old given new)
     (append-nil (map (λ p. mark_of p.mark) held) ∙ ap (λ all. map (λ p. mark_of p.mark) all) (sym (append-nil held)))
     (gives_both old middle new (map (λ p. mark_of p.mark) held) [] before item)
 marks_next old middle new held position (Some mark) before item =
     let one : PlacedMark = record { position = position; mark = mark } in
-    subst (λ given. Gives old given new) (sym (map-append (λ p. mark_of p.mark) held (one ∷ [])))
+    subst (λ given. Yields old given new) (sym (map-append (λ p. mark_of p.mark) held (one ∷ [])))
     (gives_both old middle new (map (λ p. mark_of p.mark) held) (mark_of mark ∷ []) before item)
 
 -- the mark of an item is at its place

@@ -7,7 +7,7 @@ use Rattle.std.specs.Option.{unwrap_or}
 use Rattle.std.proofs.lemmas.List.Elements.{filter_map-append}
 use Rattle.cck_path.specs.Path.{Component, Name, Path}
 use Rattle.cck_files.specs.FileMap.{FileNode, Nodes}
-use Rattle.cck_file_digest.specs.Folder.{IsInOrder, child_names, only_name}
+use Rattle.cck_file_digest.specs.Folder.{AreChildNames, child_names, only_name}
 use Rattle.cck_file_digest.specs.FolderText.{following, if_reached, is_folder_kind, is_reached, reached}
 use Rattle.cck_file_digest.proofs.ChildLemmas.{child_nodes, child_part, reached_children, under}
 
@@ -60,7 +60,7 @@ module _ (m : Nodes) (f : Path) where
       ∙ ap (λ xs. n ∷ xs) (children_alone ns (λ i low. stand (suc i) (omega (arith, low))))
 
   -- the names of all children, in order
-  pub names_in_order : (names : List (List ℕ)) → IsInOrder m f names → names ≡ child_names m f
+  pub names_in_order : (names : List (List ℕ)) → AreChildNames m f names → names ≡ child_names m f
   unfolding child_names
   names_in_order names order =
       sym (children_alone names order.stand)

@@ -9,8 +9,8 @@ use Rattle.std.proofs.lemmas.List.Folds.{list_any-append}
 use Rattle.std.proofs.lemmas.Bool.{or_from, or_right, or_left}
 use Rattle.cck_path.specs.Path.{Path, Name}
 use Rattle.cck_files.specs.FileMap.{FileNode, Nodes}
-use Rattle.cck_file_digest.specs.Folder.{IsInOrder, IsFedNodes, child_name}
-use Rattle.cck_file_digest.specs.FolderText.{is_folder_kind, is_other, is_too_deep, name_below, piece, piece_of, material, reached, whole, whole_part}
+use Rattle.cck_file_digest.specs.Folder.{AreChildNames, IsFedNodes, child_name}
+use Rattle.cck_file_digest.specs.FolderText.{is_folder_kind, is_other, is_too_deep, name_below, piece, piece_of, nodes_material, reached, node_and_reached, whole_part}
 use Rattle.cck_file_digest.proofs.ChildLemmas.{child_nodes, child_part, under, reached_children}
 
 -- ---- one part after another
@@ -21,8 +21,8 @@ module _ {S : Type 0} (holds : S → List ℕ → Type 0) (level : ℕ) (name : 
     none_other = list_any-append is_other xs ys ∙ or_from _ _ f.none_other g.none_other;
     none_too_deep = list_any-append (is_too_deep level) xs ys ∙ or_from _ _ f.none_too_deep g.none_too_deep;
     fed = λ fed h. subst (holds c)
-        (append_assoc fed (material name xs) (material name ys) ∙ ap (λ z. fed ++ z) (sym (flat_map-append (piece name) xs ys)))
-        (g.fed (fed ++ material name xs) (f.fed fed h));
+        (append_assoc fed (nodes_material name xs) (nodes_material name ys) ∙ ap (λ z. fed ++ z) (sym (flat_map-append (piece name) xs ys)))
+        (g.fed (fed ++ nodes_material name xs) (f.fed fed h));
   }
 
 -- ---- under the name of a child
@@ -33,10 +33,10 @@ name_under None n (c ∷ q) = refl
 name_under (Some t) n [] = refl
 name_under (Some t) n (c ∷ q) = ap Some (sym (append_assoc t (47 ∷ n) (47 ∷ _)))
 
-material_under : (name : Option (List ℕ)) (n : List ℕ) (xs : List (Path × FileNode)) → material name (map (under (Name n)) xs) ≡ material (Some (child_name name n)) xs
+material_under : (name : Option (List ℕ)) (n : List ℕ) (xs : List (Path × FileNode)) → nodes_material name (map (under (Name n)) xs) ≡ nodes_material (Some (child_name name n)) xs
 material_under name n [] = refl
 material_under name n (x ∷ xs) =
-    ap (λ o. piece_of x.1.kind o x.1.contents ++ material name (map (under (Name n)) xs)) (name_under name n x.0)
+    ap (λ o. piece_of x.1.kind o x.1.contents ++ nodes_material name (map (under (Name n)) xs)) (name_under name n x.0)
     ∙ ap (λ z. piece (Some (child_name name n)) x ++ z) (material_under name n xs)
 
 other_under : (n : List ℕ) (xs : List (Path × FileNode)) → list_any is_other (map (under (Name n)) xs) ≡ list_any is_other xs
@@ -51,9 +51,9 @@ deep_under level n (x ∷ xs) =
     ∙ ap (λ b. is_too_deep (level + 1) x || b) (deep_under level n xs)
 
 -- the nodes of a child in its directory are those of the child alone, under its name
-child_whole : (m : Nodes) (p q : Path) (n : List ℕ) → q ≡ p ++ Name n ∷ [] → child_nodes m p n ≡ map (under (Name n)) (whole m q)
-unfolding whole
-child_whole m p q n at = by (get m (p ++ Name n ∷ [])) ∙ ap (λ z. map (under (Name n)) (whole m z)) (sym at)
+child_whole : (m : Nodes) (p q : Path) (n : List ℕ) → q ≡ p ++ Name n ∷ [] → child_nodes m p n ≡ map (under (Name n)) (node_and_reached m q)
+unfolding node_and_reached
+child_whole m p q n at = by (get m (p ++ Name n ∷ [])) ∙ ap (λ z. map (under (Name n)) (node_and_reached m z)) (sym at)
   where
     by : (o : Option FileNode) → child_part m p n o ≡ map (under (Name n)) (whole_part m (p ++ Name n ∷ []) o)
     by None = refl
@@ -61,13 +61,13 @@ child_whole m p q n at = by (get m (p ++ Name n ∷ [])) ∙ ap (λ z. map (unde
 
 -- what was fed for a child is what its directory requires
 pub fed_child : {S : Type 0} (holds : S → List ℕ → Type 0) (level : ℕ) (name : Option (List ℕ)) (m : Nodes) (p q : Path) (n : List ℕ) (a b : S) → q ≡ p ++ Name n ∷ []
-    → IsFedNodes holds (level + 1) (Some (child_name name n)) (whole m q) a b → IsFedNodes holds level name (child_nodes m p n) a b
+    → IsFedNodes holds (level + 1) (Some (child_name name n)) (node_and_reached m q) a b → IsFedNodes holds level name (child_nodes m p n) a b
 fed_child holds level name m p q n a b at f =
-    let e : child_nodes m p n ≡ map (under (Name n)) (whole m q) = child_whole m p q n at in
+    let e : child_nodes m p n ≡ map (under (Name n)) (node_and_reached m q) = child_whole m p q n at in
     record {
-      none_other = ap (list_any is_other) e ∙ (other_under n (whole m q) ∙ f.none_other);
-      none_too_deep = ap (list_any (is_too_deep level)) e ∙ (deep_under level n (whole m q) ∙ f.none_too_deep);
-      fed = λ fed h. subst (λ z. holds b (fed ++ z)) (sym (ap (material name) e ∙ material_under name n (whole m q))) (f.fed fed h);
+      none_other = ap (list_any is_other) e ∙ (other_under n (node_and_reached m q) ∙ f.none_other);
+      none_too_deep = ap (list_any (is_too_deep level)) e ∙ (deep_under level n (node_and_reached m q) ∙ f.none_too_deep);
+      fed = λ fed h. subst (λ z. holds b (fed ++ z)) (sym (ap (nodes_material name) e ∙ material_under name n (node_and_reached m q))) (f.fed fed h);
     }
 
 -- ---- all children
@@ -83,7 +83,7 @@ module _ {S : Type 0} (holds : S → List ℕ → Type 0) (level : ℕ) (name : 
       subst (λ nodes. IsFedNodes holds level name nodes a c) (sym e) (fed_both holds level name _ _ a b c f g)
 
   -- after the last child it is what is reached
-  pub fed_all : (a b : S) → length names ≤ i → IsInOrder m p names → IsFedNodes holds level name (flat_map (child_nodes m p) (take i names)) a b → IsFedNodes holds level name (reached m p) a b
+  pub fed_all : (a b : S) → length names ≤ i → AreChildNames m p names → IsFedNodes holds level name (flat_map (child_nodes m p) (take i names)) a b → IsFedNodes holds level name (reached m p) a b
   fed_all a b all order f =
       let e : flat_map (child_nodes m p) (take i names) ≡ reached m p =
       ap (flat_map (child_nodes m p)) (take_all i names all) ∙ sym (reached_children m p names (subst T (sym order.up) tt) order.all) in
@@ -97,14 +97,14 @@ any_child test m p [] i here e = absurd (omega arith)
 any_child test m p (n ∷ names) zero here e = list_any-append test (child_nodes m p n) (flat_map (child_nodes m p) names) ∙ or_left _ _ e
 any_child test m p (n ∷ names) (suc i) here e = list_any-append test (child_nodes m p n) (flat_map (child_nodes m p) names) ∙ or_right _ _ (any_child test m p names i (omega arith) e)
 
-module _ (m : Nodes) (p q : Path) (names : List (List ℕ)) (i : ℕ) (here : i < length names) (order : IsInOrder m p names) (at : q ≡ p ++ Name (get_or names i []) ∷ []) where
-  any_reached : (test : Path × FileNode → Bool) → list_any test (map (under (Name (get_or names i []))) (whole m q)) ≡ true → list_any test (reached m p) ≡ true
+module _ (m : Nodes) (p q : Path) (names : List (List ℕ)) (i : ℕ) (here : i < length names) (order : AreChildNames m p names) (at : q ≡ p ++ Name (get_or names i []) ∷ []) where
+  any_reached : (test : Path × FileNode → Bool) → list_any test (map (under (Name (get_or names i []))) (node_and_reached m q)) ≡ true → list_any test (reached m p) ≡ true
   any_reached test e =
       ap (list_any test) (reached_children m p names (subst T (sym order.up) tt) order.all)
       ∙ any_child test m p names i here (ap (list_any test) (child_whole m p q (get_or names i []) at) ∙ e)
 
-  pub other_reached : list_any is_other (whole m q) ≡ true → list_any is_other (reached m p) ≡ true
-  other_reached e = any_reached is_other (other_under (get_or names i []) (whole m q) ∙ e)
+  pub other_reached : list_any is_other (node_and_reached m q) ≡ true → list_any is_other (reached m p) ≡ true
+  other_reached e = any_reached is_other (other_under (get_or names i []) (node_and_reached m q) ∙ e)
 
-  pub deep_reached : (level : ℕ) → list_any (is_too_deep (level + 1)) (whole m q) ≡ true → list_any (is_too_deep level) (reached m p) ≡ true
-  deep_reached level e = any_reached (is_too_deep level) (deep_under level (get_or names i []) (whole m q) ∙ e)
+  pub deep_reached : (level : ℕ) → list_any (is_too_deep (level + 1)) (node_and_reached m q) ≡ true → list_any (is_too_deep level) (reached m p) ≡ true
+  deep_reached level e = any_reached (is_too_deep level) (deep_under level (get_or names i []) (node_and_reached m q) ∙ e)

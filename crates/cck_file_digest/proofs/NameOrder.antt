@@ -14,7 +14,7 @@ use Rattle.cck_files.specs.Children.{is_same_name}
 use Rattle.cck_files.specs.FileMap.{FileMap, IsListing}
 use Rattle.cck_files.proofs.NamesLemmas.{one_if, same_itself}
 use Rattle.cck_path.proofs.TestLemmas.{T_and, true_from_T}
-use Rattle.cck_file_digest.specs.Folder.{rises, any_name, IsInOrder}
+use Rattle.cck_file_digest.specs.Folder.{rises, any_name, AreChildNames}
 
 count_first : (n : List ℕ) (xs : List (List ℕ)) → count_by (is_same_name n) (n ∷ xs) ≡ 1 + count_by (is_same_name n) xs
 count_first n xs = sum_by-cons (λ x. cond (is_same_name n x) 1 0) n xs ∙ ap (λ b. cond b 1 0 + count_by (is_same_name n) xs) (same_itself n)
@@ -64,7 +64,7 @@ module _ {X : Type 0} (f : X → List ℕ) where
       T_and (is_lt (component_cmp (Name (f x)) (Name (f y)))) (rises (map f (y ∷ xs))) (not_less_nor_same (f x) (f y) (h 0 x (omega arith) (omega arith)) apart) rest
 
   -- a sorted listing
-  pub in_order : (m : FileMap) (p : Path) (xs ys : List X) → IsListing m p (map f xs) → IsPermutation xs ys → Sorted ys → IsInOrder m.nodes p (map f ys)
+  pub in_order : (m : FileMap) (p : Path) (xs ys : List X) → IsListing m p (map f xs) → IsPermutation xs ys → Sorted ys → AreChildNames m.nodes p (map f ys)
   in_order m p xs ys l perm h =
       let moved = IsPermutation-map f xs ys perm in
       let counts : (n : List ℕ) → count_by (is_same_name n) (map f ys) ≡ cond (is_some (get m.nodes (p ++ Name n ∷ []))) 1 0 = λ n. sum_by-IsPermutation (λ x. cond (is_same_name n x) 1 0) (map f xs) (map f ys) moved ∙ l.children.each_once n in

@@ -19,8 +19,8 @@ use Rattle.cck_path.proofs.NormalLemmas.{name_alone}
 use Rattle.cck_files.proofs.FileLemmas.{no_other_kind}
 use Rattle.cck_files.specs.FileMap.{FileMap, FileNode, metadata_at, metadata_in, metadata_of, contents_at, contents_in, contents_if, folder_at, folder_in, folder_if, exists_at}
 use Rattle.cck_files.specs.Calls.{IsError, IsErrorOrMemory}
-use Rattle.cck_file_digest.specs.Folder.{IsInOrder, IsFedNodes}
-use Rattle.cck_file_digest.specs.FolderText.{is_folder_kind, is_other, is_other_kind, is_too_deep, name_below, opening, piece_of, material, reached, whole, whole_part}
+use Rattle.cck_file_digest.specs.Folder.{AreChildNames, IsFedNodes}
+use Rattle.cck_file_digest.specs.FolderText.{is_folder_kind, is_other, is_other_kind, is_too_deep, name_below, opening, piece_of, nodes_material, reached, node_and_reached, whole_part}
 use Rattle.cck_file_digest.specs.Refusals.{IsErrorAt}
 use Rattle.cck_file_digest.proofs.FolderSteps.{other_reached, deep_reached}
 
@@ -51,8 +51,8 @@ module _ (fm : FileMap) (p : Path) where
   unfolding contents_at
   contents_of a = ap contents_in a.here ∙ ap (λ k. contents_if k a.node.contents) a.same
 
-  whole_of : (kind : FileKind) (a : IsAt fm p kind) → whole fm.nodes p ≡ ([], a.node) ∷ cond (is_folder_kind kind) (reached fm.nodes p) []
-  unfolding whole
+  whole_of : (kind : FileKind) (a : IsAt fm p kind) → node_and_reached fm.nodes p ≡ ([], a.node) ∷ cond (is_folder_kind kind) (reached fm.nodes p) []
+  unfolding node_and_reached
   whole_of kind a = ap (whole_part fm.nodes p) a.here ∙ ap (λ k. ([], a.node) ∷ cond (is_folder_kind k) (reached fm.nodes p) []) a.same
 
   -- ---- what is fed for it
@@ -63,7 +63,7 @@ module _ (fm : FileMap) (p : Path) where
     unnamed (Some t) = refl
 
     pub fed_file : IsAt fm p File → IsOkAnd (contents_at fm p) (λ contents. (fed : List ℕ) → holds x fed → holds y (fed ++ (opening name ++ contents)))
-        → IsFedNodes holds level name (whole fm.nodes p) x y
+        → IsFedNodes holds level name (node_and_reached fm.nodes p) x y
     fed_file a fed =
         subst (λ nodes. IsFedNodes holds level name nodes x y) (sym (whole_of File a)) record {
           none_other = ap (λ k. is_other_kind k || false) a.same;
@@ -73,27 +73,27 @@ module _ (fm : FileMap) (p : Path) where
               (subst (λ found. IsOkAnd found (λ contents. (fed : List ℕ) → holds x fed → holds y (fed ++ (opening name ++ contents)))) (contents_of a) fed before h);
         }
 
-    pub fed_folder : IsAt fm p Folder → level ≤ 100 → IsFedNodes holds level name (reached fm.nodes p) x y → IsFedNodes holds level name (whole fm.nodes p) x y
+    pub fed_folder : IsAt fm p Folder → level ≤ 100 → IsFedNodes holds level name (reached fm.nodes p) x y → IsFedNodes holds level name (node_and_reached fm.nodes p) x y
     fed_folder a low f =
         let within : nat_lt 100 (level + 0) ≡ false = grind (arith, nat_tests, low) in
         subst (λ nodes. IsFedNodes holds level name nodes x y) (sym (whole_of Folder a)) record {
           none_other = or_from _ _ (ap is_other_kind a.same) f.none_other;
           none_too_deep = or_from _ _ (ap (λ k. is_folder_kind k && nat_lt 100 (level + 0)) a.same ∙ within) f.none_too_deep;
-          fed = λ before h. subst (λ z. holds y (before ++ z)) (sym (ap (λ k. piece_of k (name_below name []) a.node.contents ++ material name (reached fm.nodes p)) a.same)) (f.fed before h);
+          fed = λ before h. subst (λ z. holds y (before ++ z)) (sym (ap (λ k. piece_of k (name_below name []) a.node.contents ++ nodes_material name (reached fm.nodes p)) a.same)) (f.fed before h);
         }
 
   -- ---- its errors
 
-  pub too_deep : (level : ℕ) → IsAt fm p Folder → 100 < level → list_any (is_too_deep level) (whole fm.nodes p) ≡ true
+  pub too_deep : (level : ℕ) → IsAt fm p Folder → 100 < level → list_any (is_too_deep level) (node_and_reached fm.nodes p) ≡ true
   too_deep level a high =
       let above : nat_lt 100 (level + 0) ≡ true = grind (arith, nat_tests, high) in
       ap (list_any (is_too_deep level)) (whole_of Folder a)
       ∙ ap (λ b. b || list_any (is_too_deep level) (reached fm.nodes p)) (ap (λ k. is_folder_kind k && nat_lt 100 (level + 0)) a.same ∙ above)
 
-  pub other_kind : IsAt fm p Other → list_any is_other (whole fm.nodes p) ≡ true
+  pub other_kind : IsAt fm p Other → list_any is_other (node_and_reached fm.nodes p) ≡ true
   other_kind a = ap (list_any is_other) (whole_of Other a) ∙ ap (λ k. is_other_kind k || false) a.same
 
-  any_folder : (test : Path × FileNode → Bool) → IsAt fm p Folder → list_any test (reached fm.nodes p) ≡ true → list_any test (whole fm.nodes p) ≡ true
+  any_folder : (test : Path × FileNode → Bool) → IsAt fm p Folder → list_any test (reached fm.nodes p) ≡ true → list_any test (node_and_reached fm.nodes p) ≡ true
   any_folder test a e = ap (list_any test) (whole_of Folder a) ∙ (ap (λ b. test ([], a.node) || b) e ∙ or_true (test ([], a.node)))
     where
       or_true : (b : Bool) → (b || true) ≡ true
@@ -125,26 +125,26 @@ module _ (fm : FileMap) (p : Path) where
   listing_failed later level P Q e same a f r = only_faults (folder_at later p) tt level P Q e (ap (λ m. folder_at m p) same ∙ folder_of a) f r
 
   -- an error of a child is an error of its directory
-  by_child : (q : Path) (names : List (List ℕ)) (i : ℕ) (level : ℕ) (P Q : Type 0) (e : UtilError) → i < length names → IsInOrder fm.nodes p names → q ≡ p ++ Name (get_or names i []) ∷ []
+  by_child : (q : Path) (names : List (List ℕ)) (i : ℕ) (level : ℕ) (P Q : Type 0) (e : UtilError) → i < length names → AreChildNames fm.nodes p names → q ≡ p ++ Name (get_or names i []) ∷ []
       → IsAt fm p Folder → exists_at fm q ≡ true → (P → Q) → IsErrorAt (level + 1) fm q P e → IsErrorAt level fm p Q e
-  by_child q names i level P Q util.Memory here order at a stands f r = tt
-  by_child q names i level P Q util.Read here order at a stands f r = r
-  by_child q names i level P Q (util.File NotFound) here order at a stands f r = cc
-  by_child q names i level P Q (util.File OtherKind) here order at a stands f r = any_folder is_other a (other_reached fm.nodes p q names i here order at r)
-  by_child q names i level P Q (util.File Fault) here order at a stands f r = f r
-  by_child q names i level P Q (util.File Memory) here order at a stands f r = r
-  by_child q names i level P Q util.TooDeep here order at a stands f r = any_folder (is_too_deep level) a (deep_reached fm.nodes p q names i here order at level r)
-  by_child q names i level P Q util.TooLong here order at a stands f r = r
-  by_child q names i level P Q util.Write here order at a stands f r = r
-  by_child q names i level P Q util.IncompleteEscape here order at a stands f r = r
-  by_child q names i level P Q util.InvalidEscape here order at a stands f r = r
-  by_child q names i level P Q util.IncompleteHex here order at a stands f r = r
-  by_child q names i level P Q util.InvalidHex here order at a stands f r = r
+  by_child q names i level P Q util.Memory here order at a present f r = tt
+  by_child q names i level P Q util.Read here order at a present f r = r
+  by_child q names i level P Q (util.File NotFound) here order at a present f r = cc
+  by_child q names i level P Q (util.File OtherKind) here order at a present f r = any_folder is_other a (other_reached fm.nodes p q names i here order at r)
+  by_child q names i level P Q (util.File Fault) here order at a present f r = f r
+  by_child q names i level P Q (util.File Memory) here order at a present f r = r
+  by_child q names i level P Q util.TooDeep here order at a present f r = any_folder (is_too_deep level) a (deep_reached fm.nodes p q names i here order at level r)
+  by_child q names i level P Q util.TooLong here order at a present f r = r
+  by_child q names i level P Q util.Write here order at a present f r = r
+  by_child q names i level P Q util.IncompleteEscape here order at a present f r = r
+  by_child q names i level P Q util.InvalidEscape here order at a present f r = r
+  by_child q names i level P Q util.IncompleteHex here order at a present f r = r
+  by_child q names i level P Q util.InvalidHex here order at a present f r = r
 
-  pub child_failed : (later : FileMap) (q : Path) (names : List (List ℕ)) (i : ℕ) (level : ℕ) (P Q : Type 0) (e : UtilError) → later ≡ fm → i < length names → IsInOrder fm.nodes p names → q ≡ p ++ Name (get_or names i []) ∷ []
+  pub child_failed : (later : FileMap) (q : Path) (names : List (List ℕ)) (i : ℕ) (level : ℕ) (P Q : Type 0) (e : UtilError) → later ≡ fm → i < length names → AreChildNames fm.nodes p names → q ≡ p ++ Name (get_or names i []) ∷ []
       → IsAt fm p Folder → exists_at fm q ≡ true → (P → Q) → IsErrorAt (level + 1) later q P e → IsErrorAt level fm p Q e
-  child_failed later q names i level P Q e same here order at a stands f r =
-      by_child q names i level P Q e here order at a stands f (subst (λ m. IsErrorAt (level + 1) m q P e) same r)
+  child_failed later q names i level P Q e same here order at a present f r =
+      by_child q names i level P Q e here order at a present f (subst (λ m. IsErrorAt (level + 1) m q P e) same r)
 
 -- ---- the path of a child
 
@@ -167,11 +167,11 @@ name_among (n ∷ names) zero h a = a.0
 name_among (n ∷ names) (suc i) h a = name_among names i (omega arith) a.1
 
 -- the path of a child whose name is from the listing
-pub child_at : (fm : FileMap) (p q : Path) (name : List ℕ) (names : List (List ℕ)) (i : ℕ) → i < length names → IsInOrder fm.nodes p names
+pub child_at : (fm : FileMap) (p q : Path) (name : List ℕ) (names : List (List ℕ)) (i : ℕ) → i < length names → AreChildNames fm.nodes p names
     → name ≡ get_or names i [] → q ≡ joined p (components name) → q ≡ p ++ Name (get_or names i []) ∷ []
 child_at fm p q name names i here order is e =
     e ∙ (ap (λ n. joined p (components n)) is ∙ (ap (joined p) (components-name (get_or names i []) (name_among names i here order.names_only)) ∙ joined_name p (get_or names i [])))
 
-pub child_exists : (fm : FileMap) (p q : Path) (names : List (List ℕ)) (i : ℕ) → i < length names → IsInOrder fm.nodes p names → q ≡ p ++ Name (get_or names i []) ∷ [] → exists_at fm q ≡ true
+pub child_exists : (fm : FileMap) (p q : Path) (names : List (List ℕ)) (i : ℕ) → i < length names → AreChildNames fm.nodes p names → q ≡ p ++ Name (get_or names i []) ∷ [] → exists_at fm q ≡ true
 unfolding exists_at
 child_exists fm p q names i here order at = ap (λ z. is_some (get fm.nodes z)) at ∙ order.stand i here

@@ -10,12 +10,12 @@ use Rattle.cck_digest.specs.declared.error.UtilError.{UtilError}
 use Rattle.cck_path.specs.Path.{Path, components}
 use Rattle.cck_files.specs.FileMap.{FileMap, FileNode, exists_at}
 use Rattle.cck_file_digest.specs.FileDigest.{text_and, text_at, texts}
-use Rattle.cck_file_digest.specs.FolderText.{is_other, is_too_deep, material, material_of, whole, whole_part, digest_material}
+use Rattle.cck_file_digest.specs.FolderText.{is_other, is_too_deep, nodes_material, material_of, node_and_reached, whole_part, digest_material}
 
-pub material_some : (fm : FileMap) (p : Path) → exists_at fm p ≡ true → list_any is_other (whole fm.nodes p) ≡ false → list_any (is_too_deep 1) (whole fm.nodes p) ≡ false
-    → digest_material fm p ≡ Some (material None (whole fm.nodes p))
-unfolding exists_at whole digest_material
-material_some fm p stands other deep = by (get fm.nodes p) stands other deep
+pub material_some : (fm : FileMap) (p : Path) → exists_at fm p ≡ true → list_any is_other (node_and_reached fm.nodes p) ≡ false → list_any (is_too_deep 1) (node_and_reached fm.nodes p) ≡ false
+    → digest_material fm p ≡ Some (nodes_material None (node_and_reached fm.nodes p))
+unfolding exists_at node_and_reached digest_material
+material_some fm p present other deep = by (get fm.nodes p) present other deep
   where
     given : (a b : Bool) (bytes : List ℕ) → a ≡ false → b ≡ false → cond (a || b) None (Some bytes) ≡ Some bytes
     given false false bytes e f = refl
@@ -23,7 +23,7 @@ material_some fm p stands other deep = by (get fm.nodes p) stands other deep
     given false true bytes e f = cc
 
     by : (o : Option FileNode) → is_some o ≡ true → list_any is_other (whole_part fm.nodes p o) ≡ false → list_any (is_too_deep 1) (whole_part fm.nodes p o) ≡ false
-        → material_of (whole_part fm.nodes p o) ≡ Some (material None (whole_part fm.nodes p o))
+        → material_of (whole_part fm.nodes p o) ≡ Some (nodes_material None (whole_part fm.nodes p o))
     by None s e f = cc
     by (Some node) s e f = given _ _ _ e f
 

@@ -6,7 +6,7 @@ use Rattle.std.specs.FinMap.{get}
 use Rattle.cck_path.specs.Names.{name_of}
 use Rattle.cck_path.specs.Path.{Path, Component, Name, component_cmp, IsName}
 use Rattle.cck_files.specs.FileMap.{FileNode, Nodes}
-use Rattle.cck_file_digest.specs.FolderText.{is_other, is_too_deep, material, reached}
+use Rattle.cck_file_digest.specs.FolderText.{is_other, is_too_deep, nodes_material, reached}
 
 -- whether names are in strictly ascending order
 abbrev pub rises : List (List ℕ) → Bool
@@ -19,7 +19,7 @@ any_name c [] = false
 any_name c (n ∷ ns) = eq_by_cmp component_cmp c (Name n) || any_name c ns
 
 -- the last names of all children, in order
-pub record IsInOrder (m : Nodes) (p : Path) (names : List (List ℕ)) : Type 0 where
+pub record AreChildNames (m : Nodes) (p : Path) (names : List (List ℕ)) : Type 0 where
   pub up : rises names ≡ true
   pub all : (n : List ℕ) → IsSome (get m (p ++ Name n ∷ [])) → any_name (Name n) names ≡ true
   pub names_only : AllByRecursion IsName names
@@ -34,7 +34,7 @@ child_name (Some name) n = name ++ 47 ∷ n
 pub record IsFedNodes {S : Type 0} (holds : S → List ℕ → Type 0) (level : ℕ) (name : Option (List ℕ)) (nodes : List (Path × FileNode)) (before after : S) : Type 0 where
   pub none_other : list_any is_other nodes ≡ false
   pub none_too_deep : list_any (is_too_deep level) nodes ≡ false
-  pub fed : (fed : List ℕ) → holds before fed → holds after (fed ++ material name nodes)
+  pub fed : (fed : List ℕ) → holds before fed → holds after (fed ++ nodes_material name nodes)
 
 -- the name that a relative path consists of, if it is a single name
 abbrev pub only_name : Path → Option (List ℕ)

@@ -38,14 +38,14 @@ abbrev pub is_folder : Option FileNode → Bool
 is_folder None = false
 is_folder (Some n) = is_folder_kind n.kind
 
-abbrev pub is_nil : Path → Bool
-is_nil [] = true
-is_nil (c ∷ p) = false
+abbrev pub is_empty_path : Path → Bool
+is_empty_path [] = true
+is_empty_path (c ∷ p) = false
 
 -- whether a relative path consists of names, and each of its proper beginnings leads to a directory
 abbrev pub is_reached : Nodes → Path → Path → Bool
 is_reached m f [] = false
-is_reached m f (c ∷ rest) = is_name c && (is_nil rest || (is_folder (get m (f ++ c ∷ [])) && is_reached m (f ++ c ∷ []) rest))
+is_reached m f (c ∷ rest) = is_name c && (is_empty_path rest || (is_folder (get m (f ++ c ∷ [])) && is_reached m (f ++ c ∷ []) rest))
 
 abbrev pub if_reached : Nodes → Path → FileNode → Option Path → Option (Path × FileNode)
 if_reached m f n None = None
@@ -60,8 +60,8 @@ whole_part m p None = []
 whole_part m p (Some node) = ([], node) ∷ (if is_folder_kind node.kind then reached m p else [])
 
 -- the node at a path, and what is reached from it where it is a directory
-unfoldable pub whole : Nodes → Path → List (Path × FileNode)
-whole m p = whole_part m p (get m p)
+unfoldable pub node_and_reached : Nodes → Path → List (Path × FileNode)
+node_and_reached m p = whole_part m p (get m p)
 
 -- neither a file nor a directory
 abbrev pub is_other : Path × FileNode → Bool
@@ -100,15 +100,15 @@ piece_of Other name contents = []
 abbrev pub piece : Option (List ℕ) → Path × FileNode → List ℕ
 piece name e = piece_of e.1.kind (name_below name e.0) e.1.contents
 
-abbrev pub material : Option (List ℕ) → List (Path × FileNode) → List ℕ
-material name = flat_map (piece name)
+abbrev pub nodes_material : Option (List ℕ) → List (Path × FileNode) → List ℕ
+nodes_material name = flat_map (piece name)
 
 abbrev pub material_of : List (Path × FileNode) → Option (List ℕ)
 material_of [] = None
-material_of (e ∷ es) = if list_any is_other (e ∷ es) || list_any (is_too_deep 1) (e ∷ es) then None else Some (material None (e ∷ es))
+material_of (e ∷ es) = if list_any is_other (e ∷ es) || list_any (is_too_deep 1) (e ∷ es) then None else Some (nodes_material None (e ∷ es))
 
 -- the bytes that are hashed for the node at a path. For a file they are its contents. For a directory they are the delimiter of the name and the
 -- contents of each file that is reached from it, in path order. There are none where there is no node, or where a node of another kind or a directory
 -- of a level above 100 is reached. The node at the path has level 1
 unfoldable pub digest_material : FileMap → Path → Option (List ℕ)
-digest_material fm p = material_of (whole fm.nodes p)
+digest_material fm p = material_of (node_and_reached fm.nodes p)

@@ -7,11 +7,11 @@ use Rattle.cck_digest.specs.declared.error.UtilError.{UtilError}
 use Rattle.cck_digest.specs.declared.error.UtilError.TheVariants as util
 use Rattle.cck_path.specs.Path.{Path}
 use Rattle.cck_files.specs.FileMap.{FileMap, exists_at}
-use Rattle.cck_file_digest.specs.FolderText.{is_other, is_too_deep, whole}
+use Rattle.cck_file_digest.specs.FolderText.{is_other, is_too_deep, node_and_reached}
 
 abbrev pub IsFileErrorAt : FileMap → Path → Type 0 → FileError → Type 0
 IsFileErrorAt fm p HasFault NotFound = exists_at fm p ≡ false
-IsFileErrorAt fm p HasFault OtherKind = list_any is_other (whole fm.nodes p) ≡ true
+IsFileErrorAt fm p HasFault OtherKind = list_any is_other (node_and_reached fm.nodes p) ≡ true
 IsFileErrorAt fm p HasFault Fault = HasFault
 IsFileErrorAt fm p HasFault Memory = ⊥
 
@@ -21,7 +21,7 @@ abbrev pub IsErrorAt : ℕ → FileMap → Path → Type 0 → UtilError → Typ
 IsErrorAt level fm p HasFault util.Memory = Unit {0}
 IsErrorAt level fm p HasFault util.Read = ⊥
 IsErrorAt level fm p HasFault (util.File e) = IsFileErrorAt fm p HasFault e
-IsErrorAt level fm p HasFault util.TooDeep = list_any (is_too_deep level) (whole fm.nodes p) ≡ true
+IsErrorAt level fm p HasFault util.TooDeep = list_any (is_too_deep level) (node_and_reached fm.nodes p) ≡ true
 IsErrorAt level fm p HasFault util.TooLong = ⊥
 IsErrorAt level fm p HasFault util.Write = ⊥
 IsErrorAt level fm p HasFault util.IncompleteEscape = ⊥

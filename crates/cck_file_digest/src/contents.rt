@@ -27,7 +27,7 @@ pub(crate) fn feed_contents<F: Files, S: Sink>(
     ensures calls { AreCalls F.is_call (λ p. p ≡ components path.now) files.old files.new }
     ensures begun { OnErr result (TakesBeginning S.takes sink.old
         (result_unwrap_or (contents_at (F.file_map files.old) (components path.now)) []) sink.new) }
-    ensures answer { let found = contents_at (F.file_map files.old) (components path.now) in
+    ensures outcome { let found = contents_at (F.file_map files.old) (components path.now) in
         MatchResult result (λ _. IsOkAnd found (λ contents. TakesAll S.takes sink.old contents sink.new))
         (IsErrorOrMemory found (Rose (F.faults files.old) (F.faults files.new))) }
 {
@@ -64,7 +64,7 @@ pub fn feed_file<F: Files, S: Sink>(
     ensures calls { AreCalls F.is_call (λ p. p ≡ components path.now) files.old files.new }
     ensures begun { OnErr result (TakesBeginning S.takes sink.old
         (result_unwrap_or (contents_at (F.file_map files.old) (components path.now)) []) sink.new) }
-    ensures answer { let found = contents_at (F.file_map files.old) (components path.now) in
+    ensures outcome { let found = contents_at (F.file_map files.old) (components path.now) in
         MatchResult result (λ _. IsOkAnd found (λ contents. TakesAll S.takes sink.old contents sink.new))
         (IsErrorOrMemory found (Rose (F.faults files.old) (F.faults files.new))) }
 {
@@ -85,7 +85,7 @@ pub fn feed_file_of_size<F: Files, S: Sink>(
     ensures calls { AreCalls F.is_call (λ p. p ≡ components path.now) files.old files.new }
     ensures begun { OnErr result (TakesBeginning S.takes sink.old
         (result_unwrap_or (contents_at (F.file_map files.old) (components path.now)) []) sink.new) }
-    ensures answer { let found = contents_at (F.file_map files.old) (components path.now) in
+    ensures outcome { let found = contents_at (F.file_map files.old) (components path.now) in
         MatchResult result (λ _. IsOkAnd found (λ contents. TakesAll S.takes sink.old contents sink.new))
         (IsErrorOrMemory found (Rose (F.faults files.old) (F.faults files.new))) }
 {
@@ -112,7 +112,7 @@ pub fn read_contents<F: Files>(
     path: &[u8],
 ) -> Result<Vec<u8>, FileError>
     ensures keeps { Keeps F.file_map F.faults F.is_quiet files.old files.new }
-    ensures answer { let found = contents_at (F.file_map files.old) (components path.now) in
+    ensures outcome { let found = contents_at (F.file_map files.old) (components path.now) in
         MatchResult result (λ contents. found ≡ Ok contents.items)
         (IsErrorOrMemory found (Rose (F.faults files.old) (F.faults files.new))) }
 {
@@ -128,7 +128,7 @@ pub fn read_contents_of_size<F: Files>(
     size: u64,
 ) -> Result<Vec<u8>, FileError>
     ensures keeps { Keeps F.file_map F.faults F.is_quiet files.old files.new }
-    ensures answer { let found = contents_at (F.file_map files.old) (components path.now) in
+    ensures outcome { let found = contents_at (F.file_map files.old) (components path.now) in
         MatchResult result (λ contents. found ≡ Ok contents.items)
         (IsErrorOrMemory found (Rose (F.faults files.old) (F.faults files.new))) }
 {

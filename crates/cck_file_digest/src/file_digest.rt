@@ -36,14 +36,14 @@ pub trait DigestFiles {
     /// Where several of these causes apply, any of their errors is returned.
     fn file<F: Files>(alloc: Global, files: &mut F, path: &[u8]) -> Result<String, UtilError>
         ensures keeps { Keeps F.file_map F.faults F.is_quiet files.old files.new }
-        ensures answer { let fm = F.file_map files.old in MatchResult result
+        ensures outcome { let fm = F.file_map files.old in MatchResult result
             (λ text. text_at hash fm (components path.now) ≡ Some (string_bytes text))
             (IsDigestError fm (components path.now) (Rose (F.faults files.old) (F.faults files.new))) };
 
     /// The same as [`DigestFiles::file`]. Upstream's `Digest::reader`.
     fn reader<F: Files>(alloc: Global, files: &mut F, path: &[u8]) -> Result<String, UtilError>
         ensures keeps { Keeps F.file_map F.faults F.is_quiet files.old files.new }
-        ensures answer { let fm = F.file_map files.old in MatchResult result
+        ensures outcome { let fm = F.file_map files.old in MatchResult result
             (λ text. text_at hash fm (components path.now) ≡ Some (string_bytes text))
             (IsDigestError fm (components path.now) (Rose (F.faults files.old) (F.faults files.new))) };
 }
@@ -67,7 +67,7 @@ fn digest_path<H: HashState, F: Files>(
     path: &[u8],
 ) -> Result<String, UtilError>
     ensures keeps { Keeps F.file_map F.faults F.is_quiet files.old files.new }
-    ensures answer { let fm = F.file_map files.old in MatchResult result
+    ensures outcome { let fm = F.file_map files.old in MatchResult result
         (λ text. text_at H.hash fm (components path.now) ≡ Some (string_bytes text))
         (IsDigestError fm (components path.now) (Rose (F.faults files.old) (F.faults files.new))) }
 {
@@ -87,7 +87,7 @@ pub fn hash_all<H: HashState, F: Files>(
     paths: &[Vec<u8>],
 ) -> Result<Vec<String>, UtilError>
     ensures keeps { Keeps F.file_map F.faults F.is_quiet files.old files.new }
-    ensures answer { let fm = F.file_map files.old in MatchResult result
+    ensures outcome { let fm = F.file_map files.old in MatchResult result
         (λ all. texts H.hash fm (paths_of paths.now) ≡ Some (map string_bytes all.items))
         (IsFirstError H.hash fm (paths_of paths.now) (Rose (F.faults files.old) (F.faults files.new))) }
 {

@@ -5,8 +5,8 @@ ghost use Rattle.cck_digest.specs.Stream.{IsPiece};
 ghost use Rattle.cck_path.specs.Path.{components};
 ghost use Rattle.cck_files.specs.FileMap.{contents_at, folder_at, exists_at};
 ghost use Rattle.cck_files.specs.Calls.{Keeps, IsErrorOrMemory, Rose};
-ghost use Rattle.cck_file_digest.specs.Folder.{IsFedNodes, IsInOrder, child_name, child_names};
-ghost use Rattle.cck_file_digest.specs.FolderText.{lossy, opening, whole};
+ghost use Rattle.cck_file_digest.specs.Folder.{IsFedNodes, AreChildNames, child_name, child_names};
+ghost use Rattle.cck_file_digest.specs.FolderText.{lossy, opening, node_and_reached};
 ghost use Rattle.cck_file_digest.specs.Refusals.{IsErrorAt};
 
 use crate::contents::feed_contents;
@@ -47,7 +47,7 @@ fn feed_named<H: HashState, F: Files>(
 ) -> Result<(), FileError>
     requires { IsPiece buffer.old }
     ensures keeps { Keeps F.file_map F.faults F.is_quiet files.old files.new }
-    ensures answer { let found = contents_at (F.file_map files.old) (components path.now) in
+    ensures outcome { let found = contents_at (F.file_map files.old) (components path.now) in
         MatchResult result (λ _. IsOkAnd found (λ contents. (fed : List ℕ) → H.holds digest.old fed
         → H.holds digest.new (fed ++ (opening (option_copied name.entry) ++ contents))))
         (IsErrorOrMemory found (Rose (F.faults files.old) (F.faults files.new))) }
@@ -74,8 +74,8 @@ pub fn sorted_names<F: Files>(
     ensures folder { OnOk result (folder_at (F.file_map files.old) (components path.now) ≡ Ok tt) }
     ensures names { IfOk result (λ names.
         map vec_items names.items ≡ child_names (F.file_map files.old).nodes (components path.now)) }
-    ensures answer { MatchResult result
-        (λ names. IsInOrder (F.file_map files.old).nodes (components path.now) (map vec_items names.items))
+    ensures outcome { MatchResult result
+        (λ names. AreChildNames (F.file_map files.old).nodes (components path.now) (map vec_items names.items))
         (IsErrorOrMemory (folder_at (F.file_map files.old) (components path.now))
         (Rose (F.faults files.old) (F.faults files.new))) }
 {
@@ -112,9 +112,9 @@ pub(crate) fn feed_node<H: HashState, F: Files>(
     requires room { IsPiece buffer.old }
     requires level { level ≤ 101 }
     ensures keeps { Keeps F.file_map F.faults F.is_quiet files.old files.new }
-    ensures answer { let fm = F.file_map files.old in MatchResult result
+    ensures outcome { let fm = F.file_map files.old in MatchResult result
         (λ _. (exists_at fm (components path.now) ≡ true)
-        × IsFedNodes H.holds level (option_copied name.entry) (whole fm.nodes (components path.now)) digest.old digest.new)
+        × IsFedNodes H.holds level (option_copied name.entry) (node_and_reached fm.nodes (components path.now)) digest.old digest.new)
         (IsErrorAt level fm (components path.now) (Rose (F.faults files.old) (F.faults files.new))) }
 {
     match files.metadata(path)?.kind {

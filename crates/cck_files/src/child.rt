@@ -35,7 +35,7 @@ pub(crate) fn child_names<V>(
 ) -> Result<Vec<Vec<u8>>, FileError>
     ensures names { IfOk result (λ names.
         HasChildNames paths.now (components folder.now) (map vec_items names.items)) }
-    ensures refused { IsOkUnless result FileError.Memory }
+    ensures errors { IsOkUnless result FileError.Memory }
 {
     let size = component_count(folder);
     let mut names = Vec::new(alloc);

@@ -46,7 +46,7 @@ pub trait Files {
     fn metadata(&mut self, path: &[u8]) -> Result<Metadata, FileError>
         ensures keeps { Keeps file_map faults is_quiet self.old self.new }
         ensures call { is_call self.old (components path.now) self.new }
-        ensures answer { let found = metadata_at (file_map self.old) (components path.now) in
+        ensures outcome { let found = metadata_at (file_map self.old) (components path.now) in
             MatchResult result (λ metadata. found ≡ Ok metadata)
             (IsError found (Rose (faults self.old) (faults self.new))) };
 
@@ -58,7 +58,7 @@ pub trait Files {
     fn read_at(&mut self, path: &[u8], offset: u64, buffer: &mut [u8]) -> Result<usize, FileError>
         ensures keeps { Keeps file_map faults is_quiet self.old self.new }
         ensures call { is_call self.old (components path.now) self.new }
-        ensures answer { let found = contents_at (file_map self.old) (components path.now) in
+        ensures outcome { let found = contents_at (file_map self.old) (components path.now) in
             MatchResult result (λ n. IsOkAnd found (λ contents. IsRead contents offset n buffer.new))
             (IsError found (Rose (faults self.old) (faults self.new))) };
 
@@ -67,7 +67,7 @@ pub trait Files {
     fn read_dir(&mut self, alloc: Global, path: &[u8]) -> Result<Vec<Vec<u8>>, FileError>
         ensures keeps { Keeps file_map faults is_quiet self.old self.new }
         ensures call { is_call self.old (components path.now) self.new }
-        ensures answer { MatchResult result
+        ensures outcome { MatchResult result
             (λ names. IsListing (file_map self.old) (components path.now) (map vec_items names.items))
             (IsErrorOrMemory (folder_at (file_map self.old) (components path.now))
             (Rose (faults self.old) (faults self.new))) };
@@ -76,16 +76,16 @@ pub trait Files {
     fn exists(&mut self, path: &[u8]) -> bool
         ensures keeps { Keeps file_map faults is_quiet self.old self.new }
         ensures call { is_call self.old (components path.now) self.new }
-        ensures answer { let stands = exists_at (file_map self.old) (components path.now) in
-            MatchBool result (stands ≡ true)
-            ((stands ≡ false) ⊎ Rose (faults self.old) (faults self.new)) };
+        ensures outcome { let present = exists_at (file_map self.old) (components path.now) in
+            MatchBool result (present ≡ true)
+            ((present ≡ false) ⊎ Rose (faults self.old) (faults self.new)) };
 
     /// Returns the canonical path of a path, which leads to the same place without links.
     /// [`FileError::NotFound`] occurs only where the path has no canonical one.
     fn canonical(&mut self, alloc: Global, path: &[u8]) -> Result<Vec<u8>, FileError>
         ensures keeps { Keeps file_map faults is_quiet self.old self.new }
         ensures call { is_call self.old (components path.now) self.new }
-        ensures answer { let found = canonical_at (file_map self.old) (components path.now) in
+        ensures outcome { let found = canonical_at (file_map self.old) (components path.now) in
             MatchResult result (λ path. found ≡ Ok (components path.items))
             (IsErrorOrMemory found (Rose (faults self.old) (faults self.new))) };
 

@@ -73,7 +73,7 @@ impl MapFiles {
               (normal (components path.now));
         }) }
         ensures kept { OnErr result (self.new ≡ self.old) }
-        ensures refused { IsOkUnless result UtilError.Memory }
+        ensures errors { IsOkUnless result UtilError.Memory }
     {
         let canonical = normalize_path(self.alloc, path)?;
         self.places.insert(path, Place { node, canonical })?;
@@ -90,7 +90,7 @@ impl MapFiles {
               linked self.old.files (components path.now) (components target.now);
         }) }
         ensures kept { OnErr result (self.new ≡ self.old) }
-        ensures refused { IsOkUnless result UtilError.Memory }
+        ensures errors { IsOkUnless result UtilError.Memory }
         ensures memory { result ≡ Err UtilError.Memory →
             IsSome (finite.get self.old.files.nodes (components target.now)) }
     {
@@ -145,7 +145,7 @@ impl MapFiles {
     /// The only error is [`UtilError::Memory`].
     pub fn copy(&self, alloc: Global) -> Result<MapFiles, UtilError>
         ensures same { IfOk result (λ copy. copy ≡ self.now) }
-        ensures refused { IsOkUnless result UtilError.Memory }
+        ensures errors { IsOkUnless result UtilError.Memory }
     {
         let places = copy_places(alloc, &self.places)?;
         Ok(MapFiles {
@@ -190,7 +190,7 @@ impl Place {
     fn copy(&self, alloc: Global) -> Result<Place, UtilError>
         ensures node { IfOk result (λ copy. node_at copy ≡ node_at self.now) }
         ensures canonical { IfOk result (λ copy. canonical_of copy ≡ canonical_of self.now) }
-        ensures refused { IsOkUnless result UtilError.Memory }
+        ensures errors { IsOkUnless result UtilError.Memory }
     {
         Ok(Place {
             node: self.node.copy(alloc)?,
@@ -202,7 +202,7 @@ impl Place {
 // A copy of the places.
 fn copy_places(alloc: Global, places: &PathMap<Place>) -> Result<PathMap<Place>, UtilError>
     ensures same { IfOk result (λ copy. files_of copy ≡ files_of places.now) }
-    ensures refused { IsOkUnless result UtilError.Memory }
+    ensures errors { IsOkUnless result UtilError.Memory }
 {
     let mut copy = PathMap::new(alloc);
     for entry in places.entries() {

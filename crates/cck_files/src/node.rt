@@ -26,7 +26,7 @@ impl Node {
     /// The only error is [`UtilError::Memory`].
     pub fn copy(&self, alloc: Global) -> Result<Node, UtilError>
         ensures same { IfOk result (λ copy. node_of copy ≡ node_of self.now) }
-        ensures refused { IsOkUnless result UtilError.Memory }
+        ensures errors { IsOkUnless result UtilError.Memory }
     {
         Ok(Node {
             kind: self.kind,

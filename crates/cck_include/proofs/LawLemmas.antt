@@ -48,19 +48,19 @@ counted true has e = absurd cc
 pub equal_digests_tell : (s : Setting) (moment : Moment) (variables : List Variable) (n o : FileNode) (digest : List ℕ) → ((fed : List ℕ) → length (s.hash fed) ≡ 32) → AreTold s (at_moment moment variables s) n o
     → recorded s n ≡ Some digest → recorded (at_moment moment variables s) o ≡ Some digest → ShowTheSame s (at_moment moment variables s) n o
 unfolding recorded
-equal_digests_tell s moment variables n o digest long told e f =
+equal_digests_tell s moment variables n o digest long claim e f =
     let t = at_moment moment variables s in
     let (clear, rest, is, bare, more) = made_of s.hash (not s.config.ignore_time_macros && has_time n.contents) (counts_part s n) (digest_text s.hash n.contents) (file_time_part s n) digest e in
     let (clear', rest', is', bare', more') = made_of s.hash (not s.config.ignore_time_macros && has_time o.contents) (counts_part t o) (digest_text s.hash o.contents) (file_time_part t o) digest f in
     let cut = bytes_read_back (digest_text s.hash n.contents) (digest_text s.hash o.contents) rest rest' (text_length s.hash n.contents (long n.contents) ∙ sym (text_length s.hash o.contents (long o.contents))) (sym is ∙ is') in
-    let contents : n.contents ≡ o.contents = told.contents cut.0 in
+    let contents : n.contents ≡ o.contents = claim.contents cut.0 in
     let parts : counts_part s n ≡ true
     → (p : List ℕ) × (file_time_part s n ≡ Some p) × (time_part (has_date n.contents) (has_timestamp n.contents) o.modified moment s.zone variables ≡ Some p) =
     λ counts.
     let counts' : counts_part t o ≡ true = ap (λ (c : List ℕ). not s.config.ignore_time_macros && is_timed c) (sym contents) ∙ counts in
     let (p, is-p, text-p) = more counts in
     let (q, is-q, text-q) = more' counts' in
-    let same : p ≡ q = told.parts p q counts counts' is-p is-q (sym text-p ∙ cut.1 ∙ text-q) in
+    let same : p ≡ q = claim.parts p q counts counts' is-p is-q (sym text-p ∙ cut.1 ∙ text-q) in
     (p, is-p, ap (λ (c : List ℕ). time_part (has_date c) (has_timestamp c) o.modified moment s.zone variables) contents ∙ is-q ∙ ap (λ (x : List ℕ). Some x) (sym same))
     in
     let dated : s.config.ignore_time_macros ≡ false → has_date n.contents ≡ true

@@ -82,15 +82,15 @@ ignoring s n text ignores is = rw ignores (ap Some is)
 pub recorded_ignoring : (s : Setting) (files : FileMap) (p : Path) (text : List ℕ) → s.config.ignore_time_macros ≡ true
     → IsOkAnd (contents_at files p) (λ contents. text ≡ digest_text s.hash contents) → IsOkAnd (file_at files p) (λ n. Some text ≡ recorded s n)
 recorded_ignoring s files p text ignores read =
-    let (n, is, told) = with_contents files p (contents_at files p) (λ contents. text ≡ digest_text s.hash contents) refl read in
-    rw is (ignoring s n text ignores told)
+    let (n, is, claim) = with_contents files p (contents_at files p) (λ contents. text ≡ digest_text s.hash contents) refl read in
+    rw is (ignoring s n text ignores claim)
 
 -- and where they count
 counting : (s : Setting) (n : FileNode) (scan : Scan) (o : Option (List ℕ)) → s.config.ignore_time_macros ≡ false → IsScanOf s.hash scan n.contents
     → o ≡ recorded_by s.hash scan.has_time (scan.has_date || scan.has_timestamp) (string_bytes scan.text) (time_part scan.has_date scan.has_timestamp n.modified s.moment s.zone s.variables)
     → o ≡ recorded s n
 unfolding recorded
-counting s n scan o counts told e = rw (counts, ← told.time, ← told.date, ← told.timestamp, ← told.text) e
+counting s n scan o counts claim e = rw (counts, ← claim.time, ← claim.date, ← claim.timestamp, ← claim.text) e
 
 pub recorded_counting : (s : Setting) (files : FileMap) (p : Path) (scan : Scan) (m : Metadata) (Q : Type 0) (r : Result (Option (String Global)) Error)
     → s.config.ignore_time_macros ≡ false → metadata_at files p ≡ Ok m → IsOkAnd (contents_at files p) (IsScanOf s.hash scan)
@@ -98,9 +98,9 @@ pub recorded_counting : (s : Setting) (files : FileMap) (p : Path) (scan : Scan)
     → IsOkUnless r error.Memory
     → MatchResult r (λ o. IsOkAnd (file_at files p) (λ n. option_map string_bytes o ≡ recorded s n)) (IsIoError (file_at files p) Q)
 recorded_counting s files p scan m Q (Ok o) counts known read digest refused =
-    let (n, is, told) = with_contents files p (contents_at files p) (IsScanOf s.hash scan) refl read in
+    let (n, is, claim) = with_contents files p (contents_at files p) (IsScanOf s.hash scan) refl read in
     let own = metadata_of_file files p n m is known in
     let modified : m.modified ≡ n.modified = ap (λ (d : Metadata). d.modified) own.0 in
-    rw is (counting s n scan (option_map string_bytes o) counts told (rw (← modified) digest))
+    rw is (counting s n scan (option_map string_bytes o) counts claim (rw (← modified) digest))
 recorded_counting s files p scan m Q (Err e) counts known read digest refused =
     subst (IsIoError (file_at files p) Q) (sym refused) tt

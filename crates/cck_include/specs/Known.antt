@@ -11,22 +11,22 @@ use Rattle.cck_include.specs.declared.known.KnownFiles.{KnownFiles}
 use Rattle.cck_include.specs.declared.known.KnownFile.{KnownFile}
 
 -- the path of a file
-abbrev pub path_of : KnownFile → Path
-path_of k = components k.path.items
+abbrev pub known_path : KnownFile → Path
+known_path k = components k.path.items
 
 -- the metadata of a file is right, and so is its recorded digest, if that is known: it is this one, or there is none
 pub record IsRight (s : Setting) (files : FileMap) (k : KnownFile) : Type 0 where
-  pub metadata : metadata_at files (path_of k) ≡ Ok k.metadata
-  pub digest : IfSome k.digest (λ d. IsOkAnd (file_at files (path_of k)) (λ n. option_map string_bytes d ≡ recorded s n))
+  pub metadata : metadata_at files (known_path k) ≡ Ok k.metadata
+  pub digest : IfSome k.digest (λ d. IsOkAnd (file_at files (known_path k)) (λ n. option_map string_bytes d ≡ recorded s n))
 
 -- there is a file at place i, with this path
-pub record IsPlaceOf (p : Path) (ks : List KnownFile) (i : ℕ) : Type 0 where
+pub record IsKnownAt (p : Path) (ks : List KnownFile) (i : ℕ) : Type 0 where
   pub in_range : i < length ks
-  pub has_path : (d : KnownFile) → path_of (slice_index_or ks i d) ≡ p
+  pub has_path : (d : KnownFile) → known_path (slice_index_or ks i d) ≡ p
 
 -- the place of each file is found by its path
 abbrev pub AreFound : List KnownFile → FinMap path_cmp ℕ → Type 0
-AreFound ks places = (p : Path) (i : ℕ) → IsPlaceOf p ks i → get places p ≡ Some i
+AreFound ks places = (p : Path) (i : ℕ) → IsKnownAt p ks i → get places p ≡ Some i
 
 -- all that is known is right, and found by its path
 abbrev pub AreKnown : Setting → FileMap → KnownFiles → Type 0

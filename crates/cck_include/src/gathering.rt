@@ -47,7 +47,7 @@ fn include_at<F: Files>(
     path: &[u8],
 ) -> Result<IncludeEntry, Error>
     ensures keeps { Keeps F.file_map F.faults F.is_quiet files.old files.new }
-    ensures answer { let found = include_at (F.file_map files.old) moment (digest.now, path.now) in
+    ensures outcome { let found = include_at (F.file_map files.old) moment (digest.now, path.now) in
         MatchResult result (λ include. found ≡ Some (include_in include))
         (IsMissing (found ≡ None) (Rose (F.faults files.old) (F.faults files.new))) }
 {
@@ -83,7 +83,7 @@ pub fn gather<F: Files>(
     included: &[(String, Vec<u8>)],
 ) -> Result<Vec<IncludeEntry>, Error>
     ensures keeps { Keeps F.file_map F.faults F.is_quiet files.old files.new }
-    ensures answer { let found = gathered (F.file_map files.old) moment (digested_in included.now) in
+    ensures outcome { let found = gathered (F.file_map files.old) moment (digested_in included.now) in
         MatchResult result (λ includes. found ≡ Some (includes_in includes.items))
         (IsMissing (found ≡ None) (Rose (F.faults files.old) (F.faults files.new))) }
 {

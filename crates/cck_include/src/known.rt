@@ -3,7 +3,7 @@ ghost use Rattle.std.specs.Prelude.{◌≡◌, ℕ, IfOk, IfSome, IsSome, MatchB
 ghost use Rattle.cck_files.specs.Calls.{Keeps, Rose};
 ghost use Rattle.cck_files.specs.FileMap.{FileMap, metadata_at};
 ghost use Rattle.cck_path.specs.Path.{components};
-ghost use Rattle.cck_include.specs.Known.{AreFound, AreKnown, IsPlaceOf};
+ghost use Rattle.cck_include.specs.Known.{AreFound, AreKnown, IsKnownAt};
 ghost use Rattle.cck_include.specs.Setting.{Setting};
 
 use cck_files::Files;
@@ -51,9 +51,9 @@ impl KnownFiles {
     // The place of the file at a path, if it is known. Lists of includes mostly have the same files
     // in the same order, so the file after the last one is tried before a search.
     fn place_of(&self, path: &[u8]) -> Option<usize>
-        ensures place { IfSome result (IsPlaceOf (components path.now) self.now.files.items) }
+        ensures place { IfSome result (IsKnownAt (components path.now) self.now.files.items) }
         ensures all { AreFound self.now.files.items self.now.places
-            → (i : ℕ) → IsPlaceOf (components path.now) self.now.files.items i → IsSome result }
+            → (i : ℕ) → IsKnownAt (components path.now) self.now.files.items i → IsSome result }
     {
         if is_at(&self.files, self.next, path) {
             return Some(self.next);
@@ -71,9 +71,9 @@ impl KnownFiles {
     // Adds the metadata of a path that is not known yet, and returns its place.
     fn add(&mut self, alloc: Global, path: &[u8], metadata: Metadata) -> Result<usize, AllocError>
         ensures known { (s : Setting) (files : FileMap) → metadata_at files (components path.now) ≡ Ok metadata
-            → ((i : ℕ) → IsPlaceOf (components path.now) self.old.files.items i → ⊥)
+            → ((i : ℕ) → IsKnownAt (components path.now) self.old.files.items i → ⊥)
             → AreKnown s files self.old → AreKnown s files self.new }
-        ensures place { IfOk result (IsPlaceOf (components path.now) self.new.files.items) }
+        ensures place { IfOk result (IsKnownAt (components path.now) self.new.files.items) }
     {
         let place = self.files.len();
         match self.places.insert(path, place) {
@@ -94,8 +94,8 @@ impl KnownFiles {
 
 // Whether there is a file at a place, with this path.
 fn is_at(files: &[KnownFile], place: usize, path: &[u8]) -> bool
-    ensures { MatchBool result (IsPlaceOf (components path.now) files.now place)
-        (IsPlaceOf (components path.now) files.now place → ⊥) }
+    ensures { MatchBool result (IsKnownAt (components path.now) files.now place)
+        (IsKnownAt (components path.now) files.now place → ⊥) }
 {
     match files.get(place) {
         Some(file) => same_path(&file.path, path),
@@ -116,10 +116,10 @@ pub(crate) fn place_for<F: Files>(
     ensures known { (s : Setting) → AreKnown s (F.file_map files.old) known.old
         → AreKnown s (F.file_map files.old) known.new }
     ensures unasked { AreFound known.old.files.items known.old.places
-        → (i : ℕ) → IsPlaceOf (components path.now) known.old.files.items i → files.new ≡ files.old }
+        → (i : ℕ) → IsKnownAt (components path.now) known.old.files.items i → files.new ≡ files.old }
     ensures place { IfOk result (λ place. MatchOption place
         (IfOk (metadata_at (F.file_map files.old) (components path.now)) (λ _. Rose (F.faults files.old) (F.faults files.new)))
-        (IsPlaceOf (components path.now) known.new.files.items)) }
+        (IsKnownAt (components path.now) known.new.files.items)) }
 {
     if let Some(place) = known.place_of(path) {
         known.next = place + 1;

@@ -7,7 +7,7 @@ ghost use Rattle.cck_files.specs.FileMap.{file_at};
 ghost use Rattle.cck_path.specs.Path.{components};
 ghost use Rattle.cck_include.specs.Include.{include_lent, includes_in};
 ghost use Rattle.cck_include.specs.JudgeContext.{setting_of};
-ghost use Rattle.cck_include.specs.Known.{AreKnown, IsRight, path_of};
+ghost use Rattle.cck_include.specs.Known.{AreKnown, IsRight, known_path};
 ghost use Rattle.cck_include.specs.Matching.{MayMiss, digest_found, is_digest, is_moment, matches, times_agree};
 
 use crate::known::{KnownFile, place_for};
@@ -92,13 +92,13 @@ fn is_recorded<H: HashState, F: Files>(
     ensures path { file.new.path ≡ file.old.path }
     ensures remembered { let s = setting_of H.hash context.now in
         OnOk result (IsRight s (F.file_map files.old) file.old
-        → IfOk (file_at (F.file_map files.old) (path_of file.old)) (λ _. IsSome file.new.digest)
+        → IfOk (file_at (F.file_map files.old) (known_path file.old)) (λ _. IsSome file.new.digest)
         ⊎ Rose (F.faults files.old) (F.faults files.new)) }
     ensures unasked { IsSome file.old.digest → files.new ≡ files.old }
-    ensures answer { let s = setting_of H.hash context.now in
+    ensures outcome { let s = setting_of H.hash context.now in
         IsRight s (F.file_map files.old) file.old
         → IfOk result (λ answer. MayMiss (Rose (F.faults files.old) (F.faults files.new)) answer
-        (digest_found s expected.now (file_at (F.file_map files.old) (path_of file.old)))) }
+        (digest_found s expected.now (file_at (F.file_map files.old) (known_path file.old)))) }
 {
     if let Some(digest) = &file.digest {
         return Ok(is_digest(digest, expected));
@@ -127,8 +127,8 @@ fn known_matches<H: HashState, F: Files>(
     ensures known { let s = setting_of H.hash context.now in
         IsRight s (F.file_map files.old) file.old → IsRight s (F.file_map files.old) file.new }
     ensures path { file.new.path ≡ file.old.path }
-    ensures answer { let s = setting_of H.hash context.now in
-        IsRight s (F.file_map files.old) file.old → path_of file.old ≡ components include.now.path.now
+    ensures outcome { let s = setting_of H.hash context.now in
+        IsRight s (F.file_map files.old) file.old → known_path file.old ≡ components include.now.path.now
         → IfOk result (λ answer. MayMiss (Rose (F.faults files.old) (F.faults files.new)) answer
         (matches s (F.file_map files.old) (include_lent include.now))) }
 {
@@ -156,7 +156,7 @@ pub fn include_matches<H: HashState, F: Files>(
     ensures keeps { Keeps F.file_map F.faults F.is_quiet files.old files.new }
     ensures known { let s = setting_of H.hash context.now in
         AreKnown s (F.file_map files.old) known.old → AreKnown s (F.file_map files.old) known.new }
-    ensures answer { let s = setting_of H.hash context.now in
+    ensures outcome { let s = setting_of H.hash context.now in
         AreKnown s (F.file_map files.old) known.old
         → IfOk result (λ answer. MayMiss (Rose (F.faults files.old) (F.faults files.new)) answer
         (matches s (F.file_map files.old) (include_lent include.now))) }
@@ -188,7 +188,7 @@ pub fn includes_match<H: HashState, F: Files>(
     ensures keeps { Keeps F.file_map F.faults F.is_quiet files.old files.new }
     ensures known { let s = setting_of H.hash context.now in
         AreKnown s (F.file_map files.old) known.old → AreKnown s (F.file_map files.old) known.new }
-    ensures answer { let s = setting_of H.hash context.now in
+    ensures outcome { let s = setting_of H.hash context.now in
         AreKnown s (F.file_map files.old) known.old
         → IfOk result (λ answer. MayMiss (Rose (F.faults files.old) (F.faults files.new)) answer
         (list_all (matches s (F.file_map files.old)) (includes_in includes.now))) }

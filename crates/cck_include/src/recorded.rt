@@ -42,7 +42,7 @@ fn read_once<H: HashState, F: Files>(
 ) -> Result<Scan, FileError>
     ensures keeps { Keeps F.file_map F.faults F.is_quiet files.old files.new }
     ensures calls { AreCalls F.is_call (λ p. p ≡ components path.now) files.old files.new }
-    ensures answer { let found = contents_at (F.file_map files.old) (components path.now) in
+    ensures outcome { let found = contents_at (F.file_map files.old) (components path.now) in
         MatchResult result (λ scan. IsOkAnd found (IsScanOf H.hash scan))
         (IsErrorOrMemory found (Rose (F.faults files.old) (F.faults files.new))) }
 {
@@ -69,7 +69,7 @@ fn contents_text<H: HashState, F: Files>(
 ) -> Result<String, FileError>
     ensures keeps { Keeps F.file_map F.faults F.is_quiet files.old files.new }
     ensures calls { AreCalls F.is_call (λ p. p ≡ components path.now) files.old files.new }
-    ensures answer { let found = contents_at (F.file_map files.old) (components path.now) in
+    ensures outcome { let found = contents_at (F.file_map files.old) (components path.now) in
         MatchResult result (λ text. IsOkAnd found (λ contents. string_bytes text ≡ digest_text H.hash contents))
         (IsErrorOrMemory found (Rose (F.faults files.old) (F.faults files.new))) }
 {
@@ -104,7 +104,7 @@ fn digest_of<H: HashState>(
         ≡ recorded_by H.hash scan.has_time (scan.has_date || scan.has_timestamp) (string_bytes scan.text)
         (time_part scan.has_date scan.has_timestamp modified context.now.moment
         (plain_zone context.now.zone.now) (variables_of context.now.vars.now))) }
-    ensures refused { IsOkUnless result Error.Memory }
+    ensures errors { IsOkUnless result Error.Memory }
 {
     let Scan {
         mut text,
@@ -162,7 +162,7 @@ pub fn recorded_digest<H: HashState, F: Files>(
 ) -> Result<Option<String>, Error>
     ensures keeps { Keeps F.file_map F.faults F.is_quiet files.old files.new }
     ensures calls { AreCalls F.is_call (λ p. p ≡ components path.now) files.old files.new }
-    ensures answer { let found = file_at (F.file_map files.old) (components path.now) in
+    ensures outcome { let found = file_at (F.file_map files.old) (components path.now) in
         MatchResult result (λ digest. IsOkAnd found (λ file. option_map string_bytes digest
         ≡ recorded (setting_in H.hash config moment (plain_zone zone.now) vars.now) file))
         (IsIoError found (Rose (F.faults files.old) (F.faults files.new))) }
@@ -191,7 +191,7 @@ pub(crate) fn digest_with_metadata<H: HashState, F: Files>(
 ) -> Result<Option<String>, Error>
     ensures keeps { Keeps F.file_map F.faults F.is_quiet files.old files.new }
     ensures calls { AreCalls F.is_call (λ p. p ≡ components path.now) files.old files.new }
-    ensures answer { let found = file_at (F.file_map files.old) (components path.now) in
+    ensures outcome { let found = file_at (F.file_map files.old) (components path.now) in
         metadata_at (F.file_map files.old) (components path.now) ≡ Ok metadata
         → MatchResult result (λ digest. IsOkAnd found (λ file. option_map string_bytes digest
         ≡ recorded (setting_of H.hash context.now) file))

@@ -6,7 +6,7 @@ use Rattle.memchr.specs.Find.{IsFirstByte, is_byte}
 use Rattle.cck_markers.specs.Marks.{Mark, Name, Refusal, Malformed, Short, Marker, Hidden, Inclusion, Plain, what, is_system, Unnamed, Named, Marks, at_end, unnamed, named, malformed, hidden, hidden_to_end, refused, plain}
 use Rattle.cck_markers.specs.Lines.{IsNamedAt, IsUnnamedTo}
 use Rattle.cck_markers.specs.Items.{IsItem}
-use Rattle.cck_markers.specs.Markers.{Unread, MarksLeft, Gives}
+use Rattle.cck_markers.specs.Markers.{Unread, MarksLeft, Yields}
 use Rattle.cck_markers.proofs.OneList.{one_list}
 use Rattle.cck_markers.proofs.EachText.{no_bytes, what_marker, unnamed_shorter}
 use Rattle.cck_markers.proofs.Cuts.{byte_at, byte_nowhere}
@@ -72,8 +72,8 @@ pub nothing_left : (starts_line : Bool) (text : List ℕ) → what starts_line t
 nothing_left starts_line text is = at_end is refl
 
 -- two items in a row
-pub gives_both : (old middle new : Unread) (first second : List Mark) → Gives old first middle → Gives middle second new → Gives old (first ++ second) new
+pub gives_both : (old middle new : Unread) (first second : List Mark) → Yields old first middle → Yields middle second new → Yields old (first ++ second) new
 gives_both old middle new first second f g = λ marks left. subst (λ (ms : List Mark). MarksLeft old ms) (sym (append_assoc first second marks)) (f (second ++ marks) (g marks left))
 
-pub gives_nothing : (old : Unread) → Gives old [] old
+pub gives_nothing : (old : Unread) → Yields old [] old
 gives_nothing old = λ marks left. left

@@ -6,8 +6,8 @@ use Rattle.std.proofs.lemmas.Bool.{cases_lt, eqb-true, false≢true, ltb-true, f
 use Rattle.std.proofs.lemmas.List.{drop-drop, drop_more, length-drop, get_or-drop, get_or_append_left}
 use Rattle.memchr.specs.Find.{Nowhere, OccursAt}
 use Rattle.cck_markers.specs.Marks.{Mark, Short, Marker, Hidden, Inclusion, Plain, Marks, what, is_marker, is_hidden, is_inclusion, at_end, unnamed, named, malformed, hidden, hidden_to_end, refused, plain}
-use Rattle.cck_markers.specs.Markers.{Unread, Gives}
-use Rattle.cck_markers.specs.Searches.{AreKnown, ArePlain, EndsBeforeMarker, IsMarkerSearch, IsSearchFor, starts_line_at}
+use Rattle.cck_markers.specs.Markers.{Unread, Yields}
+use Rattle.cck_markers.specs.Searches.{AreSearched, ArePlain, EndsBeforeMarker, IsMarkerSearch, IsSearchFor, starts_line_at}
 use Rattle.cck_markers.specs.declared.search.MarkerSearch.{MarkerSearch}
 use Rattle.cck_markers.specs.declared.search.Searches.{Searches}
 use Rattle.cck_markers.specs.declared.search.WordSearch.{WordSearch}
@@ -17,7 +17,7 @@ use Rattle.cck_markers.proofs.ItemLemmas.{gives_both, gives_nothing}
 
 -- plain bytes have no mark
 pub plain_bytes : (text : List ℕ) (size : ℕ) → size ≤ length text → ArePlain text size
-    → Gives (record { starts_line = false; text = text }) [] (record { starts_line = starts_line_at text size; text = drop size text })
+    → Yields (record { starts_line = false; text = text }) [] (record { starts_line = starts_line_at text size; text = drop size text })
 plain_bytes text zero within are_plain = gives_nothing _
 plain_bytes text (suc size) within are_plain =
     let before = plain_bytes text size (omega arith) (λ place l. are_plain place (omega arith)) in
@@ -121,7 +121,7 @@ pub passed_end : (text : List ℕ) (from left : ℕ) → from ≤ length text �
     → Nowhere (OccursAt (drop from text) (10 ∷ 35 ∷ [])) 0 (length (drop from text) - left) → OccursAt (drop from text) (10 ∷ 35 ∷ []) (length (drop from text) - left)
     → Nowhere (EndsBeforeMarker text) 0 from → is_marker (drop (length text - left + 1) text) ≡ false
     → Nowhere (EndsBeforeMarker text) 0 (length text - left + 2)
-passed_end text from left within some more nowhere stands before unmarked place low high ends =
+passed_end text from left within some more nowhere present before unmarked place low high ends =
     elim (cases_lt place (length text - left)) [
       | inl below ↦ no_end_before text from left within some nowhere before place low below ends
       | inr above ↦ (elim (cases_lt place (length text - left + 1)) [
@@ -131,7 +131,7 @@ passed_end text from left within some more nowhere stands before unmarked place 
             absurd (false≢true (sym unmarked ∙ marked)))
         | inr following ↦ (
             let same : place ≡ from + (length (drop from text) - left + 1) = omega (arith, above, following, high, length-drop from text, some, within) in
-            let byte : get_or text place 0 ≡ 35 = ap (λ (k : ℕ). get_or text k 0) same ∙ sym (get_or-drop from text (length (drop from text) - left + 1) 0) ∙ stands.reads 1 (omega arith) in
+            let byte : get_or text place 0 ≡ 35 = ap (λ (k : ℕ). get_or text k 0) same ∙ sym (get_or-drop from text (length (drop from text) - left + 1) 0) ∙ present.reads 1 (omega arith) in
             let apart = sym ends.0 ∙ byte in cc)
       ])
     ]
@@ -154,7 +154,7 @@ marker_after search text size known within =
 search_after : (word : List ℕ) (search : WordSearch) (text : List ℕ) (size : ℕ) → IsSearchFor word search text → size ≤ length text → IsSearchFor word search (drop size text)
 search_after word search text size known within = record { word_is = known.word_is; known = word_known_after text word size search.left known.known within }
 
-pub known_after : (searches : Searches) (text : List ℕ) (size : ℕ) → AreKnown searches text → size ≤ length text → AreKnown searches (drop size text)
+pub known_after : (searches : Searches) (text : List ℕ) (size : ℕ) → AreSearched searches text → size ≤ length text → AreSearched searches (drop size text)
 known_after searches text size known within =
     record {
       marker = marker_after searches.marker text size known.marker within;
@@ -188,12 +188,12 @@ starts_line_after text (suc size) some = let before : suc size - 1 ≡ size = om
 
 -- the bytes that were passed, as the program cuts them off
 pub passed_bytes : (text : List ℕ) (size : ℕ) → size ≤ length text → size ≢ 0 → ArePlain text size
-    → Gives (record { starts_line = false; text = text }) [] (record { starts_line = get_or text (size - 1) 0 == 10; text = take (length text - size) (drop size text) })
+    → Yields (record { starts_line = false; text = text }) [] (record { starts_line = get_or text (size - 1) 0 == 10; text = take (length text - size) (drop size text) })
 passed_bytes text size within some are_plain =
     rw (slice_from text size, ← starts_line_after text size some) (plain_bytes text size within are_plain)
 
 -- an item after them, as the program cuts it off
-pub passed_item : (old : Unread) (starts_line starts_after : Bool) (text : List ℕ) (given : List Mark) (size : ℕ) → Gives old [] (record { starts_line = starts_line; text = text })
-    → Gives (record { starts_line = starts_line; text = text }) given (record { starts_line = starts_after; text = drop size text })
-    → Gives old given (record { starts_line = starts_after; text = take (length text - size) (drop size text) })
+pub passed_item : (old : Unread) (starts_line starts_after : Bool) (text : List ℕ) (given : List Mark) (size : ℕ) → Yields old [] (record { starts_line = starts_line; text = text })
+    → Yields (record { starts_line = starts_line; text = text }) given (record { starts_line = starts_after; text = drop size text })
+    → Yields old given (record { starts_line = starts_after; text = take (length text - size) (drop size text) })
 passed_item old starts_line starts_after text given size before item = rw (slice_from text size) (gives_both old _ _ [] given before item)

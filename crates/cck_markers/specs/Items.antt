@@ -2,7 +2,7 @@
 use Rattle.std.specs.Prelude.{◌≡◌, ℕ, ◌≤◌, ◌<◌, Bool, List, [], ◌∷◌, length, drop, Option, Some, None}
 use Rattle.cck_markers.specs.Marks as marks
 use Rattle.cck_markers.specs.Marks.{Marks, Named, Unnamed, is_system, what}
-use Rattle.cck_markers.specs.Markers.{Gives, mark_of}
+use Rattle.cck_markers.specs.Markers.{Yields, mark_of}
 use Rattle.cck_markers.specs.declared.item.Item.{Item}
 use Rattle.cck_markers.specs.declared.item.What.{What}
 use Rattle.cck_markers.specs.declared.item.What.TheVariants.{Short, Marker, Hidden, Inclusion, Plain}
@@ -25,7 +25,7 @@ marks_of (Some mark) = mark_of mark ∷ []
 -- a text that begins with an item: its marks, its length in bytes, and whether a line starts after it
 abbrev pub IsItem : Bool → List ℕ → List marks.Mark → ℕ → Bool → Type 0
 IsItem starts_line text given size starts_line_after =
-    (0 < size) × (size ≤ length text) × Gives (record { starts_line = starts_line; text = text }) given (record { starts_line = starts_line_after; text = drop size text })
+    (0 < size) × (size ≤ length text) × Yields (record { starts_line = starts_line; text = text }) given (record { starts_line = starts_line_after; text = drop size text })
 
 -- a text that begins with this item, or has no more marks
 abbrev pub BeginsWith : Bool → List ℕ → Option Item → Type 0

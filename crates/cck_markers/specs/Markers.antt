@@ -17,18 +17,18 @@ pub record Unread : Type 0 where
   pub text : List ℕ
 
 -- all of a text
-abbrev pub whole : List ℕ → Unread
-whole text = record { starts_line = true; text = text }
+abbrev pub unread_text : List ℕ → Unread
+unread_text text = record { starts_line = true; text = text }
 
 -- the marks that are not yet read
 abbrev pub MarksLeft : Unread → List marks.Mark → Type 0
 MarksLeft unread marks = Marks unread.starts_line unread.text marks
 
 -- with these marks before them, the marks that are left now are those that were left before
-abbrev pub Gives : Unread → List marks.Mark → Unread → Type 0
-Gives old given new = (marks : List marks.Mark) → MarksLeft new marks → MarksLeft old (given ++ marks)
+abbrev pub Yields : Unread → List marks.Mark → Unread → Type 0
+Yields old given new = (marks : List marks.Mark) → MarksLeft new marks → MarksLeft old (given ++ marks)
 
 -- the first mark of what was left was yielded, or none was left
 abbrev pub YieldsMark : Unread → Option Mark → Unread → Type 0
 YieldsMark old None new = MarksLeft old [] × MarksLeft new []
-YieldsMark old (Some mark) new = Gives old (mark_of mark ∷ []) new
+YieldsMark old (Some mark) new = Yields old (mark_of mark ∷ []) new

@@ -25,7 +25,7 @@ pub record IsMarkerSearch (search : MarkerSearch) (text : List ℕ) : Type 0 whe
   pub known : Nowhere (EndsBeforeMarker text) 0 (length text - search.left)
 
 -- a line's end before a marker, a line's end and ten underscores, and `.incbin`
-pub record AreKnown (searches : Searches) (text : List ℕ) : Type 0 where
+pub record AreSearched (searches : Searches) (text : List ℕ) : Type 0 where
   pub marker : IsMarkerSearch searches.marker text
   pub hidden : IsSearchFor (10 ∷ codes "__________") searches.hidden text
   pub inclusion : IsSearchFor (codes ".incbin") searches.inclusion text

@@ -1,7 +1,7 @@
 //! The marks of a text, in order.
 ghost use Rattle.std.specs.Prelude.{◌≡◌, length};
 ghost use Rattle.std.specs.Iterator.{at_most};
-ghost use Rattle.cck_markers.specs.Markers.{YieldsMark, whole};
+ghost use Rattle.cck_markers.specs.Markers.{YieldsMark, unread_text};
 
 use crate::item::read_item;
 use crate::search::Searches;
@@ -47,15 +47,15 @@ impl<'a> Model for Markers<'a> {
 
     ghost view = { λ m. record { starts_line = m.starts_line; text = m.rest.now } };
 
-    ghost use Rattle.cck_markers.specs.Searches.{AreKnown};
+    ghost use Rattle.cck_markers.specs.Searches.{AreSearched};
 
-    ghost invariant = { λ m. AreKnown m.searches m.rest.now };
+    ghost invariant = { λ m. AreSearched m.searches m.rest.now };
 }
 
 impl<'a> Markers<'a> {
     /// Returns the marks of this text, from its start on.
     pub fn new(text: &'a [u8]) -> Markers<'a>
-        ensures { result ≡ whole text.now }
+        ensures { result ≡ unread_text text.now }
     {
         Markers::resume(text, true)
     }

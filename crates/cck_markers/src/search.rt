@@ -1,8 +1,8 @@
 //! How many bytes from a place on are plain, found by searches for words.
 ghost use Rattle.std.specs.Prelude.{◌≡◌, ◌≤◌, ◌<◌, ◌-◌, ◌^◌, ◌∷◌, ℕ, List, [], length};
 ghost use Rattle.memchr.specs.Find.{Nowhere, OccursAt};
-ghost use Rattle.cck_markers.specs.Markers.{Gives};
-ghost use Rattle.cck_markers.specs.Searches.{AreKnown, ArePlain, EndsBeforeMarker, IsKnown};
+ghost use Rattle.cck_markers.specs.Markers.{Yields};
+ghost use Rattle.cck_markers.specs.Searches.{AreSearched, ArePlain, EndsBeforeMarker, IsKnown};
 ghost use Rattle.cck_markers.specs.Searches.{IsMarkerSearch, IsSearchFor};
 
 use crate::item::{LEAST_LEFT, is_marker, may_be_marked};
@@ -57,7 +57,7 @@ impl WordSearch {
 fn bytes_left(finder: &Finder<'_>, rest: &[u8]) -> usize
     ensures within { result ≤ length rest.now }
     ensures nowhere { IsKnown result finder.now rest.now }
-    ensures stands { 0 < result → OccursAt rest.now finder.now (length rest.now - result) }
+    ensures present { 0 < result → OccursAt rest.now finder.now (length rest.now - result) }
 {
     // A word at the start, as in a text of short lines, is found without a search.
     if rest.starts_with(finder.needle()) {
@@ -137,7 +137,7 @@ pub(crate) struct Searches {
 impl Searches {
     /// Searches that have not run yet.
     pub(crate) fn new() -> Searches
-        ensures { (text : List ℕ) → length text < 2 ^ 64 → AreKnown result text }
+        ensures { (text : List ℕ) → length text < 2 ^ 64 → AreSearched result text }
     {
         Searches {
             marker: MarkerSearch::new(),
@@ -149,10 +149,10 @@ impl Searches {
     /// Returns what is left after plain bytes, and whether a line starts there. Nothing is passed
     /// over where a line starts that may be a marker or may be skipped.
     pub(crate) fn skip_plain<'a>(&mut self, text: &'a [u8], starts_line: bool) -> (&'a [u8], bool)
-        requires known { AreKnown self.old text.now }
-        ensures known { AreKnown self.new result.0.now }
+        requires known { AreSearched self.old text.now }
+        ensures known { AreSearched self.new result.0.now }
         ensures shorter { length result.0.now ≤ length text.now }
-        ensures passed { Gives (record { starts_line = starts_line; text = text.now }) []
+        ensures passed { Yields (record { starts_line = starts_line; text = text.now }) []
             (record { starts_line = result.1; text = result.0.now }) }
     {
         if may_be_marked(text, starts_line) {
@@ -168,8 +168,8 @@ impl Searches {
     // Returns the length of a prefix of plain bytes, not always the longest, if no line starts with
     // the text.
     fn plain_size(&mut self, text: &[u8]) -> usize
-        requires known { AreKnown self.old text.now }
-        ensures known { AreKnown self.new text.now }
+        requires known { AreSearched self.old text.now }
+        ensures known { AreSearched self.new text.now }
         ensures within { result ≤ length text.now }
         ensures plain { ArePlain text.now result }
     {

@@ -70,14 +70,14 @@ lines_in (b ∷ bs) = if is_lf b then ([], 10 ∷ []) ∷ lines_in bs else onto_
 abbrev pub is_quote : ℕ → Bool
 is_quote b = b == 34
 
-abbrev pub quoted : Option ℕ → Bytes → Option Bytes
-quoted None body = None
-quoted (Some end) body = if not (end == 0) && (end + 1 == length body) then Some (take end body) else None
+abbrev pub quoted_name : Option ℕ → Bytes → Option Bytes
+quoted_name None body = None
+quoted_name (Some end) body = if not (end == 0) && (end + 1 == length body) then Some (take end body) else None
 
 -- the name in a line `#include "NAME"`: not empty, and without a quote
 unfoldable pub include_name : Bytes → Option Bytes
 include_name line =
-    if starts_with nat_eq line (codes "#include \"") then quoted (position is_quote (drop 10 line)) (drop 10 line) else None
+    if starts_with nat_eq line (codes "#include \"") then quoted_name (position is_quote (drop 10 line)) (drop 10 line) else None
 
 -- the line marker `# N "PATH"` with what is after it
 unfoldable pub marker : ℕ → Bytes → Bytes → Bytes

@@ -30,7 +30,7 @@ pub(crate) fn read_file<F: Files>(
     path: &[u8],
 ) -> Result<FileText, PrintError>
     ensures keeps { Keeps F.file_map F.faults F.is_quiet files.old files.new }
-    ensures answer { let found = text_at (F.file_map files.old) path.now in
+    ensures outcome { let found = text_at (F.file_map files.old) path.now in
         MatchResult result (λ f. found ≡ Some (f.contents.items, f.modified))
         (IsPrintError found (Rose (F.faults files.old) (F.faults files.new))) }
 {

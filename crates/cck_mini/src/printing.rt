@@ -38,7 +38,7 @@ pub fn print_input<F: Files>(
     input: &[u8],
 ) -> Result<Vec<u8>, PrintError>
     ensures keeps { Keeps F.file_map F.faults F.is_quiet files.old files.new }
-    ensures answer { let text = printed zone_offset moment (F.file_map files.old) cwd.now input.now in
+    ensures outcome { let text = printed zone_offset moment (F.file_map files.old) cwd.now input.now in
         MatchResult result (λ out. text ≡ Some out.items)
         (IsPrintError text (Rose (F.faults files.old) (F.faults files.new))) }
 {
@@ -79,7 +79,7 @@ fn print_lines<F: Files>(
     contents: &[u8],
 ) -> Result<(), PrintError>
     ensures keeps { Keeps F.file_map F.faults F.is_quiet files.old files.new }
-    ensures answer { let map = F.file_map files.old in
+    ensures outcome { let map = F.file_map files.old in
         let text = lines_text job.now.zone_offset job.now.moment map job.now.cwd.now job.now.path.now
         (macros_seen macros.now) 2 (lines_in contents.now) in
         MatchResult result (λ _. IsSomeAnd text (λ text. out.new.items ≡ out.old.items ++ text))
@@ -107,7 +107,7 @@ fn print_line<F: Files>(
     number: u64,
 ) -> Result<(), PrintError>
     ensures keeps { Keeps F.file_map F.faults F.is_quiet files.old files.new }
-    ensures answer { let map = F.file_map files.old in
+    ensures outcome { let map = F.file_map files.old in
         let front = line.entry.front.now in
         let text = line_text job.now.zone_offset job.now.moment map job.now.cwd.now job.now.path.now
         (macros_seen macros.now) (include_name front) (front, line.entry.ending.now) number in

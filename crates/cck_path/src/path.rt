@@ -297,7 +297,7 @@ pub fn join_path(alloc: Global, base: &[u8], path: &[u8]) -> Result<Vec<u8>, Uti
     ensures bytes { IfOk result (λ whole. whole.items ≡ joined_text base.now path.now) }
     ensures components { IfOk result (λ whole.
         components whole.items ≡ joined (components base.now) (components path.now)) }
-    ensures refused { IsOkUnless result UtilError.Memory }
+    ensures errors { IsOkUnless result UtilError.Memory }
 {
     if base.is_empty() || is_absolute(path) {
         return Ok(path.to_vec(alloc)?);
@@ -330,7 +330,7 @@ pub fn normalize_path(alloc: Global, path: &[u8]) -> Result<Vec<u8>, UtilError>
     ensures bytes { IfOk result (λ text. text.items ≡ path_text (normal (components path.now))) }
     ensures components { IfOk result (λ text.
         components text.items ≡ normal (components path.now)) }
-    ensures refused { IsOkUnless result UtilError.Memory }
+    ensures errors { IsOkUnless result UtilError.Memory }
 {
     let mut names: Vec<&[u8]> = Vec::new(alloc);
     for component in Components::new(path) {
@@ -354,7 +354,7 @@ pub fn normalize_path(alloc: Global, path: &[u8]) -> Result<Vec<u8>, UtilError>
 fn push_names(text: &mut Vec<u8>, names: &[&[u8]]) -> Result<(), UtilError>
     ensures appended { OnOk result
         (text.new.items ≡ text.old.items ++ join_with_byte 47 (map (λ n. n.now) names.now)) }
-    ensures refused { IsOkUnless result UtilError.Memory }
+    ensures errors { IsOkUnless result UtilError.Memory }
 {
     let Some((first, others)) = names.split_first() else {
         return Ok(());
@@ -374,7 +374,7 @@ fn push_names(text: &mut Vec<u8>, names: &[&[u8]]) -> Result<(), UtilError>
 pub fn encode_path<W: Write>(writer: &mut W, path: &[u8]) -> Result<(), UtilError>
     ensures written { OnOk result
         (Appends (W.contents writer.old) (W.contents writer.new) path.now) }
-    ensures refused { IsOkUnless result UtilError.Write }
+    ensures errors { IsOkUnless result UtilError.Write }
 {
     match writer.write_all(path) {
         Ok(()) => Ok(()),
@@ -387,7 +387,7 @@ pub fn encode_path<W: Write>(writer: &mut W, path: &[u8]) -> Result<(), UtilErro
 /// Upstream's `util::decode_path`. The only error is [`UtilError::Memory`].
 pub fn decode_path(alloc: Global, bytes: &[u8]) -> Result<Vec<u8>, UtilError>
     ensures path { IfOk result (λ path. path.items ≡ bytes.now) }
-    ensures refused { IsOkUnless result UtilError.Memory }
+    ensures errors { IsOkUnless result UtilError.Memory }
 {
     Ok(bytes.to_vec(alloc)?)
 }

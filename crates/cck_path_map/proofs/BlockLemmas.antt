@@ -14,7 +14,7 @@ use Rattle.std.specs.Ordering.{is_gt, is_lt}
 use Rattle.cck_path.specs.Path.{Path, path_cmp, path_cmp_total, path_cmp-IsAntisymmetric}
 use Rattle.std.specs.FinMap.{entries-from_sorted, from_sorted, get, is_sorted, len}
 use Rattle.cck_path.proofs.TestLemmas.{T_parts, T_and, below_all}
-use Rattle.cck_path_map.specs.Blocks.{IsBlockFor, IsMissing, AreOrderedBlocks, IsPositionFor, NoneEmpty, entries_of, first_of, place_of, start_of}
+use Rattle.cck_path_map.specs.Blocks.{IsBlockFor, HasNoEntry, AreOrderedBlocks, IsPositionFor, NoneEmpty, entries_of, first_entry_path, place_of, start_of}
 use Rattle.cck_path_map.specs.PathMap.{IsGapFor, IsInOrder, IsPlaceOf, pair_of, path_of}
 use Rattle.cck_path_map.specs.declared.path_map.Entry.{Entry}
 use Rattle.cck_path_map.proofs.PlaceLemmas.{get_in_gap, len_is, higher, lower, rises}
@@ -64,13 +64,13 @@ module _ {V : Type 0} where
   some_at (b ∷ bs) zero d some h = some.0
   some_at (b ∷ bs) (suc k) d some h = some_at bs k d some.1 (omega arith)
 
-  first_is : (es : List (Entry V)) (e : Entry V) → 0 < length es → first_of es ≡ path_of (get_or es 0 e)
+  first_is : (es : List (Entry V)) (e : Entry V) → 0 < length es → first_entry_path es ≡ path_of (get_or es 0 e)
   first_is [] e h = absurd (omega arith)
   first_is (f ∷ es) e h = refl
 
   -- a block's first path is that of the entry at its start
   pub first_at : (bs : List (Vec (Entry V) Global)) (k : ℕ) (d : Vec (Entry V) Global) (e : Entry V) → NoneEmpty bs → k < length bs
-      → first_of (get_or bs k d).items ≡ path_of (get_or (entries_of bs) (start_of bs k) e)
+      → first_entry_path (get_or bs k d).items ≡ path_of (get_or (entries_of bs) (start_of bs k) e)
   first_at bs k d e some h =
       let zeroth : start_of bs k + 0 ≡ start_of bs k = omega arith in
       first_is (get_or bs k d).items e (some_at bs k d some h)
@@ -227,7 +227,7 @@ module _ {V : Type 0} where
 
   -- the blocks' first paths rise
   firsts_rise : (bs : List (Vec (Entry V) Global)) → AreOrderedBlocks bs → (i j : ℕ) (d : Vec (Entry V) Global) → i < j → j < length bs
-      → path_cmp (first_of (get_or bs i d).items) (first_of (get_or bs j d).items) ≡ Less
+      → path_cmp (first_entry_path (get_or bs i d).items) (first_entry_path (get_or bs j d).items) ≡ Less
   firsts_rise bs ordered i j d lt h =
       let some_i = some_at bs i d ordered.none_empty (omega arith) in
       let some_j = some_at bs j d ordered.none_empty h in
@@ -235,32 +235,32 @@ module _ {V : Type 0} where
       let next = start_next bs i d (omega arith) in
       let grows = start_grows bs (i + 1) j (omega arith) in
       let fits = start_fits bs j d h in
-      ap (λ p. path_cmp p (first_of (get_or bs j d).items)) (first_at bs i d e ordered.none_empty (omega arith))
+      ap (λ p. path_cmp p (first_entry_path (get_or bs j d).items)) (first_at bs i d e ordered.none_empty (omega arith))
       ∙ ap (path_cmp (path_of (get_or (entries_of bs) (start_of bs i) e))) (first_at bs j d e ordered.none_empty h)
       ∙ rises (entries_of bs) ordered.in_order (start_of bs i) (start_of bs j) e (omega arith) (omega arith)
 
-  not_higher_before : (b : Vec (Entry V) Global) (bs : List (Vec (Entry V) Global)) (p : Path) (d : Vec (Entry V) Global) (i : ℕ) → 0 < i → ((k : ℕ) → k < i → path_cmp (first_of (get_or bs k d).items) p ≡ Less)
-      → is_gt (path_cmp (first_of (get_or (b ∷ bs) i d).items) p) ≡ false
+  not_higher_before : (b : Vec (Entry V) Global) (bs : List (Vec (Entry V) Global)) (p : Path) (d : Vec (Entry V) Global) (i : ℕ) → 0 < i → ((k : ℕ) → k < i → path_cmp (first_entry_path (get_or bs k d).items) p ≡ Less)
+      → is_gt (path_cmp (first_entry_path (get_or (b ∷ bs) i d).items) p) ≡ false
   not_higher_before b bs p d zero some low = absurd (omega arith)
   not_higher_before b bs p d (suc k) some low = ap is_gt (low k (omega arith))
 
   -- where a search among the first paths of the later blocks ends
   pub block_found : (b : Vec (Entry V) Global) (bs : List (Vec (Entry V) Global)) → AreOrderedBlocks (b ∷ bs) → (p : Path) (r : Result ℕ ℕ) → IsSearchInRange r (length bs)
-      → IsBinarySearchResult (λ x. path_cmp (first_of x.items) p) bs r → IfOk r (λ i. IsBlockFor p (b ∷ bs) (suc i)) × IfErr r (IsBlockFor p (b ∷ bs))
+      → IsBinarySearchResult (λ x. path_cmp (first_entry_path x.items) p) bs r → IfOk r (λ i. IsBlockFor p (b ∷ bs) (suc i)) × IfErr r (IsBlockFor p (b ∷ bs))
   block_found b bs ordered p (Ok i) range equal = (
     record {
       in_range = omega arith;
       not_higher = λ d h. ap is_gt (equal d);
-      next_higher = λ d h. higher p (first_of (get_or (b ∷ bs) (suc i + 1) d).items)
-          (ap (λ q. path_cmp q (first_of (get_or (b ∷ bs) (suc i + 1) d).items)) (sym (path_cmp-IsAntisymmetric _ _ (equal d)))
+      next_higher = λ d h. higher p (first_entry_path (get_or (b ∷ bs) (suc i + 1) d).items)
+          (ap (λ q. path_cmp q (first_entry_path (get_or (b ∷ bs) (suc i + 1) d).items)) (sym (path_cmp-IsAntisymmetric _ _ (equal d)))
           ∙ firsts_rise (b ∷ bs) ordered (suc i) (suc i + 1) d (omega arith) h);
     },
     tt,
   )
   block_found b bs ordered p (Err i) range found =
       let later : AreOrderedBlocks bs = record { in_order = back_in_order b.items (entries_of bs) ordered.in_order; none_empty = ordered.none_empty.1 } in
-      let halves = found (searchable_from_sorted path_cmp_total (λ x. first_of x.items) bs p
-      (λ k d low high. ap is_lt (higher (first_of (get_or bs k d).items) (first_of (get_or bs (k + 1) d).items) (firsts_rise bs later k (k + 1) d (omega arith) high)))) in (
+      let halves = found (searchable_from_sorted path_cmp_total (λ x. first_entry_path x.items) bs p
+      (λ k d low high. ap is_lt (higher (first_entry_path (get_or bs k d).items) (first_entry_path (get_or bs (k + 1) d).items) (firsts_rise bs later k (k + 1) d (omega arith) high)))) in (
         tt,
         record {
           in_range = omega arith;
@@ -287,7 +287,7 @@ module _ {V : Type 0} where
         with_next : k + 1 < length bs → path_cmp (path_of (get_or (entries_of bs) i e)) p ≡ Greater
         with_next next =
             let first = first_at bs (k + 1) d e ordered.none_empty next in
-            let above : path_cmp p (path_of (get_or (entries_of bs) (start_of bs (k + 1)) e)) ≡ Less = ap (path_cmp p) (sym first) ∙ lower (first_of (get_or bs (k + 1) d).items) p (at.next_higher d next) in
+            let above : path_cmp p (path_of (get_or (entries_of bs) (start_of bs (k + 1)) e)) ≡ Less = ap (path_cmp p) (sym first) ∙ lower (first_entry_path (get_or bs (k + 1) d).items) p (at.next_higher d next) in
             by_place (start_of bs (k + 1)) i
             (λ lt. higher p _ (path_cmp_total.trans p _ _ above (rises (entries_of bs) ordered.in_order (start_of bs (k + 1)) i e lt range)))
             (λ m is. let same : i ≡ start_of bs (k + 1) = omega arith in higher p _ (ap (λ n. path_cmp p (path_of (get_or (entries_of bs) n e))) same ∙ above))
@@ -337,10 +337,10 @@ module _ {V : Type 0} where
   entry_is bs k j b e h is within at = at ∙ ap (λ x. get_or x.items j e) is ∙ sym (get_at_flat bs k j b e h within)
 
   -- where a missing path would go, among all entries
-  pub gap_of : (bs : List (Vec (Entry V) Global)) (p : Path) (gap : Option (ℕ × ℕ)) → IsMissing p bs gap → IsGapFor p (entries_of bs) (place_of bs gap)
+  pub gap_of : (bs : List (Vec (Entry V) Global)) (p : Path) (gap : Option (ℕ × ℕ)) → HasNoEntry p bs gap → IsGapFor p (entries_of bs) (place_of bs gap)
   gap_of bs p None none = subst (λ l. IsGapFor p (entries_of l) 0) (sym none)
       (record { in_range = omega arith; lower_before = λ k d low high. absurd (omega arith); higher_after = λ k d low high. absurd (omega arith) })
   gap_of bs p (Some position) at = at.gap
 
-  pub get_missing : (bs : List (Vec (Entry V) Global)) → AreOrderedBlocks bs → (p : Path) (gap : Option (ℕ × ℕ)) → IsMissing p bs gap → None ≡ get (from_sorted {R = path_cmp} (map pair_of (entries_of bs))) p
+  pub get_missing : (bs : List (Vec (Entry V) Global)) → AreOrderedBlocks bs → (p : Path) (gap : Option (ℕ × ℕ)) → HasNoEntry p bs gap → None ≡ get (from_sorted {R = path_cmp} (map pair_of (entries_of bs))) p
   get_missing bs ordered p gap missing = get_in_gap (entries_of bs) ordered.in_order p (place_of bs gap) (gap_of bs p gap missing)

@@ -22,9 +22,9 @@ place_of bs None = 0
 place_of bs (Some position) = start_of bs position.0 + position.1
 
 -- the path of the first entry, or the empty path
-abbrev pub first_of : {V : Type 0} → List (Entry V) → Path
-first_of [] = components []
-first_of (e ∷ es) = path_of e
+abbrev pub first_entry_path : {V : Type 0} → List (Entry V) → Path
+first_entry_path [] = components []
+first_entry_path (e ∷ es) = path_of e
 
 -- no block is empty
 abbrev pub NoneEmpty : {V : Type 0} → List (Vec (Entry V) Global) → Type 0
@@ -42,8 +42,8 @@ pub record AreOrderedBlocks {V : Type 0} (bs : List (Vec (Entry V) Global)) : Ty
 -- the block k holds the place of a path: its first path isn't higher, unless it is the first block, and that of the next one is
 pub record IsBlockFor {V : Type 0} (p : Path) (bs : List (Vec (Entry V) Global)) (k : ℕ) : Type 0 where
   pub in_range : k < length bs
-  pub not_higher : (d : Vec (Entry V) Global) → 0 < k → is_gt (path_cmp (first_of (slice_index_or bs k d).items) p) ≡ false
-  pub next_higher : (d : Vec (Entry V) Global) → k + 1 < length bs → path_cmp (first_of (slice_index_or bs (k + 1) d).items) p ≡ Greater
+  pub not_higher : (d : Vec (Entry V) Global) → 0 < k → is_gt (path_cmp (first_entry_path (slice_index_or bs k d).items) p) ≡ false
+  pub next_higher : (d : Vec (Entry V) Global) → k + 1 < length bs → path_cmp (first_entry_path (slice_index_or bs (k + 1) d).items) p ≡ Greater
 
 -- the place of a path's entry in the block k, or where it would be inserted
 pub record IsPositionFor {V : Type 0} (p : Path) (bs : List (Vec (Entry V) Global)) (k : ℕ) (r : Result ℕ ℕ) : Type 0 where
@@ -53,5 +53,5 @@ pub record IsPositionFor {V : Type 0} (p : Path) (bs : List (Vec (Entry V) Globa
   pub gap : IfErr r (λ j. IsGapFor p (entries_of bs) (start_of bs k + j))
 
 -- a path has no entry: one would go to this place, or there is no block yet
-abbrev pub IsMissing : {V : Type 0} → Path → List (Vec (Entry V) Global) → Option (ℕ × ℕ) → Type 0
-IsMissing p bs gap = MatchOption gap (bs ≡ []) (λ position. IsPositionFor p bs position.0 (Err position.1))
+abbrev pub HasNoEntry : {V : Type 0} → Path → List (Vec (Entry V) Global) → Option (ℕ × ℕ) → Type 0
+HasNoEntry p bs gap = MatchOption gap (bs ≡ []) (λ position. IsPositionFor p bs position.0 (Err position.1))

@@ -5,7 +5,7 @@ ghost use Rattle.std.specs.Prelude.{◌≡◌, ◌+◌, ◌<◌, IfErr, IfOk, Is
 ghost use Rattle.std.specs.List as list;
 ghost use Rattle.cck_path.specs.Path.{components};
 ghost use Rattle.cck_path_map.specs.PathMap.{IsGapFor, IsInOrder, IsPlaceOf};
-ghost use Rattle.cck_path_map.specs.Blocks.{AreOrderedBlocks, IsBlockFor, IsMissing, IsPositionFor, IsWithin, NoneEmpty, entries_of, first_of, place_of, start_of};
+ghost use Rattle.cck_path_map.specs.Blocks.{AreOrderedBlocks, IsBlockFor, HasNoEntry, IsPositionFor, IsWithin, NoneEmpty, entries_of, first_entry_path, place_of, start_of};
 
 use crate::path_map::Entry;
 use cck_digest::UtilError;
@@ -24,7 +24,7 @@ pub(crate) fn search<V>(
     requires { AreOrderedBlocks blocks.now }
     ensures found { IfOk result (λ position.
         IsPositionFor (components path.now) blocks.now position.0 (Ok position.1)) }
-    ensures missing { IfErr result (IsMissing (components path.now) blocks.now) }
+    ensures missing { IfErr result (HasNoEntry (components path.now) blocks.now) }
 {
     if blocks.is_empty() {
         return Err(None);
@@ -54,7 +54,7 @@ fn block_for<V>(blocks: &[Vec<Entry<V>>], path: &[u8]) -> usize
 
 // Returns the path of the first entry, or the empty path.
 fn first_path<V>(entries: &[Entry<V>]) -> &[u8]
-    ensures { components result.now ≡ first_of entries.now }
+    ensures { components result.now ≡ first_entry_path entries.now }
 {
     match entries {
         [first, ..] => &first.path,
@@ -87,13 +87,13 @@ pub(crate) fn insert_at<V: Drop>(
     entry: Entry<V>,
 ) -> Result<(), UtilError>
     requires ordered { AreOrderedBlocks blocks.old.items }
-    requires missing { IsMissing (components entry.path.items) blocks.old.items gap }
+    requires missing { HasNoEntry (components entry.path.items) blocks.old.items gap }
     ensures inserted { OnOk result (entries_of blocks.new.items
         ≡ list.insert (entries_of blocks.old.items) (place_of blocks.old.items gap) entry) }
     ensures none_empty { NoneEmpty blocks.new.items }
     ensures kept { OnErr result
         (entries_of blocks.new.items ≡ entries_of blocks.old.items) }
-    ensures refused { IsOkUnless result UtilError.Memory }
+    ensures errors { IsOkUnless result UtilError.Memory }
 {
     match gap {
         Some((block, at)) => {

@@ -130,7 +130,7 @@ impl<V: Drop> PathMap<V> {
             (self.new ≡ finite.insert self.old (components path.now) value) }
         ensures kept { OnErr result (self.new ≡ self.old) }
         ensures replaced { finite.contains_key self.old (components path.now) ≡ true → IsOk result }
-        ensures refused { IsOkUnless result UtilError.Memory }
+        ensures errors { IsOkUnless result UtilError.Memory }
     {
         let gap = match search(&self.blocks, path) {
             Ok((block, at)) => {

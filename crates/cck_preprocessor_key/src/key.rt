@@ -90,7 +90,7 @@ fn key_text<H: HashState>(
 ) -> Result<String, UtilError>
     ensures key { IfOk result (λ key. string_bytes key
         ≡ preprocessor_key H.hash request.now (map string_bytes extra_hashes.now) recorded.now) }
-    ensures refused { IsOkUnless result UtilError.Memory }
+    ensures errors { IsOkUnless result UtilError.Memory }
 {
     let mut digest = compiler_material::<H>(request);
     hash_text_list(&mut digest, request.preprocessor_args);
@@ -150,7 +150,7 @@ pub fn preprocessor_cache_entry_hash_key<H: HashState, F: Files>(
     zone: &TimeZone<'_>,
 ) -> Result<Option<String>, Error>
     ensures keeps { Keeps F.file_map F.faults F.is_quiet files.old files.new }
-    ensures answer { let found = file_at (F.file_map files.old) (components input_file.now) in
+    ensures outcome { let found = file_at (F.file_map files.old) (components input_file.now) in
         let parts : RequestParts = record {
           compiler_digest = compiler_digest.now;
           plusplus = plusplus;

@@ -8,7 +8,7 @@ use Rattle.cck_files.specs.FileState.{no_files, with_place, without_place}
 use Rattle.cck_path.specs.Bytes.{Bytes}
 use Rattle.cck_path.specs.Path.{Path, components, normal, path_cmp, path_cmp_total}
 use Rattle.cck_path.proofs.TestLemmas.{tied}
-use Rattle.cck_script.specs.Surroundings.{AreFiles, executable, executable_path, if_names, place_of_command, stands, element_is_first}
+use Rattle.cck_script.specs.Surroundings.{AreFiles, executable, executable_path, if_names, place_of_command, present, element_is_first}
 use Rattle.cck_script.specs.Lines.{Line}
 use Rattle.cck_script.specs.Script.{first_or}
 
@@ -20,14 +20,14 @@ if_over : (b : Bool) (new old : Option FileNode) → unwrap_or (cond b (Some new
 if_over true new old = refl
 if_over false new old = refl
 
-is_next : (lines : List Line) (line : Line) (named : Bytes) (new : Option FileNode) (p : Path) → place_of_command line ≡ Some (named, new) → stands (line ∷ lines) p ≡ over p (components named) new (stands lines p)
-unfolding stands
+is_next : (lines : List Line) (line : Line) (named : Bytes) (new : Option FileNode) (p : Path) → place_of_command line ≡ Some (named, new) → present (line ∷ lines) p ≡ over p (components named) new (present lines p)
+unfolding present
 is_next lines line named new p e =
     ap (λ s. unwrap_or (if_names p s) (first_or (element_is_first p) (λ l. if_names p (place_of_command l)) lines)) e
     ∙ if_over (eq_by_cmp path_cmp p (components named)) new (first_or (element_is_first p) (λ l. if_names p (place_of_command l)) lines)
 
-exists_as_before : (lines : List Line) (line : Line) (p : Path) → place_of_command line ≡ None → stands (line ∷ lines) p ≡ stands lines p
-unfolding stands
+exists_as_before : (lines : List Line) (line : Line) (p : Path) → place_of_command line ≡ None → present (line ∷ lines) p ≡ present lines p
+unfolding present
 exists_as_before lines line p e = ap (λ s. unwrap_or (if_names p s) (first_or (element_is_first p) (λ l. if_names p (place_of_command l)) lines)) e
 
 path_over : (b : Bool) (k p : Path) (n : FileNode) (old : Option FileNode) → (b ≡ true → p ≡ k) → cond b (Some (normal k)) (option_map (λ _. normal p) old) ≡ option_map (λ _. normal p) (cond b (Some n) old)
@@ -46,7 +46,7 @@ files_put lines line files named n e are = record {
       ∙ ap (over p (components named) (Some n)) (are.nodes p) ∙ sym (is_next lines line named (Some n) p e);
   canonicals = λ p. finite.get-insert path_cmp_total files.canonicals (components named) (normal (components named)) p
       ∙ ap (cond (eq_by_cmp path_cmp p (components named)) (Some (normal (components named)))) (are.canonicals p)
-      ∙ path_over (eq_by_cmp path_cmp p (components named)) (components named) p n (stands lines p) (tied p (components named))
+      ∙ path_over (eq_by_cmp path_cmp p (components named)) (components named) p n (present lines p) (tied p (components named))
       ∙ ap (option_map (λ _. normal p)) (sym (is_next lines line named (Some n) p e));
 }
 
@@ -58,7 +58,7 @@ files_gone lines line files named e are = record {
       ∙ ap (over p (components named) None) (are.nodes p) ∙ sym (is_next lines line named None p e);
   canonicals = λ p. finite.get-remove path_cmp_total files.canonicals (components named) p
       ∙ ap (cond (eq_by_cmp path_cmp p (components named)) None) (are.canonicals p)
-      ∙ none_over (eq_by_cmp path_cmp p (components named)) p (stands lines p)
+      ∙ none_over (eq_by_cmp path_cmp p (components named)) p (present lines p)
       ∙ ap (option_map (λ _. normal p)) (sym (is_next lines line named None p e));
 }
 
@@ -71,7 +71,7 @@ files_stay lines line files e are = record {
 
 -- no files, and then the executable
 pub files_first : (named : Bytes) (n : FileNode) → named ≡ executable_path → n ≡ executable → AreFiles [] (with_place no_files (components named) n (normal (components named)))
-unfolding stands
+unfolding present
 files_first named n e same = record {
   nodes = λ p. finite.get-insert path_cmp_total finite.empty (components named) n p
       ∙ ap (over p (components named) (Some n)) (finite.get-empty path_cmp p)

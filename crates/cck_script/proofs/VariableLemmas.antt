@@ -17,7 +17,7 @@ use Rattle.std.proofs.lemmas.Bool.{cases_lt, eqb-false, eqb-true, or_parts}
 use Rattle.cck_path.specs.Bytes.{Bytes, variables_of}
 use Rattle.cck_path.specs.Variables.{Variable}
 use Rattle.cck_path.proofs.TestLemmas.{bytes_eq-sym}
-use Rattle.cck_script.specs.Surroundings.{ArePlacesOf, if_below, if_same, is_clear, name_cmp, names, new_name, place_of, set_by, sets, since_clear, value_of, variable_of_command, variables, with_variable}
+use Rattle.cck_script.specs.Surroundings.{ArePlacesOf, if_below, if_same, is_clear, name_cmp, names, new_name, variable_place, set_by, sets, since_clear, value_of, variable_of_command, variables, with_variable}
 use Rattle.cck_script.specs.Lines.{Line}
 use Rattle.cck_script.specs.Lines as line
 
@@ -127,7 +127,7 @@ IsSetTo name value vs new places = (variables_of new ≡ with_variable name valu
 
 module _ (vs : List (Vec ℕ × Vec ℕ)) (places : BTreeMap (Vec ℕ) ℕ) (name : Vec ℕ) (at : ℕ)
     (found : at ≡ unwrap_or (get name_cmp places name) (length vs)) (are : ArePlacesOf vs places) where
-  found_place : at ≡ unwrap_or (place_of name.items vs) (length vs)
+  found_place : at ≡ unwrap_or (variable_place name.items vs) (length vs)
   found_place = found ∙ ap (λ o. unwrap_or o (length vs)) (are name)
 
   -- the variable of a known name has the new value, in its place
@@ -163,10 +163,10 @@ module _ (vs : List (Vec ℕ × Vec ℕ)) (places : BTreeMap (Vec ℕ) ℕ) (nam
       new_at : (q : Vec ℕ) → length vs ≤ place_in name.items vs → bytes_eq q.items name.items ≡ true → length vs ≤ place_in q.items vs
       new_at q beyond e = subst (λ n. length vs ≤ place_in n vs) (sym ((bytes_eq-Decides q.items name.items).0 e)) beyond
 
-      place_after : (q : Vec ℕ) → if_below (length vs + 1) (position_or_len (bytes_eq q.items) (names_in vs ++ name.items ∷ [])) ≡ place_of q.items after
+      place_after : (q : Vec ℕ) → if_below (length vs + 1) (position_or_len (bytes_eq q.items) (names_in vs ++ name.items ∷ [])) ≡ variable_place q.items after
       place_after q =
           (λ i. if_below (sym (length-append vs ((name, new) ∷ [])) i) (position_or_len (bytes_eq q.items) (sym (map-append (λ (v : Vec ℕ × Vec ℕ). v.0.items) vs ((name, new) ∷ [])) i)))
-          ∙ ap (place_of q.items) (sym is)
+          ∙ ap (variable_place q.items) (sym is)
 
       places_after : length vs ≤ place_in name.items vs → ArePlacesOf after more
       places_after beyond q =

@@ -58,13 +58,13 @@ if_names p None = None
 if_names p (Some place) = if eq_by_cmp path_cmp p (components place.0) then Some place.1 else None
 
 -- the node at a path after these lines: what the last line says that names the path, or else what was there before any line
-unfoldable pub stands : List Line → Path → Option FileNode
-stands lines p = first_or (element_is_first p) (λ line. if_names p (place_of_command line)) lines
+unfoldable pub present : List Line → Path → Option FileNode
+present lines p = first_or (element_is_first p) (λ line. if_names p (place_of_command line)) lines
 
 -- these are the files after these lines, each of which is its own canonical path, without its `.` and `..`
 pub record AreFiles (lines : List Line) (files : FileMap) : Type 0 where
-  pub nodes : (p : Path) → finite.get files.nodes p ≡ stands lines p
-  pub canonicals : (p : Path) → finite.get files.canonicals p ≡ option_map (λ _. normal p) (stands lines p)
+  pub nodes : (p : Path) → finite.get files.nodes p ≡ present lines p
+  pub canonicals : (p : Path) → finite.get files.canonicals p ≡ option_map (λ _. normal p) (present lines p)
 
 -- ---- variables. Lines are given from the last to the first
 
@@ -122,12 +122,12 @@ abbrev pub if_below : ℕ → ℕ → Option ℕ
 if_below n place = if nat_lt place n then Some place else None
 
 -- the place of the first variable of this name
-abbrev pub place_of : Bytes → List (Vec ℕ × Vec ℕ) → Option ℕ
-place_of name vs = if_below (length vs) (position_or_len (bytes_eq name) (map (λ v. v.0.items) vs))
+abbrev pub variable_place : Bytes → List (Vec ℕ × Vec ℕ) → Option ℕ
+variable_place name vs = if_below (length vs) (position_or_len (bytes_eq name) (map (λ v. v.0.items) vs))
 
 -- these are the places of the variables by their names
 abbrev pub ArePlacesOf : List (Vec ℕ × Vec ℕ) → BTreeMap (Vec ℕ) ℕ → Type 0
-ArePlacesOf vs places = (name : Vec ℕ) → get name_cmp places name ≡ place_of name.items vs
+ArePlacesOf vs places = (name : Vec ℕ) → get name_cmp places name ≡ variable_place name.items vs
 
 -- the files and variables are those after these lines, the places are those of the variables, and no call on the files is armed to fail
 pub record AreAfter (lines : List Line) (after : Surroundings) : Type 0 where

@@ -83,7 +83,7 @@ impl Script {
             lists_of o.basedirs.items ≡ basedirs_of (lines_of self.now)) }
         ensures forget { IfOk result (λ o. o.forget_at ≡ forget_of (lines_of self.now)) }
         ensures fail { IfOk result (λ o. o.fail_at ≡ fail_of (lines_of self.now)) }
-        ensures refused { IsOkUnless result UtilError.Memory }
+        ensures errors { IsOkUnless result UtilError.Memory }
     {
         let mut options = RunOptions {
             zone_offset: 0,
@@ -109,7 +109,7 @@ impl RunOptions {
             ≡ unwrap_or (forget_of_command (line_of command.now)) self.old.forget_at) }
         ensures fail { OnOk result (self.new.fail_at
             ≡ unwrap_or (fail_of_command (line_of command.now)) self.old.fail_at) }
-        ensures refused { IsOkUnless result UtilError.Memory }
+        ensures errors { IsOkUnless result UtilError.Memory }
     {
         match command {
             Command::Zone { offset } => self.zone_offset = *offset,

@@ -29,7 +29,7 @@ const EXECUTABLE_CONTENTS: &[u8] = b"cc";
 pub fn first_files(alloc: Global) -> Result<MapFiles, UtilError>
     ensures files { IfOk result (λ files. AreFiles [] files.files) }
     ensures quiet { IfOk result (λ files. (files.faults ≡ 0) × IsUnarmed files.armed) }
-    ensures refused { IsOkUnless result UtilError.Memory }
+    ensures errors { IsOkUnless result UtilError.Memory }
 {
     let mut files = MapFiles::new(alloc);
     let start = Timestamp::new(0, 0);
@@ -69,7 +69,7 @@ impl Surroundings {
     /// The only error is [`UtilError::Memory`].
     pub fn new(alloc: Global) -> Result<Surroundings, UtilError>
         ensures first { IfOk result (AreAfter []) }
-        ensures refused { IsOkUnless result UtilError.Memory }
+        ensures errors { IsOkUnless result UtilError.Memory }
     {
         Ok(Surroundings {
             files: first_files(alloc)?,
@@ -88,7 +88,7 @@ impl Surroundings {
             → AreAfter (line_of command ∷ lines) self.new) }
         ensures kept { OnErr result ((lines : List Line) → AreAfter lines self.old
             → AreAfter lines self.new) }
-        ensures refused { IsOkUnless result UtilError.Memory }
+        ensures errors { IsOkUnless result UtilError.Memory }
     {
         match command {
             Command::File {
@@ -139,7 +139,7 @@ pub fn copy_variables(
     variables: &[(Vec<u8>, Vec<u8>)],
 ) -> Result<Vec<(Vec<u8>, Vec<u8>)>, UtilError>
     ensures same { IfOk result (λ copy. variables_of copy.items ≡ variables_of variables.now) }
-    ensures refused { IsOkUnless result UtilError.Memory }
+    ensures errors { IsOkUnless result UtilError.Memory }
 {
     let mut copy = Vec::new(alloc);
     for (name, value) in variables {
@@ -163,7 +163,7 @@ fn set_variable(
         × ArePlacesOf variables.new.items places.new) }
     ensures kept { OnErr result ((variables.new.items ≡ variables.old.items)
         × (places.new.entries ≡ places.old.entries)) }
-    ensures refused { IsOkUnless result UtilError.Memory }
+    ensures errors { IsOkUnless result UtilError.Memory }
 {
     let count = variables.len();
     let at = places.get(name.as_slice()).copied().unwrap_or(count);

@@ -4,4 +4,6 @@ pub mod LookingLemmas
 pub mod Names
 pub mod Pairs
 pub mod Parts
+pub mod RecordingLemmas
 pub mod Stores
+pub mod Texts

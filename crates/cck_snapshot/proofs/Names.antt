@@ -7,7 +7,7 @@ use Rattle.cck_markers.specs.Marks.{Malformed, Mark, Name, Refusal}
 use Rattle.cck_path.specs.Bytes.{Bytes}
 use Rattle.cck_path.specs.Path.{Path, components}
 use Rattle.c_cache_keys.specs.Call.{Call}
-use Rattle.c_cache_keys.specs.Walk.{AreRecorded, IsGood, IsLooked, IsNamed, Accepted, IsRecorded, MarksDecide, NotAccepted, Verdict, Walk, input_path, path_of}
+use Rattle.c_cache_keys.specs.Walk.{AreRecorded, IsGood, IsLooked, IsNamed, Accepted, IsRecorded, MarksDecide, NotAccepted, Verdict, Walk, input_path, meant_path}
 use Rattle.c_cache_keys.specs.World.{World, setting}
 
 not_accepted : Accepted ≡ NotAccepted → ⊥
@@ -16,7 +16,7 @@ not_accepted e = cc
 -- two calls that resolve names alike, under options that look at the same names
 pub record SameNames {V U : Type 0} (w : World V) (c : Call V) (x : World U) (d : Call U) : Type 0 where
   pub config : w.config ≡ x.config
-  pub path : (name : Bytes) → path_of c name ≡ path_of d name
+  pub path : (name : Bytes) → meant_path c name ≡ meant_path d name
   pub input : input_path c ≡ input_path d
 
 pub turned : {V U : Type 0} (w : World V) (c : Call V) (x : World U) (d : Call U) → SameNames w c x d → SameNames x d w c
@@ -37,7 +37,7 @@ module _ {V U : Type 0} (w : World V) (c : Call V) (x : World U) (d : Call U) (s
     system = n.system;
     marks = n.marks;
     are = n.are;
-    stands = n.stands;
+    present = n.present;
     looked = looked n.name n.system n.looked;
     is = n.is ∙ same.path n.name;
   }
@@ -49,11 +49,11 @@ module _ {V U : Type 0} (w : World V) (c : Call V) (x : World U) (d : Call U) (s
   abbrev pub ReturnsGood : Type 0
   ReturnsGood = (p : Path) → IsGood x d p → IsGood w c p
 
-  good_again : KeepsGood → (name : Bytes) → IsGood w c (path_of c name) → IsGood x d (path_of d name)
-  good_again good name g = subst (IsGood x d) (same.path name) (good (path_of c name) g)
+  good_again : KeepsGood → (name : Bytes) → IsGood w c (meant_path c name) → IsGood x d (meant_path d name)
+  good_again good name g = subst (IsGood x d) (same.path name) (good (meant_path c name) g)
 
-  good_before : ReturnsGood → (name : Bytes) → IsGood x d (path_of d name) → IsGood w c (path_of c name)
-  good_before back name g = back (path_of c name) (subst (IsGood x d) (sym (same.path name)) g)
+  good_before : ReturnsGood → (name : Bytes) → IsGood x d (meant_path d name) → IsGood w c (meant_path c name)
+  good_before back name g = back (meant_path c name) (subst (IsGood x d) (sym (same.path name)) g)
 
 -- the names that are looked at, from the second call to the first
 pub looked_before : {V U : Type 0} (w : World V) (c : Call V) (x : World U) (d : Call U) → SameNames w c x d → (name : Bytes) (system : Bool) → IsLooked x d name system → IsLooked w c name system

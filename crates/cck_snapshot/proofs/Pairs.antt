@@ -7,7 +7,7 @@ use Rattle.std.specs.Ordering.{is_eq}
 use Rattle.std.proofs.lemmas.Option.{none-some, same_Some}
 use Rattle.cck_path.specs.Bytes.{Bytes}
 use Rattle.cck_path.specs.TextOrder.{text_cmp}
-use Rattle.cck_store.specs.MapStore.{State, begun, new_state}
+use Rattle.cck_store.specs.MapStore.{State, call_begun, empty_state}
 use Rattle.cck_snapshot.specs.Snapshot.{one_pair}
 
 -- what is found under a key
@@ -24,8 +24,8 @@ find_own k bytes =
     ∙ ap (λ o. cond (is_eq o) (Some bytes) (find text_cmp k [])) (tied_itself nat_list_cmp_total k)
 
 -- a put into a new store leaves the one pair
-pub put_one : (s t : State) (k bytes : Bytes) → s ≡ new_state → t ≡ record (begun s) { pairs = put text_cmp k bytes (begun s).pairs } → t ≡ one_pair k bytes
-put_one s t k bytes is p = p ∙ ap (λ v. record (begun v) { pairs = put text_cmp k bytes (begun v).pairs }) is
+pub put_one : (s t : State) (k bytes : Bytes) → s ≡ empty_state → t ≡ record (call_begun s) { pairs = put text_cmp k bytes (call_begun s).pairs } → t ≡ one_pair k bytes
+put_one s t k bytes is p = p ∙ ap (λ v. record (call_begun v) { pairs = put text_cmp k bytes (call_begun v).pairs }) is
 
 some_pair : (k bytes : Bytes) → ◌≡◌ {A = List (Bytes × Bytes)} ((k, bytes) ∷ []) [] → ⊥
 some_pair k bytes e = cc
@@ -34,5 +34,5 @@ some_pair k bytes e = cc
 pub holds_one : (k bytes : Bytes) (s : State) → s.pairs ≡ [] → one_pair k bytes ≡ s → ⊥
 holds_one k bytes s none e = some_pair k bytes (ap (λ (v : State). v.pairs) e ∙ none)
 
-pub not_one_pair : (k bytes : Bytes) → one_pair k bytes ≡ new_state → ⊥
-not_one_pair k bytes e = holds_one k bytes new_state refl e
+pub not_one_pair : (k bytes : Bytes) → one_pair k bytes ≡ empty_state → ⊥
+not_one_pair k bytes e = holds_one k bytes empty_state refl e

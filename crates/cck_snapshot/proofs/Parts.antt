@@ -21,7 +21,7 @@ use Rattle.cck_markers.proofs.OneList.{one_list}
 use Rattle.cck_markers.specs.Marks.{Malformed, Mark, Marks, Name, Refusal}
 use Rattle.cck_path.specs.Bytes.{Bytes}
 use Rattle.cck_path.specs.Path.{Path, components}
-use Rattle.cck_store.specs.MapStore.{IsGot, State, map_store, new_state}
+use Rattle.cck_store.specs.MapStore.{IsGot, State, map_store, empty_state}
 use Rattle.cck_preprocessor_key.specs.PreprocessorKey.{preprocessor_material}
 use Rattle.cck_store.specs.Store.{Returned}
 use Rattle.cck_store.specs.declared.store.StoreError.TheVariants as store
@@ -34,9 +34,9 @@ use Rattle.c_cache_keys.proofs.Judgements.{folder_or_file}
 use Rattle.c_cache_keys.proofs.KeySame.{input_known, key_known, material_known, used_prints}
 use Rattle.c_cache_keys.proofs.Stored.{not_both, not_failed}
 use Rattle.c_cache_keys.specs.Call.{Call, Fault, Keyed}
-use Rattle.c_cache_keys.specs.Keys.{extra_texts, input_file, input_recorded, is_preprocessed, key_material, of_both, params, plain_key, preprocessor_key_of, printed, request_parts, text_of, told, uses_cache}
+use Rattle.c_cache_keys.specs.Keys.{extra_texts, input_file, input_recorded, is_preprocessed, key_material, of_both, params, plain_key, preprocessor_key_of, printed, request_parts, text_of, ok_value, uses_cache}
 use Rattle.c_cache_keys.specs.Step.{AreOwnIncludes, Asked, Asks, Ends, Failed, Gives, Hit, Miss, NotErring, Opened, OwnPair, Step, asked, gives, made, matching, stopped, stops}
-use Rattle.c_cache_keys.specs.Walk.{Accepted, Errs, IsGood, IsLooked, IsNamed, MarksDecide, NotAccepted, Walk, input_path, path_of}
+use Rattle.c_cache_keys.specs.Walk.{Accepted, Errs, IsGood, IsLooked, IsNamed, MarksDecide, NotAccepted, Walk, input_path, meant_path}
 use Rattle.c_cache_keys.specs.World.{World, setting}
 use Rattle.c_cache_keys.specs.declared.call.CacheControl.TheVariants.{ForceRecache}
 use Rattle.cck_snapshot.proofs.Hits.{made_fresh}
@@ -111,20 +111,20 @@ module _ {V : Type 0} (w : World V) (c : Call V) (whole : FileMap) (snapshot : I
   files : (p : Path) (n : FileNode) → file_at c.files p ≡ Ok n → file_at whole p ≡ Ok n
   files = file_here c.files whole snapshot.part
 
-  told_here : (n : FileNode) → told (file_at c.files (components (input_path c))) ≡ Some n → told (file_at whole (components (input_path c))) ≡ Some n
-  told_here n is = by (file_at c.files (components (input_path c))) refl is
+  ok_here : (n : FileNode) → ok_value (file_at c.files (components (input_path c))) ≡ Some n → ok_value (file_at whole (components (input_path c))) ≡ Some n
+  ok_here n is = by (file_at c.files (components (input_path c))) refl is
     where
-      by : (r : Result FileNode FileError) → file_at c.files (components (input_path c)) ≡ r → told r ≡ Some n → told (file_at whole (components (input_path c))) ≡ Some n
+      by : (r : Result FileNode FileError) → file_at c.files (components (input_path c)) ≡ r → ok_value r ≡ Some n → ok_value (file_at whole (components (input_path c))) ≡ Some n
       by (Err e) at is = absurd (none-some _ is)
-      by (Ok m) at is = ap told (files (components (input_path c)) m at) ∙ is
+      by (Ok m) at is = ap ok_value (files (components (input_path c)) m at) ∙ is
 
   input_here : input_file w c ≢ None → input_file w d ≢ None
   unfolding input_file
-  input_here some none = by (told (file_at c.files (components (input_path c)))) refl
+  input_here some none = by (ok_value (file_at c.files (components (input_path c)))) refl
     where
-      by : (o : Option FileNode) → told (file_at c.files (components (input_path c))) ≡ o → ⊥
+      by : (o : Option FileNode) → ok_value (file_at c.files (components (input_path c))) ≡ o → ⊥
       by None at = some at
-      by (Some n) at = none-some _ (sym none ∙ told_here n at)
+      by (Some n) at = none-some _ (sym none ∙ ok_here n at)
 
   used_same : uses_cache w d.request ≡ uses_cache w c.request
   used_same = refl
@@ -136,7 +136,7 @@ module _ {V : Type 0} (w : World V) (c : Call V) (whole : FileMap) (snapshot : I
   unfolding input_recorded input_file
   recorded_here r is =
       let (n, file, digest) = input_known w c r is in
-      ap (λ o. option_and_then (recorded (setting w c)) (told o)) (files (components (input_path c)) n file) ∙ digest
+      ap (λ o. option_and_then (recorded (setting w c)) (ok_value o)) (files (components (input_path c)) n file) ∙ digest
 
   key_here : (k : Bytes) → preprocessor_key_of w c ≡ Some k → preprocessor_key_of w d ≡ Some k
   unfolding preprocessor_key_of key_material
@@ -196,21 +196,21 @@ module _ {V : Type 0} (w : World V) (c : Call V) (whole : FileMap) (snapshot : I
   good_here p (inr (n, file, old, digest)) = inr (n, files p n file, old, digest)
 
   -- a name of an accepted text is good
-  named_good : (marks : List Mark) (name : Bytes) (system : Bool) → MarksDecide w c marks Accepted → Contains marks (Name name system) → IsLooked w c name system → IsGood w c (path_of c name)
+  named_good : (marks : List Mark) (name : Bytes) (system : Bool) → MarksDecide w c marks Accepted → Contains marks (Name name system) → IsLooked w c name system → IsGood w c (meant_path c name)
   named_good [] name system m at looked = absurd (none_in _ at)
   named_good (Refusal ∷ marks) name system m at looked = absurd (not_accepted m)
   named_good (Malformed ∷ marks) name system m at looked = absurd (not_erring (sym m))
   named_good (Name first other ∷ marks) name system (inr m) at looked = absurd (not_accepted m.2)
   named_good (Name first other ∷ marks) name system (inl m) at looked =
       elim (one_of (Name first other) (Name name system) marks at) [
-        | inl is ↦ subst (λ v. IsGood w c (path_of c v)) (first_name is) (m.0 (subst (λ v. IsLooked w c v other) (sym (first_name is)) (subst (IsLooked w c name) (sym (second_name is)) looked)))
+        | inl is ↦ subst (λ v. IsGood w c (meant_path c v)) (first_name is) (m.0 (subst (λ v. IsLooked w c v other) (sym (first_name is)) (subst (IsLooked w c name) (sym (second_name is)) looked)))
         | inr more ↦ named_good marks name system m.1 more looked
       ]
 
   -- a file that an accepted text names is in the snapshot
   named_here : (text : Bytes) → Walk w c text Accepted → (p : Path) (n : FileNode) → IsNamed w c text p → file_at whole p ≡ Ok n → file_at c.files p ≡ Ok n
   named_here text (marks, are, m) p n is file =
-      by (subst (IsGood w c) (sym is.is) (named_good marks is.name is.system m (subst (λ l. Contains l (Name is.name is.system)) (one_list true text is.marks marks is.are are) is.stands) is.looked))
+      by (subst (IsGood w c) (sym is.is) (named_good marks is.name is.system m (subst (λ l. Contains l (Name is.name is.system)) (one_list true text is.marks marks is.are are) is.present) is.looked))
     where
       by : IsGood w c p → file_at c.files p ≡ Ok n
       by (inl folder) = absurd (folder_or_file w d p n (folder_here c.files whole snapshot.part p folder) file)
@@ -270,8 +270,8 @@ module _ {V : Type 0} (w : World V) (c : Call V) (whole : FileMap) (snapshot : I
         let lists : marks ≡ marks' = one_list true k.text marks marks' (subst (λ v. Marks true v marks) same are) are' in
         absurd (not_erring (one_decision w d marks' Errs Accepted (subst (λ l. MarksDecide w d l Errs) lists m) m'))
 
-    pub recording_here : (F : Type 0) (k bytes key : Bytes) → c.control ≡ ForceRecache → Step w map_store c F new_state (Keyed key true) (one_pair k bytes)
-        → Step w map_store d F new_state (Keyed key true) (one_pair k bytes)
+    pub recording_here : (F : Type 0) (k bytes key : Bytes) → c.control ≡ ForceRecache → Step w map_store c F empty_state (Keyed key true) (one_pair k bytes)
+        → Step w map_store d F empty_state (Keyed key true) (one_pair k bytes)
     recording_here F k bytes key control (stopped why cause is same) = absurd (not_failed is)
     recording_here F k bytes key control (made o not (stops why cause is same)) = absurd (not_failed is)
     recording_here F k bytes key control (made o not (gives other plain calm is (inl p))) =

@@ -9,7 +9,7 @@ use Rattle.std.proofs.lemmas.Bool.{false≢true}
 use Rattle.std.proofs.lemmas.Option.{none-some}
 use Rattle.cck_path.specs.Bytes.{Bytes}
 use Rattle.cck_path.specs.TextOrder.{text_cmp}
-use Rattle.cck_store.specs.MapStore.{IsGot, IsPut, State, begun, map_store, new_state, set_back}
+use Rattle.cck_store.specs.MapStore.{IsGot, IsMapPut, State, call_begun, map_store, empty_state, set_back}
 use Rattle.cck_store.specs.Store.{Returned, Store, Stored}
 use Rattle.cck_store.specs.declared.store.StoreError.TheVariants as store
 use Rattle.c_cache_keys.proofs.Stored.{not_both, not_failed}
@@ -67,34 +67,34 @@ module _ {V S : Type 0} (w : World V) (st : Store S) (c : Call V) (F : Type 0) w
       go Miss asks ends = absurd (made_fresh w map_store c F mid t key ends)
 
   -- a put that left one pair is the put of this pair
-  put_was : (key k bytes : Bytes) (p q : Bytes) (answer : Stored) → IsPut new_state p q answer (one_pair k bytes) → (p ≡ k) × (q ≡ bytes)
-  put_was key k bytes p q (Ok done) put = let same = same_pairs k p bytes q (put_one new_state (one_pair k bytes) p q refl put.1) in (sym same.0, sym same.1)
+  put_was : (key k bytes : Bytes) (p q : Bytes) (answer : Stored) → IsMapPut empty_state p q answer (one_pair k bytes) → (p ≡ k) × (q ≡ bytes)
+  put_was key k bytes p q (Ok done) put = let same = same_pairs k p bytes q (put_one empty_state (one_pair k bytes) p q refl put.1) in (sym same.0, sym same.1)
   put_was key k bytes p q (Err store.Fault) put = absurd (false≢true put.0)
-  put_was key k bytes p q (Err store.Memory) put = absurd (holds_one k bytes (set_back (begun new_state)) refl put.1)
+  put_was key k bytes p q (Err store.Memory) put = absurd (holds_one k bytes (set_back (call_begun empty_state)) refl put.1)
 
-  own_of : (key k bytes : Bytes) → Stores w map_store c F key new_state (one_pair k bytes) → OwnPair w c key k bytes
+  own_of : (key k bytes : Bytes) → Stores w map_store c F key empty_state (one_pair k bytes) → OwnPair w c key k bytes
   own_of key k bytes (inl p) =
       let same = put_was key k bytes p.k p.bytes p.answer p.put in
       subst (λ v. OwnPair w c key v bytes) same.0 (subst (λ v. OwnPair w c key p.k v) same.1 p.own)
   own_of key k bytes (inr n) = absurd (not_one_pair k bytes n.0)
 
-  nothing_of : (key : Bytes) → Stores w map_store c F key new_state new_state → F ⊎ NothingNew w c
+  nothing_of : (key : Bytes) → Stores w map_store c F key empty_state empty_state → F ⊎ NothingNew w c
   nothing_of key (inl p) = absurd (nothing_put p.k p.bytes p.answer p.put)
     where
-      nothing_put : (k bytes : Bytes) (answer : Stored) → IsPut new_state k bytes answer new_state → ⊥
-      nothing_put k bytes (Ok done) put = let ps : ◌≡◌ {A = List (Bytes × Bytes)} [] ((k, bytes) ∷ []) = ap (λ (v : State). v.pairs) (put_one new_state new_state k bytes refl put.1) in cc
+      nothing_put : (k bytes : Bytes) (answer : Stored) → IsMapPut empty_state k bytes answer empty_state → ⊥
+      nothing_put k bytes (Ok done) put = let ps : ◌≡◌ {A = List (Bytes × Bytes)} [] ((k, bytes) ∷ []) = ap (λ (v : State). v.pairs) (put_one empty_state empty_state k bytes refl put.1) in cc
       nothing_put k bytes (Err store.Fault) put = false≢true put.0
       nothing_put k bytes (Err store.Memory) put = let no : ◌≡◌ {A = ℕ} 0 1 = ap (λ (v : State). v.armed.calls) put.1 in omega arith
   nothing_of key (inr n) = n.1
 
-  recording_there : (k bytes key : Bytes) (answer : Stored) (s u : S) → c.control ≡ ForceRecache → Step w map_store c F new_state (Keyed key true) (one_pair k bytes) → st.put s k bytes answer u → Step w st c F s (Keyed key true) u
+  recording_there : (k bytes key : Bytes) (answer : Stored) (s u : S) → c.control ≡ ForceRecache → Step w map_store c F empty_state (Keyed key true) (one_pair k bytes) → st.put s k bytes answer u → Step w st c F s (Keyed key true) u
   recording_there k bytes key answer s u control (stopped why cause is same) put = absurd (not_failed is)
   recording_there k bytes key answer s u control (made o not (stops why cause is same)) put = absurd (not_failed is)
   recording_there k bytes key answer s u control (made o not (gives other plain calm is puts)) put =
       made o not (gives other plain calm is (inl (record { k = k; bytes = bytes; own = own_of other k bytes puts; answer = answer; put = put })))
   recording_there k bytes key answer s u control (asked o other is default a mid asks ends) put = absurd (not_both (sym default ∙ control))
 
-  nothing_there : (key : Bytes) (s : S) → c.control ≡ ForceRecache → Step w map_store c F new_state (Keyed key true) new_state → Step w st c F s (Keyed key true) s
+  nothing_there : (key : Bytes) (s : S) → c.control ≡ ForceRecache → Step w map_store c F empty_state (Keyed key true) empty_state → Step w st c F s (Keyed key true) s
   nothing_there key s control (stopped why cause is same) = absurd (not_failed is)
   nothing_there key s control (made o not (stops why cause is same)) = absurd (not_failed is)
   nothing_there key s control (made o not (gives other plain calm is puts)) = made o not (gives other plain calm is (inr (refl, nothing_of other puts)))

@@ -6,7 +6,7 @@ use Rattle.cck_files.specs.FileMap.{FileMap, FileNode}
 use Rattle.cck_include.specs.Include.{Include}
 use Rattle.cck_path.specs.Bytes.{Bytes}
 use Rattle.cck_path.specs.Path.{Path}
-use Rattle.cck_store.specs.MapStore.{State, map_store, new_state}
+use Rattle.cck_store.specs.MapStore.{State, map_store, empty_state}
 use Rattle.cck_store.specs.Store.{Store, Stored}
 use Rattle.c_cache_keys.specs.Call.{Call, Done, Fault, Keyed}
 use Rattle.c_cache_keys.specs.Keys.{extra_texts, printed}
@@ -26,13 +26,13 @@ module _ {V S : Type 0} (w : World V) (st : Store S) where
   abbrev pub RecordingOnAnyStore : Type 0
   RecordingOnAnyStore =
       (d : Done V) (k bytes key : Bytes) (answer : Stored) (s u : S) → d.call.control ≡ ForceRecache
-      → Step w map_store d.call (Fault d) new_state (Keyed key true) (one_pair k bytes) → st.put s k bytes answer u → Step w st d.call (Fault d) s (Keyed key true) u
+      → Step w map_store d.call (Fault d) empty_state (Keyed key true) (one_pair k bytes) → st.put s k bytes answer u → Step w st d.call (Fault d) s (Keyed key true) u
 
   -- one that records nothing leaves each store
   abbrev pub NothingOnAnyStore : Type 0
   NothingOnAnyStore =
       (d : Done V) (key : Bytes) (s : S) → d.call.control ≡ ForceRecache
-      → Step w map_store d.call (Fault d) new_state (Keyed key true) new_state → Step w st d.call (Fault d) s (Keyed key true) s
+      → Step w map_store d.call (Fault d) empty_state (Keyed key true) empty_state → Step w st d.call (Fault d) s (Keyed key true) s
 
 -- the call over other files
 abbrev pub over : {V : Type 0} → FileMap → Call V → Call V
@@ -62,4 +62,4 @@ module _ {V : Type 0} (w : World V) where
   abbrev pub RecordingOverAll : Type 0
   RecordingOverAll =
       (d : Done V) (whole : FileMap) (k bytes key : Bytes) → IsSnapshot d.call whole → d.call.control ≡ ForceRecache → printed w (over whole d.call) ≡ printed w d.call
-      → Step w map_store d.call (Fault d) new_state (Keyed key true) (one_pair k bytes) → Step w map_store (over whole d.call) (Fault d) new_state (Keyed key true) (one_pair k bytes)
+      → Step w map_store d.call (Fault d) empty_state (Keyed key true) (one_pair k bytes) → Step w map_store (over whole d.call) (Fault d) empty_state (Keyed key true) (one_pair k bytes)

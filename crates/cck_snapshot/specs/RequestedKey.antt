@@ -18,14 +18,14 @@ PutsNothing s key bytes stored t = t ≡ s
 
 -- the state is the key that was noted; the count of store failures is always the greatest
 abbrev pub requested_key : Store (Option Bytes)
-requested_key = record { held = λ s key bytes. ⊥; setbacks = λ s. 18446744073709551615; got = IsNoted; put = PutsNothing }
+requested_key = record { held = λ s key bytes. ⊥; failures = λ s. 18446744073709551615; got = IsNoted; put = PutsNothing }
 
 failed : (s t : Option Bytes) → StoreFailure requested_key s t
 failed s t = inr (lit≤ tt)
 
 pub requested_key_laws : StoreLaws requested_key
 requested_key_laws = record {
-  setbacks_fit = λ s. lit< tt;
+  failures_fit = λ s. lit< tt;
   got_count = λ s t key answer got. le_refl _;
   got_old = λ s t key answer got k b held. held;
   got_some = λ s t key bytes got. absurd got;

@@ -4,7 +4,7 @@ use Rattle.std.specs.declared.alloc.Global.{Global}
 use Rattle.cck_files.specs.FileMap.{FileMap}
 use Rattle.cck_key_error.specs.declared.key_error.KeyError.{KeyError}
 use Rattle.cck_path.specs.Bytes.{Bytes}
-use Rattle.cck_store.specs.MapStore.{State, map_store, new_state}
+use Rattle.cck_store.specs.MapStore.{State, map_store, empty_state}
 use Rattle.c_cache_keys.specs.Call.{Answer, Damaged, Extra, ExtraFault, Input, InputFault, Keyed, Marker, Memory, NoText, Refused, Store as StoreFails, TextFault}
 use Rattle.c_cache_keys.specs.Keys.{preprocessor_key_of}
 use Rattle.c_cache_keys.specs.Seen.{why_of}
@@ -35,7 +35,7 @@ IsStoredKey r None = IsMiss r
 
 -- a store in memory that was just made and has taken one pair
 abbrev pub one_pair : Bytes → Bytes → State
-one_pair k bytes = record new_state { pairs = (k, bytes) ∷ []; armed = record new_state.armed { calls = 1 } }
+one_pair k bytes = record empty_state { pairs = (k, bytes) ∷ []; armed = record empty_state.armed { calls = 1 } }
 
 module _ (hash : Bytes → Bytes) (files : FileMap) (r : Request) (F : Type 0) where
   -- The result of a look-up, over a store that holds these bytes under this key and nothing else. A key is a step of each world. None is

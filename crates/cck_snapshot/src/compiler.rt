@@ -94,7 +94,7 @@ impl CCompilerImpl for ExternalCompiler {
 // The same text, or none.
 fn copy_text(text: &Option<String>) -> Result<Option<String>, KeyError>
     ensures same { IfOk result (λ copy. option_map string_bytes copy ≡ option_map string_bytes text.now) }
-    ensures refused { IsOkUnless result KeyError.Memory }
+    ensures errors { IsOkUnless result KeyError.Memory }
 {
     match text {
         Some(text) => Ok(Some(text.clone()?)),

@@ -38,7 +38,7 @@ pub fn preprocessor_key<H: HashState, F: Files>(
     ensures keeps { Keeps F.file_map F.faults F.is_quiet snapshot.old snapshot.new }
     ensures key { IfOk result (λ key. option_map string_bytes key
         ≡ preprocessor_key_of (world_for H.hash no_text request.now) (call_for Default (F.file_map snapshot.old) request.now)) }
-    ensures refused { IfErr result (λ e.
+    ensures errors { IfErr result (λ e.
         StopsOpening (world_for H.hash no_text request.now) (call_for Default (F.file_map snapshot.old) request.now)
         (Rose (F.faults snapshot.old) (F.faults snapshot.new)) (why_of e)) }
 {

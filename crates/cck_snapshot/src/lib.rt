@@ -6,18 +6,23 @@
 //!
 //! - [`preprocessor_key`] is the key under which a store may hold an entry.
 //! - [`look_up`] returns the key of a hit. It can't preprocess.
+//! - [`record_text`] returns the key of a text that a preprocessor printed, and the entry to be put.
 //! - [`laws`] carries a hit, and a recording, from one pair to a whole store, and from a snapshot to
 //!   all files.
 #![tactic(auto)]
 
 mod compiler;
 mod key;
+mod last_put;
 pub mod laws;
 mod looking;
+mod recordings;
 mod requested_key;
 mod requests;
+mod text_compiler;
 
 pub use compiler::ExternalCompiler;
 pub use key::preprocessor_key;
 pub use looking::look_up;
+pub use recordings::{RecordedEntry, Recording, record_text};
 pub use requests::Request;

@@ -38,7 +38,7 @@ pub fn look_up<H: HashState, F: Files>(
     ensures keeps { Keeps F.file_map F.faults F.is_quiet snapshot.old snapshot.new }
     ensures found { IfOk result (IsLookedUp H.hash (F.file_map snapshot.old) request.now
         (Rose (F.faults snapshot.old) (F.faults snapshot.new)) at.now entry.now) }
-    ensures refused { IfErr result (IsLookUpError H.hash (F.file_map snapshot.old) request.now
+    ensures errors { IfErr result (IsLookUpError H.hash (F.file_map snapshot.old) request.now
         (Rose (F.faults snapshot.old) (F.faults snapshot.new)) at.now entry.now) }
 {
     let mut store = match one_pair(alloc, at, entry) {
@@ -63,7 +63,7 @@ pub fn look_up<H: HashState, F: Files>(
 // A store in memory that holds these bytes under this key, and nothing else.
 fn one_pair(alloc: Global, key: &str, bytes: &[u8]) -> Result<MapStore, KeyError>
     ensures held { IfOk result (λ store. store ≡ one_pair key.now bytes.now) }
-    ensures refused { IsOkUnless result KeyError.Memory }
+    ensures errors { IsOkUnless result KeyError.Memory }
 {
     let mut store = MapStore::new(alloc);
     match store.put_preprocessor_cache_entry(alloc, key, bytes) {
@@ -75,7 +75,7 @@ fn one_pair(alloc: Global, key: &str, bytes: &[u8]) -> Result<MapStore, KeyError
 /// The key that was returned from the store, if one was. That there is no text is no error.
 pub(crate) fn stored_key(found: Result<HashResult, KeyError>) -> Result<Option<String>, KeyError>
     ensures key { IfOk result (IsStoredKey (answer_of found)) }
-    ensures refused { IfErr result (λ e. (answer_of found ≡ Refused (why_of e)) × (why_of e ≢ NoText) × (why_of e ≢ TextFault)) }
+    ensures errors { IfErr result (λ e. (answer_of found ≡ Refused (why_of e)) × (why_of e ≢ NoText) × (why_of e ≢ TextFault)) }
 {
     match found {
         Ok(found) => {

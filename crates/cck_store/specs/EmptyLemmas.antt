@@ -18,7 +18,7 @@ raised s t e = subst (λ n. Rose (counted s) (counted n)) (sym e) (more_rises s)
 
 pub empty_store_laws : StoreLaws empty_store
 empty_store_laws = record {
-  setbacks_fit = counted_fits;
+  failures_fit = counted_fits;
   got_count = λ s t key answer got. rw (got.1) (le_refl _);
   got_old = λ s t key answer got k b held. held;
   got_some = λ s t key bytes got. something got.0;

@@ -12,4 +12,4 @@ abbrev pub KeepsNothing : ℕ → Bytes → Bytes → Stored → ℕ → Type 0
 KeepsNothing s key bytes stored t = (stored ≡ Err store.Fault) × (t ≡ more s)
 
 abbrev pub empty_store : Store ℕ
-empty_store = record { held = λ s key bytes. ⊥; setbacks = counted; got = FindsNothing; put = KeepsNothing }
+empty_store = record { held = λ s key bytes. ⊥; failures = counted; got = FindsNothing; put = KeepsNothing }

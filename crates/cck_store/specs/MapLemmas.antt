@@ -11,31 +11,31 @@ use Rattle.cck_files.specs.Calls.{Rose}
 use Rattle.cck_files.proofs.CallsLemmas.{rose_earlier}
 use Rattle.cck_path.specs.TextOrder.{text_cmp}
 use Rattle.cck_store.specs.Counts.{counted_fits, counted_higher, more_higher, more_rises}
-use Rattle.cck_store.specs.MapStore.{IsGot, IsPut, State, begun, map_store, set_back}
+use Rattle.cck_store.specs.MapStore.{IsGot, IsMapPut, State, call_begun, map_store, set_back}
 use Rattle.cck_store.specs.Store.{Returned, StoreFailure, StoreLaws, Stored, counted, more}
 use Rattle.cck_store.specs.declared.store.StoreError.{StoreError}
 use Rattle.cck_store.specs.declared.store.StoreError.TheVariants as store
 
 -- ---- counts
 
-begun_higher : (s : State) → s.setbacks ≤ (begun s).setbacks
+begun_higher : (s : State) → s.failures ≤ (call_begun s).failures
 begun_higher s = by (s.forget == 1)
   where
-    by : (b : Bool) → s.setbacks ≤ cond b (more s.setbacks) s.setbacks
-    by true = more_higher s.setbacks
+    by : (b : Bool) → s.failures ≤ cond b (more s.failures) s.failures
+    by true = more_higher s.failures
     by false = omega arith
 
-set_back_rises : (s : State) → StoreFailure map_store s (set_back (begun s))
+set_back_rises : (s : State) → StoreFailure map_store s (set_back (call_begun s))
 set_back_rises s =
-    rose_earlier (counted s.setbacks) (counted (begun s).setbacks) (counted (more (begun s).setbacks)) (counted_higher _ _ (begun_higher s)) (more_rises (begun s).setbacks)
+    rose_earlier (counted s.failures) (counted (call_begun s).failures) (counted (more (call_begun s).failures)) (counted_higher _ _ (begun_higher s)) (more_rises (call_begun s).failures)
 
-set_back_higher : (s : State) → s.setbacks ≤ (set_back (begun s)).setbacks
-set_back_higher s = let up = begun_higher s in let on = more_higher (begun s).setbacks in omega (arith, up, on)
+set_back_higher : (s : State) → s.failures ≤ (set_back (call_begun s)).failures
+set_back_higher s = let up = begun_higher s in let on = more_higher (call_begun s).failures in omega (arith, up, on)
 
 -- ---- what is held
 
 -- what is held when a call has begun was held before
-begun_held : (s : State) (k x : Bytes) → find text_cmp k (begun s).pairs ≡ Some x → find text_cmp k s.pairs ≡ Some x
+begun_held : (s : State) (k x : Bytes) → find text_cmp k (call_begun s).pairs ≡ Some x → find text_cmp k s.pairs ≡ Some x
 begun_held s k x h = by (s.forget == 1) h
   where
     by : (b : Bool) → find text_cmp k (cond b [] s.pairs) ≡ Some x → find text_cmp k s.pairs ≡ Some x
@@ -43,11 +43,11 @@ begun_held s k x h = by (s.forget == 1) h
     by false h = h
 
 -- without a store failure all of it still is
-begun_calm : (s : State) (t : State) → t.setbacks ≡ (begun s).setbacks → (StoreFailure map_store s t → ⊥) → (begun s).pairs ≡ s.pairs
+begun_calm : (s : State) (t : State) → t.failures ≡ (call_begun s).failures → (StoreFailure map_store s t → ⊥) → (call_begun s).pairs ≡ s.pairs
 begun_calm s t is calm = by (s.forget == 1) is
   where
-    by : (b : Bool) → t.setbacks ≡ cond b (more s.setbacks) s.setbacks → cond b [] s.pairs ≡ s.pairs
-    by true is = absurd (calm (subst (λ n. Rose (counted s.setbacks) (counted n)) (sym is) (more_rises s.setbacks)))
+    by : (b : Bool) → t.failures ≡ cond b (more s.failures) s.failures → cond b [] s.pairs ≡ s.pairs
+    by true is = absurd (calm (subst (λ n. Rose (counted s.failures) (counted n)) (sym is) (more_rises s.failures)))
     by false is = refl
 
 same_text : (k key : Bytes) → eq_by_cmp text_cmp k key ≡ true → k ≡ key
@@ -75,7 +75,7 @@ found_apart k x key bytes ps apart h = find-put text_cmp nat_list_cmp_total k ke
 -- ---- the laws
 
 module _ (s t : State) where
-  got_count : (key : Bytes) (a : Returned) → IsGot s key a t → counted s.setbacks ≤ counted t.setbacks
+  got_count : (key : Bytes) (a : Returned) → IsGot s key a t → counted s.failures ≤ counted t.failures
   got_count key (Err store.Fault) g = rw (g.1) (counted_higher _ _ (set_back_higher s))
   got_count key (Err store.Memory) g = rw (g.1) (counted_higher _ _ (set_back_higher s))
   got_count key (Ok found) g = rw (g.2) (counted_higher _ _ (begun_higher s))
@@ -88,47 +88,47 @@ module _ (s t : State) where
   got_calm : (key : Bytes) (a : Returned) → IsGot s key a t → (StoreFailure map_store s t → ⊥) → (k x : Bytes) → find text_cmp k s.pairs ≡ Some x → find text_cmp k t.pairs ≡ Some x
   got_calm key (Err store.Fault) g calm k x h = absurd (calm (subst (StoreFailure map_store s) (sym g.1) (set_back_rises s)))
   got_calm key (Err store.Memory) g calm k x h = absurd (calm (subst (StoreFailure map_store s) (sym g.1) (set_back_rises s)))
-  got_calm key (Ok found) g calm k x h = ap (λ v. find text_cmp k v.pairs) g.2 ∙ ap (find text_cmp k) (begun_calm s t (ap (λ v. v.setbacks) g.2) calm) ∙ h
+  got_calm key (Ok found) g calm k x h = ap (λ v. find text_cmp k v.pairs) g.2 ∙ ap (find text_cmp k) (begun_calm s t (ap (λ v. v.failures) g.2) calm) ∙ h
 
-  put_count : (key bytes : Bytes) (a : Stored) → IsPut s key bytes a t → counted s.setbacks ≤ counted t.setbacks
+  put_count : (key bytes : Bytes) (a : Stored) → IsMapPut s key bytes a t → counted s.failures ≤ counted t.failures
   put_count key bytes (Err store.Fault) p = rw (p.1) (counted_higher _ _ (set_back_higher s))
   put_count key bytes (Err store.Memory) p = rw (p.1) (counted_higher _ _ (set_back_higher s))
   put_count key bytes (Ok done) p = rw (p.1) (counted_higher _ _ (begun_higher s))
 
-  put_old : (key bytes : Bytes) (a : Stored) → IsPut s key bytes a t → (k x : Bytes) → find text_cmp k t.pairs ≡ Some x → (find text_cmp k s.pairs ≡ Some x) ⊎ ((k ≡ key) × (x ≡ bytes))
+  put_old : (key bytes : Bytes) (a : Stored) → IsMapPut s key bytes a t → (k x : Bytes) → find text_cmp k t.pairs ≡ Some x → (find text_cmp k s.pairs ≡ Some x) ⊎ ((k ≡ key) × (x ≡ bytes))
   put_old key bytes (Err store.Fault) p k x h = inl (begun_held s k x (ap (λ v. find text_cmp k v.pairs) (sym p.1) ∙ h))
   put_old key bytes (Err store.Memory) p k x h = inl (begun_held s k x (ap (λ v. find text_cmp k v.pairs) (sym p.1) ∙ h))
   put_old key bytes (Ok done) p k x h =
-      elim (found_other k x key bytes (begun s).pairs (ap (λ v. find text_cmp k v.pairs) (sym p.1) ∙ h)) [ inl old ↦ inl (begun_held s k x old) | inr own ↦ inr own ]
+      elim (found_other k x key bytes (call_begun s).pairs (ap (λ v. find text_cmp k v.pairs) (sym p.1) ∙ h)) [ inl old ↦ inl (begun_held s k x old) | inr own ↦ inr own ]
 
-  put_calm : (key bytes : Bytes) (a : Stored) → IsPut s key bytes a t → (StoreFailure map_store s t → ⊥) → (k x : Bytes) → (k ≡ key → ⊥) → find text_cmp k s.pairs ≡ Some x → find text_cmp k t.pairs ≡ Some x
+  put_calm : (key bytes : Bytes) (a : Stored) → IsMapPut s key bytes a t → (StoreFailure map_store s t → ⊥) → (k x : Bytes) → (k ≡ key → ⊥) → find text_cmp k s.pairs ≡ Some x → find text_cmp k t.pairs ≡ Some x
   put_calm key bytes (Err store.Fault) p calm k x apart h = absurd (calm (subst (StoreFailure map_store s) (sym p.1) (set_back_rises s)))
   put_calm key bytes (Err store.Memory) p calm k x apart h = absurd (calm (subst (StoreFailure map_store s) (sym p.1) (set_back_rises s)))
   put_calm key bytes (Ok done) p calm k x apart h =
       ap (λ v. find text_cmp k v.pairs) p.1
-      ∙ found_apart k x key bytes (begun s).pairs apart (ap (find text_cmp k) (begun_calm s t (ap (λ v. v.setbacks) p.1) calm) ∙ h)
+      ∙ found_apart k x key bytes (call_begun s).pairs apart (ap (find text_cmp k) (begun_calm s t (ap (λ v. v.failures) p.1) calm) ∙ h)
 
-  put_new : (key bytes : Bytes) (a : Stored) → IsPut s key bytes a t → (StoreFailure map_store s t → ⊥) → find text_cmp key t.pairs ≡ Some bytes
+  put_new : (key bytes : Bytes) (a : Stored) → IsMapPut s key bytes a t → (StoreFailure map_store s t → ⊥) → find text_cmp key t.pairs ≡ Some bytes
   put_new key bytes (Err store.Fault) p calm = absurd (calm (subst (StoreFailure map_store s) (sym p.1) (set_back_rises s)))
   put_new key bytes (Err store.Memory) p calm = absurd (calm (subst (StoreFailure map_store s) (sym p.1) (set_back_rises s)))
-  put_new key bytes (Ok done) p calm = ap (λ v. find text_cmp key v.pairs) p.1 ∙ found_own key bytes (begun s).pairs
+  put_new key bytes (Ok done) p calm = ap (λ v. find text_cmp key v.pairs) p.1 ∙ found_own key bytes (call_begun s).pairs
 
   got_error : (key : Bytes) (e : StoreError) → IsGot s key (Err e) t → StoreFailure map_store s t
   got_error key store.Fault g = subst (StoreFailure map_store s) (sym g.1) (set_back_rises s)
   got_error key store.Memory g = subst (StoreFailure map_store s) (sym g.1) (set_back_rises s)
 
-  put_error : (key bytes : Bytes) (e : StoreError) → IsPut s key bytes (Err e) t → StoreFailure map_store s t
+  put_error : (key bytes : Bytes) (e : StoreError) → IsMapPut s key bytes (Err e) t → StoreFailure map_store s t
   put_error key bytes store.Fault p = subst (StoreFailure map_store s) (sym p.1) (set_back_rises s)
   put_error key bytes store.Memory p = subst (StoreFailure map_store s) (sym p.1) (set_back_rises s)
 
 pub map_store_laws : StoreLaws map_store
 map_store_laws = record {
-  setbacks_fit = λ s. counted_fits s.setbacks;
+  failures_fit = λ s. counted_fits s.failures;
   got_count = got_count;
   got_old = got_old;
   got_some = λ s t key bytes g. begun_held s key bytes (sym g.1);
   got_calm = got_calm;
-  got_none = λ s t key g calm b held. (none-some _ (g.1 ∙ ap (find text_cmp key) (begun_calm s t (ap (λ v. v.setbacks) g.2) calm) ∙ held));
+  got_none = λ s t key g calm b held. (none-some _ (g.1 ∙ ap (find text_cmp key) (begun_calm s t (ap (λ v. v.failures) g.2) calm) ∙ held));
   got_error = got_error;
   put_count = put_count;
   put_old = put_old;

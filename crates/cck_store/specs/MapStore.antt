@@ -15,45 +15,45 @@ use Rattle.cck_store.specs.declared.store.StoreError.TheVariants as store
 -- from 1, or 0 for none; and which of them fail.
 pub record State : Type 0 where
   pub pairs : List (Bytes × Bytes)
-  pub setbacks : ℕ
+  pub failures : ℕ
   pub forget : ℕ
   pub armed : Armed
 
-abbrev pub coded_state : Coded State
-coded_state = code_by (List (Bytes × Bytes) × (ℕ × (ℕ × Armed))) (coded× (coded_list (coded× (coded_list coded_ℕ) (coded_list coded_ℕ))) (coded× coded_ℕ (coded× coded_ℕ coded_armed)))
-    (λ s. (s.pairs, (s.setbacks, (s.forget, s.armed)))) (λ p. record { pairs = p.0; setbacks = p.1.0; forget = p.1.1.0; armed = p.1.1.1 }) (λ _. refl)
+abbrev pub coded_map_state : Coded State
+coded_map_state = code_by (List (Bytes × Bytes) × (ℕ × (ℕ × Armed))) (coded× (coded_list (coded× (coded_list coded_ℕ) (coded_list coded_ℕ))) (coded× coded_ℕ (coded× coded_ℕ coded_armed)))
+    (λ s. (s.pairs, (s.failures, (s.forget, s.armed)))) (λ p. record { pairs = p.0; failures = p.1.0; forget = p.1.1.0; armed = p.1.1.1 }) (λ _. refl)
 
 -- nothing is held, there was no store failure, and no call is armed
-abbrev pub new_state : State
-new_state = record { pairs = []; setbacks = 0; forget = 0; armed = new_armed }
+abbrev pub empty_state : State
+empty_state = record { pairs = []; failures = 0; forget = 0; armed = new_armed }
 
-abbrev pub pair_of : String Global × Vec ℕ → Bytes × Bytes
-pair_of p = (string_bytes (p.0), p.1.items)
+abbrev pub stored_pair : String Global × Vec ℕ → Bytes × Bytes
+stored_pair p = (string_bytes (p.0), p.1.items)
 
 -- after one more store failure
 abbrev pub set_back : State → State
-set_back s = record s { setbacks = more s.setbacks }
+set_back s = record s { failures = more s.failures }
 
 -- a call begins: if it is armed to lose all that is held, nothing is held from here on, which is a store failure
-abbrev pub begun : State → State
-begun s = record {
+abbrev pub call_begun : State → State
+call_begun s = record {
   pairs = if s.forget == 1 then [] else s.pairs;
-  setbacks = if s.forget == 1 then more s.setbacks else s.setbacks;
+  failures = if s.forget == 1 then more s.failures else s.failures;
   forget = s.forget - 1;
   armed = after_call s.armed;
 }
 
 -- A get fails exactly if it is armed to. Otherwise it returns what the key has, or memory is lacking. Either error is a store failure.
 abbrev pub IsGot : State → Bytes → Returned → State → Type 0
-IsGot s key (Err store.Fault) t = (fails s.armed ≡ true) × (t ≡ set_back (begun s))
-IsGot s key (Err store.Memory) t = (fails s.armed ≡ false) × (t ≡ set_back (begun s))
-IsGot s key (Ok found) t = (fails s.armed ≡ false) × (found ≡ find text_cmp key (begun s).pairs) × (t ≡ begun s)
+IsGot s key (Err store.Fault) t = (fails s.armed ≡ true) × (t ≡ set_back (call_begun s))
+IsGot s key (Err store.Memory) t = (fails s.armed ≡ false) × (t ≡ set_back (call_begun s))
+IsGot s key (Ok found) t = (fails s.armed ≡ false) × (found ≡ find text_cmp key (call_begun s).pairs) × (t ≡ call_begun s)
 
 -- the same for a put, after which the key has the bytes
-abbrev pub IsPut : State → Bytes → Bytes → Stored → State → Type 0
-IsPut s key bytes (Err store.Fault) t = (fails s.armed ≡ true) × (t ≡ set_back (begun s))
-IsPut s key bytes (Err store.Memory) t = (fails s.armed ≡ false) × (t ≡ set_back (begun s))
-IsPut s key bytes (Ok done) t = (fails s.armed ≡ false) × (t ≡ record (begun s) { pairs = put text_cmp key bytes (begun s).pairs })
+abbrev pub IsMapPut : State → Bytes → Bytes → Stored → State → Type 0
+IsMapPut s key bytes (Err store.Fault) t = (fails s.armed ≡ true) × (t ≡ set_back (call_begun s))
+IsMapPut s key bytes (Err store.Memory) t = (fails s.armed ≡ false) × (t ≡ set_back (call_begun s))
+IsMapPut s key bytes (Ok done) t = (fails s.armed ≡ false) × (t ≡ record (call_begun s) { pairs = put text_cmp key bytes (call_begun s).pairs })
 
 abbrev pub map_store : Store State
-map_store = record { held = λ s key bytes. find text_cmp key s.pairs ≡ Option.Some bytes; setbacks = λ s. counted s.setbacks; got = IsGot; put = IsPut }
+map_store = record { held = λ s key bytes. find text_cmp key s.pairs ≡ Option.Some bytes; failures = λ s. counted s.failures; got = IsGot; put = IsMapPut }

@@ -20,7 +20,7 @@ returned_by (Ok (Some bytes)) = Ok (Some bytes.items)
 -- which bytes are held under a key, the number of store failures, and what a get and a put do, with their results
 pub record Store (S : Type 0) : Type 1 where
   pub held : S → Bytes → Bytes → Type 0
-  pub setbacks : S → ℕ
+  pub failures : S → ℕ
   pub got : S → Bytes → Returned → S → Type 0
   pub put : S → Bytes → Bytes → Stored → S → Type 0
 
@@ -34,7 +34,7 @@ counted n = min n (2 ^ 64 - 1)
 
 -- there was a store failure between two states
 abbrev pub StoreFailure : {S : Type 0} → Store S → S → S → Type 0
-StoreFailure st s t = Rose (st.setbacks s) (st.setbacks t)
+StoreFailure st s t = Rose (st.failures s) (st.failures t)
 
 -- these bytes are held under the key, and no others
 abbrev pub HoldsOnly : {S : Type 0} → Store S → S → Bytes → Bytes → Type 0
@@ -44,14 +44,14 @@ HoldsOnly st s key bytes = st.held s key bytes × ((others : Bytes) → st.held 
 -- store failure, and their count has 64 bits. Without a store failure a get changes nothing and finds what is held, and a put changes only
 -- what its own key holds.
 pub record StoreLaws {S : Type 0} (st : Store S) : Type 0 where
-  pub setbacks_fit : (s : S) → st.setbacks s < 2 ^ 64
-  pub got_count : (s t : S) (key : Bytes) (answer : Returned) → st.got s key answer t → st.setbacks s ≤ st.setbacks t
+  pub failures_fit : (s : S) → st.failures s < 2 ^ 64
+  pub got_count : (s t : S) (key : Bytes) (answer : Returned) → st.got s key answer t → st.failures s ≤ st.failures t
   pub got_old : (s t : S) (key : Bytes) (answer : Returned) → st.got s key answer t → (k b : Bytes) → st.held t k b → st.held s k b
   pub got_some : (s t : S) (key bytes : Bytes) → st.got s key (Ok (Some bytes)) t → st.held s key bytes
   pub got_calm : (s t : S) (key : Bytes) (answer : Returned) → st.got s key answer t → (StoreFailure st s t → ⊥) → (k b : Bytes) → st.held s k b → st.held t k b
   pub got_none : (s t : S) (key : Bytes) → st.got s key (Ok None) t → (StoreFailure st s t → ⊥) → (b : Bytes) → st.held s key b → ⊥
   pub got_error : (s t : S) (key : Bytes) (e : StoreError) → st.got s key (Err e) t → StoreFailure st s t
-  pub put_count : (s t : S) (key bytes : Bytes) (answer : Stored) → st.put s key bytes answer t → st.setbacks s ≤ st.setbacks t
+  pub put_count : (s t : S) (key bytes : Bytes) (answer : Stored) → st.put s key bytes answer t → st.failures s ≤ st.failures t
   pub put_old : (s t : S) (key bytes : Bytes) (answer : Stored) → st.put s key bytes answer t → (k b : Bytes) → st.held t k b → st.held s k b ⊎ ((k ≡ key) × (b ≡ bytes))
   pub put_calm : (s t : S) (key bytes : Bytes) (answer : Stored) → st.put s key bytes answer t → (StoreFailure st s t → ⊥) → (k b : Bytes) → (k ≡ key → ⊥) → st.held s k b → st.held t k b
   pub put_new : (s t : S) (key bytes : Bytes) (answer : Stored) → st.put s key bytes answer t → (StoreFailure st s t → ⊥) → HoldsOnly st t key bytes

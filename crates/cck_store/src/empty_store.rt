@@ -9,7 +9,7 @@ use std::marker::Model;
 /// nothing, and each put fails, which is a store failure. No call takes memory.
 #[derive(Debug, Drop)]
 pub struct EmptyStore {
-    setbacks: u64,
+    failures: u64,
 }
 
 impl Model for EmptyStore {
@@ -17,9 +17,9 @@ impl Model for EmptyStore {
 
     ghost Value = { ℕ };
 
-    ghost view = { λ a. a.setbacks };
+    ghost view = { λ a. a.failures };
 
-    ghost inverse = { λ n. record { setbacks = n } };
+    ghost inverse = { λ n. record { failures = n } };
 }
 
 impl EmptyStore {
@@ -27,7 +27,7 @@ impl EmptyStore {
     pub fn new() -> EmptyStore
         ensures { result ≡ 0 }
     {
-        EmptyStore { setbacks: 0 }
+        EmptyStore { failures: 0 }
     }
 }
 
@@ -51,7 +51,7 @@ impl PreprocessorStore for EmptyStore {
         _: &str,
         _: &[u8],
     ) -> Result<(), StoreError> {
-        self.setbacks = one_more(self.setbacks);
+        self.failures = one_more(self.failures);
         Err(StoreError::Fault)
     }
 

@@ -4,7 +4,7 @@ ghost use Rattle.std.specs.FinMap.Entries.{find, put};
 ghost use Rattle.std.specs.Option.{option_map};
 ghost use Rattle.cck_files.specs.ArmedCalls.{fails};
 ghost use Rattle.cck_path.specs.TextOrder.{text_cmp};
-ghost use Rattle.cck_store.specs.MapStore.{begun, new_state, set_back};
+ghost use Rattle.cck_store.specs.MapStore.{call_begun, empty_state, set_back};
 ghost use Rattle.cck_store.specs.Store.{more};
 
 use crate::store::{PreprocessorStore, StoreError, one_more};
@@ -22,7 +22,7 @@ use std::marker::Model;
 pub struct MapStore {
     alloc: Global,
     pairs: BTreeMap<String, Vec<u8>>,
-    setbacks: u64,
+    failures: u64,
     forget: u64,
     armed: ArmedCalls,
 }
@@ -31,13 +31,13 @@ impl Model for MapStore {
     ghost use Rattle.std.specs.Prelude.{map};
     ghost use Rattle.std.specs.BTreeMap.{IsOrdered};
     ghost use Rattle.std.specs.String.{string_cmp};
-    ghost use Rattle.cck_store.specs.MapStore.{State, coded_state, pair_of};
+    ghost use Rattle.cck_store.specs.MapStore.{State, coded_map_state, stored_pair};
 
     ghost Value = { State };
 
-    ghost coded = { coded_state };
+    ghost coded = { coded_map_state };
 
-    ghost view = { λ a. record { pairs = map pair_of a.pairs.entries; setbacks = a.setbacks; forget = a.forget; armed = a.armed } };
+    ghost view = { λ a. record { pairs = map stored_pair a.pairs.entries; failures = a.failures; forget = a.forget; armed = a.armed } };
 
     ghost invariant = { λ a. IsOrdered string_cmp a.pairs };
 }
@@ -46,12 +46,12 @@ impl MapStore {
     /// A store that holds nothing, without a store failure so far, and with no call armed. It keeps
     /// the allocator, and takes no memory.
     pub fn new(alloc: Global) -> MapStore
-        ensures { result ≡ new_state }
+        ensures { result ≡ empty_state }
     {
         MapStore {
             alloc,
             pairs: BTreeMap::new(alloc),
-            setbacks: 0,
+            failures: 0,
             forget: 0,
             armed: ArmedCalls::new(),
         }
@@ -107,7 +107,7 @@ impl MapStore {
         ensures kept { OnOk result (self.new ≡ record self.old {
           pairs = put text_cmp key.now bytes.now self.old.pairs;
         }) }
-        ensures refused { OnErr result (self.new ≡ self.old) }
+        ensures errors { OnErr result (self.new ≡ self.old) }
     {
         let key = String::from_str(self.alloc, key)?;
         let bytes = bytes.to_vec(self.alloc)?;
@@ -121,14 +121,14 @@ impl MapStore {
     fn set_back(&mut self)
         ensures { self.new ≡ set_back self.old }
     {
-        self.setbacks = one_more(self.setbacks);
+        self.failures = one_more(self.failures);
     }
 
     // Loses all that is held, if the call that begins is armed to.
     fn forget_if_armed(&mut self)
         ensures { self.new ≡ record self.old {
           pairs = if self.old.forget == 1 then [] else self.old.pairs;
-          setbacks = if self.old.forget == 1 then more self.old.setbacks else self.old.setbacks;
+          failures = if self.old.forget == 1 then more self.old.failures else self.old.failures;
         } }
     {
         if self.forget == 1 {
@@ -140,7 +140,7 @@ impl MapStore {
     // Begins a get or a put, and returns whether it fails.
     fn begin(&mut self) -> bool
         ensures fails { result ≡ fails self.old.armed }
-        ensures after { self.new ≡ (if fails self.old.armed then set_back (begun self.old) else begun self.old) }
+        ensures after { self.new ≡ (if fails self.old.armed then set_back (call_begun self.old) else call_begun self.old) }
     {
         self.forget_if_armed();
         self.forget = self.forget.saturating_sub(1);

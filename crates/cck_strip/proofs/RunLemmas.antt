@@ -137,9 +137,9 @@ Pending-run nodes text best (suc n) at depth f (node, there, straight, rest) p b
 pub Pending-compared : (nodes : List Node) (bytes own runs text : List ℕ) (next : Option NodeId) (at : NodeId) (depth best n m : ℕ) (b now : Bool)
     → IsForward nodes → HasRuns nodes bytes runs → Pending nodes text next depth best → next ≡ Some at → n ≡ get_or runs (at.0) n → own ≡ bytes → m ≡ n
     → b ≡ starts_with nat_eq (take (length text - depth) (drop depth text)) (take m (drop (at.0) own)) → b ≡ now → Walked nodes text at n depth best now
-Pending-compared nodes bytes own runs text next at depth best n m b now f h p is kept e same stands told =
+Pending-compared nodes bytes own runs text next at depth best n m b now f h p is kept e same present claim =
     Pending-run nodes text best n at depth f (IsRun-kept nodes bytes runs (at.0) n h (p.within at is) kept) (Pending-some nodes text next at depth best is p) now
-    (sym (sym told ∙ (stands ∙ rw (take_rest text depth, e, h.bytes_are, same) refl)))
+    (sym (sym claim ∙ (present ∙ rw (take_rest text depth, e, h.bytes_are, same) refl)))
 
 -- the runs from a place on, each of the length that is kept for it
 abbrev pub RunsFrom : List Node → List ℕ → ℕ → Type 0

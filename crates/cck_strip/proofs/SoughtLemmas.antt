@@ -57,8 +57,8 @@ longest-some (first ∷ words) text h = go (starts_with nat_eq text first) refl 
     ]
     go false e k rest = later rest k
 
-stands : (text word : List ℕ) (k : ℕ) → 0 < length word → starts_with nat_eq (drop k text) word ≡ true → OccursAt text word k
-stands text word k some e =
+present : (text word : List ℕ) (k : ℕ) → 0 < length word → starts_with nat_eq (drop k text) word ≡ true → OccursAt text word k
+present text word k some e =
     let rest = drop (length word) (drop k text) in
     let begins : drop k text ≡ word ++ rest = (starts_is Decides-eqb (drop k text) word _ refl).0 e in
     let size = ap length begins in
@@ -83,7 +83,7 @@ site-begins words text k h = go (is_boundary text k) refl h
           word = word;
           among = c;
           some = some;
-          here = stands text word k some s;
+          here = present text word k some s;
         }
     go false e p = absurd (omega arith)
 

@@ -8,6 +8,8 @@
 //!   compiler.
 //! - [`BasedirTrie`] finds the longest base directory at a place of a text.
 //! - [`pathname_positions`] are the places of an argument where a path may begin.
+//! - [`strip_basedirs_into`] and [`strip_basedirs_from_arg_into`] write what remains to a buffer of
+//!   the caller.
 //! - [`hash_arguments`] feeds arguments to a digest, stripped.
 //! - [`laws`] has what is proved of the definitions alone: there is exactly one way to cut.
 //!
@@ -25,6 +27,7 @@ mod argument;
 mod beginnings;
 mod cuts;
 mod hashing;
+mod into;
 pub mod laws;
 mod node;
 mod text;
@@ -32,5 +35,6 @@ mod trie;
 
 pub use argument::{pathname_positions, strip_basedirs_from_arg};
 pub use hashing::hash_arguments;
+pub use into::{strip_basedirs_from_arg_into, strip_basedirs_into};
 pub use text::strip_basedirs;
 pub use trie::BasedirTrie;

@@ -49,10 +49,10 @@ fn length_at_start(text: &[u8], basedir: &[u8]) -> usize
 
 // The sites of a text: base directories at its start or after a separator.
 #[derive(Drop)]
-struct TextSites<'a> {
-    text: &'a [u8],
-    basedirs: &'a [Vec<u8>],
-    trie: &'a BasedirTrie,
+pub(crate) struct TextSites<'a> {
+    pub(crate) text: &'a [u8],
+    pub(crate) basedirs: &'a [Vec<u8>],
+    pub(crate) trie: &'a BasedirTrie,
     ghost is_trie: { ∥ IsTrie trie.now (map (λ b. b.items) basedirs.now) ∥₁ },
 }
 
@@ -82,8 +82,8 @@ const SEARCH_WINDOW: usize = 32768;
 
 // The search of a text for a word with which all base directories begin.
 #[derive(Drop)]
-struct WordSearch<'a> {
-    finder: Finder<'a>,
+pub(crate) struct WordSearch<'a> {
+    pub(crate) finder: Finder<'a>,
 }
 
 impl<'a, 'b> Search<TextSites<'b>> for WordSearch<'a> {
@@ -105,8 +105,8 @@ impl<'a, 'b> Search<TextSites<'b>> for WordSearch<'a> {
 
 // The search of a text for a byte with which all base directories begin.
 #[derive(Drop)]
-struct ByteSearch {
-    byte: u8,
+pub(crate) struct ByteSearch {
+    pub(crate) byte: u8,
 }
 
 impl<'b> Search<TextSites<'b>> for ByteSearch {
@@ -126,8 +126,8 @@ impl<'b> Search<TextSites<'b>> for ByteSearch {
 
 // The search of a text for the first bytes of base directories.
 #[derive(Drop)]
-struct FirstByteSearch {
-    is_first: [bool; 256],
+pub(crate) struct FirstByteSearch {
+    pub(crate) is_first: [bool; 256],
 }
 
 impl<'b> Search<TextSites<'b>> for FirstByteSearch {
@@ -161,7 +161,7 @@ pub fn strip_basedirs<'a>(
     ensures value { IfOk result (λ kept. cow_slice_items kept ≡ stripped_text (map (λ b. b.items) basedirs.now) text.now) }
     ensures remains { IfOk result (λ kept. Remains (text_site (map (λ b. b.items) basedirs.now) text.now)
         text.now (cow_slice_items kept) (IsOwnedSlice kept)) }
-    ensures refused { IsOkUnless result UtilError.Memory }
+    ensures errors { IsOkUnless result UtilError.Memory }
 {
     let word = match common_beginning(basedirs) {
         Some(word) => word,

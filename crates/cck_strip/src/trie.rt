@@ -16,7 +16,7 @@ use std::marker::Model;
 fn push_leaf(nodes: &mut Vec<Node>, byte: u8) -> Result<NodeId, UtilError>
     ensures pushed { OnOk result (nodes.new.items ≡ nodes.old.items ++ leaf_of byte ∷ []) }
     ensures last { IfOk result (λ id. id.0 ≡ length nodes.old.items) }
-    ensures refused { IsOkUnless result UtilError.Memory }
+    ensures errors { IsOkUnless result UtilError.Memory }
 {
     let id = NodeId(nodes.len());
     nodes.push(Node {
@@ -38,7 +38,7 @@ fn node_beside(nodes: &mut Vec<Node>, from: NodeId, byte: u8) -> Result<NodeId, 
     ensures grows { OnOk result (Grows nodes.old.items nodes.new.items) }
     ensures same { OnOk result ((words : List (List ℕ)) → IsTrie nodes.old.items words → IsTrie nodes.new.items words) }
     ensures found { IfOk result (λ id. Found nodes.new.items (from.0) byte (id.0)) }
-    ensures refused { IsOkUnless result UtilError.Memory }
+    ensures errors { IsOkUnless result UtilError.Memory }
 {
     let mut at = from;
     loop {
@@ -70,7 +70,7 @@ fn node_below(nodes: &mut Vec<Node>, at: NodeId, byte: u8) -> Result<NodeId, Uti
     ensures grows { OnOk result (Grows nodes.old.items nodes.new.items) }
     ensures same { OnOk result ((words : List (List ℕ)) → IsTrie nodes.old.items words → IsTrie nodes.new.items words) }
     ensures found { IfOk result (λ id. (node : Node) × At nodes.new.items (at.0) node × (node.below ≡ Some id)) }
-    ensures refused { IsOkUnless result UtilError.Memory }
+    ensures errors { IsOkUnless result UtilError.Memory }
 {
     let node = nodes[at.0];
     if let Some(id) = node.below {
@@ -92,7 +92,7 @@ fn insert(nodes: &mut Vec<Node>, word: &[u8]) -> Result<(), UtilError>
     requires some { 0 < length word.now }
     ensures forward_still { OnOk result (IsForward nodes.new.items) }
     ensures more { OnOk result ((words : List (List ℕ)) → IsTrie nodes.old.items words → IsTrie nodes.new.items (words ++ word.now ∷ [])) }
-    ensures refused { IsOkUnless result UtilError.Memory }
+    ensures errors { IsOkUnless result UtilError.Memory }
 {
     let mut at = node_beside(nodes, NodeId(0), word[0])?;
     for byte in &word[1..] {
@@ -124,7 +124,7 @@ fn is_straight(node: &Node, next: usize) -> bool
 fn run_lengths(alloc: Global, nodes: &[Node]) -> Result<Vec<usize>, UtilError>
     ensures size { IfOk result (λ runs. length runs.items ≡ length nodes.now) }
     ensures each { IfOk result (λ runs. (i : ℕ) → i < length nodes.now → IsRun (get_or runs.items i 0) nodes.now i) }
-    ensures refused { IsOkUnless result UtilError.Memory }
+    ensures errors { IsOkUnless result UtilError.Memory }
 {
     let mut runs = vec![in alloc; 0; nodes.len()]?;
     let mut run = 0;
@@ -146,7 +146,7 @@ fn run_lengths(alloc: Global, nodes: &[Node]) -> Result<Vec<usize>, UtilError>
 // The only error is [`UtilError::Memory`].
 fn node_bytes(alloc: Global, nodes: &[Node]) -> Result<Vec<u8>, UtilError>
     ensures value { IfOk result (λ bytes. bytes.items ≡ map (λ node. node.byte) nodes.now) }
-    ensures refused { IsOkUnless result UtilError.Memory }
+    ensures errors { IsOkUnless result UtilError.Memory }
 {
     let mut bytes = Vec::new(alloc);
     for node in nodes {
@@ -187,7 +187,7 @@ impl BasedirTrie {
     /// The only error is [`UtilError::Memory`].
     pub fn new(alloc: Global, basedirs: &[Vec<u8>]) -> Result<BasedirTrie, UtilError>
         ensures trie { IfOk result (λ trie. IsTrie trie (map (λ b. b.items) basedirs.now)) }
-        ensures refused { IsOkUnless result UtilError.Memory }
+        ensures errors { IsOkUnless result UtilError.Memory }
     {
         let mut nodes = Vec::new(alloc);
         // Nearly every base directory begins with this byte.

@@ -118,8 +118,8 @@ day_is_determined zone timestamp m n a b v w part p q =
     let right = sym (nested (delimiter (codes "date")) (date_bytes second.0) (framed_option (source_date_epoch w)) y.1) ∙ ap (λ (l : List ℕ). l ++ y.1) second.4 ∙ y.4 in
     let following = append_cancel_left (delimiter (codes "date")) _ _ (left ∙ sym right) in
     let same = date_reads_back first.0 second.0 first.1 second.1 (framed_option (source_date_epoch v) ++ x.1) (framed_option (source_date_epoch w) ++ y.1) following in
-    let told = option_reads_back (source_date_epoch v) (source_date_epoch w) x.1 y.1 same.1 in
-    (sym first.2 ∙ ap day_number same.0 ∙ second.2, told.0)
+    let claim = option_reads_back (source_date_epoch v) (source_date_epoch w) x.1 y.1 same.1 in
+    (sym first.2 ∙ ap day_number same.0 ∙ second.2, claim.0)
 
 -- and the same second
 pub second_is_determined : (zone : TimeZone) (date : Bool) (m n : Option Moment) (a b : Moment) (v w : List Variable) (part : List ℕ)

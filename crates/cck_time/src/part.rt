@@ -38,7 +38,7 @@ fn second_at(zone: &TimeZone<'_>, instant: jiff::Timestamp) -> i64
 #[tactic(auto, unfolding(crate::specs::TimePart::delimiter))]
 fn put_delimiter(part: &mut Vec<u8>, name: &[u8]) -> Result<(), Error>
     ensures value { OnOk result (part.new.items ≡ part.old.items ++ delimiter name.now) }
-    ensures refused { IfErr result (λ e. e ≡ Error.Memory) }
+    ensures errors { IfErr result (λ e. e ≡ Error.Memory) }
 {
     part.extend_from_slice(b"\0SCCACHE\0")?;
     part.extend_from_slice(name)?;
@@ -49,7 +49,7 @@ fn put_delimiter(part: &mut Vec<u8>, name: &[u8]) -> Result<(), Error>
 #[tactic(auto, unfolding(crate::specs::TimePart::i32_bytes))]
 fn put_i32(part: &mut Vec<u8>, number: i32) -> Result<(), Error>
     ensures value { OnOk result (part.new.items ≡ part.old.items ++ i32_bytes number) }
-    ensures refused { IfErr result (λ e. e ≡ Error.Memory) }
+    ensures errors { IfErr result (λ e. e ≡ Error.Memory) }
 {
     part.extend_from_slice(&number.to_le_bytes())?;
     Ok(())
@@ -58,7 +58,7 @@ fn put_i32(part: &mut Vec<u8>, number: i32) -> Result<(), Error>
 #[tactic(auto, unfolding(crate::specs::TimePart::u32_bytes))]
 fn put_u32(part: &mut Vec<u8>, number: u32) -> Result<(), Error>
     ensures value { OnOk result (part.new.items ≡ part.old.items ++ u32_bytes number) }
-    ensures refused { IfErr result (λ e. e ≡ Error.Memory) }
+    ensures errors { IfErr result (λ e. e ≡ Error.Memory) }
 {
     part.extend_from_slice(&number.to_le_bytes())?;
     Ok(())
@@ -67,7 +67,7 @@ fn put_u32(part: &mut Vec<u8>, number: u32) -> Result<(), Error>
 #[tactic(auto, unfolding(crate::specs::TimePart::i64_bytes))]
 fn put_i64(part: &mut Vec<u8>, number: i64) -> Result<(), Error>
     ensures value { OnOk result (part.new.items ≡ part.old.items ++ i64_bytes number) }
-    ensures refused { IfErr result (λ e. e ≡ Error.Memory) }
+    ensures errors { IfErr result (λ e. e ≡ Error.Memory) }
 {
     part.extend_from_slice(&number.to_le_bytes())?;
     Ok(())
@@ -75,7 +75,7 @@ fn put_i64(part: &mut Vec<u8>, number: i64) -> Result<(), Error>
 
 fn put_length(part: &mut Vec<u8>, length: usize) -> Result<(), Error>
     ensures value { OnOk result (part.new.items ≡ part.old.items ++ length_bytes length) }
-    ensures refused { IfErr result (λ e. e ≡ Error.Memory) }
+    ensures errors { IfErr result (λ e. e ≡ Error.Memory) }
 {
     let length = length as u64;
     part.extend_from_slice(&length.to_le_bytes())?;
@@ -85,7 +85,7 @@ fn put_length(part: &mut Vec<u8>, length: usize) -> Result<(), Error>
 fn put_option(part: &mut Vec<u8>, bytes: Option<&[u8]>) -> Result<(), Error>
     ensures value { OnOk result (part.new.items ≡ part.old.items
         ++ framed_option (option_map (λ b. b.now) bytes.entry)) }
-    ensures refused { IfErr result (λ e. e ≡ Error.Memory) }
+    ensures errors { IfErr result (λ e. e ≡ Error.Memory) }
 {
     match bytes {
         None => part.push(0)?,
@@ -101,7 +101,7 @@ fn put_option(part: &mut Vec<u8>, bytes: Option<&[u8]>) -> Result<(), Error>
 fn put_year_month_day(part: &mut Vec<u8>, date: Date) -> Result<(), Error>
     ensures value { OnOk result (part.new.items ≡ part.old.items
         ++ date_bytes (civil_date date)) }
-    ensures refused { IfErr result (λ e. e ≡ Error.Memory) }
+    ensures errors { IfErr result (λ e. e ≡ Error.Memory) }
 {
     let date = date.to_plain();
     put_i32(part, i32::from(date.year))?;
@@ -114,7 +114,7 @@ fn put_date(part: &mut Vec<u8>, date: Date, vars: &[(Vec<u8>, Vec<u8>)]) -> Resu
     ensures value { OnOk result (part.new.items ≡ part.old.items ++ (delimiter (codes "date")
         ++ date_bytes (civil_date date)
         ++ framed_option (source_date_epoch (variables_of vars.now)))) }
-    ensures refused { IfErr result (λ e. e ≡ Error.Memory) }
+    ensures errors { IfErr result (λ e. e ≡ Error.Memory) }
 {
     put_delimiter(part, b"date")?;
     put_year_month_day(part, date)?;
@@ -125,7 +125,7 @@ fn put_date(part: &mut Vec<u8>, date: Date, vars: &[(Vec<u8>, Vec<u8>)]) -> Resu
 fn put_second(part: &mut Vec<u8>, second: i64) -> Result<(), Error>
     ensures value { OnOk result (part.new.items ≡ part.old.items
         ++ (delimiter (codes "timestamp") ++ i64_bytes second)) }
-    ensures refused { IfErr result (λ e. e ≡ Error.Memory) }
+    ensures errors { IfErr result (λ e. e ≡ Error.Memory) }
 {
     put_delimiter(part, b"timestamp")?;
     put_i64(part, second)?;
@@ -144,7 +144,7 @@ fn put_date_part(
     ensures value { IfOk result (λ there. IsAppended part.old.items part.new.items there
         (date_part date moment (plain_zone zone.now)
         (variables_of vars.now))) }
-    ensures refused { IfErr result (λ e. e ≡ Error.Memory) }
+    ensures errors { IfErr result (λ e. e ≡ Error.Memory) }
 {
     if !date {
         return Ok(true);
@@ -166,7 +166,7 @@ fn put_stamp_part(
 ) -> Result<bool, Error>
     ensures value { IfOk result (λ there. IsAppended part.old.items part.new.items there
         (stamp_part timestamp modified (plain_zone zone.now))) }
-    ensures refused { IfErr result (λ e. e ≡ Error.Memory) }
+    ensures errors { IfErr result (λ e. e ≡ Error.Memory) }
 {
     if !timestamp {
         return Ok(true);
@@ -211,7 +211,7 @@ pub fn local_time_part(
     ensures value { IfOk result (λ part. option_map (λ v. v.items) part
         ≡ time_part date timestamp modified moment (plain_zone zone.now)
         (variables_of vars.now)) }
-    ensures refused { IfErr result (λ e. e ≡ Error.Memory) }
+    ensures errors { IfErr result (λ e. e ≡ Error.Memory) }
 {
     let mut part = Vec::new(alloc);
     if !put_date_part(&mut part, date, moment, zone, vars)? {

@@ -52,9 +52,9 @@ unfolding is_compiler
 nothing_exists m p e = sym (ap (λ b. b && not (leads_to_wrapper m p)) e)
 
 -- a path that exists
-pub stands : (m n : FileMap) (p : Path) (leads : Bool) → n ≡ m → exists_at m p ≡ true → leads ≡ leads_to_wrapper n p → not leads ≡ is_compiler m p
+pub present : (m n : FileMap) (p : Path) (leads : Bool) → n ≡ m → exists_at m p ≡ true → leads ≡ leads_to_wrapper n p → not leads ≡ is_compiler m p
 unfolding is_compiler
-stands m n p leads same e h = ap not (h ∙ ap (λ k. leads_to_wrapper k p) same) ∙ sym (ap (λ b. b && not (leads_to_wrapper m p)) e)
+present m n p leads same e h = ap not (h ∙ ap (λ k. leads_to_wrapper k p) same) ∙ sym (ap (λ b. b && not (leads_to_wrapper m p)) e)
 
 -- a path without root
 pub no_root : (m : FileMap) (p : Path) → has_root p ≡ false → false ≡ is_settled m p

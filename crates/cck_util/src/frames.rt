@@ -45,7 +45,7 @@ pub(crate) fn hash_argument_list<H: HashState>(
 ) -> Result<(), UtilError>
     ensures fed { OnOk result ((fed : List ℕ) → H.holds digest.old fed → H.holds digest.new
         (fed ++ framed_list frame (map (stripped_argument (lists_of basedirs.now)) (lists_of arguments.now)))) }
-    ensures refused { IsOkUnless result UtilError.Memory }
+    ensures errors { IsOkUnless result UtilError.Memory }
 {
     hash_length(digest, arguments.len());
     for argument in arguments {

@@ -132,7 +132,7 @@ impl<'a> HashKeyParams<'a> {
     #[tactic(auto, unfolding(crate::specs::Key::material))]
     pub fn compute<H: HashState>(&self, alloc: Global) -> Result<String, UtilError>
         ensures key { IfOk result (λ key. string_bytes key ≡ object_key H.hash self.now) }
-        ensures refused { IsOkUnless result UtilError.Memory }
+        ensures errors { IsOkUnless result UtilError.Memory }
     {
         let output = strip_basedirs(alloc, self.preprocessor_output, self.basedirs)?;
         let mut digest = Digest::<H>::new();

@@ -38,7 +38,7 @@ pub fn resolve_compiler_avoiding_wrapper<F: Files>(
     vars: &[(Vec<u8>, Vec<u8>)],
 ) -> Result<Vec<u8>, UtilError>
     ensures keeps { Keeps F.file_map F.faults F.is_quiet files.old files.new }
-    ensures answer { IfOk result (λ path.
+    ensures outcome { IfOk result (λ path.
         (path.items ≡ resolved (F.file_map files.old) executable.now
         (variables_of vars.now))
         ⊎ Rose (F.faults files.old) (F.faults files.new)) }
@@ -47,7 +47,7 @@ pub fn resolve_compiler_avoiding_wrapper<F: Files>(
         path.items) }
     ensures judgement { IfOk result (λ path. (path.items ≡ executable.now)
         ⊎ (exists_at (F.file_map files.old) (components path.items) ≡ true)) }
-    ensures refused { IsOkUnless result UtilError.Memory }
+    ensures errors { IsOkUnless result UtilError.Memory }
 {
     match find_compiler(alloc, files, executable, vars)? {
         Some(compiler) => Ok(compiler),
@@ -63,7 +63,7 @@ fn find_compiler<F: Files>(
     vars: &[(Vec<u8>, Vec<u8>)],
 ) -> Result<Option<Vec<u8>>, UtilError>
     ensures keeps { Keeps F.file_map F.faults F.is_quiet files.old files.new }
-    ensures answer { IfOk result (λ compiler.
+    ensures outcome { IfOk result (λ compiler.
         (option_map (λ path. path.items) compiler ≡ found (F.file_map files.old) executable.now
         (variables_of vars.now))
         ⊎ Rose (F.faults files.old) (F.faults files.new)) }
@@ -72,7 +72,7 @@ fn find_compiler<F: Files>(
         path.items)) }
     ensures judgement { IfOk result (λ compiler. IfSome compiler (λ path.
         exists_at (F.file_map files.old) (components path.items) ≡ true)) }
-    ensures refused { IsOkUnless result UtilError.Memory }
+    ensures errors { IsOkUnless result UtilError.Memory }
 {
     if is_settled(alloc, files, executable)? {
         return Ok(None);
@@ -90,10 +90,10 @@ fn find_compiler<F: Files>(
 // Returns whether a path is absolute and doesn't lead to a wrapper.
 fn is_settled<F: Files>(alloc: Global, files: &mut F, path: &[u8]) -> Result<bool, UtilError>
     ensures keeps { Keeps F.file_map F.faults F.is_quiet files.old files.new }
-    ensures answer { IfOk result (λ settled.
+    ensures outcome { IfOk result (λ settled.
         (settled ≡ is_settled (F.file_map files.old) (components path.now))
         ⊎ Rose (F.faults files.old) (F.faults files.new)) }
-    ensures refused { IsOkUnless result UtilError.Memory }
+    ensures errors { IsOkUnless result UtilError.Memory }
 {
     if !is_absolute(path) {
         return Ok(false);
@@ -106,7 +106,7 @@ fn is_settled<F: Files>(alloc: Global, files: &mut F, path: &[u8]) -> Result<boo
 fn kept_parts(alloc: Global, path: &[u8]) -> Result<Vec<&[u8]>, UtilError>
     ensures parts { IfOk result (λ parts.
         map (λ part. part.now) parts.items ≡ kept_parts path.now) }
-    ensures refused { IsOkUnless result UtilError.Memory }
+    ensures errors { IsOkUnless result UtilError.Memory }
 {
     Ok(
         path.split(|byte| *byte == b':')
@@ -140,7 +140,7 @@ fn first_compiler<F: Files>(
     name: &[u8],
 ) -> Result<Option<Vec<u8>>, UtilError>
     ensures keeps { Keeps F.file_map F.faults F.is_quiet files.old files.new }
-    ensures answer { IfOk result (λ compiler.
+    ensures outcome { IfOk result (λ compiler.
         (option_map (λ path. path.items) compiler
         ≡ find (λ path. is_compiler (F.file_map files.old) (components path))
         (map (λ part. joined_text part.now name.now) parts.now))
@@ -149,7 +149,7 @@ fn first_compiler<F: Files>(
         (map (λ part. joined_text part.now name.now) parts.now) path.items)) }
     ensures judgement { IfOk result (λ compiler. IfSome compiler (λ path.
         exists_at (F.file_map files.old) (components path.items) ≡ true)) }
-    ensures refused { IsOkUnless result UtilError.Memory }
+    ensures errors { IsOkUnless result UtilError.Memory }
 {
     for part in parts {
         let path = join_path(alloc, part, name)?;
@@ -163,12 +163,12 @@ fn first_compiler<F: Files>(
 // Returns whether a path exists and doesn't lead to a wrapper.
 fn is_compiler<F: Files>(alloc: Global, files: &mut F, path: &[u8]) -> Result<bool, UtilError>
     ensures keeps { Keeps F.file_map F.faults F.is_quiet files.old files.new }
-    ensures answer { IfOk result (λ compiler.
+    ensures outcome { IfOk result (λ compiler.
         (compiler ≡ is_compiler (F.file_map files.old) (components path.now))
         ⊎ Rose (F.faults files.old) (F.faults files.new)) }
     ensures judgement { IfOk result (λ compiler. compiler ≡ true
         → exists_at (F.file_map files.old) (components path.now) ≡ true) }
-    ensures refused { IsOkUnless result UtilError.Memory }
+    ensures errors { IsOkUnless result UtilError.Memory }
 {
     if !files.exists(path) {
         return Ok(false);
@@ -180,10 +180,10 @@ fn is_compiler<F: Files>(alloc: Global, files: &mut F, path: &[u8]) -> Result<bo
 // Returns whether a path leads to a wrapper.
 fn leads_to_wrapper<F: Files>(alloc: Global, files: &mut F, path: &[u8]) -> Result<bool, UtilError>
     ensures keeps { Keeps F.file_map F.faults F.is_quiet files.old files.new }
-    ensures answer { IfOk result (λ leads.
+    ensures outcome { IfOk result (λ leads.
         (leads ≡ leads_to_wrapper (F.file_map files.old) (components path.now))
         ⊎ Rose (F.faults files.old) (F.faults files.new)) }
-    ensures refused { IsOkUnless result UtilError.Memory }
+    ensures errors { IsOkUnless result UtilError.Memory }
 {
     match files.canonical(alloc, path) {
         Ok(canonical) => Ok(is_wrapper(&canonical)),

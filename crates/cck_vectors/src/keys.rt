@@ -136,7 +136,7 @@ pub(crate) fn call_each<'a>(
     let length = files.metadata(path)?.len;
     let read = files.read_at(path, 5, &mut [0; 4])?;
     let is_listed = files.read_dir(alloc, path).is_ok();
-    let stands = files.exists(path);
+    let present = files.exists(path);
     let is_canonical = files.canonical(alloc, path)?.as_slice() == path;
-    Ok(Value::Text(format!(in alloc; "{length} {read} {is_listed} {stands} {is_canonical}")?))
+    Ok(Value::Text(format!(in alloc; "{length} {read} {is_listed} {present} {is_canonical}")?))
 }

@@ -51,7 +51,7 @@ impl Files for NotingFiles {
 
     fn metadata(&mut self, path: &[u8]) -> Result<Metadata, FileError>
         ensures keeps { Keeps map_of faults_of is_quiet self.old self.new }
-        ensures answer { let found = metadata_at (map_of self.old) (components path.now) in
+        ensures outcome { let found = metadata_at (map_of self.old) (components path.now) in
             MatchResult result (λ metadata. found ≡ Ok metadata)
             (IsError found (Rose (faults_of self.old) (faults_of self.new))) }
         ensures call { IsNoted self.old (components path.now) self.new }
@@ -62,7 +62,7 @@ impl Files for NotingFiles {
 
     fn read_at(&mut self, path: &[u8], offset: u64, buffer: &mut [u8]) -> Result<usize, FileError>
         ensures keeps { Keeps map_of faults_of is_quiet self.old self.new }
-        ensures answer { let found = contents_at (map_of self.old) (components path.now) in
+        ensures outcome { let found = contents_at (map_of self.old) (components path.now) in
             MatchResult result (λ n. IsOkAnd found (λ contents. IsRead contents offset n buffer.new))
             (IsError found (Rose (faults_of self.old) (faults_of self.new))) }
         ensures call { IsNoted self.old (components path.now) self.new }
@@ -77,7 +77,7 @@ impl Files for NotingFiles {
 
     fn read_dir(&mut self, alloc: Global, path: &[u8]) -> Result<Vec<Vec<u8>>, FileError>
         ensures keeps { Keeps map_of faults_of is_quiet self.old self.new }
-        ensures answer { MatchResult result
+        ensures outcome { MatchResult result
             (λ names. IsListing (map_of self.old) (components path.now) (map vec_items names.items))
             (IsErrorOrMemory (folder_at (map_of self.old) (components path.now))
             (Rose (faults_of self.old) (faults_of self.new))) }
@@ -89,9 +89,9 @@ impl Files for NotingFiles {
 
     fn exists(&mut self, path: &[u8]) -> bool
         ensures keeps { Keeps map_of faults_of is_quiet self.old self.new }
-        ensures answer { let stands = exists_at (map_of self.old) (components path.now) in
-            MatchBool result (stands ≡ true)
-            ((stands ≡ false) ⊎ Rose (faults_of self.old) (faults_of self.new)) }
+        ensures outcome { let present = exists_at (map_of self.old) (components path.now) in
+            MatchBool result (present ≡ true)
+            ((present ≡ false) ⊎ Rose (faults_of self.old) (faults_of self.new)) }
         ensures call { IsNoted self.old (components path.now) self.new }
     {
         self.note(path);
@@ -100,7 +100,7 @@ impl Files for NotingFiles {
 
     fn canonical(&mut self, alloc: Global, path: &[u8]) -> Result<Vec<u8>, FileError>
         ensures keeps { Keeps map_of faults_of is_quiet self.old self.new }
-        ensures answer { let found = canonical_at (map_of self.old) (components path.now) in
+        ensures outcome { let found = canonical_at (map_of self.old) (components path.now) in
             MatchResult result (λ path. found ≡ Ok (components path.items))
             (IsErrorOrMemory found (Rose (faults_of self.old) (faults_of self.new))) }
         ensures call { IsNoted self.old (components path.now) self.new }

@@ -6,7 +6,7 @@ use Rattle.std.specs.Global.{Vec}
 use Rattle.std.specs.Prelude.{Decides, String}
 use Rattle.std.specs.declared.alloc.Global.{Global}
 use Rattle.cck_path.proofs.EqualityLemmas.{list_decides}
-use Rattle.cck_walk.specs.Digests.{listed}
+use Rattle.cck_walk.specs.Digests.{digest_pair}
 use Rattle.cck_walk.specs.Walk.{accepted_of}
 use Rattle.cck_walk.specs.contracts.walk.WalkPartialEq.TheImpl as same_walk
 use Rattle.cck_walk.specs.declared.walk.Walk.{Walk}
@@ -20,8 +20,8 @@ file_decides a b =
     Decides-like (same_file a b) (λ h. λ i. (h.0 i, h.1 i)) (λ e. (ap (λ (f : List ℕ × List ℕ). f.0) e, ap (λ (f : List ℕ × List ℕ). f.1) e))
     (Decides-and _ _ (bytes_decides a.0 b.0) (bytes_decides a.1 b.1))
 
-files_decide : (a b : List (Vec ℕ × String Global)) → Decides (pointwise (λ x y. same_file (listed x) (listed y)) a b) (map listed a ≡ map listed b)
-files_decide = list_decides listed same_file file_decides
+files_decide : (a b : List (Vec ℕ × String Global)) → Decides (pointwise (λ x y. same_file (digest_pair x) (digest_pair y)) a b) (map digest_pair a ≡ map digest_pair b)
+files_decide = list_decides digest_pair same_file file_decides
 
 pub walk_decides : (a b : Walk) → Decides (same_walk.ghosts.eq a b) (accepted_of a ≡ accepted_of b)
 walk_decides (Accepted files) (Accepted others) = Decides-like _ (λ e. ap Some e) (λ e. cc) (files_decide files.items others.items)

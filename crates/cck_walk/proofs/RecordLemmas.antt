@@ -15,7 +15,7 @@ use Rattle.cck_path.proofs.TestLemmas.{below_all, tied}
 use Rattle.cck_path_map.specs.PathMap.{IsPlaceOf, pair_of, path_of}
 use Rattle.cck_path_map.specs.Values.{map_values}
 use Rattle.cck_path_map.specs.declared.path_map.Entry.{Entry}
-use Rattle.cck_walk.specs.Digests.{AreNormal, listed, written}
+use Rattle.cck_walk.specs.Digests.{AreNormal, digest_pair, written}
 
 -- a normal path is its own normal form
 normal_names : (b : Bool) (ns : List (List ℕ)) → normal ((if b then Root ∷ [] else []) ++ map Name ns) ≡ (if b then Root ∷ [] else []) ++ map Name ns
@@ -75,13 +75,13 @@ read e = (path_text (path_of e), string_bytes e.value)
 
 -- the first entries were listed
 abbrev pub AreListed : List (Entry (String Global)) → ℕ → List (Vec ℕ × String Global) → Type 0
-AreListed es i files = map listed files ≡ map read (take i es)
+AreListed es i files = map digest_pair files ≡ map read (take i es)
 
 pub listed_more : (es : List (Entry (String Global))) (m : FinMap path_cmp (String Global)) → map pair_of es ≡ entries m → AreNormal m → (i : ℕ) → i < length es → (e : Entry (String Global)) → e ≡ get_or es i e
     → (files : List (Vec ℕ × String Global)) → AreListed es i files → (path : Vec ℕ) (digest : String Global) → path.items ≡ path_text (normal (path_of e)) → string_bytes digest ≡ string_bytes e.value
     → AreListed es (i + 1) (files ++ (path, digest) ∷ [])
 listed_more es m is all i low e at files so_far path digest p d =
-    map-append listed files ((path, digest) ∷ [])
+    map-append digest_pair files ((path, digest) ∷ [])
     ∙ (λ j. so_far j ++ ((p ∙ ap path_text (entry_normal es m is all i low e at)) j, d j) ∷ [])
     ∙ sym (map-append read (take i es) (e ∷ []))
     ∙ ap (map read) (ap (λ z. take i es ++ z ∷ []) at ∙ sym (take_more es i e low))
@@ -91,7 +91,7 @@ read_pairs [] = refl
 read_pairs (e ∷ es) = ap (λ z. read e ∷ z) (read_pairs es)
 
 pub listed_all : (es : List (Entry (String Global))) (m : FinMap path_cmp (String Global)) → map pair_of es ≡ entries m → (i : ℕ) → i ≡ length es → (files : List (Vec ℕ × String Global)) → AreListed es i files
-    → map listed files ≡ map written (entries (map_values string_bytes m))
+    → map digest_pair files ≡ map written (entries (map_values string_bytes m))
 listed_all es m is i end files so_far =
     so_far
     ∙ ap (λ k. map read (take k es)) end

@@ -7,10 +7,10 @@ use Rattle.std.specs.FinMap.{empty}
 use Rattle.cck_files.proofs.CallsLemmas.{calls_all, calls_among}
 use Rattle.cck_files.specs.Calls.{AreCalls}
 use Rattle.cck_markers.proofs.EachText.{each_text}
-use Rattle.cck_markers.specs.Markers.{Gives, MarksLeft, Unread, whole}
+use Rattle.cck_markers.specs.Markers.{Yields, MarksLeft, Unread, unread_text}
 use Rattle.cck_markers.specs.Marks.{Mark, Name, Refusal, Malformed}
 use Rattle.cck_path.specs.Path.{Path}
-use Rattle.cck_walk.specs.Decided.{Accepts, Asked, AsksForNone, Context, TextDecides, Digests, Errs, IsLookedFor, IsRefused, LooksForNone, Outcome, Passes, Refuses, after, decided, is_known, is_looked_for, is_passed, outcome, path_named, judgement_outcome}
+use Rattle.cck_walk.specs.Decided.{Accepts, IsAskedFor, AsksForNone, Context, TextDecides, Digests, Errs, IsLookedFor, IsRefused, LooksForNone, Outcome, Passes, Refuses, after, decided, is_known, is_looked_for, is_passed, outcome, path_named, judgement_outcome}
 use Rattle.cck_walk.specs.Judgement.{judgement_at}
 
 passed_by : (passed known : Bool) (o : Outcome) → not (passed || known) ≡ false → (if passed then Passes else if known then Passes else o) ≡ Passes
@@ -37,7 +37,7 @@ no_digests c d (Name name is_system ∷ before) marks held nothing none e =
     no_digests c d before marks held nothing none.1 (ap (λ o. decided c (after d o) before) (sym (passed_over c d name is_system here)) ∙ e)
 
 -- a text that looks for no file looks for no path
-pub none_asked : (c : Context) (text : List ℕ) → LooksForNone c text → (p : Path) → Asked c text p → ⊥
+pub none_asked : (c : Context) (text : List ℕ) → LooksForNone c text → (p : Path) → IsAskedFor c text p → ⊥
 none_asked c text none p asked =
     let so = no_digests c empty asked.before (Name asked.name asked.is_system ∷ asked.following) asked.held refl (none _ asked.marks) asked.undecided in
     let here : is_looked_for c asked.held asked.name asked.is_system ≡ false = ap (λ (x : Digests). is_looked_for c x asked.name asked.is_system) so.0 ∙ so.1.0 in
@@ -55,17 +55,17 @@ decided_on c (Some d) (Name name is_system ∷ before) marks held e = decided_on
 -- the marks before what is left decide nothing, and lead to these digests
 pub record Passed (c : Context) (text : List ℕ) (unread : Unread) (held : Digests) : Type 0 where
   pub before : List Mark
-  pub gives : Gives (whole text) before unread
+  pub gives : Yields (unread_text text) before unread
   pub undecided : decided c (Some empty) before ≡ Accepts held
 
 module _ (c : Context) (text : List ℕ) where
-  pub at_start : (unread : Unread) (held : Digests) → unread ≡ whole text → held ≡ empty → Passed c text unread held
+  pub at_start : (unread : Unread) (held : Digests) → unread ≡ unread_text text → held ≡ empty → Passed c text unread held
   unfolding decided
   at_start unread held same nothing = record { before = []; gives = λ marks left. subst (λ (u : Unread). MarksLeft u marks) same left; undecided = ap Accepts (sym nothing) }
 
   module _ (old : Unread) (held : Digests) (passed : Passed c text old held) where
     -- what is left decides, with these digests, what all of the text decides
-    leads : (marks : List Mark) → MarksLeft old marks → (all : List Mark) × MarksLeft (whole text) all × (decided c (Some empty) all ≡ decided c (Some held) marks)
+    leads : (marks : List Mark) → MarksLeft old marks → (all : List Mark) × MarksLeft (unread_text text) all × (decided c (Some empty) all ≡ decided c (Some held) marks)
     leads marks left = (passed.before ++ marks, passed.gives marks left, decided_on c (Some empty) passed.before marks held passed.undecided)
 
     pub accepted : MarksLeft old [] → TextDecides c text (Accepts held)
@@ -73,30 +73,30 @@ module _ (c : Context) (text : List ℕ) where
     accepted left = leads [] left
 
     module _ (new : Unread) where
-      pub refused : Gives old (Refusal ∷ []) new → TextDecides c text IsRefused
+      pub refused : Yields old (Refusal ∷ []) new → TextDecides c text IsRefused
       unfolding decided
       refused gives =
           let rest = each_text new.starts_line new.text in
           leads (Refusal ∷ rest.0) (gives rest.0 rest.1)
 
-      pub malformed : Gives old (Malformed ∷ []) new → TextDecides c text Errs
+      pub malformed : Yields old (Malformed ∷ []) new → TextDecides c text Errs
       unfolding decided
       malformed gives =
           let rest = each_text new.starts_line new.text in
           leads (Malformed ∷ rest.0) (gives rest.0 rest.1)
 
-      module _ (name : List ℕ) (is_system : Bool) (gives : Gives old (Name name is_system ∷ []) new) where
+      module _ (name : List ℕ) (is_system : Bool) (gives : Yields old (Name name is_system ∷ []) new) where
         -- a name was taken
         pub passed_on : (more : Digests) → after held (outcome c held name is_system) ≡ Some more → Passed c text new more
         unfolding decided
         passed_on more does = record {
           before = passed.before ++ Name name is_system ∷ [];
-          gives = λ marks left. subst (MarksLeft (whole text)) (sym (append_assoc passed.before (Name name is_system ∷ []) marks)) (passed.gives (Name name is_system ∷ marks) (gives marks left));
+          gives = λ marks left. subst (MarksLeft (unread_text text)) (sym (append_assoc passed.before (Name name is_system ∷ []) marks)) (passed.gives (Name name is_system ∷ marks) (gives marks left));
           undecided = decided_on c (Some empty) passed.before (Name name is_system ∷ []) held passed.undecided ∙ ap (λ o. decided c o []) does;
         }
 
         -- the name's path is looked for
-        asked : (p : Path) → IsLookedFor c held name is_system p → Asked c text p
+        asked : (p : Path) → IsLookedFor c held name is_system p → IsAskedFor c text p
         asked p looked_for =
             let rest = each_text new.starts_line new.text in
             record {
@@ -111,9 +111,9 @@ module _ (c : Context) (text : List ℕ) where
             }
 
         -- the calls for the name are calls for the text
-        pub calls_on : {F : Type 0} {is_call : F → Path → F → Type 0} (first between last : F) → AreCalls is_call (Asked c text) first between → AreCalls is_call (IsLookedFor c held name is_system) between last
-            → AreCalls is_call (Asked c text) first last
-        calls_on first between last before here = calls_all (Asked c text) first between last before (calls_among (IsLookedFor c held name is_system) (Asked c text) between last asked here)
+        pub calls_on : {F : Type 0} {is_call : F → Path → F → Type 0} (first between last : F) → AreCalls is_call (IsAskedFor c text) first between → AreCalls is_call (IsLookedFor c held name is_system) between last
+            → AreCalls is_call (IsAskedFor c text) first last
+        calls_on first between last before here = calls_all (IsAskedFor c text) first between last before (calls_among (IsLookedFor c held name is_system) (IsAskedFor c text) between last asked here)
 
         -- the text is refused for the name
         refused_name : outcome c held name is_system ≡ Refuses → TextDecides c text IsRefused
@@ -124,6 +124,6 @@ module _ (c : Context) (text : List ℕ) where
             (all.0, all.1, all.2 ∙ ap (λ o. decided c (after held o) rest.0) why)
 
         -- or a fault came where its path was looked for
-        pub error_by_fault : (P Q : Type 0) → (P → Q) → (outcome c held name is_system ≡ Refuses) ⊎ (P × (is_looked_for c held name is_system ≡ true)) → TextDecides c text IsRefused ⊎ (Q × (p : Path) × Asked c text p)
+        pub error_by_fault : (P Q : Type 0) → (P → Q) → (outcome c held name is_system ≡ Refuses) ⊎ (P × (is_looked_for c held name is_system ≡ true)) → TextDecides c text IsRefused ⊎ (Q × (p : Path) × IsAskedFor c text p)
         error_by_fault P Q f (inl why) = inl (refused_name why)
         error_by_fault P Q f (inr fault) = inr (f fault.0, path_named c name, asked (path_named c name) (fault.1, refl))

@@ -96,7 +96,7 @@ decided c (Some held) (Malformed ∷ marks) = Errs
 decided c (Some held) (Name name is_system ∷ marks) = decided c (after held (outcome c held name is_system)) marks
 
 -- a path that is looked for by a name of the text, where no mark before the name decides
-pub record Asked (c : Context) (text : List ℕ) (p : Path) : Type 0 where
+pub record IsAskedFor (c : Context) (text : List ℕ) (p : Path) : Type 0 where
   pub before : List Mark
   pub name : List ℕ
   pub is_system : Bool

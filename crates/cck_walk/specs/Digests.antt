@@ -21,5 +21,5 @@ abbrev pub written : Path × List ℕ → List ℕ × List ℕ
 written e = (path_text (e.0), e.1)
 
 -- the bytes of a path and of a digest
-abbrev pub listed : Vec ℕ × String Global → List ℕ × List ℕ
-listed e = (e.0.items, string_bytes (e.1))
+abbrev pub digest_pair : Vec ℕ × String Global → List ℕ × List ℕ
+digest_pair e = (e.0.items, string_bytes (e.1))

@@ -61,7 +61,7 @@ pub(crate) fn judge<H: HashState, F: Files>(
 ) -> Result<Judged, AllocError>
     ensures keeps { Keeps F.file_map F.faults F.is_quiet files.old files.new }
     ensures calls { AreCalls F.is_call (λ p. p ≡ components path.now) files.old files.new }
-    ensures answer { IsJudged (judgement_at (setting_of H.hash context.now)
+    ensures outcome { IsJudged (judgement_at (setting_of H.hash context.now)
         (F.file_map files.old) (components path.now)) (Rose (F.faults files.old) (F.faults files.new)) result }
 {
     let metadata = match files.metadata(path) {

@@ -2,7 +2,7 @@
 ghost use Rattle.std.specs.Prelude.{◌≡◌, ◌↔◌, IsTrue, List, ℕ};
 ghost use Rattle.cck_files.specs.Calls.{AreCalls};
 ghost use Rattle.cck_path.specs.Path.{Path};
-ghost use Rattle.cck_walk.specs.Decided.{Asked, Context, LooksForNone};
+ghost use Rattle.cck_walk.specs.Decided.{IsAskedFor, Context, LooksForNone};
 ghost use Rattle.cck_walk.specs.Walk.{accepted_of};
 
 use crate::{LineAction, Walk};
@@ -21,7 +21,7 @@ pub fn equality_is_exact()
 /// the files unchanged.
 pub fn nothing_is_asked<F: Files>()
     ensures path { (c : Context) (text : List ℕ) → LooksForNone c text →
-        (p : Path) → Asked c text p → ⊥ }
+        (p : Path) → IsAskedFor c text p → ⊥ }
     ensures files { (c : Context) (text : List ℕ) → LooksForNone c text →
-        (before after : F) → AreCalls F.is_call (Asked c text) before after → after ≡ before }
+        (before after : F) → AreCalls F.is_call (IsAskedFor c text) before after → after ≡ before }
 {}

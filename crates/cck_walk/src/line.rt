@@ -71,7 +71,7 @@ pub fn process_preprocessor_line<H: HashState, F: Files>(
     ensures calls { AreCalls F.is_call (IsLineLookedFor (context_in H.hash config moment
         (plain_zone zone.now) vars.now (F.file_map files.old) input_file.now cwd.now) records.old
         (drop start text.now)) files.old files.new }
-    ensures answer { IsLineResult (context_in H.hash config moment (plain_zone zone.now) vars.now
+    ensures outcome { IsLineResult (context_in H.hash config moment (plain_zone zone.now) vars.now
         (F.file_map files.old) input_file.now cwd.now) (Rose (F.faults files.old) (F.faults files.new))
         (drop start text.now) start hash_start records.old records.new result }
 {

@@ -71,7 +71,7 @@ pub(crate) fn take_name<H: HashState, F: Files>(
     ensures keeps { Keeps F.file_map F.faults F.is_quiet files.old files.new }
     ensures calls { AreCalls F.is_call (IsLookedFor (context_of H.hash context.now
         (F.file_map files.old)) records.old name.now is_system) files.old files.new }
-    ensures answer { IsNameResult (context_of H.hash context.now (F.file_map files.old)) (Rose (F.faults files.old) (F.faults files.new))
+    ensures outcome { IsNameResult (context_of H.hash context.now (F.file_map files.old)) (Rose (F.faults files.old) (F.faults files.new))
         records.old records.new name.now is_system result }
 {
     if is_passed(name, is_system, context.judge.config.skip_system_headers) {

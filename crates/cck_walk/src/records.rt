@@ -4,7 +4,7 @@ ghost use Rattle.std.specs.FinMap as finite;
 ghost use Rattle.std.specs.Option.{option_copied};
 ghost use Rattle.cck_path.specs.Path.{components, normal};
 ghost use Rattle.cck_path_map.specs.Values.{map_values};
-ghost use Rattle.cck_walk.specs.Digests.{AreNormal, listed, written};
+ghost use Rattle.cck_walk.specs.Digests.{AreNormal, digest_pair, written};
 
 use cck_path::normalize_path;
 use cck_path_map::PathMap;
@@ -83,7 +83,7 @@ impl Records {
     // All files in the order of their paths.
     pub(crate) fn to_list(&self, alloc: Global) -> Result<Vec<(Vec<u8>, String)>, AllocError>
         ensures { IfOk result (λ files.
-            map listed files.items ≡ map written (finite.entries self.now)) }
+            map digest_pair files.items ≡ map written (finite.entries self.now)) }
     {
         list_of(alloc, &self.digests)
     }
@@ -93,7 +93,7 @@ impl Records {
 // so each is normalised: its normal form is written in one way only.
 fn list_of(alloc: Global, digests: &PathMap<String>) -> Result<Vec<(Vec<u8>, String)>, AllocError>
     requires { AreNormal digests.now }
-    ensures { IfOk result (λ files. map listed files.items
+    ensures { IfOk result (λ files. map digest_pair files.items
         ≡ map written (finite.entries (map_values string_bytes digests.now))) }
 {
     let mut files = Vec::new(alloc);

@@ -1,7 +1,7 @@
 //! The walk over a text.
 ghost use Rattle.cck_files.specs.Calls.{AreCalls, Keeps, Rose};
 ghost use Rattle.jiff.specs.Words.{plain_zone};
-ghost use Rattle.cck_walk.specs.Decided.{Asked, context_in};
+ghost use Rattle.cck_walk.specs.Decided.{IsAskedFor, context_in};
 ghost use Rattle.cck_walk.specs.Walk.{IsWalk};
 ghost use Rattle.cck_walk.specs.WalkContext.{context_of};
 
@@ -61,9 +61,9 @@ pub fn process_preprocessed_file<H: HashState, F: Files>(
     vars: &[(Vec<u8>, Vec<u8>)],
 ) -> Result<Walk, KeyError>
     ensures keeps { Keeps F.file_map F.faults F.is_quiet files.old files.new }
-    ensures calls { AreCalls F.is_call (Asked (context_in H.hash config moment (plain_zone zone.now)
+    ensures calls { AreCalls F.is_call (IsAskedFor (context_in H.hash config moment (plain_zone zone.now)
         vars.now (F.file_map files.old) input_file.now cwd.now) text.now) files.old files.new }
-    ensures answer { IsWalk (context_in H.hash config moment (plain_zone zone.now) vars.now
+    ensures outcome { IsWalk (context_in H.hash config moment (plain_zone zone.now) vars.now
         (F.file_map files.old) input_file.now cwd.now) (Rose (F.faults files.old) (F.faults files.new))
         text.now result }
 {
@@ -90,8 +90,8 @@ fn walk_text<H: HashState, F: Files>(
 ) -> Result<Walk, KeyError>
     ensures keeps { Keeps F.file_map F.faults F.is_quiet files.old files.new }
     ensures calls { AreCalls F.is_call
-        (Asked (context_of H.hash context.now (F.file_map files.old)) text.now) files.old files.new }
-    ensures answer { IsWalk (context_of H.hash context.now (F.file_map files.old))
+        (IsAskedFor (context_of H.hash context.now (F.file_map files.old)) text.now) files.old files.new }
+    ensures outcome { IsWalk (context_of H.hash context.now (F.file_map files.old))
         (Rose (F.faults files.old) (F.faults files.new)) text.now result }
 {
     let mut records = Records::new(alloc);

@@ -1,11 +1,11 @@
 //! Computing a key without the store.
-ghost use Rattle.std.specs.Prelude.{◌≡◌, IfErr, IfOk, IsOkUnless, map, option_map, string_bytes};
+ghost use Rattle.std.specs.Prelude.{◌≡◌, IfErr, IfOk, map, string_bytes};
 ghost use Rattle.cck_files.specs.Calls.{Keeps, Rose};
-ghost use Rattle.cck_path.specs.Text.{join_path};
 ghost use Rattle.cck_util.specs.Key.{object_key};
 ghost use Rattle.c_cache_keys.specs.Conditions.{call_under, given_of, request_under, world_under};
-ghost use Rattle.c_cache_keys.specs.Hasher.{IsOpening, IsPrintedFor, made_of};
 ghost use Rattle.c_cache_keys.specs.Keys.{params};
+ghost use Rattle.c_cache_keys.specs.Making.{IsPreprocessed, made_of};
+ghost use Rattle.c_cache_keys.specs.Opening.{IsOpening};
 ghost use Rattle.c_cache_keys.specs.Reasons.{IsFileReason};
 ghost use Rattle.c_cache_keys.specs.Step.{Makes};
 
@@ -23,7 +23,20 @@ use cck_path::join_path;
 use cck_store::PreprocessorStore;
 use cck_util::HashKeyParams;
 use cck_walk::{Walk, process_preprocessed_file};
-use std::alloc::Global;
+use std::alloc::{AllocError, Global};
+
+/// An input that was preprocessed, and what its key and the entry of that key are made of.
+#[derive(Drop)]
+pub(crate) struct PreprocessedInput<'a> {
+    /// The path of the input, joined to the working directory.
+    pub(crate) path: &'a [u8],
+    /// The preprocessor key.
+    pub(crate) key: &'a str,
+    /// The hex digests of the extra files, in their order.
+    pub(crate) extra_hashes: &'a [String],
+    /// The preprocessed text.
+    pub(crate) text: &'a [u8],
+}
 
 impl<I: CCompilerImpl> CCompilerHasher<I> {
     /// Computes the key, and puts an entry of it if one can be made.
@@ -54,7 +67,7 @@ impl<I: CCompilerImpl> CCompilerHasher<I> {
                 Ok(text) => text,
                 Err(error) => return Err(input_error(error)),
             };
-            return self.plain_key::<H>(alloc, &opening.extra_hashes, conditions, &text);
+            return Ok(self.plain_key::<H>(alloc, &opening.extra_hashes, conditions, &text)?);
         }
         let text = match self.compiler.preprocess(
             alloc,
@@ -68,19 +81,16 @@ impl<I: CCompilerImpl> CCompilerHasher<I> {
             Ok(text) => text,
             Err(error) => return Err(text_error(error)),
         };
-        match &opening.key {
-            None => self.plain_key::<H>(alloc, &opening.extra_hashes, conditions, &text),
-            Some(at) => self.walk_and_put::<H, F, S>(
-                alloc,
-                files,
-                store,
-                at.as_str(),
-                &opening.extra_hashes,
-                conditions,
-                &input,
-                &text,
-            ),
-        }
+        let Some(key) = &opening.key else {
+            return Ok(self.plain_key::<H>(alloc, &opening.extra_hashes, conditions, &text)?);
+        };
+        let input = PreprocessedInput {
+            path: &input,
+            key: key.as_str(),
+            extra_hashes: &opening.extra_hashes,
+            text: &text,
+        };
+        self.walk_and_put::<H, F, S>(alloc, files, store, conditions, &input)
     }
 
     // The plain key for a text.
@@ -90,12 +100,11 @@ impl<I: CCompilerImpl> CCompilerHasher<I> {
         extra_hashes: &[String],
         conditions: &Conditions<'_>,
         text: &[u8],
-    ) -> Result<String, KeyError>
-        ensures key { let given = given_of conditions.now in
+    ) -> Result<String, AllocError>
+        ensures { let given = given_of conditions.now in
             let w = world_under H.hash I.compiler given in
             IfOk result (λ key. string_bytes key
             ≡ object_key H.hash (params w (request_under I.value self.now given) (map string_bytes extra_hashes.now) text.now)) }
-        ensures refused { IsOkUnless result KeyError.Memory }
     {
         let args = &self.parsed_args;
         let mut arguments = Vec::new(alloc);
@@ -114,27 +123,22 @@ impl<I: CCompilerImpl> CCompilerHasher<I> {
         .with_assembler_digest(self.assembler_digest());
         match params.compute::<H>(alloc) {
             Ok(key) => Ok(key),
-            Err(_) => Err(KeyError::Memory),
+            Err(_) => Err(AllocError),
         }
     }
 
-    // The key of a preprocessed text, where there is a preprocessor key. The walk judges the text;
-    // if it accepts the text and records files, the entry of the key is put.
+    // The key of an input that was preprocessed. The walk judges its text; if it accepts the text
+    // and records files, the entry of the key is put.
     fn walk_and_put<H: HashState, F: Files, S: PreprocessorStore>(
         &self,
         alloc: Global,
         files: &mut F,
         store: &mut S,
-        at: &str,
-        extra_hashes: &[String],
         conditions: &Conditions<'_>,
-        input: &[u8],
-        text: &[u8],
+        input: &PreprocessedInput<'_>,
     ) -> Result<String, KeyError>
-        requires input { input.now ≡ join_path conditions.now.cwd.now self.now.parsed_args.input.items }
-        requires printed { let given = given_of conditions.now in
-            IsPrintedFor (world_under H.hash I.compiler given) (call_under I.value (F.file_map files.old) self.now given)
-            at.now (map string_bytes extra_hashes.now) text.now }
+        requires { let given = given_of conditions.now in
+            IsPreprocessed (world_under H.hash I.compiler given) (call_under I.value (F.file_map files.old) self.now given) input.now }
         ensures keeps { Keeps F.file_map F.faults F.is_quiet files.old files.new }
         ensures makes { let given = given_of conditions.now in
             Makes (world_under H.hash I.compiler given) S.store (call_under I.value (F.file_map files.old) self.now given)
@@ -143,47 +147,36 @@ impl<I: CCompilerImpl> CCompilerHasher<I> {
             IfErr result (IsFileReason (world_under H.hash I.compiler given) (call_under I.value (F.file_map files.old) self.now given)
             (Rose (F.faults files.old) (F.faults files.new))) }
     {
-        let walk = match process_preprocessed_file::<H, F>(
+        let walk = process_preprocessed_file::<H, F>(
             alloc,
             files,
-            input,
+            input.path,
             conditions.cwd,
-            text,
+            input.text,
             conditions.config,
             conditions.moment,
             conditions.zone,
             conditions.vars,
-        ) {
-            Ok(walk) => walk,
-            Err(error) => return Err(error),
-        };
+        )?;
+        let key = self.plain_key::<H>(alloc, input.extra_hashes, conditions, input.text)?;
         let records = match walk {
             Walk::Accepted(records) => records,
-            Walk::Refused => return self.plain_key::<H>(alloc, extra_hashes, conditions, text),
+            Walk::Refused => return Ok(key),
         };
-        let key = match self.plain_key::<H>(alloc, extra_hashes, conditions, text) {
-            Ok(key) => key,
-            Err(error) => return Err(error),
-        };
-        let included = match included_of(alloc, records) {
-            Ok(included) => included,
-            Err(error) => return Err(error),
-        };
+        let included = included_of(alloc, records)?;
         let included: &[(String, Vec<u8>)] = &included;
         if included.is_empty() {
             return Ok(key);
         }
-        match put_result(
+        put_result(
             alloc,
             files,
             store,
-            at,
+            input.key,
             key.as_str(),
             included,
             conditions.moment,
-        ) {
-            Ok(()) => Ok(key),
-            Err(error) => Err(error),
-        }
+        )?;
+        Ok(key)
     }
 }

@@ -6,8 +6,8 @@ ghost use Rattle.cck_path.specs.Bytes.{variables_of};
 ghost use Rattle.cck_files.specs.Calls.{Keeps, Rose};
 ghost use Rattle.cck_util.specs.Language.{is_preprocessed_first};
 ghost use Rattle.c_cache_keys.specs.Conditions.{call_under, given_of, world_under};
-ghost use Rattle.c_cache_keys.specs.Hasher.{IsInputError, IsKeyOfInput, IsOpening};
 ghost use Rattle.c_cache_keys.specs.Keys.{is_direct, is_off};
+ghost use Rattle.c_cache_keys.specs.Opening.{IsInputError, IsKeyOfInput, IsOpening};
 ghost use Rattle.c_cache_keys.specs.Reasons.{IsFileReason};
 ghost use Rattle.c_cache_keys.specs.Seen.{why_of};
 ghost use Rattle.c_cache_keys.specs.Step.{StopsOpening};
@@ -94,7 +94,7 @@ impl<I: CCompilerImpl> CCompilerHasher<I> {
         conditions: &Conditions<'_>,
     ) -> Result<Opening, KeyError>
         ensures keeps { Keeps F.file_map F.faults F.is_quiet files.old files.new }
-        ensures answer { let given = given_of conditions.now in
+        ensures outcome { let given = given_of conditions.now in
             let w = world_under H.hash I.compiler given in
             let c = call_under I.value (F.file_map files.old) self.now given in
             MatchResult result (IsOpening w c)
@@ -132,7 +132,7 @@ impl<I: CCompilerImpl> CCompilerHasher<I> {
         extra_hashes: &[String],
     ) -> Result<Option<String>, KeyError>
         ensures keeps { Keeps F.file_map F.faults F.is_quiet files.old files.new }
-        ensures answer { let given = given_of conditions.now in
+        ensures outcome { let given = given_of conditions.now in
             let w = world_under H.hash I.compiler given in
             let c = call_under I.value (F.file_map files.old) self.now given in
             MatchResult result (λ key. IsKeyOfInput w c (map string_bytes extra_hashes.now) (option_map string_bytes key))

@@ -29,7 +29,7 @@ impl Files for MapFiles {
     #[tactic(auto, unfolding(crate::specs::FileMap::metadata_at))]
     fn metadata(&mut self, path: &[u8]) -> Result<Metadata, FileError>
         ensures keeps { Keeps (λ files. files.files) fault_count IsQuiet self.old self.new }
-        ensures answer { let found = metadata_at self.old.files (components path.now) in
+        ensures outcome { let found = metadata_at self.old.files (components path.now) in
             MatchResult result (λ metadata. found ≡ Ok metadata)
             (IsError found (Rose (fault_count self.old) (fault_count self.new))) }
         ensures call { IsAfterCall self.old self.new }
@@ -47,7 +47,7 @@ impl Files for MapFiles {
     #[tactic(auto, unfolding(crate::specs::FileMap::contents_at))]
     fn read_at(&mut self, path: &[u8], offset: u64, buffer: &mut [u8]) -> Result<usize, FileError>
         ensures keeps { Keeps (λ files. files.files) fault_count IsQuiet self.old self.new }
-        ensures answer { let found = contents_at self.old.files (components path.now) in
+        ensures outcome { let found = contents_at self.old.files (components path.now) in
             MatchResult result (λ n. IsOkAnd found (λ contents. IsRead contents offset n buffer.new))
             (IsError found (Rose (fault_count self.old) (fault_count self.new))) }
         ensures full { IfOk result (λ n. IsOkAnd (contents_at self.old.files (components path.now))
@@ -71,7 +71,7 @@ impl Files for MapFiles {
     #[tactic(auto, unfolding(crate::specs::FileMap::folder_at))]
     fn read_dir(&mut self, alloc: Global, path: &[u8]) -> Result<Vec<Vec<u8>>, FileError>
         ensures keeps { Keeps (λ files. files.files) fault_count IsQuiet self.old self.new }
-        ensures answer { MatchResult result
+        ensures outcome { MatchResult result
             (λ names. IsListing self.old.files (components path.now) (map vec_items names.items))
             (IsErrorOrMemory (folder_at self.old.files (components path.now))
             (Rose (fault_count self.old) (fault_count self.new))) }
@@ -95,9 +95,9 @@ impl Files for MapFiles {
     #[tactic(auto, unfolding(crate::specs::FileMap::exists_at))]
     fn exists(&mut self, path: &[u8]) -> bool
         ensures keeps { Keeps (λ files. files.files) fault_count IsQuiet self.old self.new }
-        ensures answer { let stands = exists_at self.old.files (components path.now) in
-            MatchBool result (stands ≡ true)
-            ((stands ≡ false) ⊎ Rose (fault_count self.old) (fault_count self.new)) }
+        ensures outcome { let present = exists_at self.old.files (components path.now) in
+            MatchBool result (present ≡ true)
+            ((present ≡ false) ⊎ Rose (fault_count self.old) (fault_count self.new)) }
         ensures call { IsAfterCall self.old self.new }
         ensures fault { result ≡ (if fails self.old.armed then false
             else exists_at self.old.files (components path.now)) }
@@ -111,7 +111,7 @@ impl Files for MapFiles {
     #[tactic(auto, unfolding(crate::specs::FileMap::canonical_at))]
     fn canonical(&mut self, alloc: Global, path: &[u8]) -> Result<Vec<u8>, FileError>
         ensures keeps { Keeps (λ files. files.files) fault_count IsQuiet self.old self.new }
-        ensures answer { let found = canonical_at self.old.files (components path.now) in
+        ensures outcome { let found = canonical_at self.old.files (components path.now) in
             MatchResult result (λ path. found ≡ Ok (components path.items))
             (IsErrorOrMemory found (Rose (fault_count self.old) (fault_count self.new))) }
         ensures text { IfOk result (λ path. path.items ≡ path_text (components path.items)) }

@@ -1,6 +1,6 @@
 use Rattle.std.proofs.Common.{◌≡◌, ◌++◌}
 use Rattle.cck_include.specs.Gathered.{digested_in}
-use Rattle.c_cache_keys.specs.Walked.{digested_of}
+use Rattle.c_cache_keys.specs.Included.{digested_of}
 use Rattle.c_cache_keys.proofs.included.included_of.Given as goal
 
 -- the files that are done, followed by the others, are all files

@@ -1,5 +1,5 @@
 use Rattle.std.proofs.Common.{◌≡◌, ◌≤◌, ◌-◌, length, map, take, drop}
-use Rattle.cck_markers.specs.Markers.{Gives}
+use Rattle.cck_markers.specs.Markers.{Yields}
 use Rattle.cck_c.specs.Marks.{mark_in, unread_in}
 use Rattle.cck_c.proofs.marks.cck_marks.Given as goal
 
@@ -7,7 +7,7 @@ use Rattle.cck_c.proofs.marks.cck_marks.Given as goal
 abbrev pub invariant-loop-count : goal.invariant-loop-count
 invariant-loop-count l = record {
   within : l.count ≤ length l.initial.marks;
-  read : Gives (unread_in l.fn.unread) (map mark_in (take l.count l.marks)) l.markers;
+  read : Yields (unread_in l.fn.unread) (map mark_in (take l.count l.marks)) l.markers;
   kept : drop l.count l.marks ≡ drop l.count l.initial.marks;
 }
 

@@ -8,9 +8,9 @@ one [] a least most e = absurd (omega (least, arith))
 one (x ∷ []) a least most e = cc
 one (x ∷ y ∷ xs) a least most e = absurd (omega (most, arith))
 
-told : (r : Bool) (words : List (List ℕ)) (word : List ℕ) → r ≡ pointwise nat_eq word (codes "run") → words ≡ word ∷ [] → MatchBool r (words ≡ run_words) (words ≢ run_words)
-told true words word e split = split ∙ ap (λ w. w ∷ []) (same_text word (codes "run") e)
-told false words word e split = λ is.
+claim : (r : Bool) (words : List (List ℕ)) (word : List ℕ) → r ≡ pointwise nat_eq word (codes "run") → words ≡ word ∷ [] → MatchBool r (words ≡ run_words) (words ≢ run_words)
+claim true words word e split = split ∙ ap (λ w. w ∷ []) (same_text word (codes "run") e)
+claim false words word e split = λ is.
     let same : word ≡ codes "run" = cc in
     let yes : pointwise nat_eq word (codes "run") ≡ true = (bytes_decides word (codes "run")).1 same in
     absurd cc
@@ -18,4 +18,4 @@ told false words word e split = λ is.
 pub returns : goal.returns
 returns c =
     let split = one c.args.words.now c.command-item.result c.in-len1.len_at_least c.in-len1.len_below c.command-item.is in
-    told c.eq.result _ _ c.eq.ensures (ap (map string_bytes) split ∙ ap (λ w. w ∷ []) (sym c.as_str.ensures.value))
+    claim c.eq.result _ _ c.eq.ensures (ap (map string_bytes) split ∙ ap (λ w. w ∷ []) (sym c.as_str.ensures.value))

@@ -14,4 +14,4 @@ pub returns-in_default-clause-pushed : goal.returns-in_default-clause-pushed
 returns-in_default-clause-pushed g c =
     sym (append-nil (lists_of c.args.all.now.items))
     ∙ ap (λ paths. lists_of c.args.all.now.items ++ paths) (sym (no_libraries (g.F.Files.file_map c.args.files.now) c.args.folder.now
-    (Rose (g.F.Files.faults c.args.files.now) (g.F.Files.faults c.sorted_names.new.files)) c.in-Err.error c.in_default.not-Memory c.in_default.not-Fault c.in-Err.ensures.answer))
+    (Rose (g.F.Files.faults c.args.files.now) (g.F.Files.faults c.sorted_names.new.files)) c.in-Err.error c.in_default.not-Memory c.in_default.not-Fault c.in-Err.ensures.outcome))

@@ -1,15 +1,14 @@
-use Rattle.std.proofs.Common.{rules, ◌≡◌, List, map, inl, sym, [], ◌∷◌, ◌++◌, true, false, ap, subst, ◌∙◌, append_assoc}
+use Rattle.std.proofs.Common.{rules, ◌≡◌, map, inl, sym, [], ◌∷◌, ◌++◌, true, false, ap, subst, ◌∙◌, append_assoc}
 use Rattle.std.proofs.lemmas.List.{append-nil}
-use Rattle.std.specs.List.{AllByRecursion, list_all}
+use Rattle.std.specs.List.{list_all}
 use Rattle.std.specs.Iterator.Adapters.{rev_source}
 use Rattle.std.specs.Slice.Iter.{iter_rest}
 use Rattle.cck_files.proofs.CallsLemmas.{keeps_all, keeps_itself}
 use Rattle.cck_files.specs.Calls.{Rose}
 use Rattle.cck_include.specs.Known.{AreKnown}
 use Rattle.cck_include.specs.Matching.{MayMiss, matches}
-use Rattle.cck_entry.specs.Lent.{IsWhole, includes_begun, result_lent}
+use Rattle.cck_entry.specs.Lent.{includes_begun, result_lent}
 use Rattle.cck_entry.specs.Find.{found_in}
-use Rattle.cck_entry.specs.declared.lent.ResultRef.{ResultRef}
 use Rattle.cck_entry.proofs.LookupLemmas.{hits, misses}
 use Rattle.cck_include.specs.JudgeContext.{setting_of}
 use Rattle.cck_entry.proofs.lookup.find_lent.Goals as goal
@@ -27,16 +26,6 @@ loop-lent-init g c =
       so_far = inl (ap (λ l. found_in (matches s (F.file_map c.args.files.now)) (map result_lent l)) all);
     }
 
--- each result of a list is whole
-whole_of : (left rest : List ResultRef) (lent : ResultRef) → AllByRecursion IsWhole ((left ++ lent ∷ []) ++ rest) → IsWhole lent
-whole_of [] rest lent h = h.0
-whole_of (x ∷ left) rest lent h = whole_of left rest lent h.1
-
-pub lent_matches-requires : goal.lent_matches-requires
-lent_matches-requires g c =
-    whole_of (iter_rest (rev_source c.next.new.self)) c.loop-lent.invariant.seen.0 c.in-Some.lent.now
-    (subst (AllByRecursion IsWhole) (c.loop-lent.invariant.seen.1 ∙ ap (λ l. l ++ c.loop-lent.invariant.seen.0) c.in-Some.ensures.steps) c.requires)
-
 pub loop-lent-preserved : goal.loop-lent-preserved
 loop-lent-preserved g c =
     let F = g.F.Files in
@@ -48,7 +37,7 @@ loop-lent-preserved g c =
     let R = Rose (F.faults c.loop-lent.files) (F.faults c.lent_matches.new.files) in
     let includes = includes_begun lent.count lent.includes.now in
     let there : MayMiss R false (list_all (matches s old) includes) =
-    rw (← c.loop-lent.invariant.keeps.same_map) (subst (λ b. MayMiss R b (list_all (matches s (F.file_map c.loop-lent.files)) includes)) c.if-matches.false (c.in_ok-matches.ensures.answer right)) in
+    rw (← c.loop-lent.invariant.keeps.same_map) (subst (λ b. MayMiss R b (list_all (matches s (F.file_map c.loop-lent.files)) includes)) c.if-matches.false (c.in_ok-matches.ensures.outcome right)) in
     record {
       keeps = keeps_all c.args.files.now c.loop-lent.files c.lent_matches.new.files c.loop-lent.invariant.keeps c.in_ok-matches.ensures.keeps;
       known = subst (λ m. AreKnown s m c.lent_matches.new.known) c.loop-lent.invariant.keeps.same_map (c.in_ok-matches.ensures.known right);
@@ -61,8 +50,8 @@ loop-lent-preserved g c =
           c.in-Some.ensures.steps c.loop-lent.invariant.keeps.not_lower c.in_ok-matches.ensures.keeps.not_lower c.loop-lent.invariant.so_far there;
     }
 
-pub returns-then-matches-clause-answer : goal.returns-then-matches-clause-answer
-returns-then-matches-clause-answer g c =
+pub returns-then-matches-clause-outcome : goal.returns-then-matches-clause-outcome
+returns-then-matches-clause-outcome g c =
     let F = g.F.Files in
     let s = setting_of g.H.HashState.hash c.args.context.now in
     let old = F.file_map c.args.files.now in
@@ -71,7 +60,7 @@ returns-then-matches-clause-answer g c =
     let R = Rose (F.faults c.loop-lent.files) (F.faults c.lent_matches.new.files) in
     let includes = includes_begun lent.count lent.includes.now in
     let there : MayMiss R true (list_all (matches s old) includes) =
-    rw (← c.loop-lent.invariant.keeps.same_map) (subst (λ b. MayMiss R b (list_all (matches s (F.file_map c.loop-lent.files)) includes)) c.if-matches.true (c.in_ok-matches.ensures.answer right)) in
+    rw (← c.loop-lent.invariant.keeps.same_map) (subst (λ b. MayMiss R b (list_all (matches s (F.file_map c.loop-lent.files)) includes)) c.if-matches.true (c.in_ok-matches.ensures.outcome right)) in
     hits result_lent (matches s old) c.args.results.now (iter_rest (rev_source c.loop-lent.lent-iterator)) (iter_rest (rev_source c.next.new.self)) c.loop-lent.invariant.seen.0 lent
     (F.faults c.args.files.now) (F.faults c.loop-lent.files) (F.faults c.lent_matches.new.files)
     c.in-Some.ensures.steps c.loop-lent.invariant.seen.1 c.in_ok-matches.ensures.keeps.not_lower c.loop-lent.invariant.so_far there

@@ -3,7 +3,7 @@ use Rattle.std.specs.Iterator.Adapters.{rev_source}
 use Rattle.std.specs.Slice.Iter.{iter_rest}
 use Rattle.cck_entry.specs.Find.{found_in}
 use Rattle.cck_entry.specs.Lent.{result_lent}
-use Rattle.cck_entry.specs.declared.lent.ResultRef.{ResultRef}
+use Rattle.cck_entry.specs.declared.result_ref.ResultRef.{ResultRef}
 use Rattle.cck_files.specs.Calls.{Keeps, Rose}
 use Rattle.cck_include.specs.Known.{AreKnown}
 use Rattle.cck_include.specs.Matching.{matches}

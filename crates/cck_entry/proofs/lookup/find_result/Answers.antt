@@ -35,7 +35,7 @@ loop-key-preserved g c =
     let right : AreKnown s (F.file_map c.loop-key.files) c.loop-key.known = rw c.loop-key.invariant.keeps.same_map c.loop-key.invariant.known in
     let R = Rose (F.faults c.loop-key.files) (F.faults c.includes_match.new.files) in
     let there : MayMiss R false (list_all (matches s old) (includes_in c.in-Some.includes.now.items)) =
-    rw (← c.deref.ensures.value, ← c.loop-key.invariant.keeps.same_map) (subst (λ b. MayMiss R b (list_all (matches s (F.file_map c.loop-key.files)) (includes_in c.deref.result.now))) c.if-matches.false (c.in_ok-matches.ensures.answer right)) in
+    rw (← c.deref.ensures.value, ← c.loop-key.invariant.keeps.same_map) (subst (λ b. MayMiss R b (list_all (matches s (F.file_map c.loop-key.files)) (includes_in c.deref.result.now))) c.if-matches.false (c.in_ok-matches.ensures.outcome right)) in
     record {
       can = tt;
       finite = tt;
@@ -50,15 +50,15 @@ loop-key-preserved g c =
           c.in-Some.ensures.steps c.loop-key.invariant.keeps.not_lower c.in_ok-matches.ensures.keeps.not_lower c.loop-key.invariant.so_far there;
     }
 
-pub returns-then-matches-clause-answer : goal.returns-then-matches-clause-answer
-returns-then-matches-clause-answer g c =
+pub returns-then-matches-clause-outcome : goal.returns-then-matches-clause-outcome
+returns-then-matches-clause-outcome g c =
     let F = g.F.Files in
     let s = setting_of g.H.HashState.hash c.args.context.now in
     let old = F.file_map c.args.files.now in
     let right : AreKnown s (F.file_map c.loop-key.files) c.loop-key.known = rw c.loop-key.invariant.keeps.same_map c.loop-key.invariant.known in
     let R = Rose (F.faults c.loop-key.files) (F.faults c.includes_match.new.files) in
     let there : MayMiss R true (list_all (matches s old) (includes_in c.in-Some.includes.now.items)) =
-    rw (← c.deref.ensures.value, ← c.loop-key.invariant.keeps.same_map) (subst (λ b. MayMiss R b (list_all (matches s (F.file_map c.loop-key.files)) (includes_in c.deref.result.now))) c.if-matches.true (c.in_ok-matches.ensures.answer right)) in
+    rw (← c.deref.ensures.value, ← c.loop-key.invariant.keeps.same_map) (subst (λ b. MayMiss R b (list_all (matches s (F.file_map c.loop-key.files)) (includes_in c.deref.result.now))) c.if-matches.true (c.in_ok-matches.ensures.outcome right)) in
     rw c.as_str.ensures.value (hits result_in (matches s old) c.args.results.now.entries (rev_source c.loop-key.key-iterator) (rev_source c.next.new.self) c.loop-key.invariant.seen.0 (c.in-Some.key.now, c.in-Some.includes.now)
     (F.faults c.args.files.now) (F.faults c.loop-key.files) (F.faults c.includes_match.new.files)
     c.in-Some.ensures.steps c.loop-key.invariant.seen.1 c.in_ok-matches.ensures.keeps.not_lower c.loop-key.invariant.so_far there)

@@ -26,18 +26,18 @@ returns-then-not-matches-clause-known g c = λ right.
     let before : AreKnown s (F.file_map c.loop.files) c.loop.known = rw c.loop.invariant.keeps.same_map (c.loop.invariant.known right) in
     subst (λ m. AreKnown s m c.include_matches.new.known) c.loop.invariant.keeps.same_map (c.include_matches.ensures.known before)
 
-pub returns-then-not-matches-clause-answer : goal.returns-then-not-matches-clause-answer
-returns-then-not-matches-clause-answer g c = λ right.
+pub returns-then-not-matches-clause-outcome : goal.returns-then-not-matches-clause-outcome
+returns-then-not-matches-clause-outcome g c = λ right.
     let F = g.F.Files in
     let s = setting_of g.H.HashState.hash c.args.context.now in
     let m = matches s (F.file_map c.args.files.now) in
     let lent = c.args.lent.now in
     let n = include_lent c.in-Ok.read.0 in
-    let next = begun_next lent.count c.loop.counter c.loop.rest.now n c.in-Ok.read.1.now c.loop-test.true c.in-Ok.ensures c.loop.invariant.whole in
+    let next = begun_next lent.count c.loop.counter c.loop.rest.now n c.in-Ok.read.1.now c.loop-test.true c.in-Ok.ensures.read c.loop.invariant.whole in
     let before : AreKnown s (F.file_map c.loop.files) c.loop.known = rw c.loop.invariant.keeps.same_map (c.loop.invariant.known right) in
     let R = Rose (F.faults c.loop.files) (F.faults c.include_matches.new.files) in
     let there : MayMiss R false (m n) =
-    rw (← c.loop.invariant.keeps.same_map) (subst (λ b. MayMiss R b (matches s (F.file_map c.loop.files) n)) c.if-not-matches.true (c.in_ok-matches.ensures.answer before)) in
+    rw (← c.loop.invariant.keeps.same_map) (subst (λ b. MayMiss R b (matches s (F.file_map c.loop.files) n)) c.if-not-matches.true (c.in_ok-matches.ensures.outcome before)) in
     one_misses m n (includes_begun (lent.count - c.loop.counter) c.loop.rest.now) (includes_begun (lent.count - (c.loop.counter + 1)) c.in-Ok.read.1.now) (includes_begun lent.count lent.includes.now)
     (F.faults c.args.files.now) (F.faults c.loop.files) (F.faults c.include_matches.new.files) next.0 c.loop.invariant.keeps.not_lower there (c.loop.invariant.left right)
 
@@ -48,11 +48,11 @@ loop-preserved g c =
     let old = F.file_map c.args.files.now in
     let lent = c.args.lent.now in
     let n = include_lent c.in-Ok.read.0 in
-    let next = begun_next lent.count c.loop.counter c.loop.rest.now n c.in-Ok.read.1.now c.loop-test.true c.in-Ok.ensures c.loop.invariant.whole in
+    let next = begun_next lent.count c.loop.counter c.loop.rest.now n c.in-Ok.read.1.now c.loop-test.true c.in-Ok.ensures.read c.loop.invariant.whole in
     let before : AreKnown s old c.args.known.now → AreKnown s (F.file_map c.loop.files) c.loop.known = λ right. rw c.loop.invariant.keeps.same_map (c.loop.invariant.known right) in
     let R = Rose (F.faults c.loop.files) (F.faults c.include_matches.new.files) in
     let fits : AreKnown s old c.args.known.now → matches s old n ≡ true = λ right.
-    rw (← c.loop.invariant.keeps.same_map) (subst (λ b. MayMiss R b (matches s (F.file_map c.loop.files) n)) c.if-not-matches.false (c.in_ok-matches.ensures.answer (before right))) in
+    rw (← c.loop.invariant.keeps.same_map) (subst (λ b. MayMiss R b (matches s (F.file_map c.loop.files) n)) c.if-not-matches.false (c.in_ok-matches.ensures.outcome (before right))) in
     record {
       keeps = keeps_all c.args.files.now c.loop.files c.include_matches.new.files c.loop.invariant.keeps c.in_ok-matches.ensures.keeps;
       known = λ right. subst (λ m. AreKnown s m c.include_matches.new.known) c.loop.invariant.keeps.same_map (c.include_matches.ensures.known (before right));
@@ -61,11 +61,11 @@ loop-preserved g c =
           (includes_begun lent.count lent.includes.now) next.0 (fits right) (c.loop.invariant.left right);
     }
 
-pub returns-clause-answer : goal.returns-clause-answer
-returns-clause-answer g c = λ right.
+pub returns-clause-outcome : goal.returns-clause-outcome
+returns-clause-outcome g c = λ right.
     let F = g.F.Files in
     let s = setting_of g.H.HashState.hash c.args.context.now in
     sym (c.loop.invariant.left right) ∙ ap (list_all (matches s (F.file_map c.args.files.now))) (begun_done c.args.lent.now.count c.loop.counter c.loop.rest.now c.loop-test.false)
 
 pub out_of_memory-requires : goal.out_of_memory-requires
-out_of_memory-requires g c = begun_ends c.in-Err.error c.args.lent.now.count c.loop.counter c.loop.rest.now c.loop-test.true c.in-Err.ensures c.loop.invariant.whole
+out_of_memory-requires g c = begun_ends c.in-Err.error c.args.lent.now.count c.loop.counter c.loop.rest.now c.loop-test.true c.in-Err.ensures.read c.loop.invariant.whole

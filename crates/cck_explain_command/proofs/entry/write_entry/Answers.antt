@@ -18,12 +18,12 @@ returns-clause-listed g c =
     let listing = subst (IsListingOf c.args.bytes.now) (sym c.deref.ensures.value) c.in_ok-listing.ensures.listed in
     (c.deref.result.now, listing, c.in_ok-print.ensures.whole)
 
-pub returns-in_err-listing-clause-refused : goal.returns-in_err-listing-clause-refused
-returns-in_err-listing-clause-refused g c =
+pub returns-in_err-listing-clause-errors : goal.returns-in_err-listing-clause-errors
+returns-in_err-listing-clause-errors g c =
     let p = err_from_is_err_and c.from_residual.result c.from_residual.ensures.1 in
-    err_with c.from_residual.result _ p.0 p.1 (entry_error c.args.bytes.now c.in_err-listing.field-0.0 p.0 _ c.in_err-listing.ensures.refused p.2)
+    err_with c.from_residual.result _ p.0 p.1 (entry_error c.args.bytes.now c.in_err-listing.field-0.0 p.0 _ c.in_err-listing.ensures.errors p.2)
 
-pub returns-in_err-print-clause-refused : goal.returns-in_err-print-clause-refused
-returns-in_err-print-clause-refused g c =
+pub returns-in_err-print-clause-errors : goal.returns-in_err-print-clause-errors
+returns-in_err-print-clause-errors g c =
     let p = err_from_is_err_and c.from_residual-in_err-print.result c.from_residual-in_err-print.ensures.1 in
     err_with c.from_residual-in_err-print.result _ p.0 p.1 (write_error c.args.bytes.now p.0 _ _ p.2)

@@ -10,3 +10,6 @@ returns-in_err-key-clause-begun g c = after_error c.from_residual-in_err-key.res
 
 pub returns-in_err-parts-clause-begun : goal.returns-in_err-parts-clause-begun
 returns-in_err-parts-clause-begun g c = after_error c.from_residual-in_err-parts.result _ (if_any _ _ (λ text. begun_nothing _ _))
+
+pub returns-in_err-cuts-clause-begun : goal.returns-in_err-cuts-clause-begun
+returns-in_err-cuts-clause-begun g c = after_error c.from_residual-in_err-cuts.result _ (if_any _ _ (λ text. begun_nothing _ _))

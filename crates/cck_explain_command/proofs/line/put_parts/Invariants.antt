@@ -7,4 +7,4 @@ use Rattle.cck_explain_command.proofs.line.put_parts.Given as goal
 abbrev pub invariant-loop-part : goal.invariant-loop-part
 invariant-loop-part g l =
     PutSoFar (g.W.Write.contents l.fn.writer) l.fn.buffer.items (g.W.Write.contents l.writer) l.buffer.items
-    (part_lines g.H.HashState.hash l.offset (listed l.is_full (drop l.part-index l.parts))) (part_lines g.H.HashState.hash 0 (listed l.is_full l.parts))
+    (part_lines l.offset (listed l.is_full (drop l.part-index l.parts))) (part_lines 0 (listed l.is_full l.parts))

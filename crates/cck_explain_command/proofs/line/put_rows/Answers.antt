@@ -1,7 +1,7 @@
-use Rattle.std.proofs.Common.{◌≡◌, ◌+◌, ◌∙◌, [], refl, sym, ap, arith, length}
+use Rattle.std.proofs.Common.{◌+◌, ◌∙◌, [], sym, ap, arith, length}
 use Rattle.cck_digest.proofs.StreamLemmas.{after_error}
 use Rattle.cck_explain_command.specs.Key.{part}
-use Rattle.cck_explain_command.specs.Listing.{part_line, part_lines, rows}
+use Rattle.cck_explain_command.specs.Listing.{part_lines, rows}
 use Rattle.cck_explain_command.proofs.BufferLemmas.{puts_nothing}
 use Rattle.cck_explain_command.proofs.PutLemmas.{of_last_row, of_row, so_far_begun, so_far_last, so_far_more}
 use Rattle.std.proofs.Common.{append-nil}
@@ -9,13 +9,13 @@ use Rattle.cck_explain_command.proofs.line.put_rows.Goals as goal
 
 pub loop-rest-init : goal.loop-rest-init
 loop-rest-init g c = record {
-  put = record { done = []; put = puts_nothing _ _; all = ap (λ b. part_lines g.H.HashState.hash c.args.offset (rows (part c.args.part.now.name b))) c.bytes-rest.ensures };
+  put = record { done = []; put = puts_nothing _ _; all = ap (λ b. part_lines c.args.offset (rows (part c.args.part.now.name b))) c.bytes-rest.ensures };
   place = ap (λ b. c.args.offset + length b) c.bytes-rest.ensures;
 }
 
 pub loop-rest-preserved : goal.loop-rest-preserved
 loop-rest-preserved g c =
-    let is = of_row g.H.HashState.hash c.loop-rest.at c.args.part.now.name c.name.result.now c.loop-rest.rest.now c.split_at.result.0.now c.split_at.result.1.now
+    let is = of_row c.loop-rest.at c.args.part.now.name c.name.result.now c.loop-rest.rest.now c.split_at.result.0.now c.split_at.result.1.now
     c.loop-rest-test.true c.name.ensures c.split_at.ensures.front c.split_at.ensures.back in
     record {
       put = so_far_more _ _ _ _ _ _ _ _ _ _ c.loop-rest.invariant.put is c.in_ok-put_line.ensures.put;
@@ -24,17 +24,17 @@ loop-rest-preserved g c =
 
 pub returns-in_err-put_line-clause-begun : goal.returns-in_err-put_line-clause-begun
 returns-in_err-put_line-clause-begun g c =
-    let is = of_row g.H.HashState.hash c.loop-rest.at c.args.part.now.name c.name.result.now c.loop-rest.rest.now c.split_at.result.0.now c.split_at.result.1.now
+    let is = of_row c.loop-rest.at c.args.part.now.name c.name.result.now c.loop-rest.rest.now c.split_at.result.0.now c.split_at.result.1.now
     c.loop-rest-test.true c.name.ensures c.split_at.ensures.front c.split_at.ensures.back in
     after_error c.from_residual.result _ (so_far_begun _ _ _ _ _ [] _ _ _ _ c.loop-rest.invariant.put is c.in_err-put_line.ensures.begun)
 
 pub returns-clause-put : goal.returns-clause-put
 returns-clause-put g c =
-    let is = of_last_row g.H.HashState.hash c.loop-rest.at c.args.part.now.name c.name-2.result.now c.loop-rest.rest.now c.loop-rest-test.false c.name-2.ensures in
+    let is = of_last_row c.loop-rest.at c.args.part.now.name c.name-2.result.now c.loop-rest.rest.now c.loop-rest-test.false c.name-2.ensures in
     so_far_last _ _ _ _ _ _ _ _ _ c.loop-rest.invariant.put is c.in_ok-put_line-2.ensures.put
 
 pub returns-in_err-put_line-2-clause-begun : goal.returns-in_err-put_line-2-clause-begun
 returns-in_err-put_line-2-clause-begun g c =
-    let is = of_last_row g.H.HashState.hash c.loop-rest.at c.args.part.now.name c.name-2.result.now c.loop-rest.rest.now c.loop-rest-test.false c.name-2.ensures in
+    let is = of_last_row c.loop-rest.at c.args.part.now.name c.name-2.result.now c.loop-rest.rest.now c.loop-rest-test.false c.name-2.ensures in
     after_error c.from_residual-in_err-put_line-2.result _
     (so_far_begun _ _ _ _ _ [] _ _ _ [] c.loop-rest.invariant.put (is ∙ sym (append-nil _)) c.in_err-put_line-2.ensures.begun)

@@ -8,7 +8,7 @@ use Rattle.cck_explain_command.proofs.line.put_rows.Given as goal
 abbrev pub invariant-loop-rest : goal.invariant-loop-rest
 invariant-loop-rest g l = record {
   put : PutSoFar (g.W.Write.contents l.fn.writer) l.fn.buffer.items (g.W.Write.contents l.writer) l.buffer.items
-      (part_lines g.H.HashState.hash l.at (rows (part l.part.name l.rest))) (part_lines g.H.HashState.hash l.offset (rows l.part));
+      (part_lines l.at (rows (part l.part.name l.rest))) (part_lines l.offset (rows l.part));
   place : l.at + length l.rest ≡ l.offset + length l.part.bytes;
 }
 

@@ -1,8 +1,8 @@
-use Rattle.std.proofs.Common.{◌≡◌, ◌∷◌, [], ◌++◌, sym, ap, ◌∙◌, arith, codes, length, map, take, append_assoc, rules}
+use Rattle.std.proofs.Common.{◌≡◌, ◌∷◌, ◌++◌, sym, ap, ◌∙◌, arith, codes, length, append_assoc}
 use Rattle.std.specs.Cow.{cow_slice_items}
 use Rattle.cck_path.specs.Bytes.{lists_of}
 use Rattle.cck_strip.specs.Argument.{stripped_argument}
-use Rattle.cck_explain_command.specs.Key.{frame_parts, frames_parts, item_name, length_part}
+use Rattle.cck_explain_command.specs.Key.{frame_parts, item_name, length_part}
 use Rattle.cck_explain_command.proofs.ListingLemmas.{frames_more}
 use Rattle.cck_explain_command.proofs.part.push_arguments.Goals as goal
 

@@ -1,4 +1,4 @@
-use Rattle.std.proofs.Common.{◌++◌, ap, ap₂, ◌∙◌}
+use Rattle.std.proofs.Common.{◌++◌, ap₂, ◌∙◌}
 use Rattle.cck_explain_entry.proofs.listing.entry_listing.Goals as goal
 
 pub returns-clause-listed : goal.returns-clause-listed

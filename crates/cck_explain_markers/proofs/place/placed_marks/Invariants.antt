@@ -1,12 +1,12 @@
 use Rattle.std.proofs.Common.{◌≡◌, ◌++◌, ℕ, List, All, length, map}
-use Rattle.cck_markers.specs.Markers.{Gives, mark_of, whole}
+use Rattle.cck_markers.specs.Markers.{Yields, mark_of, unread_text}
 use Rattle.cck_explain_markers.specs.Place.{IsPlacedIn, position_after}
 use Rattle.cck_explain_markers.proofs.place.placed_marks.Given as goal
 
 -- with the marks of the rest the marks so far are those of the text, and the rest is at the place
 abbrev pub invariant-loop-item : goal.invariant-loop-item
 invariant-loop-item l = record {
-  marks : Gives (whole l.text) (map (λ p. mark_of p.mark) l.placed.items) (record { starts_line = l.starts_line; text = l.rest });
+  marks : Yields (unread_text l.text) (map (λ p. mark_of p.mark) l.placed.items) (record { starts_line = l.starts_line; text = l.rest });
   places : All (IsPlacedIn l.text) l.placed.items;
   place : (front : List ℕ) × (l.text ≡ front ++ l.rest) × (l.position ≡ position_after front);
 }

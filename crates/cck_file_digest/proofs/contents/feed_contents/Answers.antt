@@ -16,7 +16,7 @@ pub loop-count-preserved : goal.loop-count-preserved
 loop-count-preserved g c =
     let found = contents_at (g.F.Files.file_map c.args.files.now) (components c.args.path.now) in
     let read : IsOkAnd found (λ contents. IsRead contents c.loop-count.offset c.in_ok-count.count c.read_at.new.buffer) =
-    rw (← c.loop-count.invariant.keeps.same_map) c.in_ok-count.ensures.answer in
+    rw (← c.loop-count.invariant.keeps.same_map) c.in_ok-count.ensures.outcome in
     record {
       keeps = keeps_all _ _ _ c.loop-count.invariant.keeps c.in_ok-count.ensures.keeps;
       calls = one_more c.loop-count.files (components c.args.path.now) c.loop-count.invariant.calls refl c.in_ok-count.ensures.call;
@@ -31,7 +31,7 @@ pub returns-in_err-take-clause-begun : goal.returns-in_err-take-clause-begun
 returns-in_err-take-clause-begun g c =
     let found = contents_at (g.F.Files.file_map c.args.files.now) (components c.args.path.now) in
     let read : IsOkAnd found (λ contents. IsRead contents c.loop-count.offset c.in_ok-count.count c.read_at.new.buffer) =
-    rw (← c.loop-count.invariant.keeps.same_map) c.in_ok-count.ensures.answer in
+    rw (← c.loop-count.invariant.keeps.same_map) c.in_ok-count.ensures.outcome in
     after_error c.from_residual-in_err-take.result _
     (fed_begun_more _ _ _ _ _ c.in_ok-count.count c.read_at.new.buffer found c.loop-count.invariant.fed read c.in_err-take.ensures.begun)
 

@@ -17,9 +17,9 @@ loop-path-preserved g c =
     let among : i < length xs = omega arith in
     let at : components c.deref.result.now ≡ get_or (paths_of xs) i [] = ap components c.deref.ensures.value ∙ path_at xs i c.path-item.result among c.path-item.is in
     let text : text_at hash fm (get_or (paths_of xs) i []) ≡ Some (string_bytes c.in_ok-digest_path.field-0) =
-    ap (text_at hash fm) (sym at) ∙ (ap (λ m. text_at hash m (components c.deref.result.now)) (sym c.loop-path.invariant.keeps.same_map) ∙ c.in_ok-digest_path.ensures.answer) in
+    ap (text_at hash fm) (sym at) ∙ (ap (λ m. text_at hash m (components c.deref.result.now)) (sym c.loop-path.invariant.keeps.same_map) ∙ c.in_ok-digest_path.ensures.outcome) in
     record {
       keeps = keeps_all _ _ _ c.loop-path.invariant.keeps c.in_ok-digest_path.ensures.keeps;
-      told = texts_more hash fm (paths_of xs) i _ _ (simp length-map among) c.loop-path.invariant.told text
+      claim = texts_more hash fm (paths_of xs) i _ _ (simp length-map among) c.loop-path.invariant.claim text
           ∙ ap Some (sym (ap (map string_bytes) c.in_ok-push.ensures.items ∙ map-append string_bytes c.loop-path.all.items (c.in_ok-digest_path.field-0 ∷ [])));
     }

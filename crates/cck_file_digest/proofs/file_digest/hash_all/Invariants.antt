@@ -8,5 +8,5 @@ use Rattle.cck_file_digest.proofs.file_digest.hash_all.Given as goal
 abbrev pub invariant-loop-path : goal.invariant-loop-path
 invariant-loop-path g l = let F = g.F.Files in record {
   keeps : Keeps F.file_map F.faults F.is_quiet l.fn.files l.files;
-  told : texts g.H.HashState.hash (F.file_map l.fn.files) (take l.path-index (paths_of l.paths)) ≡ Some (map string_bytes l.all.items);
+  claim : texts g.H.HashState.hash (F.file_map l.fn.files) (take l.path-index (paths_of l.paths)) ≡ Some (map string_bytes l.all.items);
 }

@@ -7,43 +7,43 @@ use Rattle.cck_path.specs.Path.{Path, Name, components}
 use Rattle.cck_path.specs.declared.metadata.FileKind.TheVariants.{File, Folder}
 use Rattle.cck_files.specs.Calls.{Rose}
 use Rattle.cck_files.proofs.CallsLemmas.{keeps_all, rose_earlier}
-use Rattle.cck_file_digest.specs.Folder.{IsInOrder, child_name}
+use Rattle.cck_file_digest.specs.Folder.{AreChildNames, child_name}
 use Rattle.cck_file_digest.proofs.FolderSteps.{fed_all, fed_child, fed_more}
 use Rattle.cck_file_digest.proofs.NodeLemmas.{IsAt, at_metadata, child_at, child_failed, child_exists, contents_failed, fed_file, fed_folder, listing_failed, metadata_failed, name_at, other_kind, exists_of, too_deep}
 use Rattle.cck_file_digest.proofs.folder.+feed_node.Goals as goal
 
-pub returns-in_err-metadata-clause-answer : goal.returns-in_err-metadata-clause-answer
-returns-in_err-metadata-clause-answer g t c =
+pub returns-in_err-metadata-clause-outcome : goal.returns-in_err-metadata-clause-outcome
+returns-in_err-metadata-clause-outcome g t c =
     let p = err_from_is_err_and c.from_residual.result c.from_residual.ensures.1 in
     rw (p.1, p.2) (metadata_failed (g.F.Files.file_map c.args.files.now) (components c.args.path.now) c.args.level
-    (Rose (g.F.Files.faults c.args.files.now) (g.F.Files.faults c.metadata.new.self)) c.in_err-metadata.field-0.0 c.in_err-metadata.ensures.answer)
+    (Rose (g.F.Files.faults c.args.files.now) (g.F.Files.faults c.metadata.new.self)) c.in_err-metadata.field-0.0 c.in_err-metadata.ensures.outcome)
 
-pub returns-in_err-feed_named-in-File-clause-answer :
-    goal.returns-in_err-feed_named-in-File-clause-answer
-returns-in_err-feed_named-in-File-clause-answer g t c =
+pub returns-in_err-feed_named-in-File-clause-outcome :
+    goal.returns-in_err-feed_named-in-File-clause-outcome
+returns-in_err-feed_named-in-File-clause-outcome g t c =
     let p = err_from_is_err_and c.from_residual-in_err-feed_named-in-File.result c.from_residual-in_err-feed_named-in-File.ensures.1 in
-    let file : IsAt (g.F.Files.file_map c.args.files.now) (components c.args.path.now) File = at_metadata _ _ _ _ c.in_ok-metadata.ensures.answer c.in-File.is in
+    let file : IsAt (g.F.Files.file_map c.args.files.now) (components c.args.path.now) File = at_metadata _ _ _ _ c.in_ok-metadata.ensures.outcome c.in-File.is in
     let rose = rose_earlier (g.F.Files.faults c.args.files.now) (g.F.Files.faults c.metadata.new.self) (g.F.Files.faults c.feed_named.new.files) c.metadata.ensures.keeps.not_lower in
     rw (p.1, p.2) (contents_failed _ _ (g.F.Files.file_map c.metadata.new.self) c.args.level _ _ c.in_err-feed_named-in-File.field-0.0
-    c.metadata.ensures.keeps.same_map file rose c.in_err-feed_named-in-File.ensures.answer)
+    c.metadata.ensures.keeps.same_map file rose c.in_err-feed_named-in-File.ensures.outcome)
 
-pub returns-then-level-gt-FOLDER_LEVELS-clause-answer :
-    goal.returns-then-level-gt-FOLDER_LEVELS-clause-answer
-returns-then-level-gt-FOLDER_LEVELS-clause-answer g t c =
-    too_deep _ _ _ (at_metadata _ _ _ _ c.in_ok-metadata.ensures.answer c.in-Folder.is) (omega (arith, c.if-level-gt-FOLDER_LEVELS.true))
+pub returns-then-level-gt-FOLDER_LEVELS-clause-outcome :
+    goal.returns-then-level-gt-FOLDER_LEVELS-clause-outcome
+returns-then-level-gt-FOLDER_LEVELS-clause-outcome g t c =
+    too_deep _ _ _ (at_metadata _ _ _ _ c.in_ok-metadata.ensures.outcome c.in-Folder.is) (omega (arith, c.if-level-gt-FOLDER_LEVELS.true))
 
-pub returns-in_err-names-in-Folder-clause-answer :
-    goal.returns-in_err-names-in-Folder-clause-answer
-returns-in_err-names-in-Folder-clause-answer g t c =
+pub returns-in_err-names-in-Folder-clause-outcome :
+    goal.returns-in_err-names-in-Folder-clause-outcome
+returns-in_err-names-in-Folder-clause-outcome g t c =
     let p = err_from_is_err_and c.from_residual-in_err-names-in-Folder.result c.from_residual-in_err-names-in-Folder.ensures.1 in
-    let folder : IsAt (g.F.Files.file_map c.args.files.now) (components c.args.path.now) Folder = at_metadata _ _ _ _ c.in_ok-metadata.ensures.answer c.in-Folder.is in
+    let folder : IsAt (g.F.Files.file_map c.args.files.now) (components c.args.path.now) Folder = at_metadata _ _ _ _ c.in_ok-metadata.ensures.outcome c.in-Folder.is in
     let rose = rose_earlier (g.F.Files.faults c.args.files.now) (g.F.Files.faults c.metadata.new.self) (g.F.Files.faults c.sorted_names.new.files) c.metadata.ensures.keeps.not_lower in
     rw (p.1, p.2) (listing_failed _ _ (g.F.Files.file_map c.metadata.new.self) c.args.level _ _ c.in_err-names-in-Folder.field-0.0
-    c.metadata.ensures.keeps.same_map folder rose c.in_err-names-in-Folder.ensures.answer)
+    c.metadata.ensures.keeps.same_map folder rose c.in_err-names-in-Folder.ensures.outcome)
 
-pub returns-in_err-feed_node-in-Folder-clause-answer :
-    goal.returns-in_err-feed_node-in-Folder-clause-answer
-returns-in_err-feed_node-in-Folder-clause-answer g t c =
+pub returns-in_err-feed_node-in-Folder-clause-outcome :
+    goal.returns-in_err-feed_node-in-Folder-clause-outcome
+returns-in_err-feed_node-in-Folder-clause-outcome g t c =
     let fm = g.F.Files.file_map c.args.files.now in
     let path : Path = components c.args.path.now in
     let xs = c.deref-child-items.result.now in
@@ -51,7 +51,7 @@ returns-in_err-feed_node-in-Folder-clause-answer g t c =
     let i = c.loop-child.child-index in
     let among : i < length xs = omega arith in
     let here : i < length names = simp length-map among in
-    let order : IsInOrder fm.nodes path names = rw (c.deref-child-items.ensures.value, ← c.metadata.ensures.keeps.same_map) c.in_ok-names-in-Folder.ensures.answer in
+    let order : AreChildNames fm.nodes path names = rw (c.deref-child-items.ensures.value, ← c.metadata.ensures.keeps.same_map) c.in_ok-names-in-Folder.ensures.outcome in
     let is : c.deref.result.now ≡ get_or names i [] = c.deref.ensures.value ∙ name_at xs i c.child-item.result among c.child-item.is in
     let at : components c.deref-in-loop-child-2.result.now ≡ path ++ Name (get_or names i []) ∷ [] =
     child_at fm path _ c.deref.result.now names i here order is (ap components c.deref-in-loop-child-2.ensures.value ∙ c.in_ok-child_path-in-Folder.ensures.components) in
@@ -59,9 +59,9 @@ returns-in_err-feed_node-in-Folder-clause-answer g t c =
     let rose = rose_earlier (g.F.Files.faults c.args.files.now) (g.F.Files.faults c.loop-child.files) (g.F.Files.faults c.feed_node.new.files) c.loop-child.invariant.keeps.not_lower in
     rw (p.1, p.2) (child_failed fm path (g.F.Files.file_map c.loop-child.files) (components c.deref-in-loop-child-2.result.now) names i c.args.level _ _ c.in_err-feed_node-in-Folder.field-0.0
     c.loop-child.invariant.keeps.same_map here order at
-    (at_metadata _ _ _ _ c.in_ok-metadata.ensures.answer c.in-Folder.is)
+    (at_metadata _ _ _ _ c.in_ok-metadata.ensures.outcome c.in-Folder.is)
     (child_exists fm path _ names i here order at)
-    rose c.in_err-feed_node-in-Folder.ensures.answer)
+    rose c.in_err-feed_node-in-Folder.ensures.outcome)
 
 pub loop-child-preserved : goal.loop-child-preserved
 loop-child-preserved g t c =
@@ -72,7 +72,7 @@ loop-child-preserved g t c =
     let i = c.loop-child.child-index in
     let among : i < length xs = omega arith in
     let here : i < length names = simp length-map among in
-    let order : IsInOrder fm.nodes path names = rw (c.deref-child-items.ensures.value, ← c.metadata.ensures.keeps.same_map) c.in_ok-names-in-Folder.ensures.answer in
+    let order : AreChildNames fm.nodes path names = rw (c.deref-child-items.ensures.value, ← c.metadata.ensures.keeps.same_map) c.in_ok-names-in-Folder.ensures.outcome in
     let is : c.deref.result.now ≡ get_or names i [] = c.deref.ensures.value ∙ name_at xs i c.child-item.result among c.child-item.is in
     let at : components c.deref-in-loop-child-2.result.now ≡ path ++ Name (get_or names i []) ∷ [] =
     child_at fm path _ c.deref.result.now names i here order is (ap components c.deref-in-loop-child-2.ensures.value ∙ c.in_ok-child_path-in-Folder.ensures.components) in
@@ -83,29 +83,29 @@ loop-child-preserved g t c =
       room = omega arith;
       fed = fed_more g.H.HashState.holds c.args.level (option_copied c.args.name) fm.nodes path names i c.args.digest.now c.loop-child.digest c.feed_node.new.digest here c.loop-child.invariant.fed
           (fed_child g.H.HashState.holds c.args.level (option_copied c.args.name) fm.nodes path (components c.deref-in-loop-child-2.result.now) (get_or names i []) c.loop-child.digest c.feed_node.new.digest at
-          (rw (← named, ← c.loop-child.invariant.keeps.same_map) c.in_ok-feed_node-in-Folder.ensures.answer.1));
+          (rw (← named, ← c.loop-child.invariant.keeps.same_map) c.in_ok-feed_node-in-Folder.ensures.outcome.1));
     }
 
-pub returns-in_ok-feed_named-in-File-clause-answer :
-    goal.returns-in_ok-feed_named-in-File-clause-answer
-returns-in_ok-feed_named-in-File-clause-answer g t c =
+pub returns-in_ok-feed_named-in-File-clause-outcome :
+    goal.returns-in_ok-feed_named-in-File-clause-outcome
+returns-in_ok-feed_named-in-File-clause-outcome g t c =
     let fm = g.F.Files.file_map c.args.files.now in
-    let file : IsAt fm (components c.args.path.now) File = at_metadata _ _ _ _ c.in_ok-metadata.ensures.answer c.in-File.is in (
+    let file : IsAt fm (components c.args.path.now) File = at_metadata _ _ _ _ c.in_ok-metadata.ensures.outcome c.in-File.is in (
       exists_of _ _ _ file,
-      fed_file _ _ _ _ _ _ _ file (rw (← c.metadata.ensures.keeps.same_map) c.in_ok-feed_named-in-File.ensures.answer),
+      fed_file _ _ _ _ _ _ _ file (rw (← c.metadata.ensures.keeps.same_map) c.in_ok-feed_named-in-File.ensures.outcome),
     )
 
-pub returns-after-loop-child-clause-answer : goal.returns-after-loop-child-clause-answer
-returns-after-loop-child-clause-answer g t c =
+pub returns-after-loop-child-clause-outcome : goal.returns-after-loop-child-clause-outcome
+returns-after-loop-child-clause-outcome g t c =
     let fm = g.F.Files.file_map c.args.files.now in
     let path : Path = components c.args.path.now in
     let names : List (List ℕ) = map vec_items c.deref-child-items.result.now in
-    let order : IsInOrder fm.nodes path names = rw (c.deref-child-items.ensures.value, ← c.metadata.ensures.keeps.same_map) c.in_ok-names-in-Folder.ensures.answer in
-    let folder : IsAt fm path Folder = at_metadata _ _ _ _ c.in_ok-metadata.ensures.answer c.in-Folder.is in (
+    let order : AreChildNames fm.nodes path names = rw (c.deref-child-items.ensures.value, ← c.metadata.ensures.keeps.same_map) c.in_ok-names-in-Folder.ensures.outcome in
+    let folder : IsAt fm path Folder = at_metadata _ _ _ _ c.in_ok-metadata.ensures.outcome c.in-Folder.is in (
       exists_of _ _ _ folder,
       fed_folder fm path g.H.HashState.holds c.args.level (option_copied c.args.name) c.args.digest.now c.loop-child.digest folder (omega arith)
           (fed_all _ _ _ _ _ names c.loop-child.child-index _ _ (simp length-map (omega arith)) order c.loop-child.invariant.fed),
     )
 
-pub returns-in-Other-clause-answer : goal.returns-in-Other-clause-answer
-returns-in-Other-clause-answer g t c = other_kind _ _ (at_metadata _ _ _ _ c.in_ok-metadata.ensures.answer c.in-Other.is)
+pub returns-in-Other-clause-outcome : goal.returns-in-Other-clause-outcome
+returns-in-Other-clause-outcome g t c = other_kind _ _ (at_metadata _ _ _ _ c.in_ok-metadata.ensures.outcome c.in-Other.is)

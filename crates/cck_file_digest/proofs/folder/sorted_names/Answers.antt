@@ -4,7 +4,7 @@ use Rattle.cck_file_digest.proofs.NameOrder.{in_order}
 use Rattle.cck_file_digest.proofs.folder.sorted_names.Goals as goal
 
 pub returns-clause-names : goal.returns-clause-names
-returns-clause-names g c = names_in_order _ _ _ (in_order vec_items _ _ _ _ c.in_ok-names.ensures.answer c.sort_unstable.ensures.permutation c.sort_unstable.ensures.sorted)
+returns-clause-names g c = names_in_order _ _ _ (in_order vec_items _ _ _ _ c.in_ok-names.ensures.outcome c.sort_unstable.ensures.permutation c.sort_unstable.ensures.sorted)
 
-pub returns-clause-answer : goal.returns-clause-answer
-returns-clause-answer g c = in_order vec_items _ _ _ _ c.in_ok-names.ensures.answer c.sort_unstable.ensures.permutation c.sort_unstable.ensures.sorted
+pub returns-clause-outcome : goal.returns-clause-outcome
+returns-clause-outcome g c = in_order vec_items _ _ _ _ c.in_ok-names.ensures.outcome c.sort_unstable.ensures.permutation c.sort_unstable.ensures.sorted

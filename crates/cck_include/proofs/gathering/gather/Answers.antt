@@ -14,15 +14,15 @@ pub loop-digest-init : goal.loop-digest-init
 unfolding gathered
 loop-digest-init g c = record { keeps = keeps_itself c.args.files.now; so_far = rw c.new-includes.ensures.items refl }
 
-pub returns-in_err-include-clause-answer : goal.returns-in_err-include-clause-answer
-returns-in_err-include-clause-answer g c =
+pub returns-in_err-include-clause-outcome : goal.returns-in_err-include-clause-outcome
+returns-in_err-include-clause-outcome g c =
     let F = g.F.Files in
     let old = F.file_map c.args.files.now in
     let item = c.loop-digest-item.result in
     let R = Rose (F.faults c.loop-digest.files) (F.faults c.include_at.new.files) in
     let S = Rose (F.faults c.args.files.now) (F.faults c.include_at.new.files) in
     let p = err_from_is_err_and c.from_residual.result c.from_residual.ensures.1 in
-    let there : IsMissing (include_at old c.args.moment (string_bytes item.0, item.1.items) ≡ None) R c.in_err-include.field-0.0 = rw (← c.deref.ensures, ← c.deref-in-loop-digest.ensures.value, ← c.loop-digest.invariant.keeps.same_map) c.in_err-include.ensures.answer in
+    let there : IsMissing (include_at old c.args.moment (string_bytes item.0, item.1.items) ≡ None) R c.in_err-include.field-0.0 = rw (← c.deref.ensures, ← c.deref-in-loop-digest.ensures.value, ← c.loop-digest.invariant.keeps.same_map) c.in_err-include.ensures.outcome in
     rw (p.1, p.2) (missing_all old c.args.moment c.args.included.now c.loop-digest.digest-index item R S c.in_err-include.field-0.0 c.loop-digest-test.true c.loop-digest-item.is
     (rose_earlier (F.faults c.args.files.now) (F.faults c.loop-digest.files) (F.faults c.include_at.new.files) c.loop-digest.invariant.keeps.not_lower) there)
 
@@ -31,7 +31,7 @@ loop-digest-preserved g c =
     let F = g.F.Files in
     let old = F.file_map c.args.files.now in
     let item = c.loop-digest-item.result in
-    let there : include_at old c.args.moment (string_bytes item.0, item.1.items) ≡ Some (include_in c.in_ok-include.include) = rw (← c.deref.ensures, ← c.deref-in-loop-digest.ensures.value, ← c.loop-digest.invariant.keeps.same_map) c.in_ok-include.ensures.answer in
+    let there : include_at old c.args.moment (string_bytes item.0, item.1.items) ≡ Some (include_in c.in_ok-include.include) = rw (← c.deref.ensures, ← c.deref-in-loop-digest.ensures.value, ← c.loop-digest.invariant.keeps.same_map) c.in_ok-include.ensures.outcome in
     record {
       keeps = keeps_all c.args.files.now c.loop-digest.files c.include_at.new.files c.loop-digest.invariant.keeps c.in_ok-include.ensures.keeps;
       so_far = gathered-push old c.args.moment c.args.included.now c.loop-digest.digest-index item (includes_in c.loop-digest.includes.items) (include_in c.in_ok-include.include)

@@ -2,8 +2,8 @@ use Rattle.cck_files.specs.Calls.{Rose}
 use Rattle.cck_include.proofs.GatherLemmas.{missing_one}
 use Rattle.cck_include.proofs.gathering.include_at.Goals as goal
 
-pub returns-in-Err-clause-answer : goal.returns-in-Err-clause-answer
-returns-in-Err-clause-answer g c =
+pub returns-in-Err-clause-outcome : goal.returns-in-Err-clause-outcome
+returns-in-Err-clause-outcome g c =
     let F = g.F.Files in
     rw c.io_error.ensures (missing_one (F.file_map c.args.files.now) c.args.moment (c.args.digest.now, c.args.path.now)
-    (Rose (F.faults c.args.files.now) (F.faults c.metadata.new.self)) c.in-Err.error c.in-Err.ensures.answer)
+    (Rose (F.faults c.args.files.now) (F.faults c.metadata.new.self)) c.in-Err.error c.in-Err.ensures.outcome)

@@ -6,7 +6,7 @@ use Rattle.cck_files.specs.FileMap.{metadata_at}
 use Rattle.cck_include.proofs.KnownLemmas.{known_set, path_there, right_there}
 use Rattle.cck_include.proofs.MatchLemmas.{may_miss_more, unreadable}
 use Rattle.cck_include.specs.Include.{include_lent}
-use Rattle.cck_include.specs.Known.{IsPlaceOf, IsRight}
+use Rattle.cck_include.specs.Known.{IsKnownAt, IsRight}
 use Rattle.cck_include.specs.Matching.{matches}
 use Rattle.cck_path.specs.Path.{components}
 use Rattle.cck_include.specs.JudgeContext.{setting_of}
@@ -18,24 +18,24 @@ returns-in_err-place-clause-known g c = λ right. c.in_err-place.ensures.known _
 pub returns-in_default-clause-known : goal.returns-in_default-clause-known
 returns-in_default-clause-known g c = λ right. c.in_ok-place.ensures.known _ right
 
-pub returns-in_default-clause-answer : goal.returns-in_default-clause-answer
-returns-in_default-clause-answer g c = λ right.
+pub returns-in_default-clause-outcome : goal.returns-in_default-clause-outcome
+returns-in_default-clause-outcome g c = λ right.
     let F = g.F.Files in
     let s = setting_of g.H.HashState.hash c.args.context.now in
     let old = F.file_map c.args.files.now in
     let i = include_lent c.args.include.now in
     let Missing = IfOk (metadata_at old (components i.path)) (λ _. Rose (F.faults c.args.files.now) (F.faults c.place_for.new.files)) in
-    unreadable s old i (Rose (F.faults c.args.files.now) (F.faults c.place_for.new.files)) (subst (λ o. MatchOption o Missing (IsPlaceOf (components i.path) c.place_for.new.known.files.items)) c.in_default.is c.in_ok-place.ensures.place)
+    unreadable s old i (Rose (F.faults c.args.files.now) (F.faults c.place_for.new.files)) (subst (λ o. MatchOption o Missing (IsKnownAt (components i.path) c.place_for.new.known.files.items)) c.in_default.is c.in_ok-place.ensures.place)
 
-pub returns-clause-answer : goal.returns-clause-answer
-returns-clause-answer g c = λ right.
+pub returns-clause-outcome : goal.returns-clause-outcome
+returns-clause-outcome g c = λ right.
     let F = g.F.Files in
     let s = setting_of g.H.HashState.hash c.args.context.now in
     let old = F.file_map c.args.files.now in
     let i = include_lent c.args.include.now in
     let ks = c.place_for.new.known.files.items in
     let Missing = IfOk (metadata_at old (components i.path)) (λ _. Rose (F.faults c.args.files.now) (F.faults c.place_for.new.files)) in
-    let at = subst (λ o. MatchOption o Missing (IsPlaceOf (components i.path) ks)) c.in-Some.is c.in_ok-place.ensures.place in
+    let at = subst (λ o. MatchOption o Missing (IsKnownAt (components i.path) ks)) c.in-Some.is c.in_ok-place.ensures.place in
     let P = Rose (F.faults c.place_for.new.files) (F.faults c.known_matches.new.files) in
     let Q = Rose (F.faults c.args.files.now) (F.faults c.known_matches.new.files) in
     let same = c.in_ok-place.ensures.keeps.same_map in
@@ -45,7 +45,7 @@ returns-clause-answer g c = λ right.
     let path = path_there ks (components i.path) c.in-Some.place file c.index_mut-file.ensures.value at in
     IfOk-weaker c.known_matches.result _ _ (λ answer h. may_miss_more P Q answer (matches s old i)
     (rose_earlier (F.faults c.args.files.now) (F.faults c.place_for.new.files) (F.faults c.known_matches.new.files) c.in_ok-place.ensures.keeps.not_lower) h)
-    (rw (← same) (c.known_matches.ensures.answer own path))
+    (rw (← same) (c.known_matches.ensures.outcome own path))
 
 pub returns-clause-known : goal.returns-clause-known
 returns-clause-known g c = λ right.
@@ -55,7 +55,7 @@ returns-clause-known g c = λ right.
     let p = components c.args.include.now.path.now in
     let ks = c.place_for.new.known.files.items in
     let Missing = IfOk (metadata_at old p) (λ _. Rose (F.faults c.args.files.now) (F.faults c.place_for.new.files)) in
-    let at = subst (λ o. MatchOption o Missing (IsPlaceOf p ks)) c.in-Some.is c.in_ok-place.ensures.place in
+    let at = subst (λ o. MatchOption o Missing (IsKnownAt p ks)) c.in-Some.is c.in_ok-place.ensures.place in
     let before = c.in_ok-place.ensures.known s right in
     let same = c.in_ok-place.ensures.keeps.same_map in
     let file = c.index_mut-file.result.now in

@@ -34,7 +34,7 @@ loop-include-preserved g c =
     let R = Rose (F.faults c.loop-include.files) (F.faults c.include_matches.new.files) in
     let is : c.in_ok-matches.matches ≡ true = search rules in
     let fits : AreKnown s old c.args.known.now → matches s old (include_in x) ≡ true = λ right.
-    rw (← c.lend.ensures, ← c.loop-include.invariant.keeps.same_map) (subst (λ b. MayMiss R b (matches s (F.file_map c.loop-include.files) (include_lent c.lend.result))) is (c.in_ok-matches.ensures.answer (before right))) in
+    rw (← c.lend.ensures, ← c.loop-include.invariant.keeps.same_map) (subst (λ b. MayMiss R b (matches s (F.file_map c.loop-include.files) (include_lent c.lend.result))) is (c.in_ok-matches.ensures.outcome (before right))) in
     record {
       keeps = keeps_all _ _ _ c.loop-include.invariant.keeps c.in_ok-matches.ensures.keeps;
       known = λ right. subst (λ m. AreKnown s m c.include_matches.new.known) c.loop-include.invariant.keeps.same_map (c.include_matches.ensures.known (before right));

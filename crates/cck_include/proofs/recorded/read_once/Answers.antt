@@ -8,9 +8,9 @@ use Rattle.cck_include.specs.Recorded.{has_date, has_time, has_timestamp}
 use Rattle.cck_path.specs.Path.{components}
 use Rattle.cck_include.proofs.recorded.read_once.Goals as goal
 
-pub returns-clause-answer : goal.returns-clause-answer
+pub returns-clause-outcome : goal.returns-clause-outcome
 unfolding has_time has_date has_timestamp
-returns-clause-answer g c =
+returns-clause-outcome g c =
     let F = g.F.Files in
     ok_by (contents_at (F.file_map c.args.files.now) (components c.args.path.now)) _ _
     (λ contents taken.
@@ -22,4 +22,4 @@ returns-clause-answer g c =
       date = same_test c.found_date.result (has_date contents) (Has contents date_macro) (c.found_date.ensures contents follows) (has_iff contents date_macro);
       timestamp = same_test c.found_timestamp.result (has_timestamp contents) (Has contents timestamp_macro) (c.found_timestamp.ensures contents follows) (has_iff contents timestamp_macro);
     })
-    c.in_ok-feed_file_of_size.ensures.answer
+    c.in_ok-feed_file_of_size.ensures.outcome

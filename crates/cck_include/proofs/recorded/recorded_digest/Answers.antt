@@ -12,14 +12,14 @@ use Rattle.cck_path.specs.Path.{components}
 use Rattle.jiff.specs.Words.{plain_zone}
 use Rattle.cck_include.proofs.recorded.recorded_digest.Goals as goal
 
-pub returns-in-Err-clause-answer : goal.returns-in-Err-clause-answer
-returns-in-Err-clause-answer g c =
+pub returns-in-Err-clause-outcome : goal.returns-in-Err-clause-outcome
+returns-in-Err-clause-outcome g c =
     let F = g.F.Files in
     rw c.io_error.ensures (without_metadata (F.file_map c.args.files.now) (components c.args.path.now)
-    (Rose (F.faults c.args.files.now) (F.faults c.metadata.new.self)) c.in-Err.error c.in-Err.ensures.answer)
+    (Rose (F.faults c.args.files.now) (F.faults c.metadata.new.self)) c.in-Err.error c.in-Err.ensures.outcome)
 
-pub returns-clause-answer : goal.returns-clause-answer
-returns-clause-answer g c =
+pub returns-clause-outcome : goal.returns-clause-outcome
+returns-clause-outcome g c =
     let F = g.F.Files in
     let before = F.faults c.args.files.now in
     let between = F.faults c.metadata.new.self in
@@ -27,7 +27,7 @@ returns-clause-answer g c =
     let found = file_at (F.file_map c.args.files.now) (components c.args.path.now) in
     let s = setting_in g.H.HashState.hash c.args.config c.args.moment (plain_zone c.args.zone.now) c.args.vars.now in
     let there : MatchResult c.digest_with_metadata.result (λ digest. IsOkAnd found (λ file. option_map string_bytes digest ≡ recorded s file)) (IsIoError found (Rose between after)) =
-    rw (← c.in-Ok.ensures.keeps.same_map) (c.digest_with_metadata.ensures.answer (rw c.in-Ok.ensures.keeps.same_map c.in-Ok.ensures.answer)) in
+    rw (← c.in-Ok.ensures.keeps.same_map) (c.digest_with_metadata.ensures.outcome (rw c.in-Ok.ensures.keeps.same_map c.in-Ok.ensures.outcome)) in
     returned_by_result c.digest_with_metadata.result _ found (Rose between after) (Rose before after) (rose_earlier before between after c.in-Ok.ensures.keeps.not_lower) there
 
 pub returns-in-Err-clause-calls : goal.returns-in-Err-clause-calls

@@ -15,9 +15,9 @@ nowhere_in text finder from left word known =
 
 occurs_in : (text finder : List ℕ) (from left : ℕ) → finder ≡ 10 ∷ 35 ∷ [] → OccursAt (take (length text - from) (drop from text)) finder (length (take (length text - from) (drop from text)) - left)
     → OccursAt (drop from text) (10 ∷ 35 ∷ []) (length (drop from text) - left)
-occurs_in text finder from left word stands =
+occurs_in text finder from left word present =
     subst (λ (rest : List ℕ). OccursAt rest (10 ∷ 35 ∷ []) (length rest - left)) (slice_from text from)
-    (subst (λ (w : List ℕ). OccursAt (take (length text - from) (drop from text)) w (length (take (length text - from) (drop from text)) - left)) word stands)
+    (subst (λ (w : List ℕ). OccursAt (take (length text - from) (drop from text)) w (length (take (length text - from) (drop from text)) - left)) word present)
 
 within_rest : (text : List ℕ) (from left : ℕ) → left ≤ length (take (length text - from) (drop from text)) → left ≤ length (drop from text)
 within_rest text from left some = subst (λ (rest : List ℕ). left ≤ length rest) (slice_from text from) some
@@ -43,9 +43,9 @@ loop-from-preserved c =
     let from = c.loop-from.from in
     let more : 0 < left = omega (arith, c.if-left-eq0.false) in
     let some = within_rest text from left c.bytes_left-left.ensures.within in
-    let stands = occurs_in text c.args.finder.now from left c.requires (c.bytes_left-left.ensures.stands more) in
+    let present = occurs_in text c.args.finder.now from left c.requires (c.bytes_left-left.ensures.present more) in
     record {
-      within = omega (arith, stands.fits, some, length-drop from text, c.loop-from.invariant.within);
-      nowhere = passed_end text from left c.loop-from.invariant.within some more (nowhere_in text c.args.finder.now from left c.requires c.bytes_left-left.ensures.nowhere) stands c.loop-from.invariant.nowhere
+      within = omega (arith, present.fits, some, length-drop from text, c.loop-from.invariant.within);
+      nowhere = passed_end text from left c.loop-from.invariant.within some more (nowhere_in text c.args.finder.now from left c.requires c.bytes_left-left.ensures.nowhere) present c.loop-from.invariant.nowhere
           (subst (λ (rest : List ℕ). is_marker rest ≡ false) (slice_from text (length text - left + 1)) (sym c.is_marker.ensures ∙ c.if-is_marker.false));
     }

@@ -20,5 +20,5 @@ loop-left-preserved g c =
       text = line_more (text 2 (lines_in c.args.contents.now)) c.args.out.now.items c.loop-left.out.items c.print_line.new.out.items
           (text c.loop-left.number (lines_in c.loop-left.left.now)) line (text (c.loop-left.number + 1) (lines_in c.cut_line-line.result.rest.now))
           c.loop-left.invariant.text (ap (text c.loop-left.number) c.cut_line-line.ensures.line)
-          (rw c.loop-left.invariant.keeps.same_map at c.in_ok-print_line.ensures.answer);
+          (rw c.loop-left.invariant.keeps.same_map at c.in_ok-print_line.ensures.outcome);
     }

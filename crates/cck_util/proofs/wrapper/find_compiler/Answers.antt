@@ -6,31 +6,31 @@ use Rattle.cck_path.specs.Text.{join_path}
 use Rattle.cck_util.proofs.WrapperLemmas.{in_turn, nothing_found, no_name, no_path, candidates_by, first_found, if_ok}
 use Rattle.cck_util.proofs.wrapper.find_compiler.Goals as goal
 
-pub returns-then-branch-clause-answer : goal.returns-then-branch-clause-answer
-returns-then-branch-clause-answer g c = elim c.in_ok-is_settled.ensures.answer [
+pub returns-then-branch-clause-outcome : goal.returns-then-branch-clause-outcome
+returns-then-branch-clause-outcome g c = elim c.in_ok-is_settled.ensures.outcome [
   | inl e ↦ inl (nothing_found (g.F.Files.file_map c.args.files.now) c.args.executable.now (variables_of c.args.vars.now) (sym c.if-branch.true ∙ e))
   | inr r ↦ inr r
 ]
 
-pub returns-in_default-clause-answer : goal.returns-in_default-clause-answer
-returns-in_default-clause-answer g c =
+pub returns-in_default-clause-outcome : goal.returns-in_default-clause-outcome
+returns-in_default-clause-outcome g c =
     inl (no_name (g.F.Files.file_map c.args.files.now) c.args.executable.now (variables_of c.args.vars.now) c.in_default.ensures)
 
-pub returns-in_default-first_value-clause-answer : goal.returns-in_default-first_value-clause-answer
-returns-in_default-first_value-clause-answer g c =
+pub returns-in_default-first_value-clause-outcome : goal.returns-in_default-first_value-clause-outcome
+returns-in_default-first_value-clause-outcome g c =
     inl (no_path (g.F.Files.file_map c.args.files.now) c.args.executable.now c.in-Some.name.now (variables_of c.args.vars.now)
     c.in-Some.ensures c.in_default-first_value.ensures)
 
-pub returns-clause-answer : goal.returns-clause-answer
-returns-clause-answer g c =
+pub returns-clause-outcome : goal.returns-clause-outcome
+returns-clause-outcome g c =
     let F = g.F.Files in
     let vars = variables_of c.args.vars.now in
     let paths = candidates_by c.args.executable.now c.in-Some.name.now c.in-Some-first_value.path.now vars c.deref.result.now
     c.in-Some.ensures c.in-Some-first_value.ensures (ap (map (λ part. part.now)) c.deref.ensures.value ∙ c.in_ok-parts.ensures.parts) in
     let settled = c.in_ok-is_settled.ensures in
-    if_ok c.first_compiler.result c.first_compiler.ensures.answer (λ compiler answer.
+    if_ok c.first_compiler.result c.first_compiler.ensures.outcome (λ compiler answer.
     in_turn (F.faults c.args.files.now) (F.faults c.is_settled.new.files) (F.faults c.first_compiler.new.files) settled.keeps.not_lower c.first_compiler.ensures.keeps.not_lower
-    settled.answer answer
+    settled.outcome answer
     (λ other first. first ∙ first_found (F.file_map c.args.files.now) (F.file_map c.is_settled.new.files) c.args.executable.now vars
     (map (λ part. join_path part.now c.in-Some.name.now) c.deref.result.now) settled.keeps.same_map paths (sym c.if-branch.false ∙ other)))
 

@@ -10,61 +10,61 @@ use Rattle.cck_path.specs.Path.{components}
 use Rattle.cck_walk.proofs.JudgeLemmas.{digest_at, folder_at, late_at, no_metadata, other_at, unread_at}
 use Rattle.cck_walk.proofs.judge.judge.Goals as goal
 
-pub returns-in-Err-clause-answer : goal.returns-in-Err-clause-answer
-returns-in-Err-clause-answer g c =
+pub returns-in-Err-clause-outcome : goal.returns-in-Err-clause-outcome
+returns-in-Err-clause-outcome g c =
     let F = g.F.Files in
     let s = setting_of g.H.HashState.hash c.args.context.now in
-    no_metadata s (F.file_map c.args.files.now) (components c.args.path.now) (Rose (F.faults c.args.files.now) (F.faults c.metadata.new.self)) c.in-Err.field-0 c.in-Err.ensures.answer
+    no_metadata s (F.file_map c.args.files.now) (components c.args.path.now) (Rose (F.faults c.args.files.now) (F.faults c.metadata.new.self)) c.in-Err.field-0 c.in-Err.ensures.outcome
 
-pub returns-in-Folder-clause-answer : goal.returns-in-Folder-clause-answer
-returns-in-Folder-clause-answer g c =
+pub returns-in-Folder-clause-outcome : goal.returns-in-Folder-clause-outcome
+returns-in-Folder-clause-outcome g c =
     let F = g.F.Files in
     let s = setting_of g.H.HashState.hash c.args.context.now in
-    folder_at s (F.file_map c.args.files.now) (components c.args.path.now) c.in-Ok.metadata c.in-Ok.ensures.answer c.in-Folder.is
+    folder_at s (F.file_map c.args.files.now) (components c.args.path.now) c.in-Ok.metadata c.in-Ok.ensures.outcome c.in-Folder.is
 
-pub returns-in-Other-clause-answer : goal.returns-in-Other-clause-answer
-returns-in-Other-clause-answer g c =
+pub returns-in-Other-clause-outcome : goal.returns-in-Other-clause-outcome
+returns-in-Other-clause-outcome g c =
     let F = g.F.Files in
     let s = setting_of g.H.HashState.hash c.args.context.now in
-    inl (other_at s (F.file_map c.args.files.now) (components c.args.path.now) c.in-Ok.metadata c.in-Ok.ensures.answer c.in-Other.is)
+    inl (other_at s (F.file_map c.args.files.now) (components c.args.path.now) c.in-Ok.metadata c.in-Ok.ensures.outcome c.in-Other.is)
 
-pub returns-then-has_late_time-clause-answer : goal.returns-then-has_late_time-clause-answer
-returns-then-has_late_time-clause-answer g c =
+pub returns-then-has_late_time-clause-outcome : goal.returns-then-has_late_time-clause-outcome
+returns-then-has_late_time-clause-outcome g c =
     let F = g.F.Files in
     let s = setting_of g.H.HashState.hash c.args.context.now in
-    inl (late_at s (F.file_map c.args.files.now) (components c.args.path.now) c.in-Ok.metadata c.in-Ok.ensures.answer c.in-File.is c.if-has_late_time.ensures)
+    inl (late_at s (F.file_map c.args.files.now) (components c.args.path.now) c.in-Ok.metadata c.in-Ok.ensures.outcome c.in-File.is c.if-has_late_time.ensures)
 
-pub returns-in-Ok-Some-clause-answer : goal.returns-in-Ok-Some-clause-answer
-returns-in-Ok-Some-clause-answer g c =
+pub returns-in-Ok-Some-clause-outcome : goal.returns-in-Ok-Some-clause-outcome
+returns-in-Ok-Some-clause-outcome g c =
     let F = g.F.Files in
     let s = setting_of g.H.HashState.hash c.args.context.now in
     let old = F.file_map c.args.files.now in
     let p = components c.args.path.now in
     let digest : Option (List ℕ) = Some (string_bytes c.in-Ok-Some.digest) in
-    let there : IsOkAnd (file_at old p) (λ file. digest ≡ recorded s file) = rw (← c.in-Ok.ensures.keeps.same_map) (rw c.in-Ok-Some.field-0-is at c.in-Ok-Some.ensures.answer) in
-    digest_at s old p c.in-Ok.metadata c.in-Ok.ensures.answer c.in-File.is c.if-has_late_time.ensures digest there
+    let there : IsOkAnd (file_at old p) (λ file. digest ≡ recorded s file) = rw (← c.in-Ok.ensures.keeps.same_map) (rw c.in-Ok-Some.field-0-is at c.in-Ok-Some.ensures.outcome) in
+    digest_at s old p c.in-Ok.metadata c.in-Ok.ensures.outcome c.in-File.is c.if-has_late_time.ensures digest there
 
-pub returns-in-Ok-None-clause-answer : goal.returns-in-Ok-None-clause-answer
-returns-in-Ok-None-clause-answer g c =
+pub returns-in-Ok-None-clause-outcome : goal.returns-in-Ok-None-clause-outcome
+returns-in-Ok-None-clause-outcome g c =
     let F = g.F.Files in
     let s = setting_of g.H.HashState.hash c.args.context.now in
     let old = F.file_map c.args.files.now in
     let p = components c.args.path.now in
     let digest : Option (List ℕ) = None in
-    let there : IsOkAnd (file_at old p) (λ file. digest ≡ recorded s file) = rw (← c.in-Ok.ensures.keeps.same_map) (rw c.in-Ok-None.field-0-is at c.in-Ok-None.ensures.answer) in
-    inl (digest_at s old p c.in-Ok.metadata c.in-Ok.ensures.answer c.in-File.is c.if-has_late_time.ensures digest there)
+    let there : IsOkAnd (file_at old p) (λ file. digest ≡ recorded s file) = rw (← c.in-Ok.ensures.keeps.same_map) (rw c.in-Ok-None.field-0-is at c.in-Ok-None.ensures.outcome) in
+    inl (digest_at s old p c.in-Ok.metadata c.in-Ok.ensures.outcome c.in-File.is c.if-has_late_time.ensures digest there)
 
-pub returns-in-Err-recorded_digest-clause-answer : goal.returns-in-Err-recorded_digest-clause-answer
-returns-in-Err-recorded_digest-clause-answer g c =
+pub returns-in-Err-recorded_digest-clause-outcome : goal.returns-in-Err-recorded_digest-clause-outcome
+returns-in-Err-recorded_digest-clause-outcome g c =
     let F = g.F.Files in
     let s = setting_of g.H.HashState.hash c.args.context.now in
     let old = F.file_map c.args.files.now in
     let p = components c.args.path.now in
     let R = Rose (F.faults c.metadata.new.self) (F.faults c.recorded_digest.new.files) in
     let S = Rose (F.faults c.args.files.now) (F.faults c.recorded_digest.new.files) in
-    let there : IsIoError (file_at old p) R c.in-Err-recorded_digest.error = rw (← c.in-Ok.ensures.keeps.same_map) c.in-Err-recorded_digest.ensures.answer in
+    let there : IsIoError (file_at old p) R c.in-Err-recorded_digest.error = rw (← c.in-Ok.ensures.keeps.same_map) c.in-Err-recorded_digest.ensures.outcome in
     rw c.judge_unread.ensures
-    (unread_at s old p c.in-Ok.metadata c.in-Ok.ensures.answer c.in-File.is R S c.in-Err-recorded_digest.error
+    (unread_at s old p c.in-Ok.metadata c.in-Ok.ensures.outcome c.in-File.is R S c.in-Err-recorded_digest.error
     (rose_earlier (F.faults c.args.files.now) (F.faults c.metadata.new.self) (F.faults c.recorded_digest.new.files) c.in-Ok.ensures.keeps.not_lower) there)
 
 pub returns-in-Err-clause-calls : goal.returns-in-Err-clause-calls

@@ -4,11 +4,11 @@ use Rattle.cck_path_map.proofs.EntriesLemmas.{all_given, entry_at}
 use Rattle.cck_path_map.specs.Entries.{entries_left}
 use Rattle.cck_path_map.specs.PathMap.{pair_of}
 use Rattle.cck_walk.proofs.RecordLemmas.{listed_all, listed_more}
-use Rattle.cck_walk.specs.Digests.{listed}
+use Rattle.cck_walk.specs.Digests.{digest_pair}
 use Rattle.cck_walk.proofs.records.list_of.Goals as goal
 
 pub loop-entry-init : goal.loop-entry-init
-loop-entry-init c = ap (map listed) c.new-files.ensures.items
+loop-entry-init c = ap (map digest_pair) c.new-files.ensures.items
 
 pub loop-entry-preserved : goal.loop-entry-preserved
 loop-entry-preserved c =

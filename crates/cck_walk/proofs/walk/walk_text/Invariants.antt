@@ -1,5 +1,5 @@
 use Rattle.cck_files.specs.Calls.{AreCalls, Keeps}
-use Rattle.cck_walk.specs.Decided.{Asked}
+use Rattle.cck_walk.specs.Decided.{IsAskedFor}
 use Rattle.cck_walk.specs.Seen.{AllPass}
 use Rattle.cck_walk.proofs.WalkLemmas.{Passed}
 use Rattle.cck_walk.specs.WalkContext.{context_of}
@@ -10,7 +10,7 @@ invariant-loop-mark g l =
     let F = g.F.Files in
     record {
       keeps : Keeps F.file_map F.faults F.is_quiet l.fn.files l.files;
-      calls : AreCalls F.is_call (Asked (context_of g.H.HashState.hash l.context (F.file_map l.fn.files)) l.text) l.fn.files l.files;
+      calls : AreCalls F.is_call (IsAskedFor (context_of g.H.HashState.hash l.context (F.file_map l.fn.files)) l.text) l.fn.files l.files;
       passed : Passed (context_of g.H.HashState.hash l.context (F.file_map l.fn.files)) l.text l.mark-iterator l.records;
       settled : AllPass (context_of g.H.HashState.hash l.context (F.file_map l.fn.files)) l.records l.seen;
     }

@@ -13,11 +13,11 @@ returns-clause-digest g c =
     let m = g.F.Files.file_map c.args.files.now in
     let text = string_bytes c.in_ok-text.text in
     let version = g.I.CCompilerImpl.compiler.version (g.I.CCompilerImpl.value c.args.compiler) in
-    let at : text_at hash m (components c.args.executable.items) ≡ Some text = ap (λ s. text_at hash m (components s)) (sym c.deref.ensures.value) ∙ c.in_ok-text.ensures.answer in
+    let at : text_at hash m (components c.args.executable.items) ≡ Some text = ap (λ s. text_at hash m (components s)) (sym c.deref.ensures.value) ∙ c.in_ok-text.ensures.outcome in
     elim c.match-version.branch [
       | in-Some+in_ok-executable_digest-in-Some w ↦ with_version hash version m (components c.args.executable.items) text at c.version.result c.version.ensures
           w.in-Some.version (string_bytes c.match-version.executable_digest) w.in-Some.is
-          (ap string_bytes w.executable_digest-is ∙ w.in_ok-executable_digest-in-Some.ensures.text ∙ ap (λ t. digest_text hash (t ++ w.in-Some.version.now)) w.deref-in-Some.ensures)
+          (ap string_bytes w.executable_digest-is ∙ w.in_ok-executable_digest-in-Some.ensures ∙ ap (λ t. digest_text hash (t ++ w.in-Some.version.now)) w.deref-in-Some.ensures)
       | in-None w ↦ without_version hash version m (components c.args.executable.items) text at c.version.result c.version.ensures
           (string_bytes c.match-version.executable_digest) w.in-None.is (ap string_bytes w.executable_digest-is)
     ]

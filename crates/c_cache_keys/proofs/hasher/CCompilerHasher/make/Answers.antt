@@ -1,20 +1,18 @@
 use Rattle.std.proofs.Common.{◌∙◌, ap, map, option_map, refl, sym}
+use Rattle.std.proofs.lemmas.Result.{err_from_is_err_and}
 use Rattle.std.specs.Prelude.{string_bytes}
 use Rattle.cck_files.proofs.CallsLemmas.{rose_earlier}
 use Rattle.cck_files.specs.Calls.{Rose}
+use Rattle.cck_path.specs.Text.{join_path}
 use Rattle.c_cache_keys.proofs.Made.{from_input, stop_input, stop_memory, stop_text, without_key}
 use Rattle.c_cache_keys.proofs.Widen.{wide_makes}
-use Rattle.c_cache_keys.proofs.Reasons.{input_reason, text_reason, unless_reason, wide_if}
+use Rattle.c_cache_keys.proofs.Reasons.{input_reason, text_reason, wide_if}
 use Rattle.c_cache_keys.specs.Conditions.{call_under, given_of, world_under}
 use Rattle.c_cache_keys.specs.Keys.{printed}
 use Rattle.c_cache_keys.proofs.hasher.CCompilerHasher.make.Goals as goal
 
 pub returns-in-Err-clause-makes : goal.returns-in-Err-clause-makes
-returns-in-Err-clause-makes g c =
-    let w = world_under g.H.HashState.hash g.I.CCompilerImpl.compiler (given_of c.args.conditions.now) in
-    let call = call_under g.I.CCompilerImpl.value (g.F.Files.file_map c.args.files.now) c.args.self.now (given_of c.args.conditions.now) in
-    let F = Rose (g.F.Files.faults c.args.files.now) (g.F.Files.faults c.args.files.now) in
-    stop_memory w g.S.PreprocessorStore.store call F c.args.store.now _ refl
+returns-in-Err-clause-makes g c = stop_memory _ _ _ _ _ _ refl
 
 pub returns-in-Err-read_contents-clause-makes : goal.returns-in-Err-read_contents-clause-makes
 returns-in-Err-read_contents-clause-makes g c =
@@ -23,17 +21,7 @@ returns-in-Err-read_contents-clause-makes g c =
     let F = Rose (g.F.Files.faults c.args.files.now) (g.F.Files.faults c.read_contents.new.files) in
     rw c.input_error.ensures
     (stop_input w g.S.PreprocessorStore.store call F c.args.store.now c.in-Err-read_contents.error (sym c.needs_c_preprocessing.ensures ∙ c.if-not-needs_c_preprocessing.true)
-    (rw (c.deref-then-not-needs_c_preprocessing.ensures.value, c.in-Ok.ensures.bytes, c.deref.ensures.value) at c.in-Err-read_contents.ensures.answer))
-
-pub returns-then-not-needs_c_preprocessing-clause-makes : goal.returns-then-not-needs_c_preprocessing-clause-makes
-returns-then-not-needs_c_preprocessing-clause-makes g c =
-    let w = world_under g.H.HashState.hash g.I.CCompilerImpl.compiler (given_of c.args.conditions.now) in
-    let call = call_under g.I.CCompilerImpl.value (g.F.Files.file_map c.args.files.now) c.args.self.now (given_of c.args.conditions.now) in
-    let F = Rose (g.F.Files.faults c.args.files.now) (g.F.Files.faults c.read_contents.new.files) in
-    from_input w g.S.PreprocessorStore.store call F c.args.store.now c.plain_key.result (map string_bytes c.args.opening.now.extra_hashes.items) c.in-Ok-read_contents.text.items
-    (sym c.needs_c_preprocessing.ensures ∙ c.if-not-needs_c_preprocessing.true) c.requires.extra
-    (rw (c.deref-then-not-needs_c_preprocessing.ensures.value, c.in-Ok.ensures.bytes, c.deref.ensures.value) at c.in-Ok-read_contents.ensures.answer)
-    (rw (c.deref-then-not-needs_c_preprocessing-2.ensures.value, c.deref-then-not-needs_c_preprocessing-3.ensures.value) at c.plain_key.ensures.key) c.plain_key.ensures.refused
+    (rw (c.deref-then-not-needs_c_preprocessing.ensures.value, c.in-Ok.ensures.bytes, c.deref.ensures.value) at c.in-Err-read_contents.ensures.outcome))
 
 pub returns-in-Err-preprocess-clause-makes : goal.returns-in-Err-preprocess-clause-makes
 unfolding printed
@@ -43,27 +31,7 @@ returns-in-Err-preprocess-clause-makes g c =
     let F = Rose (g.F.Files.faults c.args.files.now) (g.F.Files.faults c.preprocess.new.files) in
     rw c.text_error.ensures
     (stop_text w g.S.PreprocessorStore.store call F c.args.store.now c.in-Err-preprocess.error _ (sym c.needs_c_preprocessing.ensures ∙ c.if-not-needs_c_preprocessing.false)
-    (rw c.deref-2.ensures.value refl) c.in-Err-preprocess.ensures.answer)
-
-pub returns-in-None-clause-makes : goal.returns-in-None-clause-makes
-unfolding printed
-returns-in-None-clause-makes g c =
-    let w = world_under g.H.HashState.hash g.I.CCompilerImpl.compiler (given_of c.args.conditions.now) in
-    let call = call_under g.I.CCompilerImpl.value (g.F.Files.file_map c.args.files.now) c.args.self.now (given_of c.args.conditions.now) in
-    let F = Rose (g.F.Files.faults c.args.files.now) (g.F.Files.faults c.preprocess.new.files) in
-    without_key w g.S.PreprocessorStore.store call F c.args.store.now c.plain_key-in-None.result (map string_bytes c.args.opening.now.extra_hashes.items) c.in-Ok-preprocess.text.items
-    (sym c.needs_c_preprocessing.ensures ∙ c.if-not-needs_c_preprocessing.false) c.requires.extra (rw c.deref-2.ensures.value at c.in-Ok-preprocess.ensures.answer)
-    (c.requires.key ∙ ap (option_map string_bytes) c.in-None.is)
-    (rw (c.deref-in-None.ensures.value, c.deref-in-None-2.ensures.value) at c.plain_key-in-None.ensures.key) c.plain_key-in-None.ensures.refused
-
-pub walk_and_put-requires-clause-printed : goal.walk_and_put-requires-clause-printed
-unfolding printed
-walk_and_put-requires-clause-printed g c = rw (c.in-Ok-preprocess.ensures.keeps.same_map, c.as_str.ensures.value) record {
-  key = c.requires.key ∙ ap (option_map string_bytes) c.in-Some.is;
-  extra = rw c.deref-in-Some.ensures.value c.requires.extra;
-  first = sym c.needs_c_preprocessing.ensures ∙ c.if-not-needs_c_preprocessing.false;
-  prints = rw (c.deref-2.ensures.value, sym c.deref-in-Some-3.ensures.value) at c.in-Ok-preprocess.ensures.answer;
-}
+    (rw c.deref-2.ensures.value refl) c.in-Err-preprocess.ensures.outcome)
 
 pub returns-clause-makes : goal.returns-clause-makes
 returns-clause-makes g c =
@@ -82,14 +50,7 @@ returns-in-Err-read_contents-clause-reason g c =
     let F = Rose (g.F.Files.faults c.args.files.now) (g.F.Files.faults c.read_contents.new.files) in
     rw c.input_error.ensures
     (input_reason w call F c.in-Err-read_contents.error
-    (rw (c.deref-then-not-needs_c_preprocessing.ensures.value, c.in-Ok.ensures.bytes, c.deref.ensures.value) at c.in-Err-read_contents.ensures.answer))
-
-pub returns-then-not-needs_c_preprocessing-clause-reason : goal.returns-then-not-needs_c_preprocessing-clause-reason
-returns-then-not-needs_c_preprocessing-clause-reason g c =
-    let w = world_under g.H.HashState.hash g.I.CCompilerImpl.compiler (given_of c.args.conditions.now) in
-    let call = call_under g.I.CCompilerImpl.value (g.F.Files.file_map c.args.files.now) c.args.self.now (given_of c.args.conditions.now) in
-    let F = Rose (g.F.Files.faults c.args.files.now) (g.F.Files.faults c.read_contents.new.files) in
-    unless_reason w call F c.plain_key.result c.plain_key.ensures.refused
+    (rw (c.deref-then-not-needs_c_preprocessing.ensures.value, c.in-Ok.ensures.bytes, c.deref.ensures.value) at c.in-Err-read_contents.ensures.outcome))
 
 pub returns-in-Err-preprocess-clause-reason : goal.returns-in-Err-preprocess-clause-reason
 returns-in-Err-preprocess-clause-reason g c =
@@ -97,13 +58,6 @@ returns-in-Err-preprocess-clause-reason g c =
     let call = call_under g.I.CCompilerImpl.value (g.F.Files.file_map c.args.files.now) c.args.self.now (given_of c.args.conditions.now) in
     let F = Rose (g.F.Files.faults c.args.files.now) (g.F.Files.faults c.preprocess.new.files) in
     rw c.text_error.ensures (text_reason w call F c.in-Err-preprocess.error)
-
-pub returns-in-None-clause-reason : goal.returns-in-None-clause-reason
-returns-in-None-clause-reason g c =
-    let w = world_under g.H.HashState.hash g.I.CCompilerImpl.compiler (given_of c.args.conditions.now) in
-    let call = call_under g.I.CCompilerImpl.value (g.F.Files.file_map c.args.files.now) c.args.self.now (given_of c.args.conditions.now) in
-    let F = Rose (g.F.Files.faults c.args.files.now) (g.F.Files.faults c.preprocess.new.files) in
-    unless_reason w call F c.plain_key-in-None.result c.plain_key-in-None.ensures.refused
 
 pub returns-clause-reason : goal.returns-clause-reason
 returns-clause-reason g c =
@@ -114,3 +68,44 @@ returns-clause-reason g c =
     let after = g.F.Files.faults c.walk_and_put.new.files in
     wide_if (Rose middle after) (Rose before after) (rose_earlier before middle after c.in-Ok-preprocess.ensures.keeps.not_lower) w call _
     (rw c.in-Ok-preprocess.ensures.keeps.same_map at c.walk_and_put.ensures.reason)
+
+pub returns-in_err-plain_key-clause-makes : goal.returns-in_err-plain_key-clause-makes
+returns-in_err-plain_key-clause-makes g c =
+    let p = err_from_is_err_and c.from_residual.result c.from_residual.ensures.1 in
+    rw (p.1, p.2) (stop_memory _ _ _ _ _ _ refl)
+
+pub returns-then-not-needs_c_preprocessing-clause-makes : goal.returns-then-not-needs_c_preprocessing-clause-makes
+returns-then-not-needs_c_preprocessing-clause-makes g c =
+    let w = world_under g.H.HashState.hash g.I.CCompilerImpl.compiler (given_of c.args.conditions.now) in
+    let call = call_under g.I.CCompilerImpl.value (g.F.Files.file_map c.args.files.now) c.args.self.now (given_of c.args.conditions.now) in
+    let F = Rose (g.F.Files.faults c.args.files.now) (g.F.Files.faults c.read_contents.new.files) in
+    from_input w g.S.PreprocessorStore.store call F c.args.store.now c.in_ok-plain_key.field-0 (map string_bytes c.args.opening.now.extra_hashes.items) c.in-Ok-read_contents.text.items
+    (sym c.needs_c_preprocessing.ensures ∙ c.if-not-needs_c_preprocessing.true) c.requires.extra
+    (rw (c.deref-then-not-needs_c_preprocessing.ensures.value, c.in-Ok.ensures.bytes, c.deref.ensures.value) at c.in-Ok-read_contents.ensures.outcome)
+    (rw (c.deref-then-not-needs_c_preprocessing-2.ensures.value, c.deref-then-not-needs_c_preprocessing-3.ensures.value) at c.in_ok-plain_key.ensures)
+
+pub returns-in_err-plain_key-2-clause-makes : goal.returns-in_err-plain_key-2-clause-makes
+returns-in_err-plain_key-2-clause-makes g c =
+    let p = err_from_is_err_and c.from_residual-in_err-plain_key-2.result c.from_residual-in_err-plain_key-2.ensures.1 in
+    rw (p.1, p.2) (stop_memory _ _ _ _ _ _ refl)
+
+pub returns-in_default-clause-makes : goal.returns-in_default-clause-makes
+unfolding printed
+returns-in_default-clause-makes g c =
+    let w = world_under g.H.HashState.hash g.I.CCompilerImpl.compiler (given_of c.args.conditions.now) in
+    let call = call_under g.I.CCompilerImpl.value (g.F.Files.file_map c.args.files.now) c.args.self.now (given_of c.args.conditions.now) in
+    let F = Rose (g.F.Files.faults c.args.files.now) (g.F.Files.faults c.preprocess.new.files) in
+    without_key w g.S.PreprocessorStore.store call F c.args.store.now c.in_ok-plain_key-2.field-0 (map string_bytes c.args.opening.now.extra_hashes.items) c.in-Ok-preprocess.text.items
+    (sym c.needs_c_preprocessing.ensures ∙ c.if-not-needs_c_preprocessing.false) c.requires.extra (rw c.deref-2.ensures.value at c.in-Ok-preprocess.ensures.outcome)
+    (c.requires.key ∙ ap (option_map string_bytes) c.in_default.is)
+    (rw (c.deref-in_default.ensures.value, c.deref-in_default-2.ensures.value) at c.in_ok-plain_key-2.ensures)
+
+pub walk_and_put-requires : goal.walk_and_put-requires
+unfolding printed
+walk_and_put-requires g c = rw c.in-Ok-preprocess.ensures.keeps.same_map record {
+  path = c.deref-3.ensures.value ∙ c.in-Ok.ensures.bytes ∙ ap (join_path c.args.conditions.now.cwd.now) c.deref.ensures.value;
+  key = rw c.as_str.ensures.value (c.requires.key ∙ ap (option_map string_bytes) c.in-Some.is);
+  extra = rw c.deref-4.ensures.value c.requires.extra;
+  first = sym c.needs_c_preprocessing.ensures ∙ c.if-not-needs_c_preprocessing.false;
+  prints = rw (c.deref-2.ensures.value, sym c.deref-5.ensures.value) at c.in-Ok-preprocess.ensures.outcome;
+}

@@ -7,31 +7,31 @@ use Rattle.c_cache_keys.proofs.Reasons.{extra_reason, key_reason, wide_reason}
 use Rattle.c_cache_keys.specs.Conditions.{call_under, given_of, world_under}
 use Rattle.c_cache_keys.proofs.hasher.CCompilerHasher.open.Goals as goal
 
-pub returns-in-Err-clause-answer : goal.returns-in-Err-clause-answer
-returns-in-Err-clause-answer g c =
+pub returns-in-Err-clause-outcome : goal.returns-in-Err-clause-outcome
+returns-in-Err-clause-outcome g c =
     let w = world_under g.H.HashState.hash g.I.CCompilerImpl.compiler (given_of c.args.conditions.now) in
     let call = call_under g.I.CCompilerImpl.value (g.F.Files.file_map c.args.files.now) c.args.self.now (given_of c.args.conditions.now) in
     let F = Rose (g.F.Files.faults c.args.files.now) (g.F.Files.faults c.hash_all.new.files) in
     rw c.extra_error.ensures
-    (extra_failed w call F c.in-Err.error (rw (c.deref.ensures.value, paths_as c.args.self.now.parsed_args.extra_hash_files.items) at c.in-Err.ensures.answer))
+    (extra_failed w call F c.in-Err.error (rw (c.deref.ensures.value, paths_as c.args.self.now.parsed_args.extra_hash_files.items) at c.in-Err.ensures.outcome))
 
-pub returns-then-not-uses_cache-clause-answer : goal.returns-then-not-uses_cache-clause-answer
-returns-then-not-uses_cache-clause-answer g c =
+pub returns-then-not-uses_cache-clause-outcome : goal.returns-then-not-uses_cache-clause-outcome
+returns-then-not-uses_cache-clause-outcome g c =
     let w = world_under g.H.HashState.hash g.I.CCompilerImpl.compiler (given_of c.args.conditions.now) in
     let call = call_under g.I.CCompilerImpl.value (g.F.Files.file_map c.args.files.now) c.args.self.now (given_of c.args.conditions.now) in
     open_without w call _ (sym (c.uses_cache.ensures ∙ used w call) ∙ c.if-not-uses_cache.true)
-    (texts_here w call _ (rw (c.deref.ensures.value, paths_as c.args.self.now.parsed_args.extra_hash_files.items) at c.in-Ok.ensures.answer)) refl
+    (texts_here w call _ (rw (c.deref.ensures.value, paths_as c.args.self.now.parsed_args.extra_hash_files.items) at c.in-Ok.ensures.outcome)) refl
 
-pub returns-in-Ok-preprocessor_key-clause-answer : goal.returns-in-Ok-preprocessor_key-clause-answer
-returns-in-Ok-preprocessor_key-clause-answer g c =
+pub returns-in-Ok-preprocessor_key-clause-outcome : goal.returns-in-Ok-preprocessor_key-clause-outcome
+returns-in-Ok-preprocessor_key-clause-outcome g c =
     let w = world_under g.H.HashState.hash g.I.CCompilerImpl.compiler (given_of c.args.conditions.now) in
     let call = call_under g.I.CCompilerImpl.value (g.F.Files.file_map c.args.files.now) c.args.self.now (given_of c.args.conditions.now) in
     open_with w call _ (sym (c.uses_cache.ensures ∙ used w call) ∙ c.if-not-uses_cache.false)
-    (texts_here w call _ (rw (c.deref.ensures.value, paths_as c.args.self.now.parsed_args.extra_hash_files.items) at c.in-Ok.ensures.answer))
-    (rw (c.in-Ok.ensures.keeps.same_map, c.deref-2.ensures.value) at c.in-Ok-preprocessor_key.ensures.answer)
+    (texts_here w call _ (rw (c.deref.ensures.value, paths_as c.args.self.now.parsed_args.extra_hash_files.items) at c.in-Ok.ensures.outcome))
+    (rw (c.in-Ok.ensures.keeps.same_map, c.deref-2.ensures.value) at c.in-Ok-preprocessor_key.ensures.outcome)
 
-pub returns-in-Err-preprocessor_key-clause-answer : goal.returns-in-Err-preprocessor_key-clause-answer
-returns-in-Err-preprocessor_key-clause-answer g c =
+pub returns-in-Err-preprocessor_key-clause-outcome : goal.returns-in-Err-preprocessor_key-clause-outcome
+returns-in-Err-preprocessor_key-clause-outcome g c =
     let w = world_under g.H.HashState.hash g.I.CCompilerImpl.compiler (given_of c.args.conditions.now) in
     let call = call_under g.I.CCompilerImpl.value (g.F.Files.file_map c.args.files.now) c.args.self.now (given_of c.args.conditions.now) in
     let before = g.F.Files.faults c.args.files.now in
@@ -39,8 +39,8 @@ returns-in-Err-preprocessor_key-clause-answer g c =
     let after = g.F.Files.faults c.preprocessor_key.new.files in
     wide_opening w call (Rose middle after) (Rose before after) (rose_earlier before middle after c.in-Ok.ensures.keeps.not_lower) _
     (stop_input w call (Rose middle after) c.in-Err-preprocessor_key.error _ (sym (c.uses_cache.ensures ∙ used w call) ∙ c.if-not-uses_cache.false)
-    (texts_here w call _ (rw (c.deref.ensures.value, paths_as c.args.self.now.parsed_args.extra_hash_files.items) at c.in-Ok.ensures.answer))
-    (rw c.in-Ok.ensures.keeps.same_map at c.in-Err-preprocessor_key.ensures.answer))
+    (texts_here w call _ (rw (c.deref.ensures.value, paths_as c.args.self.now.parsed_args.extra_hash_files.items) at c.in-Ok.ensures.outcome))
+    (rw c.in-Ok.ensures.keeps.same_map at c.in-Err-preprocessor_key.ensures.outcome))
 
 pub returns-in-Err-clause-reason : goal.returns-in-Err-clause-reason
 returns-in-Err-clause-reason g c =
@@ -48,7 +48,7 @@ returns-in-Err-clause-reason g c =
     let call = call_under g.I.CCompilerImpl.value (g.F.Files.file_map c.args.files.now) c.args.self.now (given_of c.args.conditions.now) in
     let F = Rose (g.F.Files.faults c.args.files.now) (g.F.Files.faults c.hash_all.new.files) in
     rw c.extra_error.ensures
-    (extra_reason w call F c.in-Err.error (rw (c.deref.ensures.value, paths_as c.args.self.now.parsed_args.extra_hash_files.items) at c.in-Err.ensures.answer))
+    (extra_reason w call F c.in-Err.error (rw (c.deref.ensures.value, paths_as c.args.self.now.parsed_args.extra_hash_files.items) at c.in-Err.ensures.outcome))
 
 pub returns-in-Err-preprocessor_key-clause-reason : goal.returns-in-Err-preprocessor_key-clause-reason
 returns-in-Err-preprocessor_key-clause-reason g c =
@@ -58,4 +58,4 @@ returns-in-Err-preprocessor_key-clause-reason g c =
     let middle = g.F.Files.faults c.hash_all.new.files in
     let after = g.F.Files.faults c.preprocessor_key.new.files in
     wide_reason (Rose middle after) (Rose before after) (rose_earlier before middle after c.in-Ok.ensures.keeps.not_lower) w call _
-    (key_reason w call (Rose middle after) c.in-Err-preprocessor_key.error (rw c.in-Ok.ensures.keeps.same_map at c.in-Err-preprocessor_key.ensures.answer))
+    (key_reason w call (Rose middle after) c.in-Err-preprocessor_key.error (rw c.in-Ok.ensures.keeps.same_map at c.in-Err-preprocessor_key.ensures.outcome))

@@ -1,9 +1,9 @@
 use Rattle.c_cache_keys.specs.Keys.{params}
 use Rattle.c_cache_keys.proofs.hasher.CCompilerHasher.plain_key.Goals as goal
 
-pub returns-in-Ok-clause-key : goal.returns-in-Ok-clause-key
+pub returns-in-Ok : goal.returns-in-Ok
 unfolding params
-returns-in-Ok-clause-key g c =
+returns-in-Ok g c =
     rw (
       c.with_assembler_digest-params.ensures,
       c.with_basedirs.ensures,

@@ -6,9 +6,9 @@ use Rattle.c_cache_keys.specs.Conditions.{call_under, given_of, world_under}
 use Rattle.c_cache_keys.specs.Keys.{request_parts}
 use Rattle.c_cache_keys.proofs.hasher.CCompilerHasher.preprocessor_key.Goals as goal
 
-pub returns-in-Ok-key-clause-answer : goal.returns-in-Ok-key-clause-answer
+pub returns-in-Ok-key-clause-outcome : goal.returns-in-Ok-key-clause-outcome
 unfolding request_parts
-returns-in-Ok-key-clause-answer g c =
+returns-in-Ok-key-clause-outcome g c =
     let w = world_under g.H.HashState.hash g.I.CCompilerImpl.compiler (given_of c.args.conditions.now) in
     let call = call_under g.I.CCompilerImpl.value (g.F.Files.file_map c.args.files.now) c.args.self.now (given_of c.args.conditions.now) in
     let F = Rose (g.F.Files.faults c.args.files.now) (g.F.Files.faults c.preprocessor_cache_entry_hash_key-key.new.files) in
@@ -24,12 +24,12 @@ returns-in-Ok-key-clause-answer g c =
       c.deref.ensures.value,
       c.plusplus.ensures,
       c.is_multiarch.ensures,
-    ) at c.in-Ok-key.ensures.answer)
+    ) at c.in-Ok-key.ensures.outcome)
 
-pub returns-clause-answer : goal.returns-clause-answer
-returns-clause-answer g c =
+pub returns-clause-outcome : goal.returns-clause-outcome
+returns-clause-outcome g c =
     let w = world_under g.H.HashState.hash g.I.CCompilerImpl.compiler (given_of c.args.conditions.now) in
     let call = call_under g.I.CCompilerImpl.value (g.F.Files.file_map c.args.files.now) c.args.self.now (given_of c.args.conditions.now) in
     let F = Rose (g.F.Files.faults c.args.files.now) (g.F.Files.faults c.preprocessor_cache_entry_hash_key-key.new.files) in
     rw c.key_error_of.ensures
-    (input_failed w call F c.in-Err-key.error (rw (c.deref-5.ensures.value, c.in-Ok.ensures.bytes, c.deref.ensures.value) at c.in-Err-key.ensures.answer))
+    (input_failed w call F c.in-Err-key.error (rw (c.deref-5.ensures.value, c.in-Ok.ensures.bytes, c.deref.ensures.value) at c.in-Err-key.ensures.outcome))

@@ -3,8 +3,8 @@ use Rattle.cck_file_digest.specs.FolderText.{lossy}
 use Rattle.c_cache_keys.specs.Hasher.{toolchain_key}
 use Rattle.c_cache_keys.proofs.hasher.CCompilerHasher.weak_toolchain_key.Goals as goal
 
-pub returns-clause-key : goal.returns-clause-key
+pub returns : goal.returns
 unfolding toolchain_key lossy
-returns-clause-key g c =
+returns g c =
     c.in_ok-format.ensures.ok
     ∙ ap₂ (λ executable digest. executable ++ 45 ∷ digest) (c.in_ok-executable.ensures.text ∙ ap lossy c.as_slice.ensures.value) c.as_str-digest.ensures.value

@@ -15,7 +15,7 @@ returns-in-Some-clause-asks g c =
       got = rw c.in-Ok-Some.field-0-is at c.in-Ok-Some.ensures;
       gives = reads test F c.in-Ok-Some.bytes.items _ _ (Some (string_bytes c.in_ok-from_str-in-Some.field-0))
           (ap (option_map (λ k. k.now)) c.in-Some.is ∙ ap Some (sym c.in_ok-from_str-in-Some.ensures.ok))
-          (rw c.deref.ensures.value at c.in-Ok.ensures.reads) c.in-Ok-lookup_result_digest.ensures.answer;
+          (rw c.deref.ensures.value at c.in-Ok.ensures.reads) c.in-Ok-lookup_result_digest.ensures.outcome;
     }
 
 pub returns-clause-asks : goal.returns-clause-asks
@@ -26,5 +26,5 @@ returns-clause-asks g c =
       answer = Ok (Some c.in-Ok-Some.bytes.items);
       got = rw c.in-Ok-Some.field-0-is at c.in-Ok-Some.ensures;
       gives = reads test F c.in-Ok-Some.bytes.items _ _ None (ap (option_map (λ k. k.now)) c.in-None.is)
-          (rw c.deref.ensures.value at c.in-Ok.ensures.reads) c.in-Ok-lookup_result_digest.ensures.answer;
+          (rw c.deref.ensures.value at c.in-Ok.ensures.reads) c.in-Ok-lookup_result_digest.ensures.outcome;
     }

@@ -3,7 +3,7 @@ use Rattle.std.specs.Option.{is_some}
 use Rattle.std.proofs.lemmas.List.{length-drop}
 use Rattle.cck_markers.specs.Items.{marks_of}
 use Rattle.cck_markers.specs.Markers.{Unread}
-use Rattle.cck_markers.specs.Searches.{AreKnown}
+use Rattle.cck_markers.specs.Searches.{AreSearched}
 use Rattle.cck_markers.specs.declared.mark.Mark.{Mark}
 use Rattle.cck_markers.proofs.Cuts.{slice_from}
 use Rattle.cck_markers.proofs.ItemLemmas.{gives_both}
@@ -19,7 +19,7 @@ invariant_of-self-then-is_some c =
     let rest = c.skip_plain-starts_line.result.0.now in
     let searches = c.skip_plain-starts_line.new.self in
     let item = c.in_ok-item.item in
-    subst (λ (text : List ℕ). AreKnown searches text) (sym (slice_from rest item.size)) (known_after searches rest item.size c.skip_plain-starts_line.ensures.known c.in_ok-item.ensures.begins.1)
+    subst (λ (text : List ℕ). AreSearched searches text) (sym (slice_from rest item.size)) (known_after searches rest item.size c.skip_plain-starts_line.ensures.known c.in_ok-item.ensures.begins.1)
 
 pub loop-item-preserved : goal.loop-item-preserved
 loop-item-preserved c =
@@ -31,6 +31,6 @@ loop-item-preserved c =
     let none = no_mark item.mark (sym c.is_some.ensures ∙ c.if-is_some.false) in
     record {
       nothing = passed_item old c.skip_plain-starts_line.result.1 item.starts_line rest [] item.size (gives_both old _ _ [] [] c.loop-item.invariant.nothing c.skip_plain-starts_line.ensures.passed) (rw none at begins.2);
-      known = subst (λ (text : List ℕ). AreKnown searches text) (sym (slice_from rest item.size)) (known_after searches rest item.size c.skip_plain-starts_line.ensures.known begins.1);
+      known = subst (λ (text : List ℕ). AreSearched searches text) (sym (slice_from rest item.size)) (known_after searches rest item.size c.skip_plain-starts_line.ensures.known begins.1);
       shorter = rw (slice_from rest item.size) (omega (arith, length-drop item.size rest, c.skip_plain-starts_line.ensures.shorter, c.loop-item.invariant.shorter));
     }

@@ -1,13 +1,13 @@
 use Rattle.std.proofs.Common.{◌≤◌, length, []}
-use Rattle.cck_markers.specs.Markers.{Gives}
-use Rattle.cck_markers.specs.Searches.{AreKnown}
+use Rattle.cck_markers.specs.Markers.{Yields}
+use Rattle.cck_markers.specs.Searches.{AreSearched}
 use Rattle.cck_markers.proofs.mark.MarkersIterator.next.Given as goal
 
 -- what was passed so far has no mark
 abbrev pub invariant-loop-item : goal.invariant-loop-item
 invariant-loop-item l = record {
-  nothing : Gives (record { starts_line = l.initial.self-inside.starts_line; text = l.initial.self-inside.rest.now }) [] (record { starts_line = l.self-inside.starts_line; text = l.self-inside.rest.now });
-  known : AreKnown l.self-inside.searches l.self-inside.rest.now;
+  nothing : Yields (record { starts_line = l.initial.self-inside.starts_line; text = l.initial.self-inside.rest.now }) [] (record { starts_line = l.self-inside.starts_line; text = l.self-inside.rest.now });
+  known : AreSearched l.self-inside.searches l.self-inside.rest.now;
   shorter : length l.self-inside.rest.now ≤ length l.initial.self-inside.rest.now;
 }
 

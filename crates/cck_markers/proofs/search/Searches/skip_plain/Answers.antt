@@ -1,5 +1,5 @@
 use Rattle.std.proofs.Common.{[], sym, subst, List, ℕ}
-use Rattle.cck_markers.specs.Searches.{AreKnown}
+use Rattle.cck_markers.specs.Searches.{AreSearched}
 use Rattle.cck_markers.proofs.Cuts.{slice_from}
 use Rattle.cck_markers.proofs.ItemLemmas.{gives_both}
 use Rattle.cck_markers.proofs.SkipLemmas.{passed_bytes, known_after, same_marks}
@@ -8,7 +8,7 @@ use Rattle.cck_markers.proofs.search.Searches.skip_plain.Goals as goal
 pub returns-clause-known : goal.returns-clause-known
 returns-clause-known c =
     let size = c.plain_size-size.result in
-    subst (λ (text : List ℕ). AreKnown c.plain_size-size.new.self text) (sym (slice_from c.args.text.now size))
+    subst (λ (text : List ℕ). AreSearched c.plain_size-size.new.self text) (sym (slice_from c.args.text.now size))
     (known_after c.plain_size-size.new.self c.args.text.now size c.plain_size-size.ensures.known c.plain_size-size.ensures.within)
 
 pub returns-then-size-eq0-clause-passed : goal.returns-then-size-eq0-clause-passed

@@ -1,6 +1,6 @@
 use Rattle.std.proofs.Common.{◌+◌, ◌<◌, length, subst, sym, Ok, arith}
 use Rattle.cck_path.specs.Path.{components}
-use Rattle.cck_path_map.specs.Blocks.{IsMissing, IsPositionFor, entries_of, start_of}
+use Rattle.cck_path_map.specs.Blocks.{HasNoEntry, IsPositionFor, entries_of, start_of}
 use Rattle.cck_path_map.proofs.BlockLemmas.{entry_is, get_missing}
 use Rattle.cck_path_map.proofs.PlaceLemmas.{get_at}
 use Rattle.cck_path_map.proofs.path_map.PathMap.get.Goals as goal
@@ -33,5 +33,5 @@ pub returns-in-Err : goal.returns-in-Err
 returns-in-Err g c =
     let bs = c.self.inside.blocks.items in
     let p = components c.args.path.now in
-    let missing : IsMissing p bs c.in-Err.field-0 = subst (λ l. IsMissing p l c.in-Err.field-0) c.deref.ensures.value c.in-Err.ensures.missing in
+    let missing : HasNoEntry p bs c.in-Err.field-0 = subst (λ l. HasNoEntry p l c.in-Err.field-0) c.deref.ensures.value c.in-Err.ensures.missing in
     rw (← c.self.view_is) (get_missing bs c.self.invariant.0 p c.in-Err.field-0 missing)

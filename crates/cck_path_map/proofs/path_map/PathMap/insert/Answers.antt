@@ -8,7 +8,7 @@ use Rattle.std.specs.List as list
 use Rattle.std.specs.Prelude.{Option, Vec, is_some}
 use Rattle.std.specs.Vec.{with_item}
 use Rattle.cck_path.specs.Path.{Path, components, path_cmp}
-use Rattle.cck_path_map.specs.Blocks.{AreOrderedBlocks, IsMissing, IsPositionFor, NoneEmpty, entries_of, place_of, start_of}
+use Rattle.cck_path_map.specs.Blocks.{AreOrderedBlocks, HasNoEntry, IsPositionFor, NoneEmpty, entries_of, place_of, start_of}
 use Rattle.cck_path_map.specs.PathMap.{pair_of}
 use Rattle.cck_path_map.specs.declared.path_map.Entry.{Entry}
 use Rattle.cck_path_map.proofs.BlockLemmas.{entry_is, gap_of, get_missing, set_in, some_set}
@@ -37,7 +37,7 @@ module _ {V : Type 0} (bs : List (Vec (Entry V) Global)) (ordered : AreOrderedBl
         some_set bs k (with_value block j old v) ordered.none_empty (omega (arith, length-set block.items j new, inside)),
       )
 
-  module _ (gap : Option (ℕ × ℕ)) (missing : IsMissing p bs gap) where
+  module _ (gap : Option (ℕ × ℕ)) (missing : HasNoEntry p bs gap) where
     -- a new path
     added : (e : Entry V) → components e.path.items ≡ p → (new : List (Entry V)) → new ≡ list.insert (entries_of bs) (place_of bs gap) e
         → (put path_cmp p e.value (map pair_of (entries_of bs)) ≡ map pair_of new) × (length new ≡ length (entries_of bs) + 1)
@@ -83,17 +83,17 @@ returns-in-Ok-clause-set g c =
 pub returns-in_default-clause-replaced : goal.returns-in_default-clause-replaced
 returns-in_default-clause-replaced g c there =
     let p = components c.args.path.now in
-    not_there c.self.inside.blocks.items c.self.invariant.0 p c.in-Err.gap (subst (λ l. IsMissing p l c.in-Err.gap) c.deref.ensures.value c.in-Err.ensures.missing) (rw c.self.view_is there)
+    not_there c.self.inside.blocks.items c.self.invariant.0 p c.in-Err.gap (subst (λ l. HasNoEntry p l c.in-Err.gap) c.deref.ensures.value c.in-Err.ensures.missing) (rw c.self.view_is there)
 
 pub returns-in_err-path-clause-replaced : goal.returns-in_err-path-clause-replaced
 returns-in_err-path-clause-replaced g c there =
     let p = components c.args.path.now in
-    not_there c.self.inside.blocks.items c.self.invariant.0 p c.in-Err.gap (subst (λ l. IsMissing p l c.in-Err.gap) c.deref.ensures.value c.in-Err.ensures.missing) (rw c.self.view_is there)
+    not_there c.self.inside.blocks.items c.self.invariant.0 p c.in-Err.gap (subst (λ l. HasNoEntry p l c.in-Err.gap) c.deref.ensures.value c.in-Err.ensures.missing) (rw c.self.view_is there)
 
 pub returns-in_err-insert_at-clause-replaced : goal.returns-in_err-insert_at-clause-replaced
 returns-in_err-insert_at-clause-replaced g c there =
     let p = components c.args.path.now in
-    not_there c.self.inside.blocks.items c.self.invariant.0 p c.in-Err.gap (subst (λ l. IsMissing p l c.in-Err.gap) c.deref.ensures.value c.in-Err.ensures.missing) (rw c.self.view_is there)
+    not_there c.self.inside.blocks.items c.self.invariant.0 p c.in-Err.gap (subst (λ l. HasNoEntry p l c.in-Err.gap) c.deref.ensures.value c.in-Err.ensures.missing) (rw c.self.view_is there)
 
 pub invariant_of-self-2 : goal.invariant_of-self-2
 invariant_of-self-2 g c =
@@ -101,7 +101,7 @@ invariant_of-self-2 g c =
     let ordered = c.self.invariant.0 in
     let p = components c.args.path.now in
     let new = entries_of c.insert_at.new.blocks.items in
-    let missing = subst (λ l. IsMissing p l c.in-Err.gap) c.deref.ensures.value c.in-Err.ensures.missing in
+    let missing = subst (λ l. HasNoEntry p l c.in-Err.gap) c.deref.ensures.value c.in-Err.ensures.missing in
     let more = added bs ordered p c.in-Err.gap missing (record { path = c.in_ok-path.path; value = c.args.value }) (ap components (c.in_ok-path.ensures.items_if_clones_equal (λ x y e. e))) new c.in_ok-insert_at.ensures.inserted in (
       record { in_order = in_order (entries_of bs) new ordered.in_order p c.args.value more.0; none_empty = c.in_ok-insert_at.ensures.none_empty },
       omega (arith, more.1, c.self.invariant.1),
@@ -113,6 +113,6 @@ returns-clause-set g c =
     let ordered = c.self.invariant.0 in
     let p = components c.args.path.now in
     let new = entries_of c.insert_at.new.blocks.items in
-    let missing = subst (λ l. IsMissing p l c.in-Err.gap) c.deref.ensures.value c.in-Err.ensures.missing in
+    let missing = subst (λ l. HasNoEntry p l c.in-Err.gap) c.deref.ensures.value c.in-Err.ensures.missing in
     let more = added bs ordered p c.in-Err.gap missing (record { path = c.in_ok-path.path; value = c.args.value }) (ap components (c.in_ok-path.ensures.items_if_clones_equal (λ x y e. e))) new c.in_ok-insert_at.ensures.inserted in
     rw (← c.self.view_is) (inserted (entries_of bs) new ordered.in_order p c.args.value more.0)

@@ -1,7 +1,7 @@
 use Rattle.std.proofs.Common.{◌+◌, length, ap, subst, sym, Ok, arith}
 use Rattle.std.proofs.lemmas.List.Edits.{length-remove}
 use Rattle.cck_path.specs.Path.{components}
-use Rattle.cck_path_map.specs.Blocks.{IsMissing, IsPositionFor, entries_of, start_of}
+use Rattle.cck_path_map.specs.Blocks.{HasNoEntry, IsPositionFor, entries_of, start_of}
 use Rattle.cck_path_map.specs.PathMap.{IsInOrder}
 use Rattle.cck_path_map.proofs.BlockLemmas.{get_missing}
 use Rattle.cck_path_map.proofs.PlaceLemmas.{get_at, remove_nothing, removed, without_in_order}
@@ -46,7 +46,7 @@ pub returns-in-Err-clause-value : goal.returns-in-Err-clause-value
 returns-in-Err-clause-value g c =
     let bs = c.self.inside.blocks.items in
     let p = components c.args.path.now in
-    let missing : IsMissing p bs c.in-Err.field-0 = subst (λ l. IsMissing p l c.in-Err.field-0) c.deref.ensures.value c.in-Err.ensures.missing in
+    let missing : HasNoEntry p bs c.in-Err.field-0 = subst (λ l. HasNoEntry p l c.in-Err.field-0) c.deref.ensures.value c.in-Err.ensures.missing in
     rw (← c.self.view_is) (get_missing bs c.self.invariant.0 p c.in-Err.field-0 missing)
 
 pub returns-in-Err-clause-rest : goal.returns-in-Err-clause-rest

@@ -31,5 +31,5 @@ pub returns : goal.returns
 returns c = record {
   after = λ lines are. after_rest c.args.command lines c.args.self.now c.in_default.not-File c.in_default.not-Folder c.in_default.not-Gone c.in_default.not-Variable c.in_default.not-Clear are;
   kept = tt;
-  refused = tt;
+  errors = tt;
 }

@@ -9,4 +9,4 @@ returns-in-Ok-clause-kept c =
     let items : c.in_ok-bytes.bytes.items ≡ c.args.bytes.now = search rules in
     rw (← c.self.view_is)
     (kept_in_map c.self.inside.pairs.entries c.insert.new.self.entries c.in_ok-key.key c.in_ok-bytes.bytes c.args.key.now c.args.bytes.now
-    c.self.inside.setbacks c.self.inside.forget c.self.inside.armed c.in-Ok.ensures.entries same items)
+    c.self.inside.failures c.self.inside.forget c.self.inside.armed c.in-Ok.ensures.entries same items)

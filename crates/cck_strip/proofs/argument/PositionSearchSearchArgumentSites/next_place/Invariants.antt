@@ -4,4 +4,4 @@ use Rattle.cck_strip.proofs.argument.PositionSearchSearchArgumentSites.next_plac
 
 -- no site so far
 abbrev pub invariant-loop-at : goal.invariant-loop-at
-invariant-loop-at l = (k : ℕ) → k < l.at → l.from ≤ k → argument_site (map (λ b. b.items) l.sites.basedirs.now) l.sites.argument.now k ≡ 0
+invariant-loop-at g l = (k : ℕ) → k < l.at → l.from ≤ k → argument_site (map g.B.AsSlice.items l.sites.basedirs.now) l.sites.argument.now k ≡ 0

@@ -1,0 +1,35 @@
+//! The input of a request.
+use crate::request::Request;
+use anyhow::Result;
+use cck_cache_files::add_file;
+use cck_files::MapFiles;
+use cck_path::join_path;
+use std::rt::Files;
+
+/// A snapshot that has the input alone.
+#[derive(Drop)]
+pub struct InputSnapshot {
+    /// The snapshot.
+    pub files: MapFiles,
+    /// Whether the input may test for the existence of a header.
+    pub tests_headers: bool,
+}
+
+/// A snapshot with the input of a request.
+pub fn input_snapshot<R: Files + AllocGlobal>(
+    rt: &R,
+    request: &Request<'_>,
+) -> Result<InputSnapshot> {
+    let alloc = rt.alloc();
+    let mut files = MapFiles::new(alloc);
+    let path = join_path(
+        alloc,
+        request.directory.as_bytes(),
+        request.input.as_bytes(),
+    )?;
+    let tests_headers = add_file(rt, &mut files, &path)?;
+    Ok(InputSnapshot {
+        files,
+        tests_headers,
+    })
+}

@@ -1,0 +1,30 @@
+use Rattle.std.proofs.Common.{◌≡◌, true, false, ◌==◌, ℕ, List, [], ◌∷◌, ◌++◌, length, map, arith, sym, ◌∙◌, ap}
+use Rattle.std.specs.List.{flat_map}
+use Rattle.std.proofs.lemmas.List.{append-nil, length-append, nil_from_length}
+use Rattle.std.proofs.lemmas.Bool.Decides.{Decides-eqb}
+use Rattle.cck_digest.specs.Frames.{frame}
+use Rattle.cck_cache_entry.proofs.ReadingLemmas.{frames_found, no_frames, length-frame}
+use Rattle.cck_cache_entry.proofs.frames.read_frames.Goals as goal
+
+empty : (xs : List ℕ) → (length xs == 0) ≡ true → xs ≡ []
+empty xs e = nil_from_length xs ((Decides-eqb (length xs) 0).0 e)
+
+not_empty : (xs : List ℕ) → (length xs == 0) ≡ false → xs ≡ [] → ⊥
+not_empty [] e none = cc
+not_empty (x ∷ xs) e none = cc
+
+pub returns-in_default : goal.returns-in_default
+returns-in_default c =
+    no_frames c.args.bytes.now c.loop-rest.rest.now (map (λ p. p.items) c.loop-rest.all.items) c.loop-rest.invariant (not_empty c.loop-rest.rest.now (sym c.is_empty.ensures ∙ c.loop-rest-test.true)) c.in_default.ensures
+
+pub loop-rest-smaller : goal.loop-rest-smaller
+loop-rest-smaller c =
+    let found = c.in-Some.frame.now in
+    let after = c.in-Some.after.now in
+    omega (arith, ap length c.in-Some.ensures.0, length-append (frame found) after, length-frame found)
+
+pub returns : goal.returns
+returns c =
+    let done = map (λ p. p.items) c.loop-rest.all.items in
+    let none : c.loop-rest.rest.now ≡ [] = empty c.loop-rest.rest.now (sym c.is_empty.ensures ∙ c.loop-rest-test.false) in
+    frames_found c.args.bytes.now done (c.loop-rest.invariant ∙ (ap (λ r. flat_map frame done ++ r) none ∙ append-nil (flat_map frame done)))

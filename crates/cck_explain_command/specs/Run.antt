@@ -1,0 +1,50 @@
+-- what the program writes for what its words ask for, and its status
+use Rattle.std.specs.Prelude.{◌≡◌, ◌≢◌, ◌∷◌, ◌++◌, [], None, Option, IfSome, codes}
+use Rattle.cck_command.specs.Printing.{AppendsBeginning}
+use Rattle.cck_command.specs.declared.status.Status.{Status}
+use Rattle.cck_command.specs.declared.status.Status.TheVariants.{Done, Refused, Usage}
+use Rattle.cck_explain_entry.specs.Bytes as entry
+use Rattle.cck_explain_markers.specs.Listing.{AreMarkerLines}
+use Rattle.cck_explain_script.specs.Listing as script
+use Rattle.cck_path.specs.Bytes.{Bytes}
+use Rattle.cck_script.specs.Script.{commands_of, wrong_line}
+use Rattle.clap.specs.declared.error.kind.ErrorKind.{ErrorKind}
+use Rattle.clap.specs.declared.error.kind.ErrorKind.TheVariants.{DisplayHelp, DisplayVersion, OutOfMemory}
+use Rattle.cck_explain_command.specs.Key.{key_listing}
+use Rattle.cck_explain_command.specs.KeyRequest.{params_for}
+use Rattle.cck_explain_command.specs.Written.{BeginsOf, WritesOf}
+use Rattle.cck_explain_command.specs.declared.request.Request.{Request}
+use Rattle.cck_explain_command.specs.declared.request.Request.TheVariants.{Key, Entry, Markers, Script}
+
+-- the listing of a script that has no wrong line
+abbrev pub ListsScript : (Bytes → Bytes) → Bytes → Bytes → Type 0
+ListsScript hash text listing = (wrong_line text ≡ None) × script.IsListingOf hash (commands_of text) listing
+
+-- the listing that is asked for, of this input
+abbrev pub Lists : (Bytes → Bytes) → Request → Bytes → Bytes → Type 0
+Lists hash (Key request) input listing = listing ≡ key_listing hash request.is_full (params_for request input)
+Lists hash Entry input listing = entry.IsListingOf input listing
+Lists hash (Markers request) input listing = AreMarkerLines request.input.now request.cwd.now input listing
+Lists hash Script input listing = ListsScript hash input listing
+
+-- the line that says why the program is refused
+abbrev pub refusal : Bytes → Bytes
+refusal why = codes "cck_explain: " ++ why ++ 10 ∷ []
+
+-- the program is refused: a prefix of such a line was written to the errors
+abbrev pub Refuses : Option Bytes → Option Bytes → Type 0
+Refuses old new = (why : Bytes) × AppendsBeginning old new (refusal why)
+
+-- what is written for a request, with this status: all of the listing, or a prefix of it
+abbrev pub Answers : (Bytes → Bytes) → Request → Option Bytes → Status → Option Bytes → Option Bytes → Type 0
+Answers hash request input Done old new = IfSome input (λ bytes. WritesOf (Lists hash request bytes) old new)
+Answers hash request input Refused old new = IfSome input (λ bytes. BeginsOf (Lists hash request bytes) old new)
+Answers hash request input Usage old new = ⊥
+
+-- The status where clap returns an error of this kind. Where it is help or the version, only a failed write or lack of memory refuses it.
+-- Wrong words are a usage error, unless memory is lacking for its text.
+abbrev pub StatusOf : ErrorKind → Status → Type 0
+StatusOf DisplayHelp status = status ≢ Usage
+StatusOf DisplayVersion status = status ≢ Usage
+StatusOf OutOfMemory status = status ≡ Refused
+StatusOf _ status = status ≢ Done

@@ -1,0 +1,3 @@
+pub mod BestLemmas
+pub mod LineLemmas
+pub mod WalkLemmas
