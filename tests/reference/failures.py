@@ -84,7 +84,7 @@ class Runs:
         self.count = 0
         self.seen = collections.Counter()
         self.wrong = 0
-        self.told = b""
+        self.printed = b""
 
     def make(self, call, store):
         """The result of one call."""
@@ -110,12 +110,12 @@ class Runs:
             store.put(*self.first)
         start = store.armed.calls
         failure.arm_store(store)
-        has_met, results, told = False, [], b""
+        has_met, results, printed = False, [], b""
         for place, call in enumerate(own_calls(self.lines)):
             held, before = copy.copy(store.pairs), store.armed.calls
             failure.arm_files(call.files, place)
             answer = self.make(call, store)
-            told += result_line(answer)
+            printed += result_line(answer)
             made = range(before + 1 - start, store.armed.calls + 1 - start)
             if failure.is_met(place, call.files.armed.calls, made):
                 has_met = has_met or failure.cause != "files" or place == failure.place
@@ -126,7 +126,7 @@ class Runs:
             results.append((answer, is_right))
         if has_met:
             self.count += 1
-            self.told += told + store_text(store) + b"\n"
+            self.printed += printed + store_text(store) + b"\n"
             for answer, is_right in results:
                 self.seen[word_of(answer)] += 1
                 self.wrong += not is_right

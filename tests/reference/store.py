@@ -8,7 +8,7 @@ class MapStore:
 
     def __init__(self):
         self.pairs = {}
-        self.setbacks = 0
+        self.failures = 0
         self.forgetting = 0
         self.armed = ArmedCalls()
 
@@ -30,7 +30,7 @@ class MapStore:
 
     def set_back(self):
         """`more`: one more store failure."""
-        self.setbacks += 1
+        self.failures += 1
 
     def call(self):
         """Counts one call, and does what is armed for it: to forget comes before to fail."""
@@ -59,7 +59,7 @@ class EmptyStore:
     """The store that keeps nothing: its count of store failures."""
 
     def __init__(self):
-        self.setbacks = 0
+        self.failures = 0
 
     def get(self, key):
         """Nothing is held."""
@@ -67,5 +67,5 @@ class EmptyStore:
 
     def put(self, key, data):
         """A put fails, which is a store failure."""
-        self.setbacks += 1
+        self.failures += 1
         raise Refused("Fault")

@@ -528,7 +528,7 @@ def call_holds(subject, rest, made):
 def call_store_shown(subject, rest, made):
     """`store_shown`: what `Debug` prints of the store."""
     if isinstance(subject.store, EmptyStore):
-        return f"EmptyStore {{ setbacks: {subject.store.setbacks} }}".encode()
+        return f"EmptyStore {{ failures: {subject.store.failures} }}".encode()
     return store_text(subject.store)
 
 
@@ -538,7 +538,7 @@ def store_text(store):
         f"{debug_text(key.decode())}: {debug_bytes(data)}"
         for key, data in sorted(store.pairs.items())
     )
-    counts = f"setbacks: {store.setbacks}, forget: {store.forgetting}, {armed_text(store.armed)}"
+    counts = f"failures: {store.failures}, forget: {store.forgetting}, {armed_text(store.armed)}"
     return f"MapStore {{ alloc: Global, pairs: {{{pairs}}}, {counts} }}".encode()
 
 

@@ -216,7 +216,7 @@ def runs_text(runs):
     for number in range(1, 8):
         if runs.seen[number]:
             text += f", {runs.seen[number]} of error {number}"
-    return f"{text}\nwrong: {runs.wrong}\n".encode() + digest_text(runs.told)
+    return f"{text}\nwrong: {runs.wrong}\n".encode() + digest_text(runs.printed)
 
 
 def run_under(streams, text, cause, failures):
@@ -235,7 +235,7 @@ def is_cut(written, whole):
 def fail_streams(streams, text, cause, failing):
     """Each call of the reader or the writer fails in turn, until a run meets no failure."""
     whole, status = run_under(streams, text, cause, Failures())
-    count, wrong, told = 0, 0, b""
+    count, wrong, printed = 0, 0, b""
     while True:
         failures = Failures(count, failing)
         run, ended = run_under(streams, text, cause, failures)
@@ -243,9 +243,9 @@ def fail_streams(streams, text, cause, failing):
             wrong += (run.written, ended) != (whole.written, status)
             break
         wrong += ended != 1 or not is_cut(run.written, whole.written)
-        told += run.written
+        printed += run.written
         count += 1
-    return b"%d failures\nwrong: %d\n" % (count, wrong) + digest_text(told)
+    return b"%d failures\nwrong: %d\n" % (count, wrong) + digest_text(printed)
 
 
 class Subject(BaseSubject):
