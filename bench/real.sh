@@ -32,7 +32,7 @@ done
 print_times gcc
 
 # The parts of one hit, each the least of 100 runs, one after the other in each round.
-programs=$(cat "$CCK_STORE"/compilers/*)
+programs=$(sed -n 2p "$CCK_STORE"/compilers/*)
 python3 - "$programs" <<'P'
 import os, subprocess, sys, time
 program, store, flags = os.environ["CCK_PROGRAM"], os.environ["CCK_STORE"], "-O2 -g -Wall -DLUA_COMPAT_5_3 -DLUA_USE_POSIX".split()
