@@ -5,8 +5,8 @@
 # directory that occurs and with one that does not, and strip_basedirs_from_arg of 100 arguments with
 # one base directory, 1000 times, and with 1000, 10 times. From C what remains is written to a buffer,
 # where strip_basedirs allocates it. The two programs run in turn, eleven times each, each first in every
-# other round, and the least time of each counts. Then it prints how many instructions the calls that
-# strip take together, by callgrind, on the first 4 MB of the text.
+# other round, and the least time of each counts. Then it prints how many instructions each call takes, by
+# callgrind, on the first 4 MB of the text.
 #
 #     bench/c.sh [FOLDER]
 #
@@ -54,18 +54,15 @@ awk '
 
 head -c 4194304 "$folder/headers.i" > "$folder/four.i"
 
-# Prints how many instructions all calls of the function $1 take in a run of the program $2.
+# Prints how many instructions the call $2 takes in the program $1.
 instructions_of() {
-    valgrind --tool=callgrind --callgrind-out-file=/dev/null --toggle-collect="$1" "$2" \
-        < "$folder/four.i" 2>&1 > /dev/null | sed -n 's/.*Collected : //p'
+    with=$(instructions "$1" "$2" < "$folder/four.i")
+    without=$(instructions "$1" nothing < "$folder/four.i")
+    echo $((with - without))
 }
 
-# Prints a row for an export and the function of the library.
-print_instructions() {
-    echo "$1 $(instructions_of "$1" "$folder/calls") $(instructions_of "$2" "$program")" |
+printf '\n%-20s %14s %14s %6s   (million instructions)\n' call 'from C' 'from Rattle' ratio
+for name in key finder strip_some strip_none arguments_1 arguments_1000; do
+    echo "$name $(instructions_of "$folder/calls" "$name") $(instructions_of "$program" "$name")" |
         awk '{ printf "%-20s %14.3f %14.3f %6.3f\n", $1, $2 / 1e6, $3 / 1e6, $2 / $3 }'
-}
-
-printf '\n%-20s %14s %14s %6s   (million instructions)\n' calls 'from C' 'from Rattle' ratio
-print_instructions cck_strip_text cck_strip::text::strip_basedirs
-print_instructions cck_strip_argument cck_strip::argument::strip_basedirs_from_arg
+done

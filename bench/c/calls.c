@@ -1,5 +1,6 @@
 /* Times one round of calls of cck.h on the text on standard input, and prints the name, the nanoseconds
-   and the result of each. bench/c.sh runs it beside bench/c/main.rt.in, which prints the same. */
+   and the result of each. With the name of a call as argument it makes this one alone, and with another
+   word none. bench/c.sh runs it beside bench/c/main.rt.in, which prints the same. */
 #define _POSIX_C_SOURCE 199309L
 #include "cck.h"
 #include <stdio.h>
@@ -101,7 +102,12 @@ static void time_arguments(const char *name, size_t basedirs_length, size_t roun
   printf("%s %.0f %lu\n", name, now() - start, (unsigned long)kept);
 }
 
-int main(void) {
+/* Whether the call of this name is made. */
+static int is_made(int words, char **word, const char *name) {
+  return words < 2 || strcmp(word[1], name) == 0;
+}
+
+int main(int words, char **word) {
   size_t room = (size_t)1 << 27, length, i;
   uint8_t *text = malloc(room), *buffer = malloc(room);
   if (!text || !buffer)
@@ -110,11 +116,17 @@ int main(void) {
   /* Each page of the buffer is there before it is timed. */
   for (i = 0; i < length; i++)
     buffer[i] = 1;
-  time_key(text, length);
-  time_finder(text, length);
-  time_strip("strip_some", some, text, length, buffer);
-  time_strip("strip_none", none, text, length, buffer);
-  time_arguments("arguments_1", 1, 1000);
-  time_arguments("arguments_1000", BASEDIRS, 10);
+  if (is_made(words, word, "key"))
+    time_key(text, length);
+  if (is_made(words, word, "finder"))
+    time_finder(text, length);
+  if (is_made(words, word, "strip_some"))
+    time_strip("strip_some", some, text, length, buffer);
+  if (is_made(words, word, "strip_none"))
+    time_strip("strip_none", none, text, length, buffer);
+  if (is_made(words, word, "arguments_1"))
+    time_arguments("arguments_1", 1, 1000);
+  if (is_made(words, word, "arguments_1000"))
+    time_arguments("arguments_1000", BASEDIRS, 10);
   return 0;
 }
