@@ -6,9 +6,9 @@ pub mod CutLemmas
 pub mod Examples
 pub mod InsertLemmas
 pub mod LinkLemmas
+pub mod PieceLemmas
 pub mod PositionLemmas
 pub mod RunLemmas
-pub mod ScanLemmas
 pub mod SoughtLemmas
 pub mod TrieLemmas
 pub mod WalkLemmas

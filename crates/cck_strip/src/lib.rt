@@ -30,6 +30,7 @@ mod hashing;
 mod into;
 pub mod laws;
 mod node;
+mod search;
 mod text;
 mod trie;
 
