@@ -3,6 +3,7 @@ pub mod ByteLemmas
 pub mod ChainLemmas
 pub mod CommonLemmas
 pub mod CutLemmas
+pub mod CutListLemmas
 pub mod Examples
 pub mod InsertLemmas
 pub mod LinkLemmas

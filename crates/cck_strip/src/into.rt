@@ -7,7 +7,7 @@ ghost use Rattle.cck_strip.specs.Text.{stripped_text};
 
 use crate::argument::{ArgumentSites, PositionSearch};
 use crate::cuts::{Progress, Search, Sites, next_piece};
-use crate::search::text_search;
+use crate::search::{TextSearch, text_search};
 use crate::text::TextSites;
 use crate::trie::BasedirTrie;
 use std::alloc::{AllocError, Global};
@@ -77,7 +77,12 @@ pub fn strip_basedirs_into(
         basedirs,
         trie: &trie,
     };
-    Ok(cut_into(text, &sites, &search, buffer))
+    let written = match &search {
+        TextSearch::FirstBytes(search) => cut_into(text, &sites, search, buffer),
+        TextSearch::Byte(search) => cut_into(text, &sites, search, buffer),
+        TextSearch::Word(search) => cut_into(text, &sites, search, buffer),
+    };
+    Ok(written)
 }
 
 /// Writes what [`strip_basedirs_from_arg`](crate::strip_basedirs_from_arg) returns of this argument

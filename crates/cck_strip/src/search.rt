@@ -4,28 +4,16 @@ ghost use Rattle.cck_strip.specs.Beginnings.{AllEmpty};
 ghost use Rattle.cck_strip.specs.Search.{Finds};
 
 use crate::beginnings::{common_beginning, first_bytes};
-use crate::cuts::Search;
-use crate::text::{ByteSearch, FirstByteSearch, TextSites, WordSearch};
+use crate::text::{ByteSearch, FirstByteSearch, WordSearch};
 use memchr::memmem::Finder;
 
-/// A search of a text for what base directories begin with.
+/// A search of a text for what base directories begin with. Who calls it matches on it once, so that
+/// each loop over a text has one search.
 #[derive(Drop)]
 pub(crate) enum TextSearch<'a> {
     FirstBytes(FirstByteSearch),
     Byte(ByteSearch),
     Word(WordSearch<'a>),
-}
-
-impl<'a, 'b> Search<TextSites<'b>> for TextSearch<'a> {
-    ghost finds = { λ s t. Finds s (map (λ b. b.items) t.basedirs.now) };
-
-    fn next_place(&self, sites: &TextSites<'b>, from: usize) -> Option<usize> {
-        match self {
-            TextSearch::FirstBytes(search) => search.next_place(sites, from),
-            TextSearch::Byte(search) => search.next_place(sites, from),
-            TextSearch::Word(search) => search.next_place(sites, from),
-        }
-    }
 }
 
 /// Returns the search for the longest word with which all these base directories begin, or for their

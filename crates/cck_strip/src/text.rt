@@ -7,7 +7,7 @@ ghost use Rattle.cck_strip.specs.Text.{is_boundary, is_separator, longest_prefix
 ghost use Rattle.cck_strip.specs.Trie.{IsTrie};
 
 use crate::cuts::{Search, Sites, cut_out};
-use crate::search::text_search;
+use crate::search::{TextSearch, text_search};
 use crate::trie::BasedirTrie;
 use cck_digest::UtilError;
 use memchr::memchr_iter;
@@ -173,5 +173,10 @@ pub fn strip_basedirs<'a>(
         basedirs,
         trie: &trie,
     };
-    Ok(cut_out(alloc, text, &sites, &search)?)
+    let kept = match &search {
+        TextSearch::FirstBytes(search) => cut_out(alloc, text, &sites, search)?,
+        TextSearch::Byte(search) => cut_out(alloc, text, &sites, search)?,
+        TextSearch::Word(search) => cut_out(alloc, text, &sites, search)?,
+    };
+    Ok(kept)
 }
