@@ -4,7 +4,7 @@ use Rattle.cck_strip.specs.Pieces.{IsEnd, IsPassed}
 use Rattle.cck_strip.proofs.CommonLemmas.{when_none, when_some}
 use Rattle.cck_strip.proofs.PieceLemmas.{IsNextPlace-same, IsPassed-more, IsPassed-place, IsPiece-last, IsPiece-part, IsPiece-site, none_from, within_same}
 use Rattle.cck_strip.proofs.cuts.next_piece.Goals as goal
-use Rattle.cck_strip.proofs.cuts.next_piece.Goals.{then-not-progress-via-then-not-progress, then-not-progress-via-else-not-progress+then-copied-text}
+use Rattle.cck_strip.proofs.cuts.next_piece.Goals.{then-not-is_cut-via-then-not-is_cut, then-not-is_cut-via-else-not-is_cut+then-copied-text}
 
 pub loop-place-init : goal.loop-place-init
 loop-place-init g c = record { passed = c.requires.passed; same = refl }
@@ -30,7 +30,7 @@ returns-then-place-copied-ge-COPIED_STRETCH-clause-outcome g c =
     let within = within_same _ _ _ c.requires.text_is (g.met.S.Sites.within c.args.sites.now) in
     let next = IsNextPlace-same _ _ _ _ _ c.requires.text_is (when_some _ _ _ _ c.in-Some.is c.next_place.ensures) in
     let place = IsPassed-place _ _ _ _ _ c.loop-place.invariant.passed next in
-    let later : c.args.progress.now.is_cut ≡ true = sym (ap (λ p. p.is_cut) c.loop-place.invariant.same) ∙ c.if-progress.true in
+    let later : c.args.progress.now.is_cut ≡ true = c.if-is_cut.true in
     IsPiece-part _ _ _ _ _ within place (sym value ∙ omega arith) (omega arith) (ap not later)
 
 -- what is left where no piece is: nothing was cut, or the text ends
@@ -41,26 +41,26 @@ no_piece site text was_cut is_cut copied from passed none same ends = record {
   cut = λ e. ends (same ∙ e);
 }
 
-pub returns-then-not-progress-clause-passed_still : goal.returns-then-not-progress-clause-passed_still
-returns-then-not-progress-clause-passed_still g c = rw c.loop-place.invariant.same c.requires.passed
+pub returns-then-not-is_cut-clause-passed_still : goal.returns-then-not-is_cut-clause-passed_still
+returns-then-not-is_cut-clause-passed_still g c = rw c.loop-place.invariant.same c.requires.passed
 
-pub returns-then-not-progress-clause-outcome : goal.returns-then-not-progress-clause-outcome
-returns-then-not-progress-clause-outcome g c =
-    no_piece _ _ _ c.loop-place.progress.is_cut _ _ c.loop-place.invariant.passed (when_none _ _ _ c.in_default.is c.next_place.ensures)
-    (ap (λ p. p.is_cut) c.loop-place.invariant.same) (elim c.then-not-progress.branch [
-      | then-not-progress-via-then-not-progress w ↦ λ e. absurd (cc (e, w.if-not-progress.true))
-      | then-not-progress-via-else-not-progress+then-copied-text w ↦ λ e. w.if-copied-text.true
+pub returns-then-not-is_cut-clause-outcome : goal.returns-then-not-is_cut-clause-outcome
+returns-then-not-is_cut-clause-outcome g c =
+    no_piece _ _ _ c.args.progress.now.is_cut _ _ c.loop-place.invariant.passed (when_none _ _ _ c.in_default.is c.next_place.ensures)
+    refl (elim c.then-not-is_cut.branch [
+      | then-not-is_cut-via-then-not-is_cut w ↦ λ e. absurd (cc (e, w.if-not-is_cut.true))
+      | then-not-is_cut-via-else-not-is_cut+then-copied-text w ↦ λ e. w.if-copied-text.true
     ])
 
 or_false : (b : Bool) → b ≡ (b || false)
 or_false true = refl
 or_false false = refl
 
-pub returns-then-not-progress-clause-is_cut : goal.returns-then-not-progress-clause-is_cut
-returns-then-not-progress-clause-is_cut g c = ap (λ p. p.is_cut) c.loop-place.invariant.same ∙ or_false c.args.progress.now.is_cut
+pub returns-then-not-is_cut-clause-is_cut : goal.returns-then-not-is_cut-clause-is_cut
+returns-then-not-is_cut-clause-is_cut g c = ap (λ p. p.is_cut) c.loop-place.invariant.same ∙ or_false c.args.progress.now.is_cut
 
 pub returns-clause-outcome : goal.returns-clause-outcome
 returns-clause-outcome g c =
     let within = within_same _ _ _ c.requires.text_is (g.met.S.Sites.within c.args.sites.now) in
-    let later : c.args.progress.now.is_cut ≡ true = sym (ap (λ p. p.is_cut) c.loop-place.invariant.same) ∙ c.if-not-progress.false in
+    let later : c.args.progress.now.is_cut ≡ true = c.if-not-is_cut.false in
     rw take_rest (IsPiece-last _ _ _ _ _ within c.loop-place.invariant.passed (when_none _ _ _ c.in_default.is c.next_place.ensures) c.if-copied-text.false (ap not later))
