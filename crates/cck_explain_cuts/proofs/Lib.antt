@@ -1,3 +1,1 @@
-pub mod BestLemmas
 pub mod LineLemmas
-pub mod WalkLemmas

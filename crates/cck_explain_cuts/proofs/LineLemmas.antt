@@ -4,8 +4,8 @@ use Rattle.std.proofs.lemmas.Bool.{eqb-true}
 use Rattle.cck_path.specs.Bytes.{Bytes}
 use Rattle.cck_strip.specs.Cuts.{cuts_below}
 use Rattle.cck_strip.specs.Text.{is_boundary, longest_prefix, text_site}
-use Rattle.cck_explain_cuts.specs.Cut.{cut_at}
-use Rattle.cck_explain_cuts.proofs.WalkLemmas.{no_cut}
+use Rattle.cck_strip.specs.CutList.{cut_at}
+use Rattle.cck_strip.proofs.CutListLemmas.{no_cut}
 use Rattle.cck_explain_cuts.specs.Listing.{cut_lines, text_cut_lines}
 
 no_site : (text : Bytes) (k : ℕ) → text_site [] text k ≡ 0

@@ -1,2 +1,1 @@
-pub mod Cut
 pub mod Listing

@@ -6,8 +6,8 @@ use Rattle.cck_explain_text.specs.Quoted.{quoted}
 use Rattle.cck_path.specs.Bytes.{Bytes}
 use Rattle.cck_strip.specs.Argument.{argument_site}
 use Rattle.cck_strip.specs.Text.{text_site}
-use Rattle.cck_explain_cuts.specs.Cut.{cuts_of}
-use Rattle.cck_explain_cuts.specs.declared.cut.Cut.{Cut}
+use Rattle.cck_strip.specs.CutList.{cuts_of}
+use Rattle.cck_strip.specs.declared.cut_list.Cut.{Cut}
 
 -- the bytes of a text that are cut out
 abbrev pub cut_bytes : Bytes → Cut → Bytes

@@ -3,10 +3,8 @@ ghost use Rattle.std.specs.Prelude.{◌≡◌, ◌++◌, OnOk};
 ghost use Rattle.cck_path.specs.Bytes.{lists_of};
 ghost use Rattle.cck_explain_cuts.specs.Listing.{argument_cut_lines, cut_bytes, cut_line, cut_lines, text_cut_lines};
 
-use crate::argument::argument_cuts;
-use crate::cut::Cut;
-use crate::text::text_cuts;
 use cck_explain_text::push_quoted;
+use cck_strip::{Cut, argument_cuts, text_cuts};
 use std::alloc::{AllocError, Global};
 
 // Returns the bytes of a text that are cut out.

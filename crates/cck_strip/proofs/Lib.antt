@@ -3,12 +3,13 @@ pub mod ByteLemmas
 pub mod ChainLemmas
 pub mod CommonLemmas
 pub mod CutLemmas
+pub mod CutListLemmas
 pub mod Examples
 pub mod InsertLemmas
 pub mod LinkLemmas
+pub mod PieceLemmas
 pub mod PositionLemmas
 pub mod RunLemmas
-pub mod ScanLemmas
 pub mod SoughtLemmas
 pub mod TrieLemmas
 pub mod WalkLemmas

@@ -6,11 +6,10 @@ ghost use Rattle.cck_strip.specs.Into.{IsWritten};
 ghost use Rattle.cck_strip.specs.Text.{stripped_text};
 
 use crate::argument::{ArgumentSites, PositionSearch};
-use crate::beginnings::{common_beginning, first_bytes};
-use crate::cuts::{COPIED_STRETCH, Search, Sites};
-use crate::text::{ByteSearch, FirstByteSearch, TextSites, WordSearch};
+use crate::cuts::{Progress, Search, Sites, next_piece};
+use crate::search::{TextSearch, text_search};
+use crate::text::TextSites;
 use crate::trie::BasedirTrie;
-use memchr::memmem::Finder;
 use std::alloc::{AllocError, Global};
 use std::convert::AsSlice;
 
@@ -40,28 +39,14 @@ fn cut_into<S: Sites, F: Search<S>>(
     ensures { IsWritten (stripped (S.site sites.now) text.now) text.now buffer.old buffer.new result }
 {
     let mut written = 0;
-    let mut is_cut = false;
-    let mut copied = 0;
-    let mut from = 0;
-    while let Some(place) = search.next_place(sites, from) {
-        let length = sites.length_at(place);
-        if length > 0 {
-            written = write_piece(buffer, written, &text[copied..place]);
-            is_cut = true;
-            copied = place + length;
-            from = copied;
-        } else {
-            if is_cut && place - copied >= COPIED_STRETCH {
-                written = write_piece(buffer, written, &text[copied..place]);
-                copied = place;
-            }
-            from = place + 1;
-        }
+    let mut progress = Progress::new();
+    while let Some(piece) = next_piece(text, sites, search, &mut progress) {
+        written = write_piece(buffer, written, piece);
     }
-    if !is_cut {
+    if !progress.is_cut {
         return None;
     }
-    Some(write_piece(buffer, written, &text[copied..]))
+    Some(written)
 }
 
 /// Writes what [`strip_basedirs`](crate::strip_basedirs) returns of this text to the start of the
@@ -80,8 +65,8 @@ pub fn strip_basedirs_into(
         IsWritten (stripped_text (map (λ b. b.items) basedirs.now) text.now) text.now buffer.old buffer.new written) }
     ensures kept { OnErr result (buffer.new ≡ buffer.old) }
 {
-    let word = match common_beginning(basedirs) {
-        Some(word) => word,
+    let search = match text_search(basedirs) {
+        Some(search) => search,
         None => return Ok(None),
     };
     let Ok(trie) = BasedirTrie::new(alloc, basedirs) else {
@@ -92,15 +77,10 @@ pub fn strip_basedirs_into(
         basedirs,
         trie: &trie,
     };
-    let written = if word.is_empty() {
-        let is_first = first_bytes(basedirs);
-        cut_into(text, &sites, &FirstByteSearch { is_first }, buffer)
-    } else if word.len() == 1 {
-        let byte = word[0];
-        cut_into(text, &sites, &ByteSearch { byte }, buffer)
-    } else {
-        let finder = Finder::new(word);
-        cut_into(text, &sites, &WordSearch { finder }, buffer)
+    let written = match &search {
+        TextSearch::FirstBytes(search) => cut_into(text, &sites, search, buffer),
+        TextSearch::Byte(search) => cut_into(text, &sites, search, buffer),
+        TextSearch::Word(search) => cut_into(text, &sites, search, buffer),
     };
     Ok(written)
 }

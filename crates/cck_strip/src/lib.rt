@@ -10,6 +10,7 @@
 //! - [`pathname_positions`] are the places of an argument where a path may begin.
 //! - [`strip_basedirs_into`] and [`strip_basedirs_from_arg_into`] write what remains to a buffer of
 //!   the caller.
+//! - [`text_cuts`] and [`argument_cuts`] list what is cut out.
 //! - [`hash_arguments`] feeds arguments to a digest, stripped.
 //! - [`laws`] has what is proved of the definitions alone: there is exactly one way to cut.
 //!
@@ -25,15 +26,18 @@
 
 mod argument;
 mod beginnings;
+mod cut_list;
 mod cuts;
 mod hashing;
 mod into;
 pub mod laws;
 mod node;
+mod search;
 mod text;
 mod trie;
 
 pub use argument::{pathname_positions, strip_basedirs_from_arg};
+pub use cut_list::{Cut, argument_cuts, text_cuts};
 pub use hashing::hash_arguments;
 pub use into::{strip_basedirs_from_arg_into, strip_basedirs_into};
 pub use text::strip_basedirs;

@@ -6,8 +6,8 @@ ghost use Rattle.cck_strip.specs.Cuts.{Remains};
 ghost use Rattle.cck_strip.specs.Text.{is_boundary, is_separator, longest_prefix, stripped_text, text_site};
 ghost use Rattle.cck_strip.specs.Trie.{IsTrie};
 
-use crate::beginnings::{common_beginning, first_bytes};
 use crate::cuts::{Search, Sites, cut_out};
+use crate::search::{TextSearch, text_search};
 use crate::trie::BasedirTrie;
 use cck_digest::UtilError;
 use memchr::memchr_iter;
@@ -163,8 +163,8 @@ pub fn strip_basedirs<'a>(
         text.now (cow_slice_items kept) (IsOwnedSlice kept)) }
     ensures errors { IsOkUnless result UtilError.Memory }
 {
-    let word = match common_beginning(basedirs) {
-        Some(word) => word,
+    let search = match text_search(basedirs) {
+        Some(search) => search,
         None => return Ok(CowSlice::Borrowed(text)),
     };
     let trie = BasedirTrie::new(alloc, basedirs)?;
@@ -173,14 +173,10 @@ pub fn strip_basedirs<'a>(
         basedirs,
         trie: &trie,
     };
-    if word.is_empty() {
-        let is_first = first_bytes(basedirs);
-        return cut_out(alloc, text, &sites, &FirstByteSearch { is_first });
-    }
-    if word.len() == 1 {
-        let byte = word[0];
-        return cut_out(alloc, text, &sites, &ByteSearch { byte });
-    }
-    let finder = Finder::new(word);
-    cut_out(alloc, text, &sites, &WordSearch { finder })
+    let kept = match &search {
+        TextSearch::FirstBytes(search) => cut_out(alloc, text, &sites, search)?,
+        TextSearch::Byte(search) => cut_out(alloc, text, &sites, search)?,
+        TextSearch::Word(search) => cut_out(alloc, text, &sites, search)?,
+    };
+    Ok(kept)
 }

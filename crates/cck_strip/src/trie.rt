@@ -7,16 +7,13 @@ ghost use Rattle.cck_strip.specs.declared.node.Node.{Node};
 
 use crate::node::{Node, NodeId};
 use cck_digest::UtilError;
-use std::alloc::Global;
+use std::alloc::{AllocError, Global};
 use std::marker::Model;
 
 // Adds a node for this byte, which ends nothing and has no node below or beside it.
-//
-// The only error is [`UtilError::Memory`].
-fn push_leaf(nodes: &mut Vec<Node>, byte: u8) -> Result<NodeId, UtilError>
+fn push_leaf(nodes: &mut Vec<Node>, byte: u8) -> Result<NodeId, AllocError>
     ensures pushed { OnOk result (nodes.new.items ≡ nodes.old.items ++ leaf_of byte ∷ []) }
     ensures last { IfOk result (λ id. id.0 ≡ length nodes.old.items) }
-    ensures errors { IsOkUnless result UtilError.Memory }
 {
     let id = NodeId(nodes.len());
     nodes.push(Node {
@@ -29,16 +26,13 @@ fn push_leaf(nodes: &mut Vec<Node>, byte: u8) -> Result<NodeId, UtilError>
 }
 
 // The node for this byte among the node `from` and those beside it. It is added where there is none.
-//
-// The only error is [`UtilError::Memory`].
-fn node_beside(nodes: &mut Vec<Node>, from: NodeId, byte: u8) -> Result<NodeId, UtilError>
+fn node_beside(nodes: &mut Vec<Node>, from: NodeId, byte: u8) -> Result<NodeId, AllocError>
     requires forward { IsForward nodes.old.items }
     requires within { from.0 < length nodes.old.items }
     ensures forward_still { OnOk result (IsForward nodes.new.items) }
     ensures grows { OnOk result (Grows nodes.old.items nodes.new.items) }
     ensures same { OnOk result ((words : List (List ℕ)) → IsTrie nodes.old.items words → IsTrie nodes.new.items words) }
     ensures found { IfOk result (λ id. Found nodes.new.items (from.0) byte (id.0)) }
-    ensures errors { IsOkUnless result UtilError.Memory }
 {
     let mut at = from;
     loop {
@@ -61,16 +55,13 @@ fn node_beside(nodes: &mut Vec<Node>, from: NodeId, byte: u8) -> Result<NodeId, 
 }
 
 // The first node below this one. It is added, for this byte, where there is none.
-//
-// The only error is [`UtilError::Memory`].
-fn node_below(nodes: &mut Vec<Node>, at: NodeId, byte: u8) -> Result<NodeId, UtilError>
+fn node_below(nodes: &mut Vec<Node>, at: NodeId, byte: u8) -> Result<NodeId, AllocError>
     requires forward { IsForward nodes.old.items }
     requires within { at.0 < length nodes.old.items }
     ensures forward_still { OnOk result (IsForward nodes.new.items) }
     ensures grows { OnOk result (Grows nodes.old.items nodes.new.items) }
     ensures same { OnOk result ((words : List (List ℕ)) → IsTrie nodes.old.items words → IsTrie nodes.new.items words) }
     ensures found { IfOk result (λ id. (node : Node) × At nodes.new.items (at.0) node × (node.below ≡ Some id)) }
-    ensures errors { IsOkUnless result UtilError.Memory }
 {
     let node = nodes[at.0];
     if let Some(id) = node.below {
@@ -85,14 +76,11 @@ fn node_below(nodes: &mut Vec<Node>, at: NodeId, byte: u8) -> Result<NodeId, Uti
 }
 
 // Adds a word to the nodes.
-//
-// The only error is [`UtilError::Memory`].
-fn insert(nodes: &mut Vec<Node>, word: &[u8]) -> Result<(), UtilError>
+fn insert(nodes: &mut Vec<Node>, word: &[u8]) -> Result<(), AllocError>
     requires forward { IsForward nodes.old.items }
     requires some { 0 < length word.now }
     ensures forward_still { OnOk result (IsForward nodes.new.items) }
     ensures more { OnOk result ((words : List (List ℕ)) → IsTrie nodes.old.items words → IsTrie nodes.new.items (words ++ word.now ∷ [])) }
-    ensures errors { IsOkUnless result UtilError.Memory }
 {
     let mut at = node_beside(nodes, NodeId(0), word[0])?;
     for byte in &word[1..] {
@@ -119,12 +107,9 @@ fn is_straight(node: &Node, next: usize) -> bool
 
 // For each node how many nodes from it on, one after the other in the vector, end nothing, have no
 // node beside them, and have the next one below them.
-//
-// The only error is [`UtilError::Memory`].
-fn run_lengths(alloc: Global, nodes: &[Node]) -> Result<Vec<usize>, UtilError>
+fn run_lengths(alloc: Global, nodes: &[Node]) -> Result<Vec<usize>, AllocError>
     ensures size { IfOk result (λ runs. length runs.items ≡ length nodes.now) }
     ensures each { IfOk result (λ runs. (i : ℕ) → i < length nodes.now → IsRun (get_or runs.items i 0) nodes.now i) }
-    ensures errors { IsOkUnless result UtilError.Memory }
 {
     let mut runs = vec![in alloc; 0; nodes.len()]?;
     let mut run = 0;
@@ -142,11 +127,8 @@ fn run_lengths(alloc: Global, nodes: &[Node]) -> Result<Vec<usize>, UtilError>
 }
 
 // The bytes of the nodes, in their order.
-//
-// The only error is [`UtilError::Memory`].
-fn node_bytes(alloc: Global, nodes: &[Node]) -> Result<Vec<u8>, UtilError>
+fn node_bytes(alloc: Global, nodes: &[Node]) -> Result<Vec<u8>, AllocError>
     ensures value { IfOk result (λ bytes. bytes.items ≡ map (λ node. node.byte) nodes.now) }
-    ensures errors { IsOkUnless result UtilError.Memory }
 {
     let mut bytes = Vec::new(alloc);
     for node in nodes {

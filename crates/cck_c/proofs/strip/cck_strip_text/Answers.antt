@@ -2,7 +2,7 @@ use Rattle.std.proofs.Common.{◌≡◌, ◌==◌, ◌∙◌, List, [], ◌∷�
 use Rattle.std.proofs.lemmas.Grind.{common_steps}
 use Rattle.cck_strip.specs.Beginnings.{AllEmpty}
 use Rattle.cck_strip.specs.SiteLemmas.{text_site-within}
-use Rattle.cck_strip.proofs.ScanLemmas.{Remains-none, Remains-stripped}
+use Rattle.cck_strip.proofs.PieceLemmas.{Remains-none, Remains-stripped}
 use Rattle.cck_strip.proofs.SoughtLemmas.{no_word, text_site-empty}
 use Rattle.cck_c.specs.Bytes.{texts_of}
 use Rattle.cck_c.specs.declared.bytes.Bytes.{Bytes}

@@ -1,4 +1,4 @@
-use Rattle.std.proofs.Common.{refl, ap, length, ◌∙◌, ◌-◌}
+use Rattle.std.proofs.Common.{refl}
 use Rattle.std.proofs.lemmas.List.{take_rest}
 use Rattle.cck_strip.proofs.SoughtLemmas.{FindsNeedle-same, IsNextPlace-found, IsNextPlace-window, text_site-sought}
 use Rattle.cck_strip.proofs.text.WordSearchSearchTextSites.next_place.Goals as goal

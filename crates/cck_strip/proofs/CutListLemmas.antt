@@ -4,8 +4,8 @@ use Rattle.std.specs.List.{list_any}
 use Rattle.std.proofs.lemmas.Bool.Decides.{nat_tests}
 use Rattle.std.proofs.lemmas.List.{map-append}
 use Rattle.cck_strip.specs.Cuts.{cuts_below}
-use Rattle.cck_explain_cuts.specs.Cut.{cut_at}
-use Rattle.cck_explain_cuts.specs.declared.cut.Cut.{Cut}
+use Rattle.cck_strip.specs.CutList.{cut_at}
+use Rattle.cck_strip.specs.declared.cut_list.Cut.{Cut}
 
 -- whether one of these cuts reaches past a place
 abbrev pub reaches : (ℕ → ℕ) → List ℕ → ℕ → Bool

@@ -1,7 +1,7 @@
 -- the cuts of a text with their lengths
 use Rattle.std.specs.Prelude.{ℕ, List, map}
 use Rattle.cck_strip.specs.Cuts.{cuts_below}
-use Rattle.cck_explain_cuts.specs.declared.cut.Cut.{Cut}
+use Rattle.cck_strip.specs.declared.cut_list.Cut.{Cut}
 
 -- the cut at a place, which is as long as the site there
 abbrev pub cut_at : (ℕ → ℕ) → ℕ → Cut
