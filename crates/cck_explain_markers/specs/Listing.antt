@@ -14,12 +14,12 @@ use Rattle.cck_explain_markers.specs.declared.place.PlacedMark.{PlacedMark}
 use Rattle.cck_explain_markers.specs.declared.place.Position.{Position}
 
 -- the path that a name means, joined to the working directory and normalised
-abbrev pub path_named : Bytes → Bytes → Path
-path_named cwd name = normal (joined (components cwd) (components name))
+abbrev pub path_in : Bytes → Bytes → Path
+path_in cwd name = normal (joined (components cwd) (components name))
 
 -- the name is enclosed in `<` and `>`
-unfoldable pub is_angled : Bytes → Bool
-is_angled name = nat_le 2 (length name) && (slice_index name 0 == 60) && (slice_index name (length name - 1) == 62)
+unfoldable pub is_bracketed : Bytes → Bool
+is_bracketed name = nat_le 2 (length name) && (slice_index name 0 == 60) && (slice_index name (length name - 1) == 62)
 
 -- what a path counts as: the input itself, a system header, or another file
 abbrev pub path_word : Bool → Bool → Bytes
@@ -34,8 +34,8 @@ path_words input path name is_system =
 abbrev pub name_words : Bytes → Bytes → Bytes → Bool → Bytes
 name_words input cwd name is_system =
     if length name == 0 then codes "empty " ++ quoted name else
-    if is_angled name then codes "angled " ++ quoted name else
-    path_words (path_named cwd input) (path_named cwd name) name is_system
+    if is_bracketed name then codes "angled " ++ quoted name else
+    path_words (path_in cwd input) (path_in cwd name) name is_system
 
 -- a mark by what it says
 abbrev pub mark_words : Bytes → Bytes → Mark → Bytes

@@ -4,7 +4,7 @@ ghost use Rattle.std.specs.List.{flat_map};
 ghost use Rattle.std.specs.Ordering.{eq_by_cmp};
 ghost use Rattle.cck_path.specs.Path.{components, path_cmp};
 ghost use Rattle.cck_path.specs.Text.{path_text};
-ghost use Rattle.cck_explain_markers.specs.Listing.{AreMarkerLines, is_angled, mark_line, mark_words, name_words, path_named, path_word, path_words};
+ghost use Rattle.cck_explain_markers.specs.Listing.{AreMarkerLines, is_bracketed, mark_line, mark_words, name_words, path_in, path_word, path_words};
 
 use crate::place::{PlacedMark, placed_marks};
 use cck_explain_text::push_quoted;
@@ -13,17 +13,17 @@ use cck_path::{compare_paths, join_path, normalize_path};
 use std::alloc::{AllocError, Global};
 
 // Whether a name is enclosed in `<` and `>`.
-#[tactic(auto, unfolding(crate::specs::Listing::is_angled))]
-fn is_angled(name: &[u8]) -> bool
-    ensures { result ≡ is_angled name.now }
+#[tactic(auto, unfolding(crate::specs::Listing::is_bracketed))]
+fn is_bracketed(name: &[u8]) -> bool
+    ensures { result ≡ is_bracketed name.now }
 {
     name.len() >= 2 && name[0] == b'<' && name[name.len() - 1] == b'>'
 }
 
 // The path that a name means, joined to the working directory and normalised.
-fn path_named(alloc: Global, cwd: &[u8], name: &[u8]) -> Result<Vec<u8>, AllocError>
-    ensures components { IfOk result (λ path. components path.items ≡ path_named cwd.now name.now) }
-    ensures bytes { IfOk result (λ path. path.items ≡ path_text (path_named cwd.now name.now)) }
+fn path_in(alloc: Global, cwd: &[u8], name: &[u8]) -> Result<Vec<u8>, AllocError>
+    ensures components { IfOk result (λ path. components path.items ≡ path_in cwd.now name.now) }
+    ensures bytes { IfOk result (λ path. path.items ≡ path_text (path_in cwd.now name.now)) }
 {
     let Ok(joined) = join_path(alloc, cwd, name) else {
         return Err(AllocError);
@@ -64,10 +64,10 @@ fn push_path(
     is_system: bool,
 ) -> Result<(), AllocError>
     ensures { OnOk result (lines.new.items ≡ lines.old.items
-        ++ path_words (path_named cwd.now input.now) (path_named cwd.now name.now) name.now is_system) }
+        ++ path_words (path_in cwd.now input.now) (path_in cwd.now name.now) name.now is_system) }
 {
-    let path = path_named(alloc, cwd, name)?;
-    let is_input = is_same(&path, &path_named(alloc, cwd, input)?);
+    let path = path_in(alloc, cwd, name)?;
+    let is_input = is_same(&path, &path_in(alloc, cwd, input)?);
     lines.extend_from_slice(path_word(is_input, is_system))?;
     lines.extend_from_slice(b" ")?;
     push_quoted(lines, name)?;
@@ -90,7 +90,7 @@ fn push_name(
         lines.extend_from_slice(b"empty ")?;
         return push_quoted(lines, name);
     }
-    if is_angled(name) {
+    if is_bracketed(name) {
         lines.extend_from_slice(b"angled ")?;
         return push_quoted(lines, name);
     }

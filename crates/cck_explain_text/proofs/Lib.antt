@@ -1,1 +1,2 @@
 pub mod ChecksumLemmas
+pub mod EscapeLemmas

@@ -1,2 +1,3 @@
 pub mod Checksum
+pub mod Escaped
 pub mod Quoted

@@ -1,7 +1,9 @@
 //! Escaped bytes.
 ghost use Rattle.std.specs.Prelude.{◌≡◌, ◌<◌, ◌++◌, OnOk};
+ghost use Rattle.std.specs.List.{position};
 ghost use Rattle.cck_digest.specs.Digest.{hex_digit};
 ghost use Rattle.cck_path.specs.Escape.{escaped, escaped_byte};
+ghost use Rattle.cck_explain_text.specs.Escaped.{is_escaped};
 ghost use Rattle.cck_explain_text.specs.Quoted.{quoted};
 
 use std::alloc::AllocError;
@@ -33,6 +35,25 @@ fn push_escaped_byte(line: &mut Vec<u8>, byte: u8) -> Result<(), AllocError>
     }
 }
 
+// Whether the escape of a byte is not this byte itself.
+#[tactic(auto, unfolding(cck_path::specs::Escape::escape_letter))]
+fn is_escaped(byte: u8) -> bool
+    ensures { result ≡ is_escaped byte }
+{
+    match byte {
+        b'\'' | b'"' | b'\\' => true,
+        b' '..=b'~' => false,
+        _ => true,
+    }
+}
+
+// The index of the first byte that is escaped.
+fn first_escaped(bytes: &[u8]) -> Option<usize>
+    ensures { result ≡ position is_escaped bytes.now }
+{
+    bytes.iter().position(|byte| is_escaped(*byte))
+}
+
 /// Appends the escape of these bytes, which [`ascii_unescape_default`](cck_path::ascii_unescape_default)
 /// undoes: the bytes from 32 to 126 as themselves, but for a `\` before `'`, `"` and `\`; `\t`,
 /// `\r` and `\n`; and any other byte as `\x` and two hexadecimal digits.
@@ -41,9 +62,13 @@ fn push_escaped_byte(line: &mut Vec<u8>, byte: u8) -> Result<(), AllocError>
 pub fn push_escaped(line: &mut Vec<u8>, bytes: &[u8]) -> Result<(), AllocError>
     ensures { OnOk result (line.new.items ≡ line.old.items ++ escaped bytes.now) }
 {
-    for byte in bytes {
-        push_escaped_byte(line, *byte)?;
+    let mut rest = bytes;
+    while let Some(at) = first_escaped(rest) {
+        line.extend_from_slice(&rest[..at])?;
+        push_escaped_byte(line, rest[at])?;
+        rest = &rest[at + 1..];
     }
+    line.extend_from_slice(rest)?;
     Ok(())
 }
 
