@@ -1,6 +1,6 @@
 #!/bin/sh
 # Times reading an entry of 100 results of 100 includes each, as a map and as a view of the bytes,
-# and looking up in it the result whose includes all match: where it comes last, behind 99 whose last
+# and looking up in it the result whose includes all match: where it comes last, after 99 whose last
 # include has changed, and where it comes first. All is set beside hashing the bytes of the 100 headers
 # of 4 KiB once; Digest::file of each and a view of one result with one include are measured too.
 #

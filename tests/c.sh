@@ -4,7 +4,7 @@
 # g++, rustc, valgrind and Python 3.
 #
 # Warnings are errors everywhere. The examples are built and run. tests/c/calls.c makes the calls of
-# the vector files, and repeats each with each of its requests for memory refused in turn: built by gcc
+# the vector files, and repeats each with each of its requests for memory failing in turn: built by gcc
 # and clang, alone, with AddressSanitizer, and under valgrind. AddressSanitizer sees what the caller
 # does, and valgrind the library too.
 set -eu

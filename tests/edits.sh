@@ -1,10 +1,10 @@
 #!/bin/sh
 # Tries the edits of tests/edits/, of the crates that are named or of all, as the gate tries those of
 # must-fail/: in a copy of the working tree each of these crates has them in place of its own, and
-# the prover has to refuse each. Run by hand: edits.sh [CRATE..]. First it looks whether each edit,
-# of must-fail/ too, applies: each of its old texts stands exactly once in the file. What stands
-# below a crate is proved from nothing, so a crate takes minutes. A line for each edit says whether
-# it is refused, and the last line counts them.
+# the prover has to reject each. Run by hand: edits.sh [CRATE..]. First it checks whether each edit,
+# of must-fail/ too, applies: each of its old texts is in the file exactly once. The crates below a
+# crate are proved from nothing, so a crate takes minutes. A line for each edit says whether it is
+# rejected, and the last line counts them.
 set -eu
 cd "$(dirname "$0")/.."
 [ $# -gt 0 ] || set -- $(ls tests/edits)

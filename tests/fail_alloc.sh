@@ -1,9 +1,9 @@
 #!/bin/sh
-# Refuses one request for memory in each run of a program of cases: the first one, then the second
+# Lets one request for memory fail in each run of a program of cases: the first one, then the second
 # one, and so on. A run has to end with status 2, for want of memory, with no difference printed, or
 # to print what the program prints with all its memory. Run by hand:
 # fail_alloc.sh CRATE FILE [RUNS [FIRST]], where FILE is one of the crate's data/ and FIRST the first
-# request that is refused. A run builds the program, so there are 5 where no number is given.
+# request that fails. A run builds the program, so there are 5 where no number is given.
 set -eu
 cd "$(dirname "$0")/../crates/$1"
 file=data/$2
