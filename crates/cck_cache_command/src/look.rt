@@ -14,6 +14,9 @@ use cck_util::Sha256State;
 use std::rt::Files;
 use std::{fs, io};
 
+/// What is printed of a request that has no preprocessor key.
+pub const NO_KEY: &str = "none: SCCACHE_DIRECT is off, or the input shows the time";
+
 /// What a look-up found.
 #[derive(Drop)]
 pub enum Found {
@@ -37,7 +40,7 @@ pub enum Found {
         /// The path of a file that is damaged.
         damaged: Option<String>,
     },
-    /// The input has no preprocessor key.
+    /// The request has no preprocessor key.
     NoKey,
 }
 

@@ -1,7 +1,7 @@
 //! The program, over any files, reader and writers.
 use crate::environment::Environment;
 use crate::input::input_snapshot;
-use crate::look::{Found, look};
+use crate::look::{Found, NO_KEY, look};
 use crate::prune::prune;
 use crate::record::{Compilation, Outcome, object_key, record};
 use crate::request::{Request, hasher_of, snapshot_request};
@@ -50,7 +50,7 @@ fn run_key<R: Files + AllocGlobal, W: Write>(
             Ok(DONE)
         }
         None => {
-            writeln!(writer, "none: the input shows the time")?;
+            writeln!(writer, "{NO_KEY}")?;
             Ok(MISS)
         }
     }
@@ -100,7 +100,7 @@ fn run_look<R: Files + AllocGlobal, W: Write, E: Write>(
         }
         Found::NoKey => {
             let _ = store.count(rt, "no-key");
-            writeln!(writer, "none: the input shows the time")?;
+            writeln!(writer, "{NO_KEY}")?;
             Ok(MISS)
         }
     }

@@ -2,7 +2,7 @@
 use crate::absence::first_present;
 use crate::environment::Environment;
 use crate::input::input_snapshot;
-use crate::look::{Kept, add_entry_files, read_entry};
+use crate::look::{Kept, NO_KEY, add_entry_files, read_entry};
 use crate::request::{Request, hasher_of, snapshot_request};
 use anyhow::Result;
 use cck_cache_entry::EntryFile;
@@ -96,7 +96,7 @@ pub fn print_why<R: Files + AllocGlobal, W: Write>(
         &[],
     );
     let Some(key) = preprocessor_key::<Sha256State, MapFiles>(alloc, &mut files, &asked)? else {
-        writeln!(writer, "none: the input shows the time")?;
+        writeln!(writer, "{NO_KEY}")?;
         return Ok(());
     };
     writeln!(writer, "key {key}")?;
