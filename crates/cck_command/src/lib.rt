@@ -56,5 +56,5 @@ pub use failed::Failed;
 pub use mini_compiler::MiniCompiler;
 pub use printing::print;
 pub use program::{engine, refuse};
-pub use run::zone_at;
+pub use run::{store_of, zone_at};
 pub use status::Status;

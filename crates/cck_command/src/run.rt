@@ -158,8 +158,9 @@ pub fn zone_at(seconds: i32) -> Result<TimeZone<'static>, Failed>
     }
 }
 
-// An empty store that forgets and fails at these calls.
-fn store_of(alloc: Global, forget_at: Option<u64>, fail_at: Option<u64>) -> MapStore
+/// Returns an empty store that loses all that it holds when the get or put whose number is `forget_at`
+/// begins, and fails at the one whose number is `fail_at`, both counted from 1. It allocates no memory.
+pub fn store_of(alloc: Global, forget_at: Option<u64>, fail_at: Option<u64>) -> MapStore
     ensures { result ≡ record empty_state {
       forget = unwrap_or forget_at 0;
       armed = record new_armed { one = unwrap_or fail_at 0 };

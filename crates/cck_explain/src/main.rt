@@ -8,7 +8,7 @@
 //! for and the standard streams to [`run`].
 #![tactic(auto)]
 
-use cck_explain_command::{language_names, refuse, request_of, run};
+use cck_explain_command::{language_names, report, request_of, run};
 use cck_util::Sha256State;
 use std::env;
 use std::io::ErrorKind;
@@ -33,7 +33,7 @@ fn main(rt: HostRuntime) -> ExitCode {
             &mut writer,
             &mut errors,
         ),
-        _ => refuse(&mut errors, b"out of memory"),
+        _ => report(&mut errors, b"out of memory"),
     };
     ExitCode::from(status.code())
 }

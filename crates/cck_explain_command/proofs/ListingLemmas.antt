@@ -12,43 +12,43 @@ use Rattle.cck_util.specs.Key.{KeyParts, cache_version, flag_byte, material}
 use Rattle.cck_util.specs.Language.{language_name}
 use Rattle.cck_util.specs.Variables.{variable_frames}
 use Rattle.cck_explain_command.specs.Key.{PartsAreMaterial, arguments_cut_lines, frame_parts, frames_parts, item_name, length_part, list_parts, material_parts, option_parts, part, variables_parts}
-use Rattle.cck_explain_command.specs.Listing.{Part, cut_into, joined, listed, listed_part, part_line, part_lines, row_size, rows}
+use Rattle.cck_explain_command.specs.Listing.{Part, cut_into, bytes_of_parts, listed_parts, listed_part, part_line, part_lines, row_size, rows}
 use Rattle.std.proofs.Common.{codes, get_or, drop-cons}
 use Rattle.std.proofs.lemmas.List.{length-map, map-append, take_more}
 
 pub part_lines-append : (offset : ℕ) (xs ys : List Part)
-    → part_lines offset (xs ++ ys) ≡ part_lines offset xs ++ part_lines (offset + length (joined xs)) ys
+    → part_lines offset (xs ++ ys) ≡ part_lines offset xs ++ part_lines (offset + length (bytes_of_parts xs)) ys
 part_lines-append offset [] ys = ap (λ n. part_lines n ys) (omega arith)
 part_lines-append offset (x ∷ xs) ys =
     let line = part_line offset x.name x.bytes in
-    let n : (offset + length x.bytes) + length (joined xs) ≡ offset + length (joined (x ∷ xs)) = omega (arith, length-append x.bytes (joined xs)) in
+    let n : (offset + length x.bytes) + length (bytes_of_parts xs) ≡ offset + length (bytes_of_parts (x ∷ xs)) = omega (arith, length-append x.bytes (bytes_of_parts xs)) in
     ap (λ l. line ++ l) (part_lines-append (offset + length x.bytes) xs ys
     ∙ ap (λ m. part_lines (offset + length x.bytes) xs ++ part_lines m ys) n)
-    ∙ sym (append_assoc line (part_lines (offset + length x.bytes) xs) (part_lines (offset + length (joined (x ∷ xs))) ys))
+    ∙ sym (append_assoc line (part_lines (offset + length x.bytes) xs) (part_lines (offset + length (bytes_of_parts (x ∷ xs))) ys))
 
-pub joined-cut_into : (n : ℕ) (name bytes : Bytes) → joined (cut_into n name bytes) ≡ bytes
-joined-cut_into zero name bytes = append-nil bytes
-joined-cut_into (suc n) name bytes = ap (λ l. take row_size bytes ++ l) (joined-cut_into n name (drop row_size bytes)) ∙ take-append-drop row_size bytes
+pub bytes_of_parts-cut_into : (n : ℕ) (name bytes : Bytes) → bytes_of_parts (cut_into n name bytes) ≡ bytes
+bytes_of_parts-cut_into zero name bytes = append-nil bytes
+bytes_of_parts-cut_into (suc n) name bytes = ap (λ l. take row_size bytes ++ l) (bytes_of_parts-cut_into n name (drop row_size bytes)) ∙ take-append-drop row_size bytes
 
-pub joined-listed_part : (is_full : Bool) (p : Part) → joined (listed_part is_full p) ≡ p.bytes
-joined-listed_part false p = append-nil p.bytes
-joined-listed_part true p = joined-cut_into ((length p.bytes - 1) / row_size) p.name p.bytes
+pub bytes_of_parts-listed_part : (is_full : Bool) (p : Part) → bytes_of_parts (listed_part is_full p) ≡ p.bytes
+bytes_of_parts-listed_part false p = append-nil p.bytes
+bytes_of_parts-listed_part true p = bytes_of_parts-cut_into ((length p.bytes - 1) / row_size) p.name p.bytes
 
-joined-append : (xs ys : List Part) → joined (xs ++ ys) ≡ joined xs ++ joined ys
-joined-append xs ys = flat_map-append (λ (p : Part). p.bytes) xs ys
+bytes_of_parts-append : (xs ys : List Part) → bytes_of_parts (xs ++ ys) ≡ bytes_of_parts xs ++ bytes_of_parts ys
+bytes_of_parts-append xs ys = flat_map-append (λ (p : Part). p.bytes) xs ys
 
-pub joined-listed : (is_full : Bool) (parts : List Part) → joined (listed is_full parts) ≡ joined parts
-joined-listed is_full [] = refl
-joined-listed is_full (p ∷ parts) =
-    joined-append (listed_part is_full p) (listed is_full parts) ∙ ap (λ l. l ++ joined (listed is_full parts)) (joined-listed_part is_full p)
-    ∙ ap (λ l. p.bytes ++ l) (joined-listed is_full parts)
+pub bytes_of_parts-listed_parts : (is_full : Bool) (parts : List Part) → bytes_of_parts (listed_parts is_full parts) ≡ bytes_of_parts parts
+bytes_of_parts-listed_parts is_full [] = refl
+bytes_of_parts-listed_parts is_full (p ∷ parts) =
+    bytes_of_parts-append (listed_part is_full p) (listed_parts is_full parts) ∙ ap (λ l. l ++ bytes_of_parts (listed_parts is_full parts)) (bytes_of_parts-listed_part is_full p)
+    ∙ ap (λ l. p.bytes ++ l) (bytes_of_parts-listed_parts is_full parts)
 
 -- the lines of a part and of the parts after it
 pub one_part : (is_full : Bool) (offset : ℕ) (p : Part) (parts : List Part)
-    → part_lines offset (listed is_full (p ∷ parts)) ≡ part_lines offset (listed_part is_full p) ++ part_lines (offset + length p.bytes) (listed is_full parts)
+    → part_lines offset (listed_parts is_full (p ∷ parts)) ≡ part_lines offset (listed_part is_full p) ++ part_lines (offset + length p.bytes) (listed_parts is_full parts)
 one_part is_full offset p parts =
-    part_lines-append offset (listed_part is_full p) (listed is_full parts)
-    ∙ ap (λ l. part_lines offset (listed_part is_full p) ++ part_lines (offset + length l) (listed is_full parts)) (joined-listed_part is_full p)
+    part_lines-append offset (listed_part is_full p) (listed_parts is_full parts)
+    ∙ ap (λ l. part_lines offset (listed_part is_full p) ++ part_lines (offset + length l) (listed_parts is_full parts)) (bytes_of_parts-listed_part is_full p)
 
 -- ---- rows
 
@@ -75,25 +75,25 @@ row_of_rest offset name bytes h =
 
 -- ---- the parts of key material
 
-both : (xs ys : List Part) (s t : Bytes) → joined xs ≡ s → joined ys ≡ t → joined (xs ++ ys) ≡ s ++ t
-both xs ys s t e h = joined-append xs ys ∙ ap (λ l. l ++ joined ys) e ∙ ap (λ l. s ++ l) h
+both : (xs ys : List Part) (s t : Bytes) → bytes_of_parts xs ≡ s → bytes_of_parts ys ≡ t → bytes_of_parts (xs ++ ys) ≡ s ++ t
+both xs ys s t e h = bytes_of_parts-append xs ys ∙ ap (λ l. l ++ bytes_of_parts ys) e ∙ ap (λ l. s ++ l) h
 
-of_frame : (name bytes : Bytes) → joined (frame_parts name bytes) ≡ frame bytes
+of_frame : (name bytes : Bytes) → bytes_of_parts (frame_parts name bytes) ≡ frame bytes
 of_frame name bytes = ap (λ l. length_bytes (length bytes) ++ l) (append-nil bytes)
 
-of_frames : (name : Bytes) (i : ℕ) (items : List Bytes) → joined (frames_parts name i items) ≡ flat_map frame items
+of_frames : (name : Bytes) (i : ℕ) (items : List Bytes) → bytes_of_parts (frames_parts name i items) ≡ flat_map frame items
 of_frames name i [] = refl
 of_frames name i (item ∷ items) =
     both (frame_parts (item_name name i) item) (frames_parts name (suc i) items) _ _ (of_frame (item_name name i) item) (of_frames name (suc i) items)
 
-of_list : (name : Bytes) (items : List Bytes) → joined (list_parts name items) ≡ framed_list frame items
+of_list : (name : Bytes) (items : List Bytes) → bytes_of_parts (list_parts name items) ≡ framed_list frame items
 of_list name items = ap (λ l. length_bytes (length items) ++ l) (of_frames name 0 items)
 
-of_option : (name : Bytes) (o : Option Bytes) → joined (option_parts name o) ≡ framed_option o
+of_option : (name : Bytes) (o : Option Bytes) → bytes_of_parts (option_parts name o) ≡ framed_option o
 of_option name None = refl
 of_option name (Some bytes) = ap (λ l. 1 ∷ l) (of_frame name bytes)
 
-of_variables : (name : Bytes) (i : ℕ) (variables : List Variable) → joined (variables_parts name i variables) ≡ flat_map variable_frames variables
+of_variables : (name : Bytes) (i : ℕ) (variables : List Variable) → bytes_of_parts (variables_parts name i variables) ≡ flat_map variable_frames variables
 of_variables name i [] = refl
 of_variables name i (v ∷ variables) =
     let name-part = frame_parts (item_name name i ++ codes ".name") (v.0) in
@@ -102,7 +102,7 @@ of_variables name i (v ∷ variables) =
     (both name-part value-part _ _ (of_frame (item_name name i ++ codes ".name") (v.0)) (of_frame (item_name name i ++ codes ".value") (v.1)))
     (of_variables name (suc i) variables)
 
-of_material : (p : KeyParts) → joined (material_parts p) ≡ material p
+of_material : (p : KeyParts) → bytes_of_parts (material_parts p) ≡ material p
 unfolding material
 of_material p =
     let version : List Part = frame_parts (codes "CACHE_VERSION") cache_version in
@@ -133,7 +133,7 @@ of_material p =
     (of_frame (codes "preprocessor_output") p.output)
 
 pub parts_are_material : PartsAreMaterial
-parts_are_material is_full p = joined-listed is_full (material_parts p) ∙ of_material p
+parts_are_material is_full p = bytes_of_parts-listed_parts is_full (material_parts p) ∙ of_material p
 
 -- ---- one more item
 
@@ -165,13 +165,13 @@ frames_more h g name xs i x named bytes lt at e f =
 -- the lines of the parts from one on
 pub lines_from : (is_full : Bool) (offset end : ℕ) (parts : List Part) (i : ℕ) (p : Part)
     → i < length parts → p ≡ get_or parts i p → end ≡ offset + length p.bytes
-    → part_lines offset (listed is_full (drop i parts))
-    ≡ part_lines offset (listed_part is_full p) ++ part_lines end (listed is_full (drop (i + 1) parts))
+    → part_lines offset (listed_parts is_full (drop i parts))
+    ≡ part_lines offset (listed_part is_full p) ++ part_lines end (listed_parts is_full (drop (i + 1) parts))
 lines_from is_full offset end parts i p lt at e =
     let next : suc i ≡ i + 1 = omega arith in
-    ap (λ l. part_lines offset (listed is_full l)) (drop-cons parts i p lt ∙ ap (λ q. q ∷ drop (suc i) parts) (sym at) ∙ ap (λ n. p ∷ drop n parts) next)
+    ap (λ l. part_lines offset (listed_parts is_full l)) (drop-cons parts i p lt ∙ ap (λ q. q ∷ drop (suc i) parts) (sym at) ∙ ap (λ n. p ∷ drop n parts) next)
     ∙ one_part is_full offset p (drop (i + 1) parts)
-    ∙ ap (λ n. part_lines offset (listed_part is_full p) ++ part_lines n (listed is_full (drop (i + 1) parts))) (sym e)
+    ∙ ap (λ n. part_lines offset (listed_part is_full p) ++ part_lines n (listed_parts is_full (drop (i + 1) parts))) (sym e)
 
 -- ---- cuts
 

@@ -1,4 +1,4 @@
--- why the program is refused, and its statuses
+-- what is written of an error, and the statuses
 use Rattle.std.proofs.Common.{◌≡◌, ◌≢◌, ◌+◌, ◌++◌, Option, Result, Ok, Err, OnOk, OnErr, IfSome, length, refl, sym, subst, take, inr}
 use Rattle.std.proofs.KnownBytes.{Appends-trans}
 use Rattle.std.proofs.Math.Seq.{take-append-add}
@@ -29,11 +29,11 @@ third_of_three a b c d xs ys zs p q r = then_begun a c d (xs ++ ys) zs (Appends-
 
 -- ---- statuses
 
-pub refused_status : (kind : ErrorKind) → StatusOf kind Refused
-refused_status DisplayHelp = λ e. cc
-refused_status DisplayVersion = λ e. cc
-refused_status OutOfMemory = refl
-refused_status _ = λ e. cc
+pub failed_status : (kind : ErrorKind) → StatusOf kind Refused
+failed_status DisplayHelp = λ e. cc
+failed_status DisplayVersion = λ e. cc
+failed_status OutOfMemory = refl
+failed_status _ = λ e. cc
 
 pub help_status : (kind : ErrorKind) (status : Status) → kind ≡ DisplayHelp → status ≢ Usage → StatusOf kind status
 help_status kind status is h = subst (λ k. StatusOf k status) (sym is) h

@@ -8,7 +8,7 @@ use Rattle.cck_explain_entry.specs.Bytes as entry
 use Rattle.cck_explain_entry.specs.declared.listing.EntryError.{EntryError}
 use Rattle.cck_explain_entry.specs.declared.listing.EntryError.TheVariants as variants
 use Rattle.cck_explain_command.proofs.BufferLemmas.{if_any}
-use Rattle.cck_explain_command.specs.Written.{IsErrorFor, explained_by, explained_by_script}
+use Rattle.cck_explain_command.specs.Written.{IsExplainErrorFor, explained_by, explained_by_script}
 use Rattle.cck_explain_command.specs.declared.error.ExplainError.{ExplainError}
 use Rattle.cck_explain_command.specs.declared.error.ExplainError.TheVariants.{Memory, Read, Write}
 
@@ -18,23 +18,23 @@ err_with r P error is p = subst (λ x. IfErr x P) (sym is) p
 
 -- the error for bytes that have no listing, after which nothing was written
 pub entry_error : (bytes : Bytes) (error : EntryError) (explained : ExplainError) (old : Option Bytes) → entry.IsErrorFor bytes error → explained ≡ explained_by error
-    → IsErrorFor bytes explained old old
-entry_error bytes variants.Memory explained old h is = subst (λ x. IsErrorFor bytes x old old) (sym is) tt
-entry_error bytes (variants.NotEntry fault) explained old h is = subst (λ x. IsErrorFor bytes x old old) (sym is) (refl, h)
+    → IsExplainErrorFor bytes explained old old
+entry_error bytes variants.Memory explained old h is = subst (λ x. IsExplainErrorFor bytes x old old) (sym is) tt
+entry_error bytes (variants.NotEntry fault) explained old h is = subst (λ x. IsExplainErrorFor bytes x old old) (sym is) (refl, h)
 
 -- the error for a script that has no listing
 pub script_error : (bytes : Bytes) (error : ScriptError) (explained : ExplainError) (old : Option Bytes) → IsScriptError bytes error → explained ≡ explained_by_script error
-    → IsErrorFor bytes explained old old
-script_error bytes script.Memory explained old h is = subst (λ x. IsErrorFor bytes x old old) (sym is) tt
-script_error bytes (script.Line number) explained old h is = subst (λ x. IsErrorFor bytes x old old) (sym is) (refl, h)
+    → IsExplainErrorFor bytes explained old old
+script_error bytes script.Memory explained old h is = subst (λ x. IsExplainErrorFor bytes x old old) (sym is) tt
+script_error bytes (script.Line number) explained old h is = subst (λ x. IsExplainErrorFor bytes x old old) (sym is) (refl, h)
 
-pub write_error : (bytes : Bytes) (explained : ExplainError) (old new : Option Bytes) → explained ≡ Write → IsErrorFor bytes explained old new
-write_error bytes explained old new is = subst (λ x. IsErrorFor bytes x old new) (sym is) tt
+pub write_error : (bytes : Bytes) (explained : ExplainError) (old new : Option Bytes) → explained ≡ Write → IsExplainErrorFor bytes explained old new
+write_error bytes explained old new is = subst (λ x. IsExplainErrorFor bytes x old new) (sym is) tt
 
 pub read_error : (o : Option Bytes) (explained : ExplainError) (old new : Option Bytes) → (explained ≡ Read) ⊎ (explained ≡ Memory)
-    → IfSome o (λ bytes. IsErrorFor bytes explained old new)
-read_error o explained old new (inl is) = subst (λ x. IfSome o (λ bytes. IsErrorFor bytes x old new)) (sym is) (if_any o _ (λ bytes. tt))
-read_error o explained old new (inr is) = subst (λ x. IfSome o (λ bytes. IsErrorFor bytes x old new)) (sym is) (if_any o _ (λ bytes. tt))
+    → IfSome o (λ bytes. IsExplainErrorFor bytes explained old new)
+read_error o explained old new (inl is) = subst (λ x. IfSome o (λ bytes. IsExplainErrorFor bytes x old new)) (sym is) (if_any o _ (λ bytes. tt))
+read_error o explained old new (inr is) = subst (λ x. IfSome o (λ bytes. IsExplainErrorFor bytes x old new)) (sym is) (if_any o _ (λ bytes. tt))
 
 -- what holds of the bytes that were read holds of what there was to read
 of_stream : (o : Option Bytes) (bytes text : Bytes) (P : Bytes → Type 0) → IfSome o (λ stream. bytes ≡ stream) → text ≡ bytes → P text → IfSome o P

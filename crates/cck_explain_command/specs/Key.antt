@@ -7,7 +7,7 @@ use Rattle.cck_path.specs.Variables.{Variable}
 use Rattle.cck_util.specs.Key.{KeyParts, Params, cache_version, flag_byte, key_parts, material, object_key}
 use Rattle.cck_util.specs.Language.{language_name}
 use Rattle.cck_explain_cuts.specs.Listing.{argument_cut_lines, text_cut_lines}
-use Rattle.cck_explain_command.specs.Listing.{Part, joined, listed, part_lines}
+use Rattle.cck_explain_command.specs.Listing.{Part, bytes_of_parts, listed_parts, part_lines}
 
 -- a part of this name
 abbrev pub part : Bytes → Bytes → Part
@@ -61,11 +61,11 @@ material_parts p =
 
 -- listed whole or in rows, the parts are the key material: their bytes are all that is hashed for the key, in order
 abbrev pub PartsAreMaterial : Type 0
-PartsAreMaterial = (is_full : Bool) (p : KeyParts) → joined (listed is_full (material_parts p)) ≡ material p
+PartsAreMaterial = (is_full : Bool) (p : KeyParts) → bytes_of_parts (listed_parts is_full (material_parts p)) ≡ material p
 
 -- the line of a key
-abbrev pub key_line : Bytes → Bytes
-key_line key = codes "key " ++ key ++ 10 ∷ []
+abbrev pub listed_key_line : Bytes → Bytes
+listed_key_line key = codes "key " ++ key ++ 10 ∷ []
 
 -- a line for each base directory that is cut out of these arguments, the first of which has the number i
 abbrev pub arguments_cut_lines : List Bytes → ℕ → List Bytes → Bytes
@@ -80,5 +80,5 @@ all_cut_lines basedirs arguments text = arguments_cut_lines basedirs 0 arguments
 -- the listing of a key: its parts, what is cut out, and the key
 abbrev pub key_listing : (Bytes → Bytes) → Bool → Params → Bytes
 key_listing hash is_full p =
-    part_lines 0 (listed is_full (material_parts (key_parts p)))
-    ++ (all_cut_lines p.basedirs p.arguments p.preprocessor_output ++ key_line (object_key hash p))
+    part_lines 0 (listed_parts is_full (material_parts (key_parts p)))
+    ++ (all_cut_lines p.basedirs p.arguments p.preprocessor_output ++ listed_key_line (object_key hash p))

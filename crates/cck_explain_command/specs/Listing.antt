@@ -12,8 +12,8 @@ pub record Part : Type 0 where
   pub bytes : Bytes
 
 -- the bytes of these parts, one after the other
-abbrev pub joined : List Part → Bytes
-joined parts = flat_map (λ part. part.bytes) parts
+abbrev pub bytes_of_parts : List Part → Bytes
+bytes_of_parts parts = flat_map (λ part. part.bytes) parts
 
 -- the greatest number of bytes that a line shows
 abbrev pub row_size : ℕ
@@ -49,5 +49,5 @@ listed_part false part = part ∷ []
 listed_part true part = rows part
 
 -- what is listed of parts
-abbrev pub listed : Bool → List Part → List Part
-listed is_full parts = flat_map (listed_part is_full) parts
+abbrev pub listed_parts : Bool → List Part → List Part
+listed_parts is_full parts = flat_map (listed_part is_full) parts

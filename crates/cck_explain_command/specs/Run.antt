@@ -27,21 +27,21 @@ Lists hash Entry input listing = entry.IsListingOf input listing
 Lists hash (Markers request) input listing = AreMarkerLines request.input.now request.cwd.now input listing
 Lists hash Script input listing = ListsScript hash input listing
 
--- the line that says why the program is refused
-abbrev pub refusal : Bytes → Bytes
-refusal why = codes "cck_explain: " ++ why ++ 10 ∷ []
+-- the line that says what the error is
+abbrev pub error_line : Bytes → Bytes
+error_line why = codes "cck_explain: " ++ why ++ 10 ∷ []
 
--- the program is refused: a prefix of such a line was written to the errors
-abbrev pub Refuses : Option Bytes → Option Bytes → Type 0
-Refuses old new = (why : Bytes) × AppendsBeginning old new (refusal why)
+-- there is an error: a prefix of such a line was written to the errors
+abbrev pub HasErrorLine : Option Bytes → Option Bytes → Type 0
+HasErrorLine old new = (why : Bytes) × AppendsBeginning old new (error_line why)
 
 -- what is written for a request, with this status: all of the listing, or a prefix of it
-abbrev pub Answers : (Bytes → Bytes) → Request → Option Bytes → Status → Option Bytes → Option Bytes → Type 0
-Answers hash request input Done old new = IfSome input (λ bytes. WritesOf (Lists hash request bytes) old new)
-Answers hash request input Refused old new = IfSome input (λ bytes. BeginsOf (Lists hash request bytes) old new)
-Answers hash request input Usage old new = ⊥
+abbrev pub HasOutcome : (Bytes → Bytes) → Request → Option Bytes → Status → Option Bytes → Option Bytes → Type 0
+HasOutcome hash request input Done old new = IfSome input (λ bytes. WritesOf (Lists hash request bytes) old new)
+HasOutcome hash request input Refused old new = IfSome input (λ bytes. BeginsOf (Lists hash request bytes) old new)
+HasOutcome hash request input Usage old new = ⊥
 
--- The status where clap returns an error of this kind. Where it is help or the version, only a failed write or lack of memory refuses it.
+-- The status where clap returns an error of this kind. Where it is help or the version, only a failed write or lack of memory gives another.
 -- Wrong words are a usage error, unless memory is lacking for its text.
 abbrev pub StatusOf : ErrorKind → Status → Type 0
 StatusOf DisplayHelp status = status ≢ Usage

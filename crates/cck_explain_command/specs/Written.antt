@@ -31,9 +31,9 @@ explained_by_script script.Memory = Memory
 explained_by_script (script.Line number) = Line number
 
 -- bytes are called no entry only if they are none, and a line of a script wrong only if it is the first wrong one; nothing was written then
-abbrev pub IsErrorFor : Bytes → ExplainError → Option Bytes → Option Bytes → Type 0
-IsErrorFor bytes Memory old new = Unit {0}
-IsErrorFor bytes Read old new = Unit {0}
-IsErrorFor bytes Write old new = Unit {0}
-IsErrorFor bytes (NotEntry fault) old new = (new ≡ old) × entry.IsErrorFor bytes (variants.NotEntry fault)
-IsErrorFor bytes (Line number) old new = (new ≡ old) × (wrong_line bytes ≡ Some number)
+abbrev pub IsExplainErrorFor : Bytes → ExplainError → Option Bytes → Option Bytes → Type 0
+IsExplainErrorFor bytes Memory old new = Unit {0}
+IsExplainErrorFor bytes Read old new = Unit {0}
+IsExplainErrorFor bytes Write old new = Unit {0}
+IsExplainErrorFor bytes (NotEntry fault) old new = (new ≡ old) × entry.IsErrorFor bytes (variants.NotEntry fault)
+IsExplainErrorFor bytes (Line number) old new = (new ≡ old) × (wrong_line bytes ≡ Some number)

@@ -1,7 +1,7 @@
 //! The listing of an entry.
 ghost use Rattle.std.specs.Prelude.{IfErr, IfSome, OnErr, OnOk};
 ghost use Rattle.cck_explain_entry.specs.Bytes.{IsListingOf};
-ghost use Rattle.cck_explain_command.specs.Written.{BeginsOf, IsErrorFor, WritesOf};
+ghost use Rattle.cck_explain_command.specs.Written.{BeginsOf, IsExplainErrorFor, WritesOf};
 
 use crate::error::ExplainError;
 use cck_command::print;
@@ -14,7 +14,7 @@ use std::io::{Read, Write};
 fn write_entry<W: Write>(alloc: Global, bytes: &[u8], writer: &mut W) -> Result<(), ExplainError>
     ensures listed { OnOk result (WritesOf (IsListingOf bytes.now) (W.contents writer.old) (W.contents writer.new)) }
     ensures begun { OnErr result (BeginsOf (IsListingOf bytes.now) (W.contents writer.old) (W.contents writer.new)) }
-    ensures errors { IfErr result (λ error. IsErrorFor bytes.now error (W.contents writer.old) (W.contents writer.new)) }
+    ensures errors { IfErr result (λ error. IsExplainErrorFor bytes.now error (W.contents writer.old) (W.contents writer.new)) }
 {
     let listing = entry_listing(alloc, bytes)?;
     print(writer, &listing)?;
@@ -36,7 +36,7 @@ pub fn explain_entry<R: Read, W: Write>(
     ensures begun { OnErr result (IfSome (R.remaining reader.old) (λ bytes.
         BeginsOf (IsListingOf bytes) (W.contents writer.old) (W.contents writer.new))) }
     ensures errors { IfErr result (λ error. IfSome (R.remaining reader.old) (λ bytes.
-        IsErrorFor bytes error (W.contents writer.old) (W.contents writer.new))) }
+        IsExplainErrorFor bytes error (W.contents writer.old) (W.contents writer.new))) }
 {
     let bytes = read_all(alloc, reader)?;
     write_entry(alloc, &bytes, writer)

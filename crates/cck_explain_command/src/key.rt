@@ -2,10 +2,10 @@
 ghost use Rattle.std.specs.Prelude.{◌≡◌, ◌++◌, IfOk, IfSome, OnErr, OnOk, string_bytes};
 ghost use Rattle.std.specs.Io.KnownBytes.{Appends};
 ghost use Rattle.cck_command.specs.Printing.{AppendsBeginning};
-ghost use Rattle.cck_explain_command.specs.Key.{all_cut_lines, arguments_cut_lines, key_line, key_listing};
+ghost use Rattle.cck_explain_command.specs.Key.{all_cut_lines, arguments_cut_lines, listed_key_line, key_listing};
 ghost use Rattle.cck_path.specs.Bytes.{lists_of};
 ghost use Rattle.cck_explain_command.specs.KeyRequest.{params_for};
-ghost use Rattle.cck_explain_command.specs.Listing.{listed, part_lines};
+ghost use Rattle.cck_explain_command.specs.Listing.{listed_parts, part_lines};
 ghost use Rattle.cck_util.specs.Key.{object_key};
 
 use crate::error::ExplainError;
@@ -20,7 +20,7 @@ use std::io::{Read, Write};
 
 // Appends the line of the key.
 fn push_key(line: &mut Vec<u8>, key: &str) -> Result<(), ExplainError>
-    ensures { OnOk result (line.new.items ≡ line.old.items ++ key_line key.now) }
+    ensures { OnOk result (line.new.items ≡ line.old.items ++ listed_key_line key.now) }
 {
     line.extend_from_slice(b"key ")?;
     line.extend_from_slice(key.as_bytes())?;
@@ -92,9 +92,9 @@ fn write_listing<W: Write>(
     is_full: bool,
 ) -> Result<(), ExplainError>
     ensures listed { OnOk result (Appends (W.contents writer.old) (W.contents writer.new)
-        (part_lines 0 (listed is_full parts.now) ++ (cuts.now ++ key_line key.now))) }
+        (part_lines 0 (listed_parts is_full parts.now) ++ (cuts.now ++ listed_key_line key.now))) }
     ensures begun { OnErr result (AppendsBeginning (W.contents writer.old) (W.contents writer.new)
-        (part_lines 0 (listed is_full parts.now) ++ (cuts.now ++ key_line key.now))) }
+        (part_lines 0 (listed_parts is_full parts.now) ++ (cuts.now ++ listed_key_line key.now))) }
 {
     let mut buffer = Vec::new(alloc);
     put_parts(alloc, writer, &mut buffer, parts, is_full)?;

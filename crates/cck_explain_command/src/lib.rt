@@ -18,7 +18,7 @@ pub use entry::explain_entry;
 pub use error::ExplainError;
 pub use key::explain_key;
 pub use markers::explain_markers;
-pub use program::{refuse, run};
+pub use program::{report, run};
 pub use request::{KeyRequest, MarkersRequest, Request};
 pub use script::explain_script;
 pub use words::{language_names, request_of};

@@ -2,7 +2,7 @@
 ghost use Rattle.std.specs.Prelude.{◌≡◌, ◌+◌, ◌<◌, ◌^◌, ◌++◌, OnErr, OnOk, length, true};
 ghost use Rattle.cck_command.specs.Printing.{AppendsBeginning};
 ghost use Rattle.cck_explain_command.specs.Buffer.{Puts};
-ghost use Rattle.cck_explain_command.specs.Listing.{listed, listed_part, part_line, part_lines, rows, shown};
+ghost use Rattle.cck_explain_command.specs.Listing.{listed_parts, listed_part, part_line, part_lines, rows, shown};
 
 use crate::buffer::spill;
 use crate::error::ExplainError;
@@ -128,9 +128,9 @@ pub fn put_parts<W: Write>(
     is_full: bool,
 ) -> Result<(), ExplainError>
     ensures put { OnOk result (Puts (W.contents writer.old) buffer.old.items
-        (W.contents writer.new) buffer.new.items (part_lines 0 (listed is_full parts.now))) }
+        (W.contents writer.new) buffer.new.items (part_lines 0 (listed_parts is_full parts.now))) }
     ensures begun { OnErr result (AppendsBeginning (W.contents writer.old) (W.contents writer.new)
-        (buffer.old.items ++ part_lines 0 (listed is_full parts.now))) }
+        (buffer.old.items ++ part_lines 0 (listed_parts is_full parts.now))) }
 {
     let mut offset: usize = 0;
     for part in parts {

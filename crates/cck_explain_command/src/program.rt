@@ -2,7 +2,7 @@
 ghost use Rattle.std.specs.Prelude.{◌≡◌, ◌≢◌, IfErr, IfSome, MatchOption, MatchResult, OnErr, OnOk};
 ghost use Rattle.clap.specs.Values.{kind_of};
 ghost use Rattle.cck_command.specs.Printing.{AppendsBeginning};
-ghost use Rattle.cck_explain_command.specs.Run.{Answers, Lists, Refuses, StatusOf, refusal};
+ghost use Rattle.cck_explain_command.specs.Run.{HasOutcome, Lists, HasErrorLine, StatusOf, error_line};
 ghost use Rattle.cck_explain_command.specs.Written.{BeginsOf, WritesOf};
 
 use crate::entry::explain_entry;
@@ -20,8 +20,8 @@ use std::alloc::Global;
 use std::io::{Read, Write};
 
 // Writes a line with the program's name and this text.
-fn print_refusal<E: Write>(errors: &mut E, why: &[u8]) -> Result<(), Failed>
-    ensures { AppendsBeginning (E.contents errors.old) (E.contents errors.new) (refusal why.now) }
+fn print_error<E: Write>(errors: &mut E, why: &[u8]) -> Result<(), Failed>
+    ensures { AppendsBeginning (E.contents errors.old) (E.contents errors.new) (error_line why.now) }
 {
     print(errors, b"cck_explain: ")?;
     print(errors, why)?;
@@ -30,11 +30,11 @@ fn print_refusal<E: Write>(errors: &mut E, why: &[u8]) -> Result<(), Failed>
 
 /// Tries once to write a line with the program's name and this text, and returns
 /// [`Status::Refused`], whether or not the line could be written.
-pub fn refuse<E: Write>(errors: &mut E, why: &[u8]) -> Status
+pub fn report<E: Write>(errors: &mut E, why: &[u8]) -> Status
     ensures status { result ≡ Status.Refused }
-    ensures line { AppendsBeginning (E.contents errors.old) (E.contents errors.new) (refusal why.now) }
+    ensures line { AppendsBeginning (E.contents errors.old) (E.contents errors.new) (error_line why.now) }
 {
-    let _ = print_refusal(errors, why);
+    let _ = print_error(errors, why);
     Status::Refused
 }
 
@@ -42,17 +42,17 @@ pub fn refuse<E: Write>(errors: &mut E, why: &[u8]) -> Status
 fn show<W: Write, E: Write>(text: &[u8], writer: &mut W, errors: &mut E) -> Status
     ensures status { result ≢ Status.Usage }
     ensures done { result ≡ Status.Done → errors.new ≡ errors.old }
-    ensures errors { result ≡ Status.Refused → Refuses (E.contents errors.old) (E.contents errors.new) }
+    ensures errors { result ≡ Status.Refused → HasErrorLine (E.contents errors.old) (E.contents errors.new) }
 {
     match print(writer, text) {
         Ok(()) => Status::Done,
-        Err(Failed) => refuse(errors, b"a write failed"),
+        Err(Failed) => report(errors, b"a write failed"),
     }
 }
 
 // Writes what the words ask for instead of a listing: help or the version to the writer, and what
 // is wrong with the words to the errors.
-fn answer<W: Write, E: Write>(
+fn write_text_of<W: Write, E: Write>(
     alloc: Global,
     error: &Error,
     writer: &mut W,
@@ -61,13 +61,13 @@ fn answer<W: Write, E: Write>(
     ensures status { StatusOf (kind_of error.now) result }
     ensures usage { result ≡ Status.Usage → writer.new ≡ writer.old }
     ensures done { result ≡ Status.Done → errors.new ≡ errors.old }
-    ensures errors { result ≡ Status.Refused → Refuses (E.contents errors.old) (E.contents errors.new) }
+    ensures errors { result ≡ Status.Refused → HasErrorLine (E.contents errors.old) (E.contents errors.new) }
 {
     let Ok(text) = format!(in alloc; "{error}") else {
-        return refuse(errors, b"out of memory");
+        return report(errors, b"out of memory");
     };
     match error.kind() {
-        ErrorKind::OutOfMemory => refuse(errors, b"out of memory"),
+        ErrorKind::OutOfMemory => report(errors, b"out of memory"),
         ErrorKind::DisplayHelp | ErrorKind::DisplayVersion => {
             show(text.as_bytes(), writer, errors)
         }
@@ -79,40 +79,40 @@ fn answer<W: Write, E: Write>(
 }
 
 // Tries once to write which error it was.
-fn refuse_for<E: Write>(alloc: Global, errors: &mut E, error: ExplainError) -> Status
+fn report_error<E: Write>(alloc: Global, errors: &mut E, error: ExplainError) -> Status
     ensures status { result ≡ Status.Refused }
-    ensures line { Refuses (E.contents errors.old) (E.contents errors.new) }
+    ensures line { HasErrorLine (E.contents errors.old) (E.contents errors.new) }
 {
     match error {
-        ExplainError::Memory => refuse(errors, b"out of memory"),
-        ExplainError::Read => refuse(errors, b"a read failed"),
-        ExplainError::Write => refuse(errors, b"a write failed"),
-        ExplainError::NotEntry(fault) => refuse_bytes(alloc, errors, fault),
-        ExplainError::Line(number) => refuse_script(alloc, errors, number),
+        ExplainError::Memory => report(errors, b"out of memory"),
+        ExplainError::Read => report(errors, b"a read failed"),
+        ExplainError::Write => report(errors, b"a write failed"),
+        ExplainError::NotEntry(fault) => report_fault(alloc, errors, fault),
+        ExplainError::Line(number) => report_wrong_line(alloc, errors, number),
     }
 }
 
 // Tries once to write where bytes stop being an entry, and why.
-fn refuse_bytes<E: Write>(alloc: Global, errors: &mut E, fault: Fault) -> Status
+fn report_fault<E: Write>(alloc: Global, errors: &mut E, fault: Fault) -> Status
     ensures status { result ≡ Status.Refused }
-    ensures line { Refuses (E.contents errors.old) (E.contents errors.new) }
+    ensures line { HasErrorLine (E.contents errors.old) (E.contents errors.new) }
 {
     let offset = fault.offset;
     let cause = fault.cause.as_str();
     match format!(in alloc; "no entry from byte {offset} on: {cause}") {
-        Ok(text) => refuse(errors, text.as_bytes()),
-        Err(_) => refuse(errors, b"out of memory"),
+        Ok(text) => report(errors, text.as_bytes()),
+        Err(_) => report(errors, b"out of memory"),
     }
 }
 
 // Tries once to write which line of a script is wrong.
-fn refuse_script<E: Write>(alloc: Global, errors: &mut E, number: u64) -> Status
+fn report_wrong_line<E: Write>(alloc: Global, errors: &mut E, number: u64) -> Status
     ensures status { result ≡ Status.Refused }
-    ensures line { Refuses (E.contents errors.old) (E.contents errors.new) }
+    ensures line { HasErrorLine (E.contents errors.old) (E.contents errors.new) }
 {
     match format!(in alloc; "line {number} is wrong") {
-        Ok(text) => refuse(errors, text.as_bytes()),
-        Err(_) => refuse(errors, b"out of memory"),
+        Ok(text) => report(errors, text.as_bytes()),
+        Err(_) => report(errors, b"out of memory"),
     }
 }
 
@@ -144,13 +144,13 @@ fn list<H: HashState, R: Read, W: Write, E: Write>(
     writer: &mut W,
     errors: &mut E,
 ) -> Status
-    ensures answered { Answers H.hash request.now (R.remaining reader.old) result (W.contents writer.old) (W.contents writer.new) }
+    ensures outcome { HasOutcome H.hash request.now (R.remaining reader.old) result (W.contents writer.old) (W.contents writer.new) }
     ensures done { result ≡ Status.Done → errors.new ≡ errors.old }
-    ensures errors { result ≡ Status.Refused → Refuses (E.contents errors.old) (E.contents errors.new) }
+    ensures errors { result ≡ Status.Refused → HasErrorLine (E.contents errors.old) (E.contents errors.new) }
 {
     match explain::<H, R, W>(alloc, request, reader, writer) {
         Ok(()) => Status::Done,
-        Err(error) => refuse_for(alloc, errors, error),
+        Err(error) => report_error(alloc, errors, error),
     }
 }
 
@@ -172,18 +172,18 @@ pub fn run<H: HashState, R: Read, W: Write, E: Write>(
     writer: &mut W,
     errors: &mut E,
 ) -> Status
-    ensures answered { MatchResult asked.now
+    ensures outcome { MatchResult asked.now
         (λ request. MatchOption request (result ≡ Status.Usage) (λ request.
-        Answers H.hash request (R.remaining reader.old) result (W.contents writer.old) (W.contents writer.new)))
+        HasOutcome H.hash request (R.remaining reader.old) result (W.contents writer.old) (W.contents writer.new)))
         (λ error. StatusOf (kind_of error) result) }
     ensures unread { IfErr asked.now (λ _. reader.new ≡ reader.old) }
     ensures usage { result ≡ Status.Usage → writer.new ≡ writer.old }
     ensures done { result ≡ Status.Done → errors.new ≡ errors.old }
-    ensures errors { result ≡ Status.Refused → Refuses (E.contents errors.old) (E.contents errors.new) }
+    ensures errors { result ≡ Status.Refused → HasErrorLine (E.contents errors.old) (E.contents errors.new) }
 {
     match asked {
         Ok(Some(request)) => list::<H, R, W, E>(alloc, request, reader, writer, errors),
         Ok(None) => Status::Usage,
-        Err(error) => answer(alloc, error, writer, errors),
+        Err(error) => write_text_of(alloc, error, writer, errors),
     }
 }

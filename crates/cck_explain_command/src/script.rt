@@ -1,7 +1,7 @@
 //! The listing of a script.
 ghost use Rattle.std.specs.Prelude.{IfErr, IfSome, OnErr, OnOk};
 ghost use Rattle.cck_explain_command.specs.Run.{ListsScript};
-ghost use Rattle.cck_explain_command.specs.Written.{BeginsOf, IsErrorFor, WritesOf};
+ghost use Rattle.cck_explain_command.specs.Written.{BeginsOf, IsExplainErrorFor, WritesOf};
 
 use crate::error::ExplainError;
 use cck_command::print;
@@ -18,7 +18,7 @@ fn write_script<H: HashState, W: Write>(
 ) -> Result<(), ExplainError>
     ensures listed { OnOk result (WritesOf (ListsScript H.hash text.now) (W.contents writer.old) (W.contents writer.new)) }
     ensures begun { OnErr result (BeginsOf (ListsScript H.hash text.now) (W.contents writer.old) (W.contents writer.new)) }
-    ensures errors { IfErr result (λ error. IsErrorFor text.now error (W.contents writer.old) (W.contents writer.new)) }
+    ensures errors { IfErr result (λ error. IsExplainErrorFor text.now error (W.contents writer.old) (W.contents writer.new)) }
 {
     let listing = script_listing::<H>(alloc, text)?;
     print(writer, &listing)?;
@@ -41,7 +41,7 @@ pub fn explain_script<H: HashState, R: Read, W: Write>(
     ensures begun { OnErr result (IfSome (R.remaining reader.old) (λ text.
         BeginsOf (ListsScript H.hash text) (W.contents writer.old) (W.contents writer.new))) }
     ensures errors { IfErr result (λ error. IfSome (R.remaining reader.old) (λ text.
-        IsErrorFor text error (W.contents writer.old) (W.contents writer.new))) }
+        IsExplainErrorFor text error (W.contents writer.old) (W.contents writer.new))) }
 {
     let text = read_all(alloc, reader)?;
     write_script::<H, W>(alloc, &text, writer)

@@ -1,9 +1,7 @@
 //! The calls of a script, made one after another, and what each did.
 ghost use Rattle.std.specs.Prelude.{◌≡◌, ◌∷◌, ◌++◌, [], ℤ, List, IfErr, IfOk, None, OnOk};
-ghost use Rattle.std.specs.Option.{unwrap_or};
-ghost use Rattle.cck_files.specs.ArmedCalls.{new_armed};
 ghost use Rattle.cck_path.specs.Bytes.{lists_of};
-ghost use Rattle.cck_store.specs.MapStore.{State, empty_state};
+ghost use Rattle.cck_store.specs.MapStore.{State};
 ghost use Rattle.jiff.specs.Words.{plain_zone};
 ghost use Rattle.cck_script.specs.Calls.{ScriptCallValue};
 ghost use Rattle.cck_script.specs.Script.{IsScriptError, commands_of, wrong_line};
@@ -19,11 +17,12 @@ ghost use Rattle.cck_explain_script.specs.Listing.{AreNoted, IsListingOf};
 use crate::note::{push_head, push_note};
 use crate::watched_store::WatchedStore;
 use c_cache_keys::{Call, run_calls};
-use cck_command::{Failed, MiniCompiler, add_result_lines, compiler_of, ready_calls, zone_at};
+use cck_command::{
+    Failed, MiniCompiler, add_result_lines, compiler_of, ready_calls, store_of, zone_at,
+};
 use cck_files::MapFiles;
 use cck_include::JudgeContext;
 use cck_script::{Script, ScriptError};
-use cck_store::MapStore;
 use cck_time::PreprocessorCacheModeConfig;
 use cck_util::HashState;
 use jiff::tz::TimeZone;
@@ -34,23 +33,6 @@ use std::alloc::{AllocError, Global};
 struct Setting {
     zone: TimeZone<'static>,
     basedirs: Vec<Vec<u8>>,
-}
-
-// An empty store that forgets and fails at these calls, watched.
-fn store_of(alloc: Global, forget_at: Option<u64>, fail_at: Option<u64>) -> WatchedStore
-    ensures { result ≡ record empty_state {
-      forget = unwrap_or forget_at 0;
-      armed = record new_armed { one = unwrap_or fail_at 0 };
-    } }
-{
-    let mut store = MapStore::new(alloc);
-    if let Some(n) = forget_at {
-        store.forget_at(n);
-    }
-    if let Some(n) = fail_at {
-        store.fail_at(n);
-    }
-    WatchedStore::new(alloc, store)
 }
 
 // Returns what a call did that was made on this store, but for its result.
@@ -117,7 +99,10 @@ fn explain_calls<H: HashState>(alloc: Global, script: Script) -> Result<Vec<u8>,
     ensures { IfOk result (λ listing. IsListingOf H.hash (lines_of script) listing.items) }
 {
     let options = script.options(alloc)?;
-    let mut store = store_of(alloc, options.forget_at, options.fail_at);
+    let mut store = WatchedStore::new(
+        alloc,
+        store_of(alloc, options.forget_at, options.fail_at),
+    );
     let compiler = compiler_of::<H>(alloc, options.zone_offset)?;
     let zone = zone_at(options.zone_offset)?;
     let setting = Setting {

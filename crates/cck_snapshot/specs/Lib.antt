@@ -1,4 +1,5 @@
 pub mod External
+pub mod HoldsNothing
 pub mod LastPut
 pub mod Laws
 pub mod Recordings

@@ -1,6 +1,6 @@
 use Rattle.std.proofs.Common.{◌∙◌, ◌++◌, [], ap, append_assoc}
 use Rattle.cck_digest.proofs.StreamLemmas.{after_error}
-use Rattle.cck_explain_command.specs.Key.{key_line}
+use Rattle.cck_explain_command.specs.Key.{listed_key_line}
 use Rattle.cck_explain_command.proofs.PutLemmas.{first_begun, flush_begun, flush_stopped, flushed}
 use Rattle.cck_explain_command.proofs.key.write_listing.Goals as goal
 
@@ -18,13 +18,13 @@ returns-in_err-push_key-clause-begun g c =
 
 pub returns-in_err-print-clause-begun : goal.returns-in_err-print-clause-begun
 returns-in_err-print-clause-begun g c =
-    let all = c.deref.ensures.value ∙ c.in_ok-push_key.ensures ∙ ap (λ l. l ++ key_line c.args.key.now) c.in_ok-extend_from_slice.ensures.items
-    ∙ append_assoc c.put_parts.new.buffer.items c.args.cuts.now (key_line c.args.key.now) in
+    let all = c.deref.ensures.value ∙ c.in_ok-push_key.ensures ∙ ap (λ l. l ++ listed_key_line c.args.key.now) c.in_ok-extend_from_slice.ensures.items
+    ∙ append_assoc c.put_parts.new.buffer.items c.args.cuts.now (listed_key_line c.args.key.now) in
     after_error c.from_residual-in_err-print.result _
     (flush_begun _ _ _ _ _ _ _ _ c.new-buffer.ensures.items c.in_ok-put_parts.ensures.put all c.in_err-print.ensures.begun)
 
 pub returns-clause-listed : goal.returns-clause-listed
 returns-clause-listed g c =
-    let all = c.deref.ensures.value ∙ c.in_ok-push_key.ensures ∙ ap (λ l. l ++ key_line c.args.key.now) c.in_ok-extend_from_slice.ensures.items
-    ∙ append_assoc c.put_parts.new.buffer.items c.args.cuts.now (key_line c.args.key.now) in
+    let all = c.deref.ensures.value ∙ c.in_ok-push_key.ensures ∙ ap (λ l. l ++ listed_key_line c.args.key.now) c.in_ok-extend_from_slice.ensures.items
+    ∙ append_assoc c.put_parts.new.buffer.items c.args.cuts.now (listed_key_line c.args.key.now) in
     flushed _ _ _ _ _ _ _ _ c.new-buffer.ensures.items c.in_ok-put_parts.ensures.put all c.in_ok-print.ensures.whole

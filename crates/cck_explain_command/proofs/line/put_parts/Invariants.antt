@@ -1,5 +1,5 @@
 use Rattle.std.proofs.Common.{drop}
-use Rattle.cck_explain_command.specs.Listing.{listed, part_lines}
+use Rattle.cck_explain_command.specs.Listing.{listed_parts, part_lines}
 use Rattle.cck_explain_command.proofs.PutLemmas.{PutSoFar}
 use Rattle.cck_explain_command.proofs.line.put_parts.Given as goal
 
@@ -7,4 +7,4 @@ use Rattle.cck_explain_command.proofs.line.put_parts.Given as goal
 abbrev pub invariant-loop-part : goal.invariant-loop-part
 invariant-loop-part g l =
     PutSoFar (g.W.Write.contents l.fn.writer) l.fn.buffer.items (g.W.Write.contents l.writer) l.buffer.items
-    (part_lines l.offset (listed l.is_full (drop l.part-index l.parts))) (part_lines 0 (listed l.is_full l.parts))
+    (part_lines l.offset (listed_parts l.is_full (drop l.part-index l.parts))) (part_lines 0 (listed_parts l.is_full l.parts))

@@ -12,7 +12,7 @@ use Rattle.cck_explain_script.proofs.script.explain_calls.Goals as goal
 pub loop-call-init : goal.loop-call-init
 loop-call-init g c =
     let lines = lines_of c.args.script in
-    let start : c.store_of-store.result ≡ armed_by lines = search rules in
+    let start : c.new-store.result ≡ armed_by lines = search rules in
     record {
       front = [];
       back = script_calls lines;

@@ -1,6 +1,6 @@
 use Rattle.std.proofs.Common.{[], ◌∷◌, codes}
 use Rattle.cck_explain_command.proofs.RunLemmas.{first_of_three, second_of_three, third_of_three}
-use Rattle.cck_explain_command.proofs.program.print_refusal.Goals as goal
+use Rattle.cck_explain_command.proofs.program.print_error.Goals as goal
 
 pub returns-in_err-print : goal.returns-in_err-print
 returns-in_err-print g c = first_of_three _ _ (codes "cck_explain: ") c.args.why.now (10 ∷ []) c.in_err-print.ensures.begun
