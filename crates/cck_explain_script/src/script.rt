@@ -99,10 +99,7 @@ fn explain_calls<H: HashState>(alloc: Global, script: Script) -> Result<Vec<u8>,
     ensures { IfOk result (λ listing. IsListingOf H.hash (lines_of script) listing.items) }
 {
     let options = script.options(alloc)?;
-    let mut store = WatchedStore::new(
-        alloc,
-        store_of(alloc, options.forget_at, options.fail_at),
-    );
+    let mut store = WatchedStore::new(alloc, store_of(alloc, options.forget_at, options.fail_at));
     let compiler = compiler_of::<H>(alloc, options.zone_offset)?;
     let zone = zone_at(options.zone_offset)?;
     let setting = Setting {
