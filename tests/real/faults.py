@@ -1,5 +1,5 @@
 """Recordings that are killed, stores that are damaged, files that change between two steps, two
-builds at once and a full device: never a wrong object. Run by tests/real_faults.sh, in an empty
+builds at once and a full device: never a wrong object. And what `prune` removes. Run by tests/real_faults.sh, in an empty
 directory, with the program's path in CCK_PROGRAM and the wrapper in PATH."""
 import os
 import random
@@ -116,9 +116,9 @@ def killed(times):
         faults.append("killed recordings")
 
 
-def stored():
+def stored(store=STORE):
     return sorted(os.path.join(at, name) for kind in ("entries", "objects")
-                  for at, _, names in os.walk(f"{STORE}/{kind}") for name in names)
+                  for at, _, names in os.walk(f"{store}/{kind}") for name in names)
 
 
 def damage(path, others):
@@ -292,11 +292,51 @@ def full():
         subprocess.run(["umount", "device"], check=False)
 
 
+def pruned():
+    """What `prune` removes: what was used longest ago, and what killed recordings left an hour ago."""
+    store = ROOM + "/a.new/store"  # the directories above have any names
+    sources = [f"p{number}.c" for number in range(3)]
+    for source in sources:
+        write(source, f"int {source[:2]} = 1;\n")
+    settle()
+    begun = time.time()
+    for age, source in enumerate(sources):
+        before = set(stored(store))
+        missed, _ = look(source, store)
+        preprocess(source)
+        compile_(source)
+        record(source, missed, store)
+        for path in set(stored(store)) - before:
+            os.utime(path, (begun, begun - 7200 - 60 * age))
+
+    def prune(most):
+        return text_of([PROGRAM, "prune", store, "--max-size", str(most)]).strip()
+
+    kept = stored(store)
+    whole = sum(os.path.getsize(path) for path in kept)
+    if prune(whole) != f"removed 0 files, {whole} bytes left" or stored(store) != kept:
+        faults.append("prune of a store that fits")
+    for name, age in (("old.new1", 7200), ("young.new2", 60)):
+        path = os.path.join(os.path.dirname(kept[0]), name)
+        write(path, "x")
+        os.utime(path, (begun, begun - age))
+    prune(whole + 2)
+    if [os.path.basename(path) for path in stored(store) if ".new" in os.path.basename(path)] != ["young.new2"]:
+        faults.append("prune of what killed recordings left")
+    prune(whole // 2)
+    left = sum(os.path.getsize(path) for path in stored(store))
+    found = [look(source, store)[0][0] for source in sources]
+    print(f"pruned to {left} of {whole} bytes: {found}")
+    if left > whole // 2 or found != ["hit", "miss", "miss"]:
+        faults.append("prune to half")
+
+
 killed(int(os.environ.get("KILLS", "300")))
 damaged(int(os.environ.get("DAMAGES", "1000")))
 swapped()
 at_once(15)
 full()
+pruned()
 if faults:
     print("FAILED:", ", ".join(faults))
     sys.exit(1)

@@ -1,8 +1,8 @@
 //! The paths that must stay absent for a recorded key.
-use crate::refusal::Refusal;
 use anyhow::Result;
 use cck_cache_entry::{SearchList, absent_names};
 use cck_cache_files::{PathState, PathStates, is_absent};
+use cck_cache_rules::Refusal;
 use cck_path::join_path;
 use std::alloc::AllocError;
 use std::collections::BTreeSet;

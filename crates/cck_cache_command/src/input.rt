@@ -1,7 +1,7 @@
 //! The input of a request.
-use crate::request::Request;
 use anyhow::Result;
 use cck_cache_files::add_file;
+use cck_cache_words::Request;
 use cck_files::MapFiles;
 use cck_path::join_path;
 use std::rt::Files;

@@ -6,20 +6,16 @@
 #![tactic(auto)]
 
 mod absence;
-mod base;
 mod environment;
 mod input;
 mod look;
 mod program;
 mod prune;
 mod record;
-mod refusal;
 mod request;
 mod stats;
 mod unpack;
 mod why;
-mod words;
 
 pub use environment::{Environment, locale, variables};
 pub use program::run;
-pub use request::Request;

@@ -2,14 +2,16 @@
 use crate::absence::first_present;
 use crate::environment::Environment;
 use crate::input::input_snapshot;
-use crate::request::{Request, hasher_of, snapshot_request};
+use crate::request::{hasher_of, snapshot_request};
 use anyhow::Result;
 use cck_cache_entry::{EntryFile, ObjectFile};
 use cck_cache_files::{Kind, StoreDirectory, add_file};
+use cck_cache_rules::{entry_in, object_in};
+use cck_cache_words::Request;
 use cck_entry::PreprocessorCacheEntry;
 use cck_files::MapFiles;
 use cck_path::Timestamp;
-use cck_snapshot::{Request as SnapshotRequest, look_up, preprocessor_key};
+use cck_snapshot::{SnapshotRequest, look_up, preprocessor_key};
 use cck_util::Sha256State;
 use std::rt::Files;
 use std::{fs, io};
@@ -81,10 +83,10 @@ pub fn read_entry<R: Files + AllocGlobal>(
     let Some(bytes) = entry_bytes(rt, store, path, key)? else {
         return Ok(Kept::Nothing);
     };
-    match EntryFile::read::<Sha256State>(rt.alloc(), &bytes)? {
-        Some(file) if file.preprocessor_key.as_slice() == key.as_bytes() => Ok(Kept::Entry(file)),
-        _ => Ok(Kept::Damaged),
-    }
+    Ok(match entry_in::<Sha256State>(rt.alloc(), key, &bytes)? {
+        Some(file) => Kept::Entry(file),
+        None => Kept::Damaged,
+    })
 }
 
 /// Puts the files that an entry names into the snapshot. `false` where the bytes are no entry.
@@ -122,14 +124,6 @@ fn matching_key<R: Files + AllocGlobal>(
     Ok(found)
 }
 
-/// What these bytes of an object file of a key hold. `None` where they are none of this key.
-pub fn object_in<R: AllocGlobal>(rt: &R, key: &str, bytes: &[u8]) -> Result<Option<ObjectFile>> {
-    match ObjectFile::read::<Sha256State>(rt.alloc(), bytes)? {
-        Some(object) if object.key.as_slice() == key.as_bytes() => Ok(Some(object)),
-        _ => Ok(None),
-    }
-}
-
 // A miss.
 fn miss<R: Files + AllocGlobal>(
     rt: &R,
@@ -157,7 +151,7 @@ fn kept_object<R: Files + AllocGlobal>(
     let Some(bytes) = store.read(rt, Kind::Object, key.as_str())? else {
         return miss(rt, store, preprocessor_key, Some(key), None);
     };
-    match object_in(rt, key.as_str(), &bytes)? {
+    match object_in::<Sha256State>(rt.alloc(), key.as_str(), &bytes)? {
         Some(object) => Ok(Found::Hit {
             preprocessor_key,
             key,

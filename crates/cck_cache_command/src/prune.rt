@@ -2,18 +2,10 @@
 use crate::environment::Environment;
 use anyhow::Result;
 use cck_cache_files::{Kind, StoreDirectory, StoredFile, list_files};
-use cck_path::Timestamp;
+use cck_cache_rules::is_abandoned;
 use std::fs;
 use std::io::Write;
 use std::rt::Files;
-
-/// The seconds after which a file that was not renamed is left over from a killed recording.
-const ABANDONED: i64 = 3600;
-
-// Whether a file is left over from a recording that was killed.
-fn is_abandoned(file: &StoredFile, now: Timestamp) -> bool {
-    file.is_new && file.used.seconds() < now.seconds().saturating_sub(ABANDONED)
-}
 
 // All files of a store, the one that was used longest ago first.
 fn by_use<R: Files + AllocGlobal + Clone + Drop>(
@@ -45,7 +37,7 @@ pub fn prune<R: Files + AllocGlobal + Clone + Drop, W: Write>(
     }
     let mut removed = 0u64;
     for file in &files {
-        let is_removed = size > max_size || is_abandoned(file, environment.now);
+        let is_removed = size > max_size || is_abandoned(file.is_new, file.used, environment.now);
         if is_removed && fs::remove_file(rt, file.path.as_str()).is_ok() {
             size = size.saturating_sub(file.size);
             removed = removed.saturating_add(1);

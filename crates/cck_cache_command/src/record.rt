@@ -1,48 +1,21 @@
 //! Records a compilation in the store.
 use crate::absence::{Absence, absence_of};
-use crate::base::{bases_of, shows_base};
 use crate::environment::Environment;
 use crate::input::{InputSnapshot, input_snapshot};
-use crate::refusal::Refusal;
-use crate::request::{Request, hasher_of, snapshot_request};
+use crate::request::{base_words, hasher_of, snapshot_request};
 use anyhow::Result;
+use cck_cache_base::{bases_of, shows_base};
 use cck_cache_entry::{EntryFile, ObjectFile, may_include};
 use cck_cache_files::{Kind, PathStates, StoreDirectory, add_named_files};
+use cck_cache_rules::{Known, Refusal, refusal_of};
+use cck_cache_words::{Compilation, Request};
 use cck_files::MapFiles;
 use cck_path::Timestamp;
-use cck_snapshot::{
-    RecordedEntry, Recording, Request as SnapshotRequest, preprocessor_key, record_text,
-};
+use cck_snapshot::{RecordedEntry, Recording, SnapshotRequest, preprocessor_key, record_text};
 use cck_util::Sha256State;
 use jiff::tz::TimeZone;
 use std::rt::Files;
 use std::{fs, io};
-
-/// What is recorded beside the compilation that was asked for.
-#[derive(Drop)]
-pub struct Compilation<'a> {
-    /// The time at which the look-up ended, by the clock of the store's file system.
-    pub since: Timestamp,
-    /// The preprocessor key that the look-up printed.
-    pub key: &'a str,
-    /// The path of what the compiler printed of its directories.
-    pub search: &'a str,
-    /// What the compiler made. `None` where the object is there, and the entry alone is recorded.
-    pub made: Option<Made<'a>>,
-    /// The path to which the entry file is written in place of the store's.
-    pub entry_out: Option<&'a str>,
-    /// The path to which the object file is written in place of the store's.
-    pub object_out: Option<&'a str>,
-}
-
-/// What a compiler made.
-#[derive(Drop)]
-pub struct Made<'a> {
-    /// The path of the object.
-    pub object: &'a str,
-    /// The path of what the compiler printed when the object was made.
-    pub messages: &'a str,
-}
 
 /// The outcome of a recording.
 #[derive(Drop)]
@@ -103,8 +76,24 @@ fn see<R: Files + AllocGlobal>(
     Ok(Seen::Files(snapshot, absent_paths))
 }
 
-// Why a compilation is refused by its input or its time alone.
-fn refusal_of<R: AllocGlobal>(
+// What is known of a compilation by its input and its time alone. The borrow checker takes a field that
+// holds a reference only at the lifetime of the struct.
+fn known_of<'a>(
+    found: Option<&'a str>,
+    key: &'a str,
+    is_one_day: bool,
+    tests_headers: bool,
+) -> Known<'a> {
+    Known {
+        found,
+        key,
+        is_one_day,
+        tests_headers,
+    }
+}
+
+// Why a compilation is not recorded, by its input or its time alone.
+fn refusal_by_input<R: AllocGlobal>(
     rt: &R,
     environment: &Environment<'_>,
     asked: &SnapshotRequest<'_>,
@@ -112,19 +101,10 @@ fn refusal_of<R: AllocGlobal>(
     key: &str,
 ) -> Result<Option<Refusal>> {
     let files = &mut snapshot.files;
-    let Some(found) = preprocessor_key::<Sha256State, MapFiles>(rt.alloc(), files, asked)? else {
-        return Ok(Some(Refusal::NoKey));
-    };
-    if found.as_str() != key {
-        return Ok(Some(Refusal::InputChanged));
-    }
-    if !is_one_day(asked.zone, asked.moment, environment.now) {
-        return Ok(Some(Refusal::DayChanged));
-    }
-    if snapshot.tests_headers {
-        return Ok(Some(Refusal::HeaderTest));
-    }
-    Ok(None)
+    let found = preprocessor_key::<Sha256State, MapFiles>(rt.alloc(), files, asked)?;
+    let is_one_day = is_one_day(asked.zone, asked.moment, environment.now);
+    let known = known_of(found.as_deref(), key, is_one_day, snapshot.tests_headers);
+    Ok(refusal_of(&known))
 }
 
 // Writes a file of the store, to this path, if one is given, in place of the store's.
@@ -201,7 +181,7 @@ pub fn object_key<R: Files + AllocGlobal>(
 ) -> Result<String> {
     let alloc = rt.alloc();
     let mut files = input_snapshot(rt, request)?.files;
-    let bases = bases_of(alloc, request, text)?;
+    let bases = bases_of(alloc, &base_words(request), text)?;
     let hasher = hasher_of(rt, environment, request)?;
     let (directory, now) = (request.directory, environment.now);
     let asked = snapshot_request(environment, &hasher, directory, now, &bases);
@@ -240,12 +220,12 @@ pub fn record<R: Files + AllocGlobal>(
         Seen::Refused(refusal) => return Ok(Outcome::Refused(refusal)),
         Seen::Files(snapshot, absent_paths) => (snapshot, absent_paths),
     };
-    let bases = bases_of(alloc, request, text)?;
+    let bases = bases_of(alloc, &base_words(request), text)?;
     let hasher = hasher_of(rt, environment, request)?;
     let (directory, since) = (request.directory, compilation.since);
     let asked = snapshot_request(environment, &hasher, directory, since, &bases);
     let key = compilation.key;
-    if let Some(refusal) = refusal_of(rt, environment, &asked, &mut snapshot, key)? {
+    if let Some(refusal) = refusal_by_input(rt, environment, &asked, &mut snapshot, key)? {
         return Ok(Outcome::Refused(refusal));
     }
     let files = &mut snapshot.files;

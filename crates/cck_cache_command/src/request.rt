@@ -1,33 +1,24 @@
-//! The compilation that is asked for.
-use crate::base::base_of;
+//! The compilation of a request.
 use crate::environment::Environment;
 use anyhow::Result;
-use c_cache_keys::{CCompilerHasher, CCompilerKind, ColorMode, ParsedArguments};
+use c_cache_keys::{CCompilerHasher, CCompilerKind, ParsedArguments};
+use cck_cache_base::{Words, base_of};
 use cck_cache_files::{compiler_digest, open_store, shared_compiler_digest};
+use cck_cache_words::Request;
 use cck_path::Timestamp;
-use cck_snapshot::{ExternalCompiler, Request as SnapshotRequest};
+use cck_snapshot::{ExternalCompiler, SnapshotRequest};
 use cck_util::Language;
 use std::alloc::{AllocError, Global};
-use std::collections::BTreeMap;
 use std::io;
 use std::rt::Files;
 
-/// A compilation: what the words of the command line say of it.
-#[derive(Drop)]
-pub struct Request<'a> {
-    /// The paths of the programs that the compiler runs, with colons between them.
-    pub compiler: &'a str,
-    /// The working directory.
-    pub directory: &'a str,
-    /// The input, as the compiler's command line has it.
-    pub input: &'a str,
-    /// The compiler's arguments without the output.
-    pub arguments: Vec<Vec<u8>>,
-    /// The store directory that keeps the digests of the programs' contents, if the programs count
-    /// by their contents.
-    pub digests: Option<&'a str>,
-    /// The base directory, if objects are shared between checkouts.
-    pub base: Option<&'a str>,
+/// The words of a request that its base directory depends on.
+pub fn base_words<'a>(request: &'a Request<'_>) -> Words<'a> {
+    Words {
+        base: request.base,
+        directory: request.directory,
+        arguments: &request.arguments,
+    }
 }
 
 // A copy of the arguments, and after them the working directory and the locale. Debug information
@@ -48,7 +39,7 @@ fn keyed_arguments(
     let mut locale = b"locale=".to_vec(alloc)?;
     locale.extend_from_slice(&environment.locale)?;
     all.push(locale)?;
-    if let Some(base) = base_of(request) {
+    if let Some(base) = base_of(&base_words(request)) {
         let mut argument = b"base=".to_vec(alloc)?;
         argument.extend_from_slice(base.as_bytes())?;
         all.push(argument)?;
@@ -58,28 +49,9 @@ fn keyed_arguments(
 
 // A parsed command line with this input and these arguments, and nothing else.
 fn parsed(alloc: Global, input: Vec<u8>, common_args: Vec<Vec<u8>>) -> ParsedArguments {
-    ParsedArguments {
-        input,
-        double_dash_input: false,
-        language: Language::C,
-        compilation_flag: Vec::new(alloc),
-        depfile: None,
-        outputs: BTreeMap::new(alloc),
-        dependency_args: Vec::new(alloc),
-        preprocessor_args: Vec::new(alloc),
-        common_args,
-        arch_args: Vec::new(alloc),
-        unhashed_args: Vec::new(alloc),
-        extra_dist_files: Vec::new(alloc),
-        extra_hash_files: Vec::new(alloc),
-        uses_external_assembler: false,
-        msvc_show_includes: false,
-        msvc_explicit_language: false,
-        profile_generate: false,
-        color_mode: ColorMode::Auto,
-        suppress_rewrite_includes_only: false,
-        too_hard_for_preprocessor_cache_mode: None,
-    }
+    let mut arguments = ParsedArguments::new(alloc, input, Language::C);
+    arguments.common_args = common_args;
+    arguments
 }
 
 // The digest of the programs of a request.

@@ -11,14 +11,14 @@ use Rattle.cck_cache_entry.specs.Names.{AreNames, is_named, is_place}
 use Rattle.cck_cache_entry.specs.SearchList.{SearchFields}
 use Rattle.cck_cache_entry.specs.declared.names.Named.{Named}
 use Rattle.cck_cache_entry.proofs.NameLemmas.{system_named}
-use Rattle.cck_cache_entry.specs.Absent.{AreAbsentNames, AreAdded, IsBefore, IsBeside, IsEarlier, IsForName, IsListed, IsWithin, path_in, precompiled}
-use Rattle.cck_cache_entry.specs.Reading.{Reads}
-use Rattle.cck_cache_entry.specs.Sets.{Adds, IsSetOf, has}
+use Rattle.cck_cache_entry.specs.Absent.{AreAbsentNames, AreAdded, IsBefore, IsBeside, IsEarlier, IsForName, IsListed, IsInDirectory, path_in, precompiled}
+use Rattle.cck_cache_entry.specs.Reading.{ReadsBack}
+use Rattle.cck_cache_entry.specs.Sets.{Adds, IsSetOf, has_key}
 use Rattle.cck_cache_entry.proofs.SetLemmas.{Below, adds_as, adds_both, adds_nothing, has_key, key_at}
 
 -- the rest of a name in a directory
 pub within_read : (name directory middle : List ℕ) (r : Option (Bor (List ℕ))) → name ≡ directory ++ middle → MatchOption r ((rest : List ℕ) → middle ≢ (47 ∷ []) ++ rest) (λ x. middle ≡ (47 ∷ []) ++ x.now)
-    → Reads (path_in directory) name (option_map (λ rest. rest.now) r)
+    → ReadsBack (path_in directory) name (option_map (λ rest. rest.now) r)
 within_read name directory middle None is none = λ rest same. none rest (append_cancel_left directory middle (47 ∷ rest) (sym is ∙ sym same))
 within_read name directory middle (Some x) is begins =
     (ap (λ m. directory ++ m) (sym begins) ∙ sym is, λ rest same. rest_same rest x.now (append_cancel_left directory (47 ∷ rest) (47 ∷ x.now) (same ∙ (is ∙ ap (λ m. directory ++ m) begins))))
@@ -56,14 +56,14 @@ abbrev pub InPlace : (List ℕ → Bool) → List (List ℕ) → List ℕ → �
 InPlace names keys rest k q = IsBeside names (get_or keys k [] ++ rest) q
 
 pub in_places : (names : List ℕ → Bool) (keys : BTreeSet (Vec ℕ)) (rest : List ℕ) (n : ℕ) (old new : BTreeSet (Vec ℕ)) → n ≡ length keys.keys → Adds (Below (InPlace names (map (λ k. k.items) keys.keys) rest) n) old new
-    → Adds (λ q. (directory : List ℕ) × IsTrue (has keys directory) × IsBeside names (directory ++ rest) q) old new
+    → Adds (λ q. (directory : List ℕ) × IsTrue (has_key keys directory) × IsBeside names (directory ++ rest) q) old new
 in_places names keys rest n old new is =
-    adds_as (Below (InPlace names (map (λ k. k.items) keys.keys) rest) n) (λ q. (directory : List ℕ) × IsTrue (has keys directory) × IsBeside names (directory ++ rest) q) old new to from
+    adds_as (Below (InPlace names (map (λ k. k.items) keys.keys) rest) n) (λ q. (directory : List ℕ) × IsTrue (has_key keys directory) × IsBeside names (directory ++ rest) q) old new to from
   where
-    to : (q : List ℕ) → Below (InPlace names (map (λ k. k.items) keys.keys) rest) n q → (directory : List ℕ) × IsTrue (has keys directory) × IsBeside names (directory ++ rest) q
+    to : (q : List ℕ) → Below (InPlace names (map (λ k. k.items) keys.keys) rest) n q → (directory : List ℕ) × IsTrue (has_key keys directory) × IsBeside names (directory ++ rest) q
     to q (k, lt, beside) = (get_or (map (λ k. k.items) keys.keys) k [], has_key keys.keys k (omega (arith, is)), beside)
 
-    from : (q : List ℕ) → (directory : List ℕ) × IsTrue (has keys directory) × IsBeside names (directory ++ rest) q → Below (InPlace names (map (λ k. k.items) keys.keys) rest) n q
+    from : (q : List ℕ) → (directory : List ℕ) × IsTrue (has_key keys directory) × IsBeside names (directory ++ rest) q → Below (InPlace names (map (λ k. k.items) keys.keys) rest) n q
     from q (directory, known, beside) =
         let at = key_at keys.keys directory known in
         (at.0, omega (arith, is, at.1), rw at.2 beside)
@@ -119,8 +119,8 @@ for_name places names directories name first n old middle new is size a b =
     from q (inr (k, lt, before)) = inr (k, omega (arith, size), before)
 
 -- one more directory
-pub within_more : (directories : List (List ℕ)) (name : List ℕ) (n : ℕ) (before here : Bool) → (IsTrue before ↔ ((place : ℕ) × (place < n) × IsWithin directories name place)) → (IsTrue here ↔ IsWithin directories name n)
-    → IsTrue (before || here) ↔ ((place : ℕ) × (place < n + 1) × IsWithin directories name place)
+pub within_more : (directories : List (List ℕ)) (name : List ℕ) (n : ℕ) (before here : Bool) → (IsTrue before ↔ ((place : ℕ) × (place < n) × IsInDirectory directories name place)) → (IsTrue here ↔ IsInDirectory directories name n)
+    → IsTrue (before || here) ↔ ((place : ℕ) × (place < n + 1) × IsInDirectory directories name place)
 within_more directories name n before here old new = (
   λ h. elim (or_cases before here h) [
     | inl a ↦ (let found = old.0 a in (found.0, omega (arith, found.1), found.2))
@@ -128,7 +128,7 @@ within_more directories name n before here old new = (
   ],
   λ w. elim (cases_lt w.0 n) [
     | inl below ↦ or_left before here (old.1 (w.0, below, w.2))
-    | inr above ↦ (let same : w.0 ≡ n = omega (arith, w.1, above) in or_right before here (new.1 (subst (λ (k : ℕ). IsWithin directories name k) same w.2)))
+    | inr above ↦ (let same : w.0 ≡ n = omega (arith, w.1, above) in or_right before here (new.1 (subst (λ (k : ℕ). IsInDirectory directories name k) same w.2)))
   ],
 )
 
@@ -137,14 +137,14 @@ abbrev pub AtName : (List ℕ → Bool) → (List ℕ → Bool) → List (List �
 AtName places names directories keys k q = IsForName places names directories (get_or keys k []) q
 
 pub for_names : (places names : List ℕ → Bool) (directories : List (List ℕ)) (keys : BTreeSet (Vec ℕ)) (n : ℕ) (old new : BTreeSet (Vec ℕ)) → n ≡ length keys.keys → Adds (Below (AtName places names directories (map (λ k. k.items) keys.keys)) n) old new
-    → Adds (λ q. (name : List ℕ) × IsTrue (has keys name) × IsForName places names directories name q) old new
+    → Adds (λ q. (name : List ℕ) × IsTrue (has_key keys name) × IsForName places names directories name q) old new
 for_names places names directories keys n old new is =
-    adds_as (Below (AtName places names directories (map (λ k. k.items) keys.keys)) n) (λ q. (name : List ℕ) × IsTrue (has keys name) × IsForName places names directories name q) old new to from
+    adds_as (Below (AtName places names directories (map (λ k. k.items) keys.keys)) n) (λ q. (name : List ℕ) × IsTrue (has_key keys name) × IsForName places names directories name q) old new to from
   where
-    to : (q : List ℕ) → Below (AtName places names directories (map (λ k. k.items) keys.keys)) n q → (name : List ℕ) × IsTrue (has keys name) × IsForName places names directories name q
+    to : (q : List ℕ) → Below (AtName places names directories (map (λ k. k.items) keys.keys)) n q → (name : List ℕ) × IsTrue (has_key keys name) × IsForName places names directories name q
     to q (k, lt, path) = (get_or (map (λ k. k.items) keys.keys) k [], has_key keys.keys k (omega (arith, is)), path)
 
-    from : (q : List ℕ) → (name : List ℕ) × IsTrue (has keys name) × IsForName places names directories name q → Below (AtName places names directories (map (λ k. k.items) keys.keys)) n q
+    from : (q : List ℕ) → (name : List ℕ) × IsTrue (has_key keys name) × IsForName places names directories name q → Below (AtName places names directories (map (λ k. k.items) keys.keys)) n q
     from q (name, known, path) =
         let at = key_at keys.keys name known in
         (at.0, omega (arith, is, at.1), rw at.2 path)
@@ -161,7 +161,7 @@ listed_more systems directories keys n before here k lt system =
     ]
 
 pub all_listed : (systems : List ℕ → Bool) (directories : List (List ℕ)) (keys : BTreeSet (Vec ℕ)) (n : ℕ) → n ≡ length keys.keys → ListedBelow systems directories (map (λ k. k.items) keys.keys) n
-    → (name : List ℕ) → IsTrue (has keys name) → IsTrue (systems name) → IsListed directories name
+    → (name : List ℕ) → IsTrue (has_key keys name) → IsTrue (systems name) → IsListed directories name
 all_listed systems directories keys n is listed name known system =
     let at = key_at keys.keys name known in
     rw (← at.2) (listed at.0 (omega (arith, is, at.1)) (rw at.2 system))
@@ -169,10 +169,10 @@ all_listed systems directories keys n is listed name known system =
 -- ---- all paths, by the marks of a text
 
 module _ (marks : List Mark) (named : Named) (are : AreNames marks named) (search : SearchFields) (start : BTreeSet (Vec ℕ)) (missing : IsSetOf (Contains search.missing) start) where
-  pub none_found : (new : BTreeSet (Vec ℕ)) → AreAdded (has named.directories) (has named.names) (has named.systems) search.directories start new false → AreAbsentNames marks search None
+  pub none_found : (new : BTreeSet (Vec ℕ)) → AreAdded (has_key named.directories) (has_key named.names) (has_key named.systems) search.directories start new false → AreAbsentNames marks search None
   none_found new (name, system, known, none) = (name, sym (are.systems name) ∙ system, none)
 
-  pub all_found : (new : BTreeSet (Vec ℕ)) → AreAdded (has named.directories) (has named.names) (has named.systems) search.directories start new true → AreAbsentNames marks search (Some new)
+  pub all_found : (new : BTreeSet (Vec ℕ)) → AreAdded (has_key named.directories) (has_key named.names) (has_key named.systems) search.directories start new true → AreAbsentNames marks search (Some new)
   all_found new (listed, added) = (
     λ name system. listed name (are.names name ∙ system_named marks name system) (are.systems name ∙ system),
     λ q. (
@@ -187,14 +187,14 @@ module _ (marks : List Mark) (named : Named) (are : AreNames marks named) (searc
     ),
   )
     where
-      places : has named.directories ≡ is_place marks
+      places : has_key named.directories ≡ is_place marks
       places = λ i d. are.directories d i
 
-      names : has named.names ≡ is_named marks
+      names : has_key named.names ≡ is_named marks
       names = λ i q. are.names q i
 
-      by_places : Adds (λ absent. (name : List ℕ) × IsTrue (has named.names name) × IsForName (is_place marks) (has named.names) search.directories name absent) start new
-      by_places = subst (λ (p : List ℕ → Bool). Adds (λ absent. (name : List ℕ) × IsTrue (has named.names name) × IsForName p (has named.names) search.directories name absent) start new) places added
+      by_places : Adds (λ absent. (name : List ℕ) × IsTrue (has_key named.names name) × IsForName (is_place marks) (has_key named.names) search.directories name absent) start new
+      by_places = subst (λ (p : List ℕ → Bool). Adds (λ absent. (name : List ℕ) × IsTrue (has_key named.names name) × IsForName p (has_key named.names) search.directories name absent) start new) places added
 
       by_marks : Adds (λ absent. (name : List ℕ) × IsTrue (is_named marks name) × IsForName (is_place marks) (is_named marks) search.directories name absent) start new
       by_marks = subst (λ (p : List ℕ → Bool). Adds (λ absent. (name : List ℕ) × IsTrue (p name) × IsForName (is_place marks) p search.directories name absent) start new) names by_places

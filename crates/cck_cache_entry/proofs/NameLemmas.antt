@@ -10,7 +10,7 @@ use Rattle.cck_markers.specs.Markers.{mark_of}
 use Rattle.cck_markers.specs.declared.mark.Mark as declared
 use Rattle.cck_markers.specs.declared.mark.Mark.TheVariants as variant
 use Rattle.cck_cache_entry.specs.Names.{AreNames, directory_of, first_of_name, is_named, is_no_file, is_place, is_some_true, is_system_name}
-use Rattle.cck_cache_entry.specs.Sets.{has}
+use Rattle.cck_cache_entry.specs.Sets.{has_key}
 use Rattle.cck_cache_entry.specs.declared.names.Named.{Named}
 
 abbrev first_or : Option Bool → Option Bool → Option Bool
@@ -129,7 +129,7 @@ named_first marks n named = go (is_no_file n) named
     go true h = cc
     go false h = (refl, h)
 
-pub seen_added : (marks : List Mark) (n : List ℕ) (s : Bool) (named : Named) → IsTrue (has named.names n) → AreNames marks named → AreNames (marks ++ Name n s ∷ []) named
+pub seen_added : (marks : List Mark) (n : List ℕ) (s : Bool) (named : Named) → IsTrue (has_key named.names n) → AreNames marks named → AreNames (marks ++ Name n s ∷ []) named
 seen_added marks n s named known are =
     let first = named_first marks n (sym (are.names n) ∙ known) in
     as_before marks n s named (seen_unchanged marks n s first.0 first.1) are
@@ -148,10 +148,10 @@ none_first : (o : Option Bool) → is_some o ≡ false → o ≡ None
 none_first None e = refl
 none_first (Some b) e = cc
 
-module _ (marks : List Mark) (n : List ℕ) (s : Bool) (old new : Named) (file : is_no_file n ≡ false) (unknown : has old.names n ≡ false) (are : AreNames marks old)
-    (names : (q : List ℕ) → has new.names q ≡ (bytes_eq q n || has old.names q))
-    (directories : (d : List ℕ) → has new.directories d ≡ (bytes_eq d (directory_of n) || has old.directories d))
-    (systems : (q : List ℕ) → has new.systems q ≡ ((s && bytes_eq q n) || has old.systems q)) where
+module _ (marks : List Mark) (n : List ℕ) (s : Bool) (old new : Named) (file : is_no_file n ≡ false) (unknown : has_key old.names n ≡ false) (are : AreNames marks old)
+    (names : (q : List ℕ) → has_key new.names q ≡ (bytes_eq q n || has_key old.names q))
+    (directories : (d : List ℕ) → has_key new.directories d ≡ (bytes_eq d (directory_of n) || has_key old.directories d))
+    (systems : (q : List ℕ) → has_key new.systems q ≡ ((s && bytes_eq q n) || has_key old.systems q)) where
   first_none : first_of_name n marks ≡ None
   first_none = none_first (first_of_name n marks) (rw file at (sym (are.names n) ∙ unknown))
 

@@ -7,7 +7,7 @@ use Rattle.std.specs.List.{flat_map}
 use Rattle.cck_digest.specs.Frames.{frame, length_bytes}
 use Rattle.cck_digest.proofs.FrameLemmas.{frame_reads_back, length_reads_back}
 use Rattle.cck_cache_entry.specs.Frames.{frame_before}
-use Rattle.cck_cache_entry.specs.Reading.{Reads}
+use Rattle.cck_cache_entry.specs.Reading.{ReadsBack}
 
 -- the bytes of a length
 pub length-length_bytes : (n : ℕ) → length (length_bytes n) ≡ 8
@@ -21,7 +21,7 @@ pair_same : (p q : List ℕ × List ℕ) → p.0 ≡ q.0 → p.1 ≡ q.1 → p �
 pair_same p q first second = λ i. (first i, second i)
 
 -- a frame at the beginning
-pub frame_found : (bytes x rest : List ℕ) → bytes ≡ frame x ++ rest → Reads frame_before bytes (Some (x, rest))
+pub frame_found : (bytes x rest : List ℕ) → bytes ≡ frame x ++ rest → ReadsBack frame_before bytes (Some (x, rest))
 frame_found bytes x rest is = (
   sym is,
   λ other same.
@@ -30,14 +30,14 @@ frame_found bytes x rest is = (
 )
 
 -- a frame after a length that is longer than what follows
-pub no_frame : (bytes rest : List ℕ) (n : ℕ) → bytes ≡ length_bytes n ++ rest → length rest < n → Reads frame_before bytes None
+pub no_frame : (bytes rest : List ℕ) (n : ℕ) → bytes ≡ length_bytes n ++ rest → length rest < n → ReadsBack frame_before bytes None
 no_frame bytes rest n is short other same =
     let split = sym (append_assoc (length_bytes (length other.0)) other.0 other.1) ∙ (same ∙ is) in
     let both = length_reads_back (length other.0) n (other.0 ++ other.1) rest split in
     absurd (omega (arith, both.0, ap length both.1, length-append other.0 other.1))
 
 -- fewer bytes than a length has
-pub too_few : (bytes : List ℕ) → length bytes < 8 → Reads frame_before bytes None
+pub too_few : (bytes : List ℕ) → length bytes < 8 → ReadsBack frame_before bytes None
 too_few bytes short other same =
     absurd (omega (arith, ap length same, length-append (frame other.0) other.1, length-frame other.0))
 
@@ -61,7 +61,7 @@ begins (p ∷ parts) (d ∷ done) rest e =
     record { left = more.left; are = cc; is = more.is }
 
 -- all frames
-pub frames_found : (bytes : List ℕ) (done : List (List ℕ)) → bytes ≡ flat_map frame done → Reads (flat_map frame) bytes (Some done)
+pub frames_found : (bytes : List ℕ) (done : List (List ℕ)) → bytes ≡ flat_map frame done → ReadsBack (flat_map frame) bytes (Some done)
 frames_found bytes done is = (sym is, λ other same. only other (begins other done [] (same ∙ is ∙ sym (append-nil (flat_map frame done)))))
   where
     only : (other : List (List ℕ)) → Begins other done [] → other ≡ done
@@ -72,7 +72,7 @@ frames_found bytes done is = (sym is, λ other same. only other (begins other do
         go (x ∷ left) are none = absurd (no_bytes x (flat_map frame left) none)
 
 -- frames, and then no frame
-pub no_frames : (bytes rest : List ℕ) (done : List (List ℕ)) → bytes ≡ flat_map frame done ++ rest → (rest ≡ [] → ⊥) → Reads frame_before rest None → Reads (flat_map frame) bytes None
+pub no_frames : (bytes rest : List ℕ) (done : List (List ℕ)) → bytes ≡ flat_map frame done ++ rest → (rest ≡ [] → ⊥) → ReadsBack frame_before rest None → ReadsBack (flat_map frame) bytes None
 no_frames bytes rest done is some none other same = go b.left b.is
   where
     b : Begins other done rest
@@ -83,7 +83,7 @@ no_frames bytes rest done is some none other same = go b.left b.is
     go (x ∷ left) e = none (x, flat_map frame left) e
 
 -- what is read in two steps
-pub read_twice : {X Y Z : Type 0} (outer : Y → Z) (inner : X → Y) (written : Z) (middle : Y) (found : Option X) → Reads outer written (Some middle) → Reads inner middle found → Reads (λ x. outer (inner x)) written found
+pub read_twice : {X Y Z : Type 0} (outer : Y → Z) (inner : X → Y) (written : Z) (middle : Y) (found : Option X) → ReadsBack outer written (Some middle) → ReadsBack inner middle found → ReadsBack (λ x. outer (inner x)) written found
 read_twice outer inner written middle None first second = λ x same. second x (first.1 (inner x) same)
 read_twice outer inner written middle (Some found) first second =
     (ap outer second.0 ∙ first.0, λ x same. second.1 x (first.1 (inner x) same))

@@ -6,12 +6,12 @@ use Rattle.std.specs.Prelude.{option_to_list}
 use Rattle.std.proofs.lemmas.List.{append_cancel_left, same_from_push, take_more, map-append}
 use Rattle.std.proofs.lemmas.Bool.{cases_lt, lt-ltb, le-ltb}
 use Rattle.std.proofs.lemmas.List.Sums.{prefix_len-le-length}
-use Rattle.cck_cache_entry.specs.Reading.{AreRead, nothing_read, one_read, Reads}
+use Rattle.cck_cache_entry.specs.Reading.{AreRead, nothing_read, one_read, ReadsBack}
 use Rattle.cck_cache_entry.specs.SearchList.{missing_line}
 
 -- what is in a line of a missing directory
 pub missing_read : (line rest : List ℕ) (r : Option (Bor (List ℕ))) → line ≡ codes "ignoring nonexistent directory \"" ++ rest
-    → MatchOption r ((front : List ℕ) → rest ≢ front ++ 34 ∷ []) (λ x. rest ≡ x.now ++ 34 ∷ []) → Reads missing_line line (option_map (λ d. d.now) r)
+    → MatchOption r ((front : List ℕ) → rest ≢ front ++ 34 ∷ []) (λ x. rest ≡ x.now ++ 34 ∷ []) → ReadsBack missing_line line (option_map (λ d. d.now) r)
 missing_read line rest None is none = λ d same.
     none d (append_cancel_left (codes "ignoring nonexistent directory \"") rest (d ++ 34 ∷ []) (sym is ∙ sym same))
 missing_read line rest (Some x) is ends = (
@@ -26,7 +26,7 @@ module _ {X : Type 0} (write : X → List ℕ) where
 
   -- one more line
   pub more_read : (lines : List (Bor (List ℕ))) (i : ℕ) (d : Bor (List ℕ)) (known found : List X) (read : Option X) → i < length lines → AreRead write (map (λ l. l.now) (take i lines)) known
-      → Reads write (get_or lines i d).now read → found ≡ known ++ option_to_list read → AreRead write (map (λ l. l.now) (take (i + 1) lines)) found
+      → ReadsBack write (get_or lines i d).now read → found ≡ known ++ option_to_list read → AreRead write (map (λ l. l.now) (take (i + 1) lines)) found
   more_read lines i d known found read within before reads is =
       one_read (get_or lines i d).now read before reads
       (ap (map (λ l. l.now)) (take_more lines i d within) ∙ map-append (λ l. l.now) (take i lines) (get_or lines i d ∷ []))

@@ -16,7 +16,7 @@ use Rattle.std.proofs.lemmas.Map.Iter.{rest_more, rest_so_far}
 use Rattle.std.specs.Iterator.{Yields}
 use Rattle.std.specs.Map.Iter.{TakesFirst, deref}
 use Rattle.std.specs.Prelude.{Contains}
-use Rattle.cck_cache_entry.specs.Sets.{Adds, IsSetOf, has}
+use Rattle.cck_cache_entry.specs.Sets.{Adds, IsSetOf, has_key}
 
 -- ---- what a set has
 
@@ -25,7 +25,7 @@ same_tests q [] = refl
 same_tests q (k ∷ ks) = ap₂ (λ a b. a || b) (is_eq-slice_cmp q k.items) (same_tests q ks)
 
 -- a look-up by bytes
-pub contains-has : (s : BTreeSet (Vec ℕ)) (q : List ℕ) → contains_by (λ k. slice_cmp nat_cmp q k.items) s ≡ has s q
+pub contains-has : (s : BTreeSet (Vec ℕ)) (q : List ℕ) → contains_by (λ k. slice_cmp nat_cmp q k.items) s ≡ has_key s q
 contains-has s q = same_tests q s.keys
 
 twice : (a r : Bool) → (a || r) ≡ (a || (a || r))
@@ -53,7 +53,7 @@ module _ (q : List ℕ) (k : Vec ℕ) where
   inserted (x ∷ xs) = one_more x xs (insert_key (λ a b. slice_cmp nat_cmp a.items b.items) xs k) (slice_cmp nat_cmp k.items x.items) refl (inserted xs)
 
 -- a key that is inserted
-pub has-insert : (old new : BTreeSet (Vec ℕ)) (k : Vec ℕ) → new.keys ≡ insert_key (λ a b. slice_cmp nat_cmp a.items b.items) old.keys k → (q : List ℕ) → has new q ≡ (bytes_eq q k.items || has old q)
+pub has-insert : (old new : BTreeSet (Vec ℕ)) (k : Vec ℕ) → new.keys ≡ insert_key (λ a b. slice_cmp nat_cmp a.items b.items) old.keys k → (q : List ℕ) → has_key new q ≡ (bytes_eq q k.items || has_key old q)
 has-insert old new k is q = ap (list_any (λ y. bytes_eq q y.items)) is ∙ inserted q k old.keys
 
 -- a set has the bytes of its keys
@@ -75,7 +75,7 @@ has_key (k ∷ ks) (suc i) within = or_right _ _ (has_key ks i (omega arith))
 pub adds_one : (old new : BTreeSet (Vec ℕ)) (k : Vec ℕ) → new.keys ≡ insert_key (λ a b. slice_cmp nat_cmp a.items b.items) old.keys k → Adds (λ q. q ≡ k.items) old new
 adds_one old new k is q =
     let e = has-insert old new k is q in (
-      λ h. elim (or_cases (bytes_eq q k.items) (has old q) (sym e ∙ h)) [
+      λ h. elim (or_cases (bytes_eq q k.items) (has_key old q) (sym e ∙ h)) [
         | inl a ↦ inl ((bytes_eq-Decides q k.items).0 a)
         | inr b ↦ inr b
       ],

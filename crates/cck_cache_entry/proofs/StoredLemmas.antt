@@ -6,12 +6,12 @@ use Rattle.cck_digest.specs.Frames.{frame}
 use Rattle.cck_digest.proofs.HexLemmas.{text_length}
 use Rattle.cck_digest.proofs.ReadsBack.{bytes_read_back}
 use Rattle.std.proofs.lemmas.List.{append_cancel_left}
-use Rattle.cck_cache_entry.specs.Reading.{Reads}
+use Rattle.cck_cache_entry.specs.Reading.{ReadsBack}
 use Rattle.cck_cache_entry.specs.Stored.{IsCut, stored_file}
 
 module _ (hash : List ℕ → List ℕ) (sized : (fed : List ℕ) → length (hash fed) ≡ 32) (kind bytes : List ℕ) where
   -- bytes that are no digest and frames after a kind
-  pub not_cut : IsCut kind bytes None → Reads (stored_file hash kind) bytes None
+  pub not_cut : IsCut kind bytes None → ReadsBack (stored_file hash kind) bytes None
   not_cut none parts same =
       none (digest_text hash (kind ++ flat_map frame parts)) (flat_map frame parts) (text_length hash _ (sized _)) (sym same)
 
@@ -26,13 +26,13 @@ module _ (hash : List ℕ → List ℕ) (sized : (fed : List ℕ) → length (ha
       bytes_read_back digest text (flat_map frame parts) frames (text_length hash _ (sized _) ∙ sym digits) (append_cancel_left kind _ _ both)
 
   -- a digest that is not that of the frames
-  pub other_digest : (text frames : List ℕ) → length text ≡ 64 → bytes ≡ kind ++ text ++ frames → digest_text hash (kind ++ frames) ≢ text → Reads (stored_file hash kind) bytes None
+  pub other_digest : (text frames : List ℕ) → length text ≡ 64 → bytes ≡ kind ++ text ++ frames → digest_text hash (kind ++ frames) ≢ text → ReadsBack (stored_file hash kind) bytes None
   other_digest text frames digits is other parts same =
       let are = parts_are text frames parts digits is same in
       other (ap (λ f. digest_text hash (kind ++ f)) (sym are.1) ∙ are.0)
 
   -- frames that were read after the right digest
-  pub whole_file : (text frames : List ℕ) (found : Option (List (List ℕ))) → length text ≡ 64 → bytes ≡ kind ++ text ++ frames → digest_text hash (kind ++ frames) ≡ text → Reads (flat_map frame) frames found → Reads (stored_file hash kind) bytes found
+  pub whole_file : (text frames : List ℕ) (found : Option (List (List ℕ))) → length text ≡ 64 → bytes ≡ kind ++ text ++ frames → digest_text hash (kind ++ frames) ≡ text → ReadsBack (flat_map frame) frames found → ReadsBack (stored_file hash kind) bytes found
   whole_file text frames None digits is right none = λ parts same. none parts (parts_are text frames parts digits is same).1
   whole_file text frames (Some found) digits is right read =
       let now : digest_text hash (kind ++ flat_map frame found) ≡ text = ap (λ f. digest_text hash (kind ++ f)) read.0 ∙ right in

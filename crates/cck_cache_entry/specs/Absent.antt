@@ -36,12 +36,12 @@ IsForName is_place_in is_named_in directories name absent =
     (absent ≡ precompiled name) ⊎ ((place : ℕ) × (place < length directories) × IsBefore is_place_in is_named_in directories name place absent)
 
 -- the name is of a file in the directory at this place of a list
-abbrev pub IsWithin : List (List ℕ) → List ℕ → ℕ → Type 0
-IsWithin directories name place = (rest : List ℕ) × (path_in (get_or directories place []) rest ≡ name)
+abbrev pub IsInDirectory : List (List ℕ) → List ℕ → ℕ → Type 0
+IsInDirectory directories name place = (rest : List ℕ) × (path_in (get_or directories place []) rest ≡ name)
 
 -- the name is of a file in a directory of the list
 abbrev pub IsListed : List (List ℕ) → List ℕ → Type 0
-IsListed directories name = (place : ℕ) × (place < length directories) × IsWithin directories name place
+IsListed directories name = (place : ℕ) × (place < length directories) × IsInDirectory directories name place
 
 -- the paths that must stay absent, by the marks of a text and the list of directories
 abbrev pub IsAbsentName : List Mark → SearchFields → List ℕ → Type 0

@@ -22,13 +22,13 @@ ends_in_directive string =
     || ends_with nat_eq string (codes ".irp") || ends_with nat_eq string (codes ".altmacro")
 
 -- where the byte after this one is, by the byte before it: a literal ends at its quote and at a line's end
-abbrev pub after : Place → ℕ → ℕ → Place
-after Code before byte = if byte == 35 && before == 10 then Directive else if byte == 34 then String else if byte == 39 then Character else Code
-after Directive before byte = if byte == 10 then Code else Directive
-after String before byte = if byte == 34 then Code else if byte == 92 then StringEscape else if byte == 10 then Code else String
-after StringEscape before byte = String
-after Character before byte = if byte == 39 then Code else if byte == 92 then CharacterEscape else if byte == 10 then Code else Character
-after CharacterEscape before byte = Character
+abbrev pub place_after : Place → ℕ → ℕ → Place
+place_after Code before byte = if byte == 35 && before == 10 then Directive else if byte == 34 then String else if byte == 39 then Character else Code
+place_after Directive before byte = if byte == 10 then Code else Directive
+place_after String before byte = if byte == 34 then Code else if byte == 92 then StringEscape else if byte == 10 then Code else String
+place_after StringEscape before byte = String
+place_after Character before byte = if byte == 39 then Code else if byte == 92 then CharacterEscape else if byte == 10 then Code else Character
+place_after CharacterEscape before byte = Character
 
 -- the contents of the literals that belong together, with a backslash for each escape
 abbrev pub joined_string : Place → List ℕ → ℕ → List ℕ
@@ -52,7 +52,7 @@ is_found Directive before byte string = false
 abbrev pub includes_from : Place → ℕ → List ℕ → List ℕ → Bool
 includes_from place before string [] = false
 includes_from place before string (byte ∷ text) =
-    if is_found place before byte (joined_string place string byte) then true else includes_from (after place before byte) byte (joined_string place string byte) text
+    if is_found place before byte (joined_string place string byte) then true else includes_from (place_after place before byte) byte (joined_string place string byte) text
 
 -- a text starts in code, as if after a line's end
 abbrev pub may_include : List ℕ → Bool

@@ -3,7 +3,7 @@ use Rattle.std.specs.Prelude.{◌≡◌, ℕ, Bool, false, not, ◌&&◌, ◌||�
 use Rattle.std.specs.List.{list_any, starts_with, ends_with}
 use Rattle.std.specs.Str.{bytes_eq}
 use Rattle.cck_markers.specs.Marks.{Mark, Name, Refusal, Malformed}
-use Rattle.cck_cache_entry.specs.Sets.{has}
+use Rattle.cck_cache_entry.specs.Sets.{has_key}
 use Rattle.cck_cache_entry.specs.declared.names.Named.{Named}
 
 -- what the first mark of a name says: whether a system header has it
@@ -43,6 +43,6 @@ is_place (Malformed ∷ marks) directory = is_place marks directory
 
 -- the files that these marks name, those of system headers, and the places of all
 pub record AreNames (marks : List Mark) (named : Named) : Type 0 where
-  pub names : (name : List ℕ) → has named.names name ≡ is_named marks name
-  pub systems : (name : List ℕ) → has named.systems name ≡ is_system_name marks name
-  pub directories : (directory : List ℕ) → has named.directories directory ≡ is_place marks directory
+  pub names : (name : List ℕ) → has_key named.names name ≡ is_named marks name
+  pub systems : (name : List ℕ) → has_key named.systems name ≡ is_system_name marks name
+  pub directories : (directory : List ℕ) → has_key named.directories directory ≡ is_place marks directory

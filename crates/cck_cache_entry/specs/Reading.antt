@@ -3,9 +3,9 @@ use Rattle.std.specs.Prelude.{◌≡◌, ℕ, List, [], ◌∷◌, ◌++◌, map
 use Rattle.std.specs.Global.{Vec}
 
 -- What is written is read, and nothing else is: this is written for the value that was read and for no other value, or for no value at all where none was read.
-abbrev pub Reads : {X Y : Type 0} → (X → Y) → Y → Option X → Type 0
-Reads {X} write written None = (x : X) → write x ≡ written → ⊥
-Reads {X} write written (Some found) = (write found ≡ written) × ((x : X) → write x ≡ written → x ≡ found)
+abbrev pub ReadsBack : {X Y : Type 0} → (X → Y) → Y → Option X → Type 0
+ReadsBack {X} write written None = (x : X) → write x ≡ written → ⊥
+ReadsBack {X} write written (Some found) = (write found ≡ written) × ((x : X) → write x ≡ written → x ≡ found)
 
 -- the bytes of each part
 abbrev pub byte_lists : Vec (Vec ℕ) → List (List ℕ)
@@ -14,4 +14,4 @@ byte_lists parts = map (λ p. p.items) parts.items
 -- What was read of these in order, each by itself. Those that are written for no value are passed.
 pub data AreRead {X Y : Type 0} (write : X → Y) : List Y → List X → Type 0 where
   nothing_read : AreRead write [] []
-  one_read : {all written : List Y} {found known : List X} (one : Y) (read : Option X) → AreRead write written known → Reads write one read → all ≡ written ++ one ∷ [] → found ≡ known ++ option_to_list read → AreRead write all found
+  one_read : {all written : List Y} {found known : List X} (one : Y) (read : Option X) → AreRead write written known → ReadsBack write one read → all ≡ written ++ one ∷ [] → found ≡ known ++ option_to_list read → AreRead write all found

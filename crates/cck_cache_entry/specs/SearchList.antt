@@ -13,8 +13,8 @@ pub record SearchFields : Type 0 where
 abbrev pub search_fields : SearchList → SearchFields
 search_fields list = record { directories = byte_lists list.directories; missing = byte_lists list.missing }
 
-abbrev pub lines_of : List ℕ → List (List ℕ)
-lines_of text = slice_split (λ byte. byte == 10) text
+abbrev pub text_lines : List ℕ → List (List ℕ)
+text_lines text = slice_split (λ byte. byte == 10) text
 
 -- the two lines that begin a list, and the line that ends the last one
 abbrev pub quote_line : List ℕ
@@ -41,7 +41,7 @@ missing_line directory = codes "ignoring nonexistent directory \"" ++ directory 
 
 -- the list in a text: the directories of the lines up to the first that ends a list; those that are searched are after the first line that begins one
 abbrev pub IsSearchList : List ℕ → Option SearchFields → Type 0
-IsSearchList text None = list_any ends_list (lines_of text) ≡ false
+IsSearchList text None = list_any ends_list (text_lines text) ≡ false
 IsSearchList text (Some list) =
-    let front = before_first ends_list (lines_of text) in
-    (list_any ends_list (lines_of text) ≡ true) × AreRead missing_line front list.missing × AreRead listed_line (after_first begins_list front) list.directories
+    let front = before_first ends_list (text_lines text) in
+    (list_any ends_list (text_lines text) ≡ true) × AreRead missing_line front list.missing × AreRead listed_line (after_first begins_list front) list.directories

@@ -6,13 +6,13 @@ use Rattle.std.specs.List.{list_any}
 use Rattle.std.specs.Str.{bytes_eq}
 
 -- whether a key has these bytes
-abbrev pub has : BTreeSet (Vec ℕ) → List ℕ → Bool
-has keys bytes = list_any (λ k. bytes_eq bytes k.items) keys.keys
+abbrev pub has_key : BTreeSet (Vec ℕ) → List ℕ → Bool
+has_key keys bytes = list_any (λ k. bytes_eq bytes k.items) keys.keys
 
 -- the keys are exactly these
 abbrev pub IsSetOf : (List ℕ → Type 0) → BTreeSet (Vec ℕ) → Type 0
-IsSetOf P keys = (bytes : List ℕ) → (IsTrue (has keys bytes) → P bytes) × (P bytes → IsTrue (has keys bytes))
+IsSetOf P keys = (bytes : List ℕ) → (IsTrue (has_key keys bytes) → P bytes) × (P bytes → IsTrue (has_key keys bytes))
 
 -- these were added, and the others are as before
 abbrev pub Adds : (List ℕ → Type 0) → BTreeSet (Vec ℕ) → BTreeSet (Vec ℕ) → Type 0
-Adds P old new = IsSetOf (λ bytes. P bytes ⊎ IsTrue (has old bytes)) new
+Adds P old new = IsSetOf (λ bytes. P bytes ⊎ IsTrue (has_key old bytes)) new

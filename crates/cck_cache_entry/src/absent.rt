@@ -3,10 +3,10 @@ ghost use Rattle.std.specs.Prelude.{◌≡◌, ◌<◌, ◌↔◌, ◌++◌, Con
 ghost use Rattle.std.specs.Option.{option_map};
 ghost use Rattle.cck_markers.specs.Marks as spec;
 ghost use Rattle.cck_markers.specs.Marks.{Marks};
-ghost use Rattle.cck_cache_entry.specs.Absent.{AreAbsentNames, AreAdded, IsBefore, IsBeside, IsForName, IsListed, IsWithin, path_in};
-ghost use Rattle.cck_cache_entry.specs.Reading.{Reads, byte_lists};
+ghost use Rattle.cck_cache_entry.specs.Absent.{AreAbsentNames, AreAdded, IsBefore, IsBeside, IsForName, IsListed, IsInDirectory, path_in};
+ghost use Rattle.cck_cache_entry.specs.Reading.{ReadsBack, byte_lists};
 ghost use Rattle.cck_cache_entry.specs.SearchList.{search_fields};
-ghost use Rattle.cck_cache_entry.specs.Sets.{Adds, IsSetOf, has};
+ghost use Rattle.cck_cache_entry.specs.Sets.{Adds, IsSetOf, has_key};
 
 use crate::names::{Named, names_in};
 use crate::search_list::SearchList;
@@ -15,7 +15,7 @@ use std::collections::BTreeSet;
 
 // A name in a directory, without the slash between them.
 fn within<'a>(name: &'a [u8], directory: &[u8]) -> Option<&'a [u8]>
-    ensures { Reads (path_in directory.now) name.now (option_map (λ rest. rest.now) result) }
+    ensures { ReadsBack (path_in directory.now) name.now (option_map (λ rest. rest.now) result) }
 {
     name.strip_prefix(directory)?.strip_prefix(b"/".as_slice())
 }
@@ -45,7 +45,7 @@ fn add_path(
     named: &Named,
     path: Vec<u8>,
 ) -> Result<(), AllocError>
-    ensures { OnOk result (Adds (IsBeside (has named.now.names) path.items) paths.old paths.new) }
+    ensures { OnOk result (Adds (IsBeside (has_key named.now.names) path.items) paths.old paths.new) }
 {
     add(paths, joined(alloc, &path, b".gch", b"")?)?;
     if !named.names.contains(path.as_slice()) {
@@ -62,8 +62,8 @@ fn add_in_places(
     rest: &[u8],
 ) -> Result<(), AllocError>
     ensures { OnOk result (Adds (λ absent. (directory : List ℕ)
-        × IsTrue (has named.now.directories directory)
-        × IsBeside (has named.now.names) (directory ++ rest.now) absent) paths.old paths.new) }
+        × IsTrue (has_key named.now.directories directory)
+        × IsBeside (has_key named.now.names) (directory ++ rest.now) absent) paths.old paths.new) }
 {
     for directory in &named.directories {
         add_path(alloc, paths, named, joined(alloc, directory, rest, b"")?)?;
@@ -80,7 +80,7 @@ fn add_in(
     rest: &[u8],
 ) -> Result<(), AllocError>
     ensures { OnOk result (Adds (λ absent. (place : ℕ) × (place < length directories.now)
-        × IsBeside (has named.now.names)
+        × IsBeside (has_key named.now.names)
         (path_in (get_or (map (λ d. d.items) directories.now) place []) rest.now) absent)
         paths.old paths.new) }
 {
@@ -102,8 +102,8 @@ fn add_before(
 ) -> Result<bool, AllocError>
     requires { place < length directories.now }
     ensures found { IfOk result (λ found.
-        IsTrue found ↔ IsWithin (map (λ d. d.items) directories.now) name.now place) }
-    ensures added { OnOk result (Adds (IsBefore (has named.now.directories) (has named.now.names)
+        IsTrue found ↔ IsInDirectory (map (λ d. d.items) directories.now) name.now place) }
+    ensures added { OnOk result (Adds (IsBefore (has_key named.now.directories) (has_key named.now.names)
         (map (λ d. d.items) directories.now) name.now place) paths.old paths.new) }
 {
     let Some(rest) = within(name, &directories[place]) else {
@@ -124,7 +124,7 @@ fn add_name(
 ) -> Result<bool, AllocError>
     ensures found { IfOk result (λ found.
         IsTrue found ↔ IsListed (map (λ d. d.items) directories.now) name.now) }
-    ensures added { OnOk result (Adds (IsForName (has named.now.directories) (has named.now.names)
+    ensures added { OnOk result (Adds (IsForName (has_key named.now.directories) (has_key named.now.names)
         (map (λ d. d.items) directories.now) name.now) paths.old paths.new) }
 {
     add(paths, joined(alloc, name, b".gch", b"")?)?;
@@ -143,8 +143,8 @@ fn add_names(
     named: &Named,
     directories: &[Vec<u8>],
 ) -> Result<bool, AllocError>
-    ensures { IfOk result (AreAdded (has named.now.directories) (has named.now.names)
-        (has named.now.systems) (map (λ d. d.items) directories.now) paths.old paths.new) }
+    ensures { IfOk result (AreAdded (has_key named.now.directories) (has_key named.now.names)
+        (has_key named.now.systems) (map (λ d. d.items) directories.now) paths.old paths.new) }
 {
     for name in &named.names {
         let is_found = add_name(alloc, paths, named, directories, name)?;

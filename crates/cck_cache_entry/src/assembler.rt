@@ -1,6 +1,6 @@
 //! Directives of the assembler in the strings of a preprocessed text.
 ghost use Rattle.std.specs.Prelude.{◌≡◌, IfOk, OnOk};
-ghost use Rattle.cck_cache_entry.specs.Assembler.{after, ends_in_directive, is_found, joined_string, joins, may_include};
+ghost use Rattle.cck_cache_entry.specs.Assembler.{place_after, ends_in_directive, is_found, joined_string, joins, may_include};
 ghost use Rattle.cck_cache_entry.specs.declared.assembler.Place.TheVariants as place;
 
 use std::alloc::{AllocError, Global};
@@ -24,7 +24,7 @@ enum Place {
 
 // The place after a byte in code, from the byte before it.
 fn after_code(before: u8, byte: u8) -> Place
-    ensures { result ≡ after place.Code before byte }
+    ensures { result ≡ place_after place.Code before byte }
 {
     match byte {
         b'#' if before == b'\n' => Place::Directive,
@@ -36,7 +36,7 @@ fn after_code(before: u8, byte: u8) -> Place
 
 // The place after a byte in a string literal.
 fn after_string(byte: u8) -> Place
-    ensures { result ≡ after place.String 0 byte }
+    ensures { result ≡ place_after place.String 0 byte }
 {
     match byte {
         b'"' => Place::Code,
@@ -48,7 +48,7 @@ fn after_string(byte: u8) -> Place
 
 // The place after a byte in a character constant.
 fn after_character(byte: u8) -> Place
-    ensures { result ≡ after place.Character 0 byte }
+    ensures { result ≡ place_after place.Character 0 byte }
 {
     match byte {
         b'\'' => Place::Code,
@@ -59,8 +59,8 @@ fn after_character(byte: u8) -> Place
 }
 
 // The place after a byte, from the byte before it.
-fn after(place: Place, before: u8, byte: u8) -> Place
-    ensures { result ≡ after place before byte }
+fn place_after(place: Place, before: u8, byte: u8) -> Place
+    ensures { result ≡ place_after place before byte }
 {
     match place {
         Place::Code => after_code(before, byte),
@@ -133,7 +133,7 @@ pub fn may_include(alloc: Global, text: &[u8]) -> Result<bool, AllocError>
         if is_found(place, before, byte, &string) {
             return Ok(true);
         }
-        place = after(place, before, byte);
+        place = place_after(place, before, byte);
         before = byte;
     }
     Ok(false)

@@ -2,7 +2,7 @@
 ghost use Rattle.std.specs.Prelude.{◌≡◌, IfOk, IsOkUnless};
 ghost use Rattle.std.specs.Option.{option_map};
 ghost use Rattle.cck_cache_entry.specs.Files.{entry_fields, entry_file, entry_parts};
-ghost use Rattle.cck_cache_entry.specs.Reading.{Reads, byte_lists};
+ghost use Rattle.cck_cache_entry.specs.Reading.{ReadsBack, byte_lists};
 
 use crate::stored::{read_stored, write_stored};
 use cck_digest::{HashState, UtilError};
@@ -24,7 +24,7 @@ pub struct EntryFile {
 
 // What these parts say. `None` where there are fewer than two.
 fn file_of(alloc: Global, parts: Vec<Vec<u8>>) -> Result<Option<EntryFile>, AllocError>
-    ensures { IfOk result (λ found. Reads entry_parts (byte_lists parts) (option_map entry_fields found)) }
+    ensures { IfOk result (λ found. ReadsBack entry_parts (byte_lists parts) (option_map entry_fields found)) }
 {
     let mut parts = parts.into_iter();
     let (Some(preprocessor_key), Some(entry)) = (parts.next(), parts.next()) else {
@@ -63,7 +63,7 @@ impl EntryFile {
     /// The only error is [`UtilError::Memory`].
     pub fn read<H: HashState>(alloc: Global, bytes: &[u8]) -> Result<Option<EntryFile>, UtilError>
         ensures read { IfOk result (λ found.
-            Reads (entry_file H.hash) bytes.now (option_map entry_fields found)) }
+            ReadsBack (entry_file H.hash) bytes.now (option_map entry_fields found)) }
         ensures errors { IsOkUnless result UtilError.Memory }
     {
         let Some(parts) = read_stored::<H>(alloc, KIND, bytes)? else {

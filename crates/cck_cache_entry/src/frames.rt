@@ -4,7 +4,7 @@ ghost use Rattle.std.specs.List.{flat_map};
 ghost use Rattle.std.specs.Option.{option_map};
 ghost use Rattle.cck_digest.specs.Frames.{frame, length_bytes};
 ghost use Rattle.cck_cache_entry.specs.Frames.{frame_before};
-ghost use Rattle.cck_cache_entry.specs.Reading.{Reads, byte_lists};
+ghost use Rattle.cck_cache_entry.specs.Reading.{ReadsBack, byte_lists};
 
 use std::alloc::{AllocError, Global};
 
@@ -41,7 +41,7 @@ fn read_length(bytes: &[u8]) -> Option<(u64, &[u8])>
 
 /// The bytes of the frame at the beginning, and what is after it. `None` where there is no frame.
 pub fn read_frame(bytes: &[u8]) -> Option<(&[u8], &[u8])>
-    ensures { Reads frame_before bytes.now (option_map (λ r. (r.0.now, r.1.now)) result) }
+    ensures { ReadsBack frame_before bytes.now (option_map (λ r. (r.0.now, r.1.now)) result) }
 {
     let (length, rest) = read_length(bytes)?;
     if (rest.len() as u64) < length {
@@ -52,7 +52,7 @@ pub fn read_frame(bytes: &[u8]) -> Option<(&[u8], &[u8])>
 
 /// The bytes of all frames, of which these bytes consist. `None` where they do not.
 pub fn read_frames(alloc: Global, bytes: &[u8]) -> Result<Option<Vec<Vec<u8>>>, AllocError>
-    ensures { IfOk result (λ found. Reads (flat_map frame) bytes.now (option_map byte_lists found)) }
+    ensures { IfOk result (λ found. ReadsBack (flat_map frame) bytes.now (option_map byte_lists found)) }
 {
     let mut all = Vec::new(alloc);
     let mut rest = bytes;

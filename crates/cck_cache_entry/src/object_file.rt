@@ -2,7 +2,7 @@
 ghost use Rattle.std.specs.Prelude.{◌≡◌, IfOk, IsOkUnless};
 ghost use Rattle.std.specs.Option.{option_map};
 ghost use Rattle.cck_cache_entry.specs.Files.{object_fields, object_file, object_parts};
-ghost use Rattle.cck_cache_entry.specs.Reading.{Reads, byte_lists};
+ghost use Rattle.cck_cache_entry.specs.Reading.{ReadsBack, byte_lists};
 
 use crate::stored::{read_stored, write_stored};
 use cck_digest::{HashState, UtilError};
@@ -24,7 +24,7 @@ pub struct ObjectFile {
 
 // What these parts say. `None` where there are not three.
 fn file_of(parts: Vec<Vec<u8>>) -> Option<ObjectFile>
-    ensures { Reads object_parts (byte_lists parts) (option_map object_fields result) }
+    ensures { ReadsBack object_parts (byte_lists parts) (option_map object_fields result) }
 {
     let mut parts = parts.into_iter();
     let (Some(key), Some(object), Some(messages), None) = (
@@ -59,7 +59,7 @@ impl ObjectFile {
     /// The only error is [`UtilError::Memory`].
     pub fn read<H: HashState>(alloc: Global, bytes: &[u8]) -> Result<Option<ObjectFile>, UtilError>
         ensures read { IfOk result (λ found.
-            Reads (object_file H.hash) bytes.now (option_map object_fields found)) }
+            ReadsBack (object_file H.hash) bytes.now (option_map object_fields found)) }
         ensures errors { IsOkUnless result UtilError.Memory }
     {
         let Some(parts) = read_stored::<H>(alloc, KIND, bytes)? else {

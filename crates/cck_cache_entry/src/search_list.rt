@@ -2,8 +2,8 @@
 ghost use Rattle.std.specs.Prelude.{◌≡◌, ◌≤◌, IfOk, length, map};
 ghost use Rattle.std.specs.List.{position_or_len};
 ghost use Rattle.std.specs.Option.{option_map};
-ghost use Rattle.cck_cache_entry.specs.Reading.{AreRead, Reads, byte_lists};
-ghost use Rattle.cck_cache_entry.specs.SearchList.{IsSearchList, begins_list, ends_list, lines_of, listed_line, missing_line, search_fields};
+ghost use Rattle.cck_cache_entry.specs.Reading.{AreRead, ReadsBack, byte_lists};
+ghost use Rattle.cck_cache_entry.specs.SearchList.{IsSearchList, begins_list, ends_list, text_lines, listed_line, missing_line, search_fields};
 
 use std::alloc::{AllocError, Global};
 
@@ -18,7 +18,7 @@ pub struct SearchList {
 
 // The directory in the line of one that does not exist.
 fn missing_directory(line: &[u8]) -> Option<&[u8]>
-    ensures { Reads missing_line line.now (option_map (λ d. d.now) result) }
+    ensures { ReadsBack missing_line line.now (option_map (λ d. d.now) result) }
 {
     line.strip_prefix(b"ignoring nonexistent directory \"".as_slice())?
         .strip_suffix(b"\"".as_slice())
@@ -26,7 +26,7 @@ fn missing_directory(line: &[u8]) -> Option<&[u8]>
 
 // The directory in the line of one that is searched.
 fn listed_directory(line: &[u8]) -> Option<&[u8]>
-    ensures { Reads listed_line line.now (option_map (λ d. d.now) result) }
+    ensures { ReadsBack listed_line line.now (option_map (λ d. d.now) result) }
 {
     line.strip_prefix(b" ".as_slice())
 }
@@ -47,8 +47,8 @@ fn ends_list(line: &[u8]) -> bool
 }
 
 // The lines of a text.
-fn lines_of<'a>(alloc: Global, text: &'a [u8]) -> Result<Vec<&'a [u8]>, AllocError>
-    ensures { IfOk result (λ lines. map (λ line. line.now) lines.items ≡ lines_of text.now) }
+fn text_lines<'a>(alloc: Global, text: &'a [u8]) -> Result<Vec<&'a [u8]>, AllocError>
+    ensures { IfOk result (λ lines. map (λ line. line.now) lines.items ≡ text_lines text.now) }
 {
     text.split(|byte| *byte == b'\n').collect(alloc)
 }
@@ -107,7 +107,7 @@ impl SearchList {
     pub fn read(alloc: Global, printed: &[u8]) -> Result<Option<SearchList>, AllocError>
         ensures { IfOk result (λ found. IsSearchList printed.now (option_map search_fields found)) }
     {
-        let lines = lines_of(alloc, printed)?;
+        let lines = text_lines(alloc, printed)?;
         let end = end_of(&lines);
         if end >= lines.len() {
             return Ok(None);

@@ -2,7 +2,7 @@
 ghost use Rattle.std.specs.Prelude.{◌≡◌, ◌++◌, IfOk, IsOkUnless, map, string_bytes};
 ghost use Rattle.std.specs.Option.{option_map};
 ghost use Rattle.cck_digest.specs.Digest.{digest_text};
-ghost use Rattle.cck_cache_entry.specs.Reading.{Reads, byte_lists};
+ghost use Rattle.cck_cache_entry.specs.Reading.{ReadsBack, byte_lists};
 ghost use Rattle.cck_cache_entry.specs.Stored.{IsCut, stored_file};
 
 use crate::frames::{push_frame, read_frames};
@@ -68,7 +68,7 @@ pub fn read_stored<H: HashState>(
     bytes: &[u8],
 ) -> Result<Option<Vec<Vec<u8>>>, UtilError>
     ensures read { IfOk result (λ found.
-        Reads (stored_file H.hash kind.now) bytes.now (option_map byte_lists found)) }
+        ReadsBack (stored_file H.hash kind.now) bytes.now (option_map byte_lists found)) }
     ensures errors { IsOkUnless result UtilError.Memory }
 {
     let Some((text, frames)) = cut_stored(kind, bytes) else {

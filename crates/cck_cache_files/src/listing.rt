@@ -19,40 +19,42 @@ pub struct StoredFile {
     pub is_new: bool,
 }
 
-// The paths in a directory. A directory that is not there has none.
-fn paths_in<R: Files + AllocGlobal + Clone + Drop>(
+// The names in a directory. A directory that is not there has none.
+fn names_in<R: Files + AllocGlobal + Clone + Drop>(
     rt: &R,
     directory: &str,
 ) -> io::Result<Vec<String>> {
     let alloc = rt.alloc();
-    let mut paths = Vec::new(alloc);
+    let mut names = Vec::new(alloc);
     let entries = match fs::read_dir(rt, directory) {
         Ok(entries) => entries,
-        Err(error) if error.kind() == ErrorKind::NotFound => return Ok(paths),
+        Err(error) if error.kind() == ErrorKind::NotFound => return Ok(names),
         Err(error) => return Err(error),
     };
     for entry in entries {
         let entry = entry?;
         let name = entry.file_name();
-        paths.push(format!(in alloc; "{directory}/{name}")?)?;
+        names.push(format!(in alloc; "{name}")?)?;
     }
-    Ok(paths)
+    Ok(names)
 }
 
 // Adds the regular files in a directory. A file that another process removed meanwhile is left out.
+// The name alone says whether a file was renamed: the directories above may have any names.
 fn add_files<R: Files + AllocGlobal + Clone + Drop>(
     rt: &R,
     files: &mut Vec<StoredFile>,
     directory: &str,
 ) -> io::Result<()> {
-    for path in paths_in(rt, directory)? {
+    for name in names_in(rt, directory)? {
+        let path = format!(in rt.alloc(); "{directory}/{name}")?;
         let Ok(metadata) = fs::symlink_metadata(rt, path.as_str()) else {
             continue;
         };
         if let Some(used) = modified(&metadata)
             && metadata.is_file()
         {
-            let is_new = path.as_str().contains(".new");
+            let is_new = name.as_str().contains(".new");
             files.push(StoredFile {
                 path,
                 size: metadata.len(),
@@ -74,7 +76,8 @@ pub fn list_files<R: Files + AllocGlobal + Clone + Drop>(
     let (directory, kind) = (store.directory(), kind.as_str());
     let directory = format!(in alloc; "{directory}/{kind}")?;
     let mut files = Vec::new(alloc);
-    for path in paths_in(rt, directory.as_str())? {
+    for name in names_in(rt, directory.as_str())? {
+        let path = format!(in alloc; "{directory}/{name}")?;
         add_files(rt, &mut files, path.as_str())?;
     }
     Ok(files)

@@ -1,7 +1,7 @@
 use Rattle.std.proofs.Common.{◌≡◌, ℕ, ◌<◌, List, [], true, false, map, length, take, get_or, refl, sym, ap, ◌∙◌, arith}
 use Rattle.std.proofs.lemmas.List.{get_or-map, get_or-take, length-take-le, take-map}
 use Rattle.cck_cache_entry.specs.Absent.{path_in}
-use Rattle.cck_cache_entry.specs.Sets.{has}
+use Rattle.cck_cache_entry.specs.Sets.{has_key}
 use Rattle.cck_cache_entry.proofs.AbsentLemmas.{before_found, nothing_before}
 use Rattle.cck_cache_entry.proofs.absent.add_before.Goals as goal
 
@@ -20,7 +20,7 @@ returns-in_default-clause-added c =
     let at : c.deref.result.now ≡ get_or (map (λ d. d.items) c.args.directories.now) c.args.place [] =
     c.deref.ensures.value ∙ (ap (λ d. d.items) c.index-directories-place.is ∙ sym (get_or-map (λ d. d.items) c.args.directories.now c.args.place c.index-directories-place.result [] c.requires))
     in
-    nothing_before (has c.args.named.now.directories) (has c.args.named.now.names) (map (λ d. d.items) c.args.directories.now) c.args.place c.args.name.now c.args.paths.now
+    nothing_before (has_key c.args.named.now.directories) (has_key c.args.named.now.names) (map (λ d. d.items) c.args.directories.now) c.args.place c.args.name.now c.args.paths.now
     (λ rest e. c.in_default.ensures rest (ap (λ d. path_in d rest) at ∙ e))
 
 pub returns-clause-found : goal.returns-clause-found
@@ -39,7 +39,7 @@ returns-clause-added c =
     let at : c.deref.result.now ≡ get_or (map (λ d. d.items) directories) place [] =
     c.deref.ensures.value ∙ (ap (λ d. d.items) c.index-directories-place.is ∙ sym (get_or-map (λ d. d.items) directories place c.index-directories-place.result [] c.requires))
     in
-    before_found (has c.args.named.now.directories) (has c.args.named.now.names) (map (λ d. d.items) directories) (map (λ d. d.items) (take place directories)) place c.args.name.now rest
+    before_found (has_key c.args.named.now.directories) (has_key c.args.named.now.names) (map (λ d. d.items) directories) (map (λ d. d.items) (take place directories)) place c.args.name.now rest
     (ap (λ d. path_in d rest) (sym at) ∙ c.in-Some.ensures.0)
     (λ other e. c.in-Some.ensures.1 other (ap (λ d. path_in d other) at ∙ e))
     (length (take place directories))

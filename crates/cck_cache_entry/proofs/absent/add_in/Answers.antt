@@ -1,17 +1,17 @@
 use Rattle.std.proofs.Common.{◌≡◌, ℕ, List, [], ◌∷◌, map, length, get_or, append_assoc, sym, ap, ◌∙◌, subst, arith}
 use Rattle.std.proofs.lemmas.List.{get_or-map}
 use Rattle.cck_cache_entry.specs.Absent.{IsBeside, path_in}
-use Rattle.cck_cache_entry.specs.Sets.{Adds, has}
+use Rattle.cck_cache_entry.specs.Sets.{Adds, has_key}
 use Rattle.cck_cache_entry.proofs.AbsentLemmas.{InDirectory}
 use Rattle.cck_cache_entry.proofs.SetLemmas.{Below, adds_more, adds_none_below}
 use Rattle.cck_cache_entry.proofs.absent.add_in.Goals as goal
 
 pub loop-directory-init : goal.loop-directory-init
-loop-directory-init c = adds_none_below (InDirectory (has c.args.named.now.names) (map (λ d. d.items) c.args.directories.now) c.args.rest.now) c.args.paths.now
+loop-directory-init c = adds_none_below (InDirectory (has_key c.args.named.now.names) (map (λ d. d.items) c.args.directories.now) c.args.rest.now) c.args.paths.now
 
 pub loop-directory-preserved : goal.loop-directory-preserved
 loop-directory-preserved c =
-    let names = has c.args.named.now.names in
+    let names = has_key c.args.named.now.names in
     let directories = map (λ d. d.items) c.args.directories.now in
     let rest = c.args.rest.now in
     let i = c.loop-directory.directory-index in
@@ -26,4 +26,4 @@ loop-directory-preserved c =
 pub returns : goal.returns
 returns c =
     let end : c.loop-directory.directory-index ≡ length c.args.directories.now = omega arith in
-    subst (λ (n : ℕ). Adds (Below (InDirectory (has c.args.named.now.names) (map (λ d. d.items) c.args.directories.now) c.args.rest.now) n) c.args.paths.now c.loop-directory.paths) end c.loop-directory.invariant
+    subst (λ (n : ℕ). Adds (Below (InDirectory (has_key c.args.named.now.names) (map (λ d. d.items) c.args.directories.now) c.args.rest.now) n) c.args.paths.now c.loop-directory.paths) end c.loop-directory.invariant

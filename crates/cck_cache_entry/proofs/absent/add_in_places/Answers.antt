@@ -3,18 +3,18 @@ use Rattle.std.specs.Map.Iter.{deref}
 use Rattle.std.proofs.lemmas.List.{append-nil, length_push}
 use Rattle.std.proofs.lemmas.Map.Iter.{iter_end}
 use Rattle.cck_cache_entry.specs.Absent.{IsBeside}
-use Rattle.cck_cache_entry.specs.Sets.{Adds, has}
+use Rattle.cck_cache_entry.specs.Sets.{Adds, has_key}
 use Rattle.cck_cache_entry.proofs.AbsentLemmas.{InPlace, in_places}
 use Rattle.cck_cache_entry.proofs.SetLemmas.{adds_more, adds_none_below, set_turn}
 use Rattle.cck_cache_entry.proofs.absent.add_in_places.Goals as goal
 
 pub loop-directory-init : goal.loop-directory-init
 loop-directory-init c =
-    adds_none_below (InPlace (has c.args.named.now.names) (map (λ k. k.items) c.args.named.now.directories.keys) c.args.rest.now) c.args.paths.now
+    adds_none_below (InPlace (has_key c.args.named.now.names) (map (λ k. k.items) c.args.named.now.directories.keys) c.args.rest.now) c.args.paths.now
 
 pub loop-directory-preserved : goal.loop-directory-preserved
 loop-directory-preserved c =
-    let names = has c.args.named.now.names in
+    let names = has_key c.args.named.now.names in
     let keys = c.args.named.now.directories.keys in
     let rest = c.args.rest.now in
     let i = length c.loop-directory.yielded in
@@ -31,4 +31,4 @@ pub returns : goal.returns
 returns c =
     let ends = iter_end deref c.args.named.now.directories.keys c.loop-directory.yielded c.into_iter-directory-iterator.result c.loop-directory.directory-iterator c.next.new.self c.next.result
     c.into_iter-directory-iterator.ensures.into_iter_gives.0 c.loop-directory.yielded_by c.in-None.is c.next.ensures.steps in
-    in_places (has c.args.named.now.names) c.args.named.now.directories c.args.rest.now (length c.loop-directory.yielded) c.args.paths.now c.loop-directory.paths ends.1 c.loop-directory.invariant
+    in_places (has_key c.args.named.now.names) c.args.named.now.directories c.args.rest.now (length c.loop-directory.yielded) c.args.paths.now c.loop-directory.paths ends.1 c.loop-directory.invariant

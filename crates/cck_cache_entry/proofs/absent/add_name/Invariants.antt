@@ -1,12 +1,12 @@
 use Rattle.std.proofs.Common.{ℕ, ◌<◌, ◌↔◌, IsTrue, map}
-use Rattle.cck_cache_entry.specs.Absent.{IsBefore, IsWithin}
-use Rattle.cck_cache_entry.specs.Sets.{Adds, has}
+use Rattle.cck_cache_entry.specs.Absent.{IsBefore, IsInDirectory}
+use Rattle.cck_cache_entry.specs.Sets.{Adds, has_key}
 use Rattle.cck_cache_entry.proofs.SetLemmas.{Below}
 use Rattle.cck_cache_entry.proofs.absent.add_name.Given as goal
 
 -- the paths before the directories so far were added
 abbrev pub invariant-loop-place : goal.invariant-loop-place
 invariant-loop-place l = record {
-  found : IsTrue l.is_found ↔ ((place : ℕ) × (place < l.place) × IsWithin (map (λ d. d.items) l.directories) l.name place);
-  added : Adds (Below (IsBefore (has l.named.directories) (has l.named.names) (map (λ d. d.items) l.directories) l.name) l.place) l.initial.paths l.paths;
+  found : IsTrue l.is_found ↔ ((place : ℕ) × (place < l.place) × IsInDirectory (map (λ d. d.items) l.directories) l.name place);
+  added : Adds (Below (IsBefore (has_key l.named.directories) (has_key l.named.names) (map (λ d. d.items) l.directories) l.name) l.place) l.initial.paths l.paths;
 }

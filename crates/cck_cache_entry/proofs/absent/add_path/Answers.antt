@@ -1,7 +1,7 @@
 use Rattle.std.proofs.Common.{◌≡◌, ◌++◌, true, false, codes, sym, ap, ◌∙◌}
 use Rattle.std.proofs.lemmas.List.{append-nil}
 use Rattle.cck_cache_entry.specs.Absent.{precompiled}
-use Rattle.cck_cache_entry.specs.Sets.{has}
+use Rattle.cck_cache_entry.specs.Sets.{has_key}
 use Rattle.cck_cache_entry.proofs.AbsentLemmas.{beside_new, beside_old}
 use Rattle.cck_cache_entry.proofs.SetLemmas.{contains-has}
 use Rattle.cck_cache_entry.proofs.absent.add_path.Goals as goal
@@ -11,13 +11,13 @@ returns-in_ok-add-2 c =
     let names = c.args.named.now.names in
     let path = c.args.path.items in
     let first : c.in_ok-joined.field-0.items ≡ precompiled path = c.in_ok-joined.ensures ∙ (append-nil _ ∙ ap (λ p. p ++ codes ".gch") c.deref.ensures.value) in
-    let found : has names c.as_slice.result.now ≡ false = sym (contains-has names c.as_slice.result.now) ∙ sym c.if-not-contains.ensures in
-    beside_new (has names) path c.in_ok-joined.field-0.items first c.args.paths.now c.add-then-not-contains.new.paths c.add.new.paths (ap (has names) (sym c.as_slice.ensures.value) ∙ found) c.in_ok-add.ensures c.in_ok-add-2.ensures
+    let found : has_key names c.as_slice.result.now ≡ false = sym (contains-has names c.as_slice.result.now) ∙ sym c.if-not-contains.ensures in
+    beside_new (has_key names) path c.in_ok-joined.field-0.items first c.args.paths.now c.add-then-not-contains.new.paths c.add.new.paths (ap (has_key names) (sym c.as_slice.ensures.value) ∙ found) c.in_ok-add.ensures c.in_ok-add-2.ensures
 
 pub returns-else-not-contains : goal.returns-else-not-contains
 returns-else-not-contains c =
     let names = c.args.named.now.names in
     let path = c.args.path.items in
     let first : c.in_ok-joined.field-0.items ≡ precompiled path = c.in_ok-joined.ensures ∙ (append-nil _ ∙ ap (λ p. p ++ codes ".gch") c.deref.ensures.value) in
-    let found : has names c.as_slice.result.now ≡ true = sym (contains-has names c.as_slice.result.now) ∙ sym c.if-not-contains.ensures in
-    beside_old (has names) path c.in_ok-joined.field-0.items first c.args.paths.now c.add.new.paths (ap (has names) (sym c.as_slice.ensures.value) ∙ found) c.in_ok-add.ensures
+    let found : has_key names c.as_slice.result.now ≡ true = sym (contains-has names c.as_slice.result.now) ∙ sym c.if-not-contains.ensures in
+    beside_old (has_key names) path c.in_ok-joined.field-0.items first c.args.paths.now c.add.new.paths (ap (has_key names) (sym c.as_slice.ensures.value) ∙ found) c.in_ok-add.ensures

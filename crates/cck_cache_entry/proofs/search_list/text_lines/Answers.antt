@@ -1,7 +1,7 @@
 use Rattle.std.proofs.Common.{nat_eq, rules, tests}
 use Rattle.std.proofs.lemmas.Iterator.Consumers.{map_from_collect}
 use Rattle.std.proofs.lemmas.Iterator.Splits.{YieldsList-from_slice_split}
-use Rattle.cck_cache_entry.proofs.search_list.lines_of.Goals as goal
+use Rattle.cck_cache_entry.proofs.search_list.text_lines.Goals as goal
 
 pub returns : goal.returns
 returns c =

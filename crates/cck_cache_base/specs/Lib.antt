@@ -1,0 +1,4 @@
+pub mod Argument
+pub mod Base
+pub mod Shown
+pub mod Text

@@ -1,0 +1,2 @@
+mod ContentLemmas
+mod Examples

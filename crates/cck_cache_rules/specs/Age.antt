@@ -1,0 +1,7 @@
+-- what a recording that was killed left
+use Rattle.std.specs.Prelude.{◌≡◌, Bool, true, ℤ, ◌<ℤ◌, ◌+ℤ◌, pos}
+
+-- a file that was not renamed, and that is older than an hour, by these seconds
+pub record IsAbandoned (is_new : Bool) (used now : ℤ) : Type 0 where
+  pub new : is_new ≡ true
+  pub old : (used +ℤ pos 3600) <ℤ now

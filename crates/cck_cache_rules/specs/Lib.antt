@@ -1,0 +1,3 @@
+pub mod Age
+pub mod Contents
+pub mod Refusal

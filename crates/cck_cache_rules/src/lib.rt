@@ -1,0 +1,17 @@
+//! The rules of a cache over real files: what bytes of a file hold for a key, what is not recorded,
+//! and what a killed recording left.
+//!
+//! All calls are on values: none reads a file.
+//!
+//! - [`entry_in`] and [`object_in`] return what the bytes of a file hold for a key.
+//! - [`refusal_of`] says why a compilation is not recorded, by what is known before its text is read.
+//! - [`is_abandoned`] says whether a file was left by a recording that was killed.
+#![tactic(auto)]
+
+mod age;
+mod contents;
+mod refusal;
+
+pub use age::is_abandoned;
+pub use contents::{entry_in, object_in};
+pub use refusal::{Known, Refusal, refusal_of};

@@ -1,0 +1,83 @@
+//! Why a compilation is not recorded.
+ghost use Rattle.std.specs.Prelude.{◌≡◌};
+ghost use Rattle.std.specs.Option.{option_map};
+ghost use Rattle.cck_cache_rules.specs.Refusal.{IsRefusal, refusal_name};
+
+/// Why a compilation is not recorded.
+#[derive(Debug, Clone, Copy, PartialEq, Eq)]
+pub enum Refusal {
+    /// The input has no preprocessor key.
+    NoKey,
+    /// The input changed after the look-up.
+    InputChanged,
+    /// The local day changed after the look-up.
+    DayChanged,
+    /// The compiler's list of directories can't be read.
+    NoSearchList,
+    /// A system header is in no directory of the list.
+    UnknownHeader,
+    /// A source that is no system header tests for the existence of a header.
+    HeaderTest,
+    /// A string of the text may make the assembler include a file.
+    AssemblerInclude,
+    /// There is something in doubt where a header would be found earlier, or a precompiled header.
+    EarlierPath,
+    /// The walk over the text's files refused one.
+    NamedFile,
+    /// The object or the messages have the base directory.
+    BaseDirectory,
+}
+
+impl Refusal {
+    /// The name under which it is counted. No two have one name.
+    pub fn as_str(self) -> &'static str
+        ensures { result.now ≡ refusal_name self }
+    {
+        match self {
+            Refusal::NoKey => "refused-no-key",
+            Refusal::InputChanged => "refused-input-changed",
+            Refusal::DayChanged => "refused-day-changed",
+            Refusal::NoSearchList => "refused-no-search-list",
+            Refusal::UnknownHeader => "refused-unknown-header",
+            Refusal::HeaderTest => "refused-header-test",
+            Refusal::AssemblerInclude => "refused-assembler-include",
+            Refusal::EarlierPath => "refused-earlier-path",
+            Refusal::NamedFile => "refused-named-file",
+            Refusal::BaseDirectory => "refused-base-directory",
+        }
+    }
+}
+
+/// What is known of a compilation that is to be recorded, before the files of its text are judged.
+#[derive(Debug, Clone, Copy)]
+pub struct Known<'a> {
+    /// The preprocessor key of the input as it is now, if it has one.
+    pub found: Option<&'a str>,
+    /// The preprocessor key that the look-up printed.
+    pub key: &'a str,
+    /// Whether the look-up and the recording are on one local day.
+    pub is_one_day: bool,
+    /// Whether the input may test for the existence of a header.
+    pub tests_headers: bool,
+}
+
+/// Why a compilation is not recorded by what is known of it: that it has no preprocessor key, another
+/// one than before, another day, or an input that tests for a header; the first of these counts.
+/// `None` where none of them holds.
+pub fn refusal_of(known: &Known<'_>) -> Option<Refusal>
+    ensures { IsRefusal (option_map (λ k. k.now) known.now.found) known.now.key.now known.now.is_one_day known.now.tests_headers result }
+{
+    let Some(found) = known.found else {
+        return Some(Refusal::NoKey);
+    };
+    if found != known.key {
+        return Some(Refusal::InputChanged);
+    }
+    if !known.is_one_day {
+        return Some(Refusal::DayChanged);
+    }
+    if known.tests_headers {
+        return Some(Refusal::HeaderTest);
+    }
+    None
+}

@@ -1,0 +1,236 @@
+//! What words ask for.
+ghost use Rattle.std.specs.Prelude.{MatchOption, ℕ, ℤ, Option};
+ghost use Rattle.std.specs.Option.{option_map};
+ghost use Rattle.clap.specs.Matches.{found_of};
+ghost use Rattle.cck_cache_words.specs.Task.{IsMade, IsPacked, IsSince, IsSize, MadeWords, PackedWords, made_words, packed_words};
+
+use crate::command_line::program;
+use crate::request::{Request, request_of};
+use crate::stamp::stamp_of;
+use cck_path::Timestamp;
+use clap::{ArgMatches, Error};
+use std::alloc::{AllocError, Global};
+
+/// What the words of `look` ask for.
+#[derive(Drop)]
+pub struct Look<'a> {
+    /// The path of the store.
+    pub store: &'a str,
+    /// The path of an entry file that is read in place of the store's.
+    pub entry: Option<&'a str>,
+    /// The path to which the object is written.
+    pub out: &'a str,
+    /// The request.
+    pub request: Request<'a>,
+}
+
+/// What is recorded beside the compilation that was asked for.
+#[derive(Drop)]
+pub struct Compilation<'a> {
+    /// The time at which the look-up ended, by the clock of the store's file system.
+    pub since: Timestamp,
+    /// The preprocessor key that the look-up printed.
+    pub key: &'a str,
+    /// The path of what the compiler printed of its directories.
+    pub search: &'a str,
+    /// What the compiler made. `None` where the object is there, and the entry alone is recorded.
+    pub made: Option<Made<'a>>,
+    /// The path to which the entry file is written in place of the store's.
+    pub entry_out: Option<&'a str>,
+    /// The path to which the object file is written in place of the store's.
+    pub object_out: Option<&'a str>,
+}
+
+/// What a compiler made.
+#[derive(Drop)]
+pub struct Made<'a> {
+    /// The path of the object.
+    pub object: &'a str,
+    /// The path of what the compiler printed when the object was made.
+    pub messages: &'a str,
+}
+
+/// An object file that is not in the store.
+#[derive(Drop)]
+pub struct Packed<'a> {
+    /// The key of the object.
+    pub key: &'a str,
+    /// The path of the object file.
+    pub path: &'a str,
+    /// The path to which the object is written.
+    pub out: &'a str,
+}
+
+/// What the words ask for.
+#[derive(Drop)]
+pub enum Task<'a> {
+    /// The preprocessor key of a request.
+    Key(Request<'a>),
+    /// The key of the object of a request, from its preprocessed text.
+    ObjectKey(Request<'a>),
+    /// The object of a request, from the store.
+    Look(Look<'a>),
+    /// The object of an object file.
+    Unpack {
+        /// The path of the store.
+        store: &'a str,
+        /// The object file.
+        packed: Packed<'a>,
+    },
+    /// The recording of a compilation.
+    Record {
+        /// The path of the store.
+        store: &'a str,
+        /// The request.
+        request: Request<'a>,
+        /// What is recorded.
+        compilation: Compilation<'a>,
+    },
+    /// What a store has, and what was counted.
+    Stats {
+        /// The path of the store.
+        store: &'a str,
+    },
+    /// The removal of files.
+    Prune {
+        /// The path of the store.
+        store: &'a str,
+        /// The most bytes that its files may have together.
+        max_size: u64,
+    },
+    /// Why a look-up misses.
+    Why {
+        /// The path of the store.
+        store: &'a str,
+        /// The request.
+        request: Request<'a>,
+    },
+}
+
+// The task in the words of `look`.
+fn look_task<'a>(matches: &ArgMatches<'a>, request: Request<'a>) -> Option<Task<'a>> {
+    Some(Task::Look(Look {
+        store: matches.get_str("STORE")?,
+        entry: matches.get_str("entry"),
+        out: matches.get_str("out")?,
+        request,
+    }))
+}
+
+// The object file in the words of `unpack`.
+fn packed_of<'a>(matches: &ArgMatches<'a>) -> Option<Packed<'a>>
+    ensures { MatchOption result ((words : PackedWords) → IsPacked (found_of matches.now) words → ⊥)
+        (λ packed. IsPacked (found_of matches.now) (packed_words packed)) }
+{
+    Some(Packed {
+        key: matches.get_str("key")?,
+        path: matches.get_str("object")?,
+        out: matches.get_str("out")?,
+    })
+}
+
+// What the compiler made, in the words of `record`: both paths, or none of them. `None` where there
+// is one of them alone.
+fn made_of<'a>(matches: &ArgMatches<'a>) -> Option<Option<Made<'a>>>
+    ensures { MatchOption result ((words : Option MadeWords) → IsMade (found_of matches.now) words → ⊥)
+        (λ made. IsMade (found_of matches.now) (option_map made_words made)) }
+{
+    match (matches.get_str("object"), matches.get_str("messages")) {
+        (Some(object), Some(messages)) => Some(Some(Made { object, messages })),
+        (None, None) => Some(None),
+        _ => None,
+    }
+}
+
+// The time in the words of `record`.
+fn since_of(matches: &ArgMatches<'_>) -> Option<Timestamp>
+    ensures { MatchOption result ((seconds : ℤ) (nanoseconds : ℕ) → IsSince (found_of matches.now) seconds nanoseconds → ⊥)
+        (λ time. IsSince (found_of matches.now) time.seconds time.nanoseconds) }
+{
+    let text = matches.get_str("since")?;
+    stamp_of(text)
+}
+
+// The task in the words of `record`.
+fn record_task<'a>(matches: &ArgMatches<'a>, request: Request<'a>) -> Option<Task<'a>> {
+    Some(Task::Record {
+        store: matches.get_str("STORE")?,
+        request,
+        compilation: Compilation {
+            since: since_of(matches)?,
+            key: matches.get_str("key")?,
+            search: matches.get_str("search")?,
+            made: made_of(matches)?,
+            entry_out: matches.get_str("entry-out"),
+            object_out: matches.get_str("object-out"),
+        },
+    })
+}
+
+// The task in the words of `why`.
+fn why_task<'a>(matches: &ArgMatches<'a>, request: Request<'a>) -> Option<Task<'a>> {
+    Some(Task::Why {
+        store: matches.get_str("STORE")?,
+        request,
+    })
+}
+
+// The size in the words of `prune`.
+fn max_size_of(matches: &ArgMatches<'_>) -> Option<u64>
+    ensures { MatchOption result ((size : ℕ) → IsSize (found_of matches.now) size → ⊥)
+        (λ size. IsSize (found_of matches.now) size) }
+{
+    matches.get_str("max-size")?.parse::<u64>().ok()
+}
+
+// The task in the words of a command that takes a request.
+fn request_task<'a>(
+    alloc: Global,
+    name: &str,
+    matches: &ArgMatches<'a>,
+) -> Result<Option<Task<'a>>, AllocError> {
+    let Some(request) = request_of(alloc, matches)? else {
+        return Ok(None);
+    };
+    Ok(match name {
+        "key" => Some(Task::Key(request)),
+        "object-key" => Some(Task::ObjectKey(request)),
+        "look" => look_task(matches, request),
+        "record" => record_task(matches, request),
+        "why" => why_task(matches, request),
+        _ => None,
+    })
+}
+
+// The task in the words of a command without a request.
+fn store_task<'a>(name: &str, matches: &ArgMatches<'a>) -> Option<Task<'a>> {
+    let store = matches.get_str("STORE")?;
+    match name {
+        "stats" => Some(Task::Stats { store }),
+        "prune" => Some(Task::Prune {
+            store,
+            max_size: max_size_of(matches)?,
+        }),
+        "unpack" => Some(Task::Unpack {
+            store,
+            packed: packed_of(matches)?,
+        }),
+        _ => None,
+    }
+}
+
+/// Reads what these words ask for. The first is the program's name. `None` is returned where a
+/// stamp is no time, a size no number, or one of object and messages is missing.
+///
+/// The error is clap's: for wrong words, for `--help` and for `--version`, with the text to be
+/// printed, or for lack of memory.
+pub fn task_of<'a>(alloc: Global, words: &'a [String]) -> Result<Option<Task<'a>>, Error> {
+    let matches = program(alloc)?.try_get_matches_from(words)?;
+    let Some((name, command)) = matches.subcommand() else {
+        return Ok(None);
+    };
+    match name {
+        "stats" | "prune" | "unpack" => Ok(store_task(name, command)),
+        _ => Ok(request_task(alloc, name, command)?),
+    }
+}
