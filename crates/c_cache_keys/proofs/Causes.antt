@@ -5,13 +5,13 @@ use Rattle.cck_store.specs.Store.{Returned, Store, StoreLaws}
 use Rattle.cck_store.specs.declared.store.StoreError.TheVariants as store
 use Rattle.c_cache_keys.proofs.Stepped.{failed_miss}
 use Rattle.c_cache_keys.proofs.Stored.{not_failed}
-use Rattle.c_cache_keys.specs.Call.{Call, Fault, Refused, Why, Memory, Extra, ExtraFault, Input, InputFault, Store as StoreFails, Damaged, NoText, TextFault, Marker}
+use Rattle.c_cache_keys.specs.Call.{Call, Fault, ReturnsError, Why, Memory, Extra, ExtraFault, Input, InputFault, Store as StoreFails, Damaged, NoText, TextFault, Marker}
 use Rattle.c_cache_keys.specs.Hits.{Cause, ErrorsHaveCauses}
 use Rattle.c_cache_keys.specs.Keys.{preprocessor_key_of}
 use Rattle.c_cache_keys.specs.Step.{Asked, Asks, Ends, Failed, Gives, Hit, Makes, Miss, ReadsAs, Step, StopsMaking, StopsOpening, asked, gives, made, stopped, stops}
 use Rattle.c_cache_keys.specs.World.{World}
 
-same_why : {v w : Why} → Refused v ≡ Refused w → v ≡ w
+same_why : {v w : Why} → ReturnsError v ≡ ReturnsError w → v ≡ w
 same_why e = cc
 
 failed_same : {v w : Why} → Failed v ≡ Failed w → v ≡ w
@@ -43,7 +43,7 @@ module _ {V S : Type 0} (w : World V) (st : Store S) (laws : StoreLaws st) where
   making_cause c F s t Marker no_fault h = h
 
   -- the cause of an error while a key is computed doesn't depend on the state of the store
-  makes_cause : (c : Call V) (F : Type 0) (z s t : S) (why : Why) → (F → ⊥) → Makes w st c F s (Refused why) t → Cause w st c z t why
+  makes_cause : (c : Call V) (F : Type 0) (z s t : S) (why : Why) → (F → ⊥) → Makes w st c F s (ReturnsError why) t → Cause w st c z t why
   makes_cause c F z s t why no_fault (stops v cause is same) = subst (Cause w st c z t) (same_why (sym is)) (making_cause c F z t v no_fault cause)
   makes_cause c F z s t why no_fault (gives key is-plain quiet is stores) = absurd (not_failed (sym is))
 
@@ -65,13 +65,13 @@ module _ {V S : Type 0} (w : World V) (st : Store S) (laws : StoreLaws st) where
   returned_cause c F s t k why (Ok None) is-k got given = absurd (failed_miss given)
   returned_cause c F s t k why (Ok (Some x)) is-k got given = bytes_cause c F s t k x why is-k (laws.got_some s t k x got) given
 
-  ends_cause : (c : Call V) (F : Type 0) (s t mid : S) (k : Bytes) (why : Why) (o : Asked) → (F → ⊥) → preprocessor_key_of w c ≡ Some k → Asks w st c F k s o mid → Ends w st c F o mid (Refused why) t → Cause w st c s t why
+  ends_cause : (c : Call V) (F : Type 0) (s t mid : S) (k : Bytes) (why : Why) (o : Asked) → (F → ⊥) → preprocessor_key_of w c ≡ Some k → Asks w st c F k s o mid → Ends w st c F o mid (ReturnsError why) t → Cause w st c s t why
   ends_cause c F s t mid k why (Hit key) no_fault is-k asks ends = absurd (not_failed (sym ends.0))
   ends_cause c F s t mid k why (Failed v) no_fault is-k asks ends =
-      subst (λ z. Cause w st c s z why) (sym ends.1) (subst (Cause w st c s mid) (same_why (sym ends.0)) (returned_cause c F s mid k v asks.answer is-k asks.got asks.gives))
+      subst (λ z. Cause w st c s z why) (sym ends.1) (subst (Cause w st c s mid) (same_why (sym ends.0)) (returned_cause c F s mid k v asks.from_store is-k asks.got asks.gives))
   ends_cause c F s t mid k why Miss no_fault is-k asks ends = makes_cause c F s mid t why no_fault ends
 
-  cause_any : (c : Call V) (F : Type 0) (s t : S) (why : Why) → (F → ⊥) → Step w st c F s (Refused why) t → Cause w st c s t why
+  cause_any : (c : Call V) (F : Type 0) (s t : S) (why : Why) → (F → ⊥) → Step w st c F s (ReturnsError why) t → Cause w st c s t why
   cause_any c F s t why no_fault (stopped v cause is same) = subst (Cause w st c s t) (same_why (sym is)) (opening_cause c F s t v no_fault cause)
   cause_any c F s t why no_fault (made opened not makes) = makes_cause c F s s t why no_fault makes
   cause_any c F s t why no_fault (asked opened k is-k control o mid asks ends) = ends_cause c F s t mid k why o no_fault is-k asks ends

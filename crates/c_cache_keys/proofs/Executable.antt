@@ -2,13 +2,13 @@
 use Rattle.std.proofs.Common.{◌≡◌, ◌++◌, Bor, Option, None, Some, sym, ap, ◌∙◌}
 use Rattle.std.specs.Option.{option_map, option_map_or}
 use Rattle.cck_digest.specs.Digest.{digest_text}
-use Rattle.cck_file_digest.specs.FileDigest.{text_at}
+use Rattle.cck_file_digest.specs.FileDigest.{digest_text_at}
 use Rattle.cck_files.specs.FileMap.{FileMap}
 use Rattle.cck_path.specs.Bytes.{Bytes}
 use Rattle.cck_path.specs.Path.{Path}
 use Rattle.c_cache_keys.specs.CCompiler.{executable_text}
 
-module _ (hash : Bytes → Bytes) (version : Option Bytes) (m : FileMap) (p : Path) (text : Bytes) (at : text_at hash m p ≡ Some text) (claim : Option (Bor Bytes)) (tells : option_map (λ v. v.now) claim ≡ version) where
+module _ (hash : Bytes → Bytes) (version : Option Bytes) (m : FileMap) (p : Path) (text : Bytes) (at : digest_text_at hash m p ≡ Some text) (claim : Option (Bor Bytes)) (tells : option_map (λ v. v.now) claim ≡ version) where
   by_known_path : executable_text hash version m p ≡ Some (option_map_or (λ v. digest_text hash (text ++ v)) (option_map (λ (v : Bor Bytes). v.now) claim) text)
   unfolding executable_text
   by_known_path =

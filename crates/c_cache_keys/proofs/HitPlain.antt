@@ -9,7 +9,7 @@ use Rattle.cck_entry.proofs.LawLemmas.{one_text_one_entry}
 use Rattle.cck_entry.specs.Entry.{Entry, EntryText, added}
 use Rattle.cck_entry.specs.Results.{KeyResult}
 use Rattle.cck_files.specs.FileMap.{FileNode, file_at, metadata_of}
-use Rattle.cck_include.specs.Gathered.{include_at, include_of}
+use Rattle.cck_include.specs.Gathered.{gathered_include, include_of}
 use Rattle.cck_include.specs.Include.{Include}
 use Rattle.cck_include.specs.Recorded.{has_time, recorded}
 use Rattle.cck_path.specs.Bytes.{Bytes}
@@ -97,7 +97,7 @@ module _ {V : Type 0} (w : World V) (size : HasSize w.hash) (calls : List (Call 
 
   -- a recorded file of the earlier call that matches in the later one is the same file
   record_same : (text : Bytes) (p : Path) (n : FileNode) (digest : Bytes) (x : Include) → IsNamed w c text p → file_at c.files p ≡ Ok n → IsRecorded w c text (digest, path_text p)
-      → include_at c.files c.moment (digest, path_text p) ≡ Some x → matching w d x ≡ true → (o : FileNode) × (file_at d.files p ≡ Ok o) × IsSameFile w c d n o
+      → gathered_include c.files c.moment (digest, path_text p) ≡ Some x → matching w d x ≡ true → (o : FileNode) × (file_at d.files p ≡ Ok o) × IsSameFile w c d n o
   record_same text p n digest x named file of_path is match =
       let read = components-named w c text p named in
       let at_own : of_path.path ≡ p = sym (components-named w c text of_path.path of_path.named) ∙ ap components (sym of_path.written) ∙ read in

@@ -15,7 +15,7 @@ use Rattle.cck_entry.proofs.LawLemmas.{added_to_all_or_nothing}
 use Rattle.cck_entry.specs.Entry.{added, is_over}
 use Rattle.cck_files.proofs.FileLemmas.{kind_of_file}
 use Rattle.cck_files.specs.FileMap.{FileMap, FileNode, contents_of_kind, file_at, file_in, metadata_at, metadata_in, metadata_of}
-use Rattle.cck_include.specs.Gathered.{Digested, all_of, gathered, include_at, include_of, include_of_metadata}
+use Rattle.cck_include.specs.Gathered.{Digested, all_of, gathered, gathered_include, include_of, include_of_metadata}
 use Rattle.cck_include.specs.Include.{Include}
 use Rattle.cck_include.specs.Matching.{file_matches, is_digest, matches, times_accept}
 use Rattle.cck_include.specs.Recorded.{recorded}
@@ -53,7 +53,7 @@ size_of n Other is e = absurd cc
 
 -- what is recorded of a regular file
 pub include_here : (files : FileMap) (moment : Moment) (d : Digested) (p : Path) (n : FileNode) → components (d.1) ≡ p → file_at files p ≡ Ok n
-    → (include_at files moment d ≡ Some (include_of moment d (metadata_of n))) × ((include_of moment d (metadata_of n)).size ≡ length n.contents)
+    → (gathered_include files moment d ≡ Some (include_of moment d (metadata_of n))) × ((include_of moment d (metadata_of n)).size ≡ length n.contents)
 unfolding file_at metadata_at
 include_here files moment d p n is file =
     let (said, kind) = days_and_seconds_of (get files.nodes p) n file in
@@ -90,14 +90,14 @@ module _ {D A : Type 0} (f : D → Option A) where
       ]
 
 pub gathered_each : (files : FileMap) (moment : Moment) (ds : List Digested) (xs : List Include) → gathered files moment ds ≡ Some xs
-    → (d : Digested) → Contains ds d → (x : Include) × Contains xs x × (include_at files moment d ≡ Some x)
+    → (d : Digested) → Contains ds d → (x : Include) × Contains xs x × (gathered_include files moment d ≡ Some x)
 unfolding gathered
-gathered_each files moment ds xs e = of_each (include_at files moment) ds xs e
+gathered_each files moment ds xs e = of_each (gathered_include files moment) ds xs e
 
 pub gathered_from : (files : FileMap) (moment : Moment) (ds : List Digested) (xs : List Include) → gathered files moment ds ≡ Some xs
-    → (x : Include) → Contains xs x → (d : Digested) × Contains ds d × (include_at files moment d ≡ Some x)
+    → (x : Include) → Contains xs x → (d : Digested) × Contains ds d × (gathered_include files moment d ≡ Some x)
 unfolding gathered
-gathered_from files moment ds xs e = from_each (include_at files moment) ds xs e
+gathered_from files moment ds xs e = from_each (gathered_include files moment) ds xs e
 
 -- ---- matches
 

@@ -12,7 +12,7 @@ use Rattle.cck_digest.specs.declared.error.FileError.{FileError}
 use Rattle.cck_digest.specs.declared.error.FileError.TheVariants as file
 use Rattle.cck_files.specs.Calls.{IsErrorOrMemory}
 use Rattle.cck_files.specs.FileMap.{FileNode, contents_at, file_at}
-use Rattle.cck_include.specs.Gathered.{Digested, all_of, gathered, include_at}
+use Rattle.cck_include.specs.Gathered.{Digested, all_of, gathered, gathered_include}
 use Rattle.cck_include.specs.Include.{Include}
 use Rattle.cck_markers.proofs.OneList.{one_list}
 use Rattle.cck_path.specs.Bytes.{Bytes}
@@ -21,7 +21,7 @@ use Rattle.cck_path.specs.Text.{path_text}
 use Rattle.cck_store.specs.Store.{Store}
 use Rattle.cck_util.specs.Key.{object_key}
 use Rattle.cck_walk.specs.declared.walk.Walk as walk
-use Rattle.cck_walk.specs.declared.walk.Walk.TheVariants as answer
+use Rattle.cck_walk.specs.declared.walk.Walk.TheVariants as walked
 use Rattle.cck_files.proofs.FileLemmas.{found_without_contents, found_with_contents}
 use Rattle.cck_key_error.specs.declared.key_error.KeyError.{KeyError}
 use Rattle.cck_key_error.specs.declared.key_error.KeyError.TheVariants as key
@@ -36,7 +36,7 @@ use Rattle.c_cache_keys.specs.Call.{Call, Memory}
 use Rattle.c_cache_keys.specs.Included.{digested_of}
 use Rattle.c_cache_keys.specs.Keys.{extra_texts, input_file, is_preprocessed, key_material, params, plain_key, preprocessor_key_of, printed, text_of, ok_value, uses_cache}
 use Rattle.c_cache_keys.specs.Making.{IsPreprocessed, made_of}
-use Rattle.c_cache_keys.specs.Refusals.{input_error, text_error}
+use Rattle.c_cache_keys.specs.Errors.{input_error, text_error}
 use Rattle.c_cache_keys.specs.Seen.{why_of}
 use Rattle.c_cache_keys.specs.Step.{AreOwnIncludes, Makes, NotErring, NothingNew, StopsMaking, gives, stops}
 use Rattle.c_cache_keys.specs.Storing.{IsPut}
@@ -84,10 +84,10 @@ nothing_mapped f (x ∷ xs) e = absurd cc
 -- ---- the result of a walk
 
 module _ {V : Type 0} (w : World V) (c : Call V) (text : Bytes) (F : Type 0) where
-  pub refused_walk : (r : walk.Walk) → r ≡ answer.Refused → IsWalked w c text F (Ok r) → Walk w c text NotAccepted ⊎ F
+  pub refused_walk : (r : walk.Walk) → r ≡ walked.Refused → IsWalked w c text F (Ok r) → Walk w c text NotAccepted ⊎ F
   refused_walk r is h = subst (λ r. IsWalked w c text F (Ok r)) is h
 
-  pub accepted_walk : (r : walk.Walk) (files : Vec (Vec ℕ × String Global)) → r ≡ answer.Accepted files → IsWalked w c text F (Ok r) → Walk w c text Accepted × AreRecorded w c text (digested_of files.items)
+  pub accepted_walk : (r : walk.Walk) (files : Vec (Vec ℕ × String Global)) → r ≡ walked.Accepted files → IsWalked w c text F (Ok r) → Walk w c text Accepted × AreRecorded w c text (digested_of files.items)
   accepted_walk r files is h = subst (λ r. IsWalked w c text F (Ok r)) is h
 
 -- ---- one verdict on a text
@@ -132,19 +132,19 @@ module _ {V S : Type 0} (w : World V) (st : Store S) (c : Call V) (F : Type 0) w
   quiet_without none text some prints errs = absurd (some none)
 
   -- the key of a text of which nothing is stored
-  finished : (s : S) (answer : String Global) (bytes : Bytes) → plain_key w c ≡ Some bytes → NotErring w c F → F ⊎ NothingNew w c
-      → string_bytes answer ≡ bytes → Makes w st c F s (made_of (Ok answer)) s
-  finished s answer bytes plain quiet new is = gives (string_bytes answer) (plain ∙ ap Some (sym is)) quiet refl (inr (refl, new))
+  finished : (s : S) (found : String Global) (bytes : Bytes) → plain_key w c ≡ Some bytes → NotErring w c F → F ⊎ NothingNew w c
+      → string_bytes found ≡ bytes → Makes w st c F s (made_of (Ok found)) s
+  finished s found bytes plain quiet new is = gives (string_bytes found) (plain ∙ ap Some (sym is)) quiet refl (inr (refl, new))
 
   -- the input is read where no preprocessor is needed
-  pub from_input : (s : S) (answer : String Global) (xs : List Bytes) (contents : Bytes) → is_preprocessed c.request ≡ false → extra_texts w c ≡ Some xs
-      → contents_at c.files (components (input_path c)) ≡ Ok contents → string_bytes answer ≡ object_key w.hash (params w c.request xs contents)
-      → Makes w st c F s (made_of (Ok answer)) s
+  pub from_input : (s : S) (found : String Global) (xs : List Bytes) (contents : Bytes) → is_preprocessed c.request ≡ false → extra_texts w c ≡ Some xs
+      → contents_at c.files (components (input_path c)) ≡ Ok contents → string_bytes found ≡ object_key w.hash (params w c.request xs contents)
+      → Makes w st c F s (made_of (Ok found)) s
   unfolding contents_at input_file file_at
-  from_input s answer xs contents needs extra reads is =
+  from_input s found xs contents needs extra reads is =
       let (n, file, same) = found_with_contents (get c.files.nodes (components (input_path c))) contents reads in
       let none = no_key needs in
-      finished s answer (object_key w.hash (params w c.request xs contents)) (is_plain xs contents extra (no_preprocessor contents n needs (ap ok_value file) same))
+      finished s found (object_key w.hash (params w c.request xs contents)) (is_plain xs contents extra (no_preprocessor contents n needs (ap ok_value file) same))
       (quiet_without none) (inr (nothing_new none)) is
 
   pub stop_input : (s : S) (e : FileError) → is_preprocessed c.request ≡ false → IsErrorOrMemory (contents_at c.files (components (input_path c))) F e
@@ -168,10 +168,10 @@ module _ {V S : Type 0} (w : World V) (st : Store S) (c : Call V) (F : Type 0) w
   stop_text s text.Memory prints needs same h = stop_memory s s refl
 
   -- a text is printed, and there is no preprocessor key
-  pub without_key : (s : S) (answer : String Global) (xs : List Bytes) (text : Bytes) → is_preprocessed c.request ≡ true → extra_texts w c ≡ Some xs → printed w c ≡ Some text
-      → preprocessor_key_of w c ≡ None → string_bytes answer ≡ object_key w.hash (params w c.request xs text) → Makes w st c F s (made_of (Ok answer)) s
-  without_key s answer xs text needs extra prints none is =
-      finished s answer (object_key w.hash (params w c.request xs text)) (is_plain xs text extra (prints_text text needs prints)) (quiet_without none) (inr (nothing_new none)) is
+  pub without_key : (s : S) (found : String Global) (xs : List Bytes) (text : Bytes) → is_preprocessed c.request ≡ true → extra_texts w c ≡ Some xs → printed w c ≡ Some text
+      → preprocessor_key_of w c ≡ None → string_bytes found ≡ object_key w.hash (params w c.request xs text) → Makes w st c F s (made_of (Ok found)) s
+  without_key s found xs text needs extra prints none is =
+      finished s found (object_key w.hash (params w c.request xs text)) (is_plain xs text extra (prints_text text needs prints)) (quiet_without none) (inr (nothing_new none)) is
 
   module _ (input : PreprocessedInput) (for : IsPreprocessed w c input) where
     abbrev printed_text : Bytes
@@ -201,9 +201,9 @@ module _ {V S : Type 0} (w : World V) (st : Store S) (c : Call V) (F : Type 0) w
     not_accepted e = cc
 
     -- the text is refused
-    pub refused : (s : S) (answer : String Global) → Walk w c printed_text NotAccepted ⊎ F → string_bytes answer ≡ plain → Makes w st c F s (made_of (Ok answer)) s
-    refused s answer (inl walk) is = finished s answer plain plain_here (quiet_by NotAccepted walk not_errs) (inr (nothing_by NotAccepted walk not_accepted)) is
-    refused s answer (inr fault) is = finished s answer plain plain_here (λ other some prints errs. fault) (inl fault) is
+    pub refused : (s : S) (found : String Global) → Walk w c printed_text NotAccepted ⊎ F → string_bytes found ≡ plain → Makes w st c F s (made_of (Ok found)) s
+    refused s found (inl walk) is = finished s found plain plain_here (quiet_by NotAccepted walk not_errs) (inr (nothing_by NotAccepted walk not_accepted)) is
+    refused s found (inr fault) is = finished s found plain plain_here (λ other some prints errs. fault) (inl fault) is
 
     -- the walk returns an error
     pub stop_walked : (s : S) (e : KeyError) → IsWalked w c printed_text F (Err e) → Makes w st c F s (made_of (Err e)) s
@@ -216,9 +216,9 @@ module _ {V S : Type 0} (w : World V) (st : Store S) (c : Call V) (F : Type 0) w
     stop_walked s (key.Preprocess e) h = absurd h
 
     -- the text is accepted, and names no file that is recorded
-    pub nothing_named : (s : S) (answer : String Global) → string_bytes answer ≡ plain → Walk w c printed_text Accepted → AreRecorded w c printed_text [] → Makes w st c F s (made_of (Ok answer)) s
-    nothing_named s answer is walk none =
-        finished s answer plain plain_here (quiet_by Accepted walk accepts_errs) (inr (λ key includes some keeps. by keeps keeps.digested refl)) is
+    pub nothing_named : (s : S) (found : String Global) → string_bytes found ≡ plain → Walk w c printed_text Accepted → AreRecorded w c printed_text [] → Makes w st c F s (made_of (Ok found)) s
+    nothing_named s found is walk none =
+        finished s found plain plain_here (quiet_by Accepted walk accepts_errs) (inr (λ key includes some keeps. by keeps keeps.digested refl)) is
       where
         by : {includes : List Include} (keeps : AreOwnIncludes w c includes) (ds : List Digested) → ds ≡ keeps.digested → ⊥
         by keeps [] same = keeps.some (sym same)
@@ -231,16 +231,16 @@ module _ {V S : Type 0} (w : World V) (st : Store S) (c : Call V) (F : Type 0) w
     module _ (ds : List Digested) (are : AreRecorded w c printed_text ds) where
       gathered_all : gathered c.files c.moment ds ≢ None
       unfolding gathered
-      gathered_all = all_there (include_at c.files c.moment) ds (λ d at. by d (are.each d at))
+      gathered_all = all_there (gathered_include c.files c.moment) ds (λ d at. by d (are.each d at))
         where
-          by : (d : Digested) → IsRecorded w c printed_text d → include_at c.files c.moment d ≢ None
+          by : (d : Digested) → IsRecorded w c printed_text d → gathered_include c.files c.moment d ≢ None
           by d r = some_none (include_here c.files c.moment d r.path r.node (ap components r.written ∙ components-named w c printed_text r.path r.named) r.file).0
 
       -- the text is accepted, and the entry of its files is put
-      pub put_for : (s t : S) (answer : String Global) (u : Unit {0}) → string_bytes answer ≡ plain → Walk w c printed_text Accepted → ds ≢ []
-          → IsPut st c.files c.moment ds input.key.now (string_bytes answer) F s (Ok u) t → Makes w st c F s (made_of (Ok answer)) t
-      put_for s t answer u is walk some put =
-          gives (string_bytes answer) (plain_here ∙ ap Some (sym is)) (quiet_by Accepted walk accepts_errs) refl (elim put [
+      pub put_for : (s t : S) (found : String Global) (u : Unit {0}) → string_bytes found ≡ plain → Walk w c printed_text Accepted → ds ≢ []
+          → IsPut st c.files c.moment ds input.key.now (string_bytes found) F s (Ok u) t → Makes w st c F s (made_of (Ok found)) t
+      put_for s t found u is walk some put =
+          gives (string_bytes found) (plain_here ∙ ap Some (sym is)) (quiet_by Accepted walk accepts_errs) refl (elim put [
             | inl none ↦ inr (none.0, elim (none.1) [ inl fault ↦ inl fault | inr missing ↦ absurd (gathered_all missing) ])
             | inr (includes, found, bytes, written, said, puts) ↦ inl (record {
               k = input.key.now;
@@ -252,7 +252,7 @@ module _ {V S : Type 0} (w : World V) (st : Store S) (c : Call V) (F : Type 0) w
                 keeps = record { text = printed_text; is_text = for.prints; accepted = walk; digested = ds; recorded = are; some = some; includes_are = found };
                 is_text = written;
               };
-              answer = said;
+              from_store = said;
               put = puts;
             })
           ])

@@ -10,23 +10,25 @@ use Rattle.cck_digest.specs.declared.error.FileError.TheVariants as file
 use Rattle.cck_digest.specs.declared.error.UtilError.{UtilError}
 use Rattle.cck_digest.specs.declared.error.UtilError.TheVariants as util
 use Rattle.cck_file_digest.proofs.MaterialLemmas.{no_material_of_error}
-use Rattle.cck_file_digest.specs.FileDigest.{IsFirstError, paths_of, text_and, text_at, texts}
+use Rattle.cck_file_digest.specs.FileDigest.{IsFirstError, paths_of, text_and, digest_text_at, texts}
 use Rattle.cck_file_digest.specs.FolderText.{digest_material}
-use Rattle.cck_file_digest.specs.Refusals.{IsDigestError}
+use Rattle.cck_file_digest.specs.Errors.{IsDigestError}
+use Rattle.cck_files.specs.Calls.{IsError}
 use Rattle.cck_files.specs.FileMap.{FileMap, FileNode, file_at}
+use Rattle.cck_include.proofs.ErrorLemmas.{by_file_error}
 use Rattle.cck_include.specs.Recorded.{recorded}
-use Rattle.cck_include.specs.Refusal.{IsIoError}
+use Rattle.cck_include.specs.Errors.{IsIoError}
+use Rattle.cck_key_error.specs.KeyError.{extra_error}
 use Rattle.cck_key_error.specs.declared.key_error.KeyError.{KeyError}
 use Rattle.cck_key_error.specs.declared.key_error.KeyError.TheVariants as key
 use Rattle.cck_path.specs.Bytes.{Bytes, lists_of}
 use Rattle.cck_path.specs.Path.{Path, components}
 use Rattle.cck_preprocessor_key.specs.PreprocessorKey.{preprocessor_material}
 use Rattle.cck_time.specs.declared.error.Error.{Error}
-use Rattle.cck_time.specs.declared.error.Error.TheVariants as entry
 use Rattle.c_cache_keys.specs.Call.{Call}
 use Rattle.c_cache_keys.specs.Keys.{extra_texts, input_file, input_recorded, is_direct, is_preprocessed, key_material, preprocessor_key_of, request_parts, ok_value, uses_cache}
 use Rattle.c_cache_keys.specs.Opening.{IsInputError, IsKeyOfInput, IsOpening}
-use Rattle.c_cache_keys.specs.Refusals.{extra_error, key_error_of}
+use Rattle.c_cache_keys.specs.Errors.{key_error_of}
 use Rattle.c_cache_keys.specs.Seen.{why_of}
 use Rattle.c_cache_keys.specs.Step.{StopsOpening}
 use Rattle.c_cache_keys.specs.Walk.{input_path}
@@ -53,21 +55,21 @@ paths_as (v ∷ vs) = ap (λ ps. components v.items ∷ ps) (paths_as vs)
 
 -- a path whose error is neither a fault nor lack of memory has no hex digest
 module _ (hash : Bytes → Bytes) (files : FileMap) (F : Type 0) where
-  no_text : (p : Path) → digest_material files p ≡ None → text_at hash files p ≡ None
-  unfolding text_at
+  no_text : (p : Path) → digest_material files p ≡ None → digest_text_at hash files p ≡ None
+  unfolding digest_text_at
   no_text p e = ap (option_map (digest_text hash)) e
 
-  texts_none : (ps : List Path) (i : ℕ) → i < length ps → text_at hash files (slice_index_or ps i []) ≡ None → texts hash files ps ≡ None
+  texts_none : (ps : List Path) (i : ℕ) → i < length ps → digest_text_at hash files (slice_index_or ps i []) ≡ None → texts hash files ps ≡ None
   texts_none [] i h e = absurd (omega (h, arith))
   texts_none (p ∷ ps) zero h e = ap (λ o. text_and o (texts hash files ps)) e
-  texts_none (p ∷ ps) (suc i) h e = ap (text_and (text_at hash files p)) (texts_none ps i (omega (h, arith)) e) ∙ by (text_at hash files p)
+  texts_none (p ∷ ps) (suc i) h e = ap (text_and (digest_text_at hash files p)) (texts_none ps i (omega (h, arith)) e) ∙ by (digest_text_at hash files p)
     where
       by : (o : Option Bytes) → text_and o None ≡ None
       by None = refl
       by (Some t) = refl
 
 module _ {V : Type 0} (w : World V) (c : Call V) (F : Type 0) where
-  stop_extra : (e : UtilError) (p : Path) → (text_at w.hash c.files p ≡ None → extra_texts w c ≡ None) → IsDigestError c.files p F e → StopsOpening w c F (why_of (extra_error e))
+  stop_extra : (e : UtilError) (p : Path) → (digest_text_at w.hash c.files p ≡ None → extra_texts w c ≡ None) → IsDigestError c.files p F e → StopsOpening w c F (why_of (extra_error e))
   stop_extra util.Memory p none h = tt
   stop_extra util.Read p none h = absurd h
   stop_extra (util.File file.NotFound) p none h = none (no_text w.hash c.files F p (no_material_of_error c.files p (util.File file.NotFound) (λ same. cc) h))
@@ -97,19 +99,7 @@ module _ {V : Type 0} (w : World V) (c : Call V) (F : Type 0) where
   key_of_input xs k (Err e) is h = absurd h
 
   pub input_failed : (e : Error) → IsIoError (file_at c.files (components (input_path c))) F e → IsInputError w c F (key_error_of e)
-  input_failed entry.Memory h = tt
-  input_failed (entry.Io (util.File e)) h = h
-  input_failed (entry.Io util.Memory) h = absurd h
-  input_failed (entry.Io util.Read) h = absurd h
-  input_failed (entry.Io util.TooDeep) h = absurd h
-  input_failed (entry.Io util.TooLong) h = absurd h
-  input_failed (entry.Io util.Write) h = absurd h
-  input_failed (entry.Io util.IncompleteEscape) h = absurd h
-  input_failed (entry.Io util.InvalidEscape) h = absurd h
-  input_failed (entry.Io util.IncompleteHex) h = absurd h
-  input_failed (entry.Io util.InvalidHex) h = absurd h
-  input_failed entry.Deserialization h = absurd h
-  input_failed (entry.UnknownFormat byte) h = absurd h
+  input_failed e h = by_file_error (IsError (file_at c.files (components (input_path c))) F) (λ e. IsInputError w c F (key_error_of e)) e h tt (λ x at. at)
 
   no_input : (e : FileError) → file_at c.files (components (input_path c)) ≡ Err e → input_file w c ≡ None
   unfolding input_file

@@ -9,7 +9,7 @@ use Rattle.cck_files.proofs.CallsLemmas.{keeps_itself}
 use Rattle.cck_key_error.specs.declared.key_error.KeyError.{KeyError}
 use Rattle.cck_store.specs.Store.{Store}
 use Rattle.c_cache_keys.specs.Calls.{AreReturned, IsAfter, IsReturned, done_all}
-use Rattle.c_cache_keys.specs.Seen.{answer_of}
+use Rattle.c_cache_keys.specs.Seen.{result_of}
 use Rattle.c_cache_keys.specs.Step.{Run}
 use Rattle.c_cache_keys.specs.World.{World}
 use Rattle.c_cache_keys.specs.declared.call.HashResult.{HashResult}
@@ -36,7 +36,7 @@ module _ {I F V : Type 0} (value : I → V) (file_map : F → FileMap) (faults :
 
     -- calls that were made are a run
     pub run_returned : (olds news : List (Call I F)) (rs : List (Result HashResult KeyError)) (s t : S)
-        → AreReturned value file_map faults w st s olds news rs t → Run w st s (done_all value file_map faults olds news) (map answer_of rs) t
+        → AreReturned value file_map faults w st s olds news rs t → Run w st s (done_all value file_map faults olds news) (map result_of rs) t
     run_returned [] [] [] s t made = made
     run_returned [] [] (r ∷ rs) s t made = absurd made
     run_returned [] (n ∷ news) rs s t made = absurd made
@@ -53,7 +53,7 @@ module _ {I F V : Type 0} (value : I → V) (file_map : F → FileMap) (faults :
         rw (all, now) at made
 
     pub all_run : (i : ℕ) (olds news : List (Call I F)) (rs : List (Result HashResult KeyError)) (s t : S) → length olds ≤ i → length news ≡ length olds
-        → AreReturned value file_map faults w st s (take i olds) (take i news) rs t → Run w st s (done_all value file_map faults olds news) (map answer_of rs) t
+        → AreReturned value file_map faults w st s (take i olds) (take i news) rs t → Run w st s (done_all value file_map faults olds news) (map result_of rs) t
     all_run i olds news rs s t past long made = run_returned olds news rs s t (all_returned i olds news rs s t past long made)
 
 -- the calls that are left are unchanged

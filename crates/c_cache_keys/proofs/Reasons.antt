@@ -7,11 +7,12 @@ use Rattle.cck_digest.specs.declared.error.FileError.TheVariants as file
 use Rattle.cck_digest.specs.declared.error.UtilError.{UtilError}
 use Rattle.cck_digest.specs.declared.error.UtilError.TheVariants as util
 use Rattle.cck_file_digest.specs.FileDigest.{IsFirstError}
-use Rattle.cck_file_digest.specs.Refusals.{IsDigestError, IsFileErrorAt}
+use Rattle.cck_file_digest.specs.Errors.{IsDigestError, IsFileErrorAt}
 use Rattle.cck_files.proofs.FileLemmas.{found_without_contents}
 use Rattle.cck_files.proofs.CallsLemmas.{error_by}
 use Rattle.cck_files.specs.Calls.{IsErrorOrMemory}
 use Rattle.cck_files.specs.FileMap.{FileMap, contents_at, file_at}
+use Rattle.cck_key_error.specs.KeyError.{extra_error}
 use Rattle.cck_key_error.specs.declared.key_error.KeyError.{KeyError}
 use Rattle.cck_key_error.specs.declared.key_error.KeyError.TheVariants as key
 use Rattle.cck_key_error.specs.declared.preprocess_error.PreprocessError.{PreprocessError}
@@ -21,7 +22,7 @@ use Rattle.cck_path.specs.Path.{Path, components}
 use Rattle.c_cache_keys.specs.Call.{Call}
 use Rattle.c_cache_keys.specs.Opening.{IsInputError}
 use Rattle.c_cache_keys.specs.Reasons.{IsFileReason}
-use Rattle.c_cache_keys.specs.Refusals.{extra_error, input_error, text_error}
+use Rattle.c_cache_keys.specs.Errors.{input_error, text_error}
 use Rattle.c_cache_keys.specs.Walk.{input_path}
 use Rattle.c_cache_keys.specs.World.{World}
 

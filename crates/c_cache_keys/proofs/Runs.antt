@@ -12,7 +12,7 @@ use Rattle.cck_store.specs.declared.store.StoreError.TheVariants as store
 use Rattle.c_cache_keys.proofs.Elements.{first_in}
 use Rattle.c_cache_keys.proofs.HitPlain.{hit_plain}
 use Rattle.c_cache_keys.proofs.Stored.{run_returns_stored}
-use Rattle.c_cache_keys.specs.Call.{Answer, Call, Damaged, Done, Fault, Keyed, Refused, calls_of}
+use Rattle.c_cache_keys.specs.Call.{CallResult, Call, Damaged, Done, Fault, Keyed, ReturnsError, calls_of}
 use Rattle.c_cache_keys.specs.Keys.{plain_key}
 use Rattle.c_cache_keys.specs.Laws.{FreshIsPlain, Headline, HitIsPlain, IsTransparent, KeepsOldOrOwn, NothingDamaged, Runs, RunsHeadline, RunsJoin, StaysSound, joined_lists}
 use Rattle.c_cache_keys.specs.Premises.{IsBefore, Premises}
@@ -20,60 +20,60 @@ use Rattle.c_cache_keys.specs.Step.{Asked, Asks, Ends, Failed, Gives, Hit, IsEmp
 use Rattle.c_cache_keys.specs.World.{HasSize, World}
 
 module _ {V S : Type 0} (w : World V) (st : Store S) where
-  pub run_joined : (s mid t : S) (first second : List (Done V)) (before after : List Answer) → Run w st s first before mid → Run w st mid second after t → Run w st s (first ++ second) (before ++ after) t
+  pub run_joined : (s mid t : S) (first second : List (Done V)) (before after : List CallResult) → Run w st s first before mid → Run w st mid second after t → Run w st s (first ++ second) (before ++ after) t
   run_joined s mid t [] second [] after p q = subst (λ v. Run w st v second after t) p q
   run_joined s mid t [] second (r ∷ before) after p q = absurd p
   run_joined s mid t (c ∷ first) second [] after p q = absurd p
   run_joined s mid t (c ∷ first) second (r ∷ before) after p q = (p.0, p.1, run_joined p.0 mid t first second before after p.2 q)
 
-  pub run_parted : (s t : S) (first second : List (Done V)) (answers : List Answer) → Run w st s (first ++ second) answers t
-      → (mid : S) × (before : List Answer) × (after : List Answer) × (answers ≡ before ++ after) × Run w st s first before mid × Run w st mid second after t
-  run_parted s t [] second answers p = (s, [], answers, refl, refl, p)
+  pub run_parted : (s t : S) (first second : List (Done V)) (call_results : List CallResult) → Run w st s (first ++ second) call_results t
+      → (mid : S) × (before : List CallResult) × (after : List CallResult) × (call_results ≡ before ++ after) × Run w st s first before mid × Run w st mid second after t
+  run_parted s t [] second call_results p = (s, [], call_results, refl, refl, p)
   run_parted s t (c ∷ first) second [] p = absurd p
-  run_parted s t (c ∷ first) second (r ∷ answers) p =
-      let (mid, before, after, is, front, back) = run_parted p.0 t first second answers p.2 in
+  run_parted s t (c ∷ first) second (r ∷ call_results) p =
+      let (mid, before, after, is, front, back) = run_parted p.0 t first second call_results p.2 in
       (mid, r ∷ before, after, ap (λ rs. r ∷ rs) is, (p.0, p.1, front), back)
 
   pub runs_join : RunsJoin w st
-  runs_join s t first second answers = (
-    run_parted s t first second answers,
+  runs_join s t first second call_results = (
+    run_parted s t first second call_results,
     λ parts. let (mid, before, after, is, front, back) = parts in subst (λ rs. Run w st s (first ++ second) rs t) (sym is) (run_joined s mid t first second before after front back),
   )
 
 module _ {V S : Type 0} (w : World V) (st : Store S) (size : HasSize w.hash) (laws : StoreLaws st) where
   -- what is held after a step was held before it, or is the own pair of a call that returned a computed key
-  abbrev pub IsKept : Call V → Answer → S → S → Type 0
+  abbrev pub IsKept : Call V → CallResult → S → S → Type 0
   IsKept c r s t = (k b : Bytes) → st.held t k b → st.held s k b ⊎ ((key : Bytes) × (r ≡ Keyed key true) × OwnPair w c key k b)
 
-  same_kept : (c : Call V) (r : Answer) (s t : S) → t ≡ s → IsKept c r s t
+  same_kept : (c : Call V) (r : CallResult) (s t : S) → t ≡ s → IsKept c r s t
   same_kept c r s t is k b h = inl (subst (λ v. st.held v k b) is h)
 
-  puts_kept : (c : Call V) (key : Bytes) (r : Answer) (s t : S) → r ≡ Keyed key true → Puts w st c key s t → IsKept c r s t
+  puts_kept : (c : Call V) (key : Bytes) (r : CallResult) (s t : S) → r ≡ Keyed key true → Puts w st c key s t → IsKept c r s t
   puts_kept c key r s t fresh p k b h =
-      elim (laws.put_old s t p.k p.bytes p.answer p.put k b h) [
+      elim (laws.put_old s t p.k p.bytes p.from_store p.put k b h) [
         | inl old ↦ inl old
         | inr is ↦ inr (key, fresh, subst (λ v. OwnPair w c key v b) (sym is.0) (subst (λ v. OwnPair w c key p.k v) (sym is.1) p.own))
       ]
 
-  makes_kept : (c : Call V) (F : Type 0) (s t : S) (r : Answer) → Makes w st c F s r t → IsKept c r s t
+  makes_kept : (c : Call V) (F : Type 0) (s t : S) (r : CallResult) → Makes w st c F s r t → IsKept c r s t
   makes_kept c F s t r (stops why cause is same) = same_kept c r s t same
   makes_kept c F s t r (gives key is-plain calm is stores) = elim stores [ inl puts ↦ puts_kept c key r s t is puts | inr not ↦ same_kept c r s t not.0 ]
 
-  ends_kept : (c : Call V) (F : Type 0) (o : Asked) (s t : S) (r : Answer) → Ends w st c F o s r t → IsKept c r s t
+  ends_kept : (c : Call V) (F : Type 0) (o : Asked) (s t : S) (r : CallResult) → Ends w st c F o s r t → IsKept c r s t
   ends_kept c F (Hit key) s t r e = same_kept c r s t e.1
   ends_kept c F (Failed why) s t r e = same_kept c r s t e.1
   ends_kept c F Miss s t r e = makes_kept c F s t r e
 
-  pub step_kept : (c : Call V) (F : Type 0) (s t : S) (r : Answer) → Step w st c F s r t → IsKept c r s t
+  pub step_kept : (c : Call V) (F : Type 0) (s t : S) (r : CallResult) → Step w st c F s r t → IsKept c r s t
   step_kept c F s t r (stopped why cause is same) = same_kept c r s t same
   step_kept c F s t r (made opened not makes) = makes_kept c F s t r makes
   step_kept c F s t r (asked opened k is-k control o mid asks ends) =
       λ q b h. elim (ends_kept c F o mid t r ends q b h) [
-        | inl old ↦ inl (laws.got_old s mid k asks.answer asks.got q b old)
+        | inl old ↦ inl (laws.got_old s mid k asks.from_store asks.got q b old)
         | inr own ↦ inr own
       ]
 
-  first_any : (earlier : List (Call V)) (c : Call V) (F : Type 0) (s t : S) (r : Answer) → Sound w st s earlier → Step w st c F s r t → Sound w st t (earlier ++ c ∷ [])
+  first_any : (earlier : List (Call V)) (c : Call V) (F : Type 0) (s t : S) (r : CallResult) → Sound w st s earlier → Step w st c F s r t → Sound w st t (earlier ++ c ∷ [])
   first_any earlier c F s t r sound step k b h =
       elim (step_kept c F s t r step k b h) [
         | inl old ↦ (let (c', at, key, own) = sound k b old in (c', Contains-append_left earlier (c ∷ []) c' at, key, own))
@@ -105,7 +105,7 @@ module _ {V S : Type 0} (w : World V) (st : Store S) (size : HasSize w.hash) (la
   Known c s k key = (b : Bytes) × st.held s k b × (e : Entry) × EntryText e b × (list : List Include) × Contains (entries e) (key, list) × (list_all (matching w c) list ≡ true)
 
   hit_known : (c : Call V) (F : Type 0) (k key : Bytes) (s mid : S) → Asks w st c F k s (Hit key) mid → Known c s k key
-  hit_known c F k key s mid asks = go asks.answer asks.got asks.gives
+  hit_known c F k key s mid asks = go asks.from_store asks.got asks.gives
     where
       go : (a : Returned) → st.got s k a mid → Gives w c F a (Hit key) → Known c s k key
       go (Err store.Fault) got given = cc
@@ -135,11 +135,11 @@ module _ {V S : Type 0} (w : World V) (st : Store S) (size : HasSize w.hash) (la
   pub hit_is_plain : HitIsPlain w st
   hit_is_plain earlier later d s t key premises sound step = second_any earlier later d.call (Fault d) s t key premises sound step
 
-  not_made : (c : Call V) (F : Type 0) (s t : S) → Makes w st c F s (Refused Damaged) t → ⊥
+  not_made : (c : Call V) (F : Type 0) (s t : S) → Makes w st c F s (ReturnsError Damaged) t → ⊥
   not_made c F s t (stops why cause is same) = let e : why ≡ Damaged = cc in subst (StopsMaking w c F) e cause
   not_made c F s t (gives key is-plain calm is stores) = cc
 
-  entry_any : (earlier : List (Call V)) (c : Call V) (F : Type 0) (s t : S) → Sound w st s earlier → Step w st c F s (Refused Damaged) t → ⊥
+  entry_any : (earlier : List (Call V)) (c : Call V) (F : Type 0) (s t : S) → Sound w st s earlier → Step w st c F s (ReturnsError Damaged) t → ⊥
   entry_any earlier c F s t sound (stopped why cause is same) = let e : why ≡ Damaged = cc in subst (StopsOpening w c F) e cause
   entry_any earlier c F s t sound (made opened not makes) = not_made c F s t makes
   entry_any earlier c F s t sound (asked opened k is-k control o mid asks ends) = go o asks ends
@@ -150,45 +150,45 @@ module _ {V S : Type 0} (w : World V) (st : Store S) (size : HasSize w.hash) (la
       at_bytes (Ok None) got given = cc
       at_bytes (Ok (Some b)) got given = let (c', at, key, own) = sound k b (laws.got_some s mid k b got) in given.1 _ own.is_text
 
-      go : (o : Asked) → Asks w st c F k s o mid → Ends w st c F o mid (Refused Damaged) t → ⊥
+      go : (o : Asked) → Asks w st c F k s o mid → Ends w st c F o mid (ReturnsError Damaged) t → ⊥
       go (Hit key) asks ends = let is = ends.0 in cc
-      go (Failed why) asks ends = let is = ends.0 in let e : why ≡ Damaged = cc in (let moved = subst (λ v. Asks w st c F k s (Failed v) mid) e asks in at_bytes moved.answer moved.got moved.gives)
+      go (Failed why) asks ends = let is = ends.0 in let e : why ≡ Damaged = cc in (let moved = subst (λ v. Asks w st c F k s (Failed v) mid) e asks in at_bytes moved.from_store moved.got moved.gives)
       go Miss asks ends = not_made c F mid t ends
 
   pub nothing_damaged : NothingDamaged w st
   nothing_damaged earlier d s t sound step = entry_any earlier d.call (Fault d) s t sound step
 
   -- one step of a run on a sound store
-  step_transparent : (earlier later : List (Call V)) (d : Done V) (s t : S) (r : Answer) → Premises w (earlier ++ d.call ∷ later) → Sound w st s earlier → Step w st d.call (Fault d) s r t → IsTransparent w d.call r
+  step_transparent : (earlier later : List (Call V)) (d : Done V) (s t : S) (r : CallResult) → Premises w (earlier ++ d.call ∷ later) → Sound w st s earlier → Step w st d.call (Fault d) s r t → IsTransparent w d.call r
   step_transparent earlier later d s t (Keyed key true) premises sound step = fresh_is_plain d s t key step
   step_transparent earlier later d s t (Keyed key false) premises sound step = hit_is_plain earlier later d s t key premises sound step
-  step_transparent earlier later d s t (Refused why) premises sound step = λ is. nothing_damaged earlier d s t sound (subst (λ v. Step w st d.call (Fault d) s (Refused v) t) is step)
+  step_transparent earlier later d s t (ReturnsError why) premises sound step = λ is. nothing_damaged earlier d s t sound (subst (λ v. Step w st d.call (Fault d) s (ReturnsError v) t) is step)
 
-  from_sound : (done : List (Done V)) (earlier : List (Call V)) (answers : List Answer) (s t : S) → Sound w st s earlier → Run w st s done answers t → Premises w (earlier ++ calls_of done)
-      → AllZip (IsTransparent w) (calls_of done) answers
+  from_sound : (done : List (Done V)) (earlier : List (Call V)) (call_results : List CallResult) (s t : S) → Sound w st s earlier → Run w st s done call_results t → Premises w (earlier ++ calls_of done)
+      → AllZip (IsTransparent w) (calls_of done) call_results
   from_sound [] earlier [] s t sound run premises = tt
-  from_sound [] earlier (r ∷ answers) s t sound run premises = absurd run
+  from_sound [] earlier (r ∷ call_results) s t sound run premises = absurd run
   from_sound (d ∷ done) earlier [] s t sound run premises = absurd run
-  from_sound (d ∷ done) earlier (r ∷ answers) s t sound run premises = (
+  from_sound (d ∷ done) earlier (r ∷ call_results) s t sound run premises = (
     step_transparent earlier (calls_of done) d s run.0 r premises sound run.1,
-    from_sound done (earlier ++ d.call ∷ []) answers run.0 t (stays_sound earlier d s run.0 r sound run.1) run.2 (subst (Premises w) (sym (append_assoc earlier (d.call ∷ []) (calls_of done))) premises),
+    from_sound done (earlier ++ d.call ∷ []) call_results run.0 t (stays_sound earlier d s run.0 r sound run.1) run.2 (subst (Premises w) (sym (append_assoc earlier (d.call ∷ []) (calls_of done))) premises),
   )
 
-  pub transparent : (s t : S) (done : List (Done V)) (answers : List Answer) → IsEmpty w st s → Run w st s done answers t → Premises w (calls_of done) → AllZip (IsTransparent w) (calls_of done) answers
-  transparent s t done answers none run premises = from_sound done [] answers s t (λ k b h. absurd (none k b h)) run premises
+  pub transparent : (s t : S) (done : List (Done V)) (call_results : List CallResult) → IsEmpty w st s → Run w st s done call_results t → Premises w (calls_of done) → AllZip (IsTransparent w) (calls_of done) call_results
+  transparent s t done call_results none run premises = from_sound done [] call_results s t (λ k b h. absurd (none k b h)) run premises
 
   pub headline : Headline w st
-  headline s t done answers run = (λ none premises. transparent s t done answers none run premises, run_returns_stored w st s t done answers run)
+  headline s t done call_results run = (λ none premises. transparent s t done call_results none run premises, run_returns_stored w st s t done call_results run)
 
   pub keeps_old_or_own : KeepsOldOrOwn w st
   keeps_old_or_own d s t r step = step_kept d.call (Fault d) s t r step
 
   -- runs in order are one run over all their calls
-  joined_run : (s t : S) (runs : List (List (Done V))) (answers : List (List Answer)) → Runs w st s runs answers t → Run w st s (joined_lists runs) (joined_lists answers) t
+  joined_run : (s t : S) (runs : List (List (Done V))) (call_results : List (List CallResult)) → Runs w st s runs call_results t → Run w st s (joined_lists runs) (joined_lists call_results) t
   joined_run s t [] [] p = p
-  joined_run s t [] (a ∷ answers) p = absurd p
+  joined_run s t [] (a ∷ call_results) p = absurd p
   joined_run s t (r ∷ runs) [] p = absurd p
-  joined_run s t (r ∷ runs) (a ∷ answers) p = run_joined w st s p.0 t r (joined_lists runs) a (joined_lists answers) p.1 (joined_run p.0 t runs answers p.2)
+  joined_run s t (r ∷ runs) (a ∷ call_results) p = run_joined w st s p.0 t r (joined_lists runs) a (joined_lists call_results) p.1 (joined_run p.0 t runs call_results p.2)
 
   pub runs_headline : RunsHeadline w st
-  runs_headline s t runs answers p = headline s t (joined_lists runs) (joined_lists answers) (joined_run s t runs answers p)
+  runs_headline s t runs call_results p = headline s t (joined_lists runs) (joined_lists call_results) (joined_run s t runs call_results p)

@@ -9,7 +9,7 @@ use Rattle.cck_key_error.specs.declared.key_error.KeyError.{KeyError}
 use Rattle.cck_store.specs.Store.{Store}
 use Rattle.c_cache_keys.proofs.Widen.{wide_asks, wide_makes}
 use Rattle.c_cache_keys.specs.Asking.{IsFound, IsFoundBy, asked_of}
-use Rattle.c_cache_keys.specs.Call.{Answer, Call, Keyed, Refused, Why, Memory}
+use Rattle.c_cache_keys.specs.Call.{CallResult, Call, Keyed, ReturnsError, Why, Memory}
 use Rattle.c_cache_keys.specs.Opening.{IsOpening}
 use Rattle.c_cache_keys.specs.Seen.{why_of}
 use Rattle.c_cache_keys.specs.Step.{Asked, Failed, Hit, Makes, Miss, Step, StopsOpening, asked, made, matching, stopped}
@@ -24,11 +24,11 @@ failed_miss e = cc
 
 module _ {V S : Type 0} (w : World V) (st : Store S) (c : Call V) (F : Type 0) where
   -- the call returns an error before the store is asked
-  pub step_stopped : (s : S) (e : KeyError) → StopsOpening w c F (why_of e) → Step w st c F s (Refused (why_of e)) s
+  pub step_stopped : (s : S) (e : KeyError) → StopsOpening w c F (why_of e) → Step w st c F s (ReturnsError (why_of e)) s
   step_stopped s e h = stopped (why_of e) h refl refl
 
   -- memory runs out before that
-  pub step_starved : (s : S) → Step w st c F s (Refused Memory) s
+  pub step_starved : (s : S) → Step w st c F s (ReturnsError Memory) s
   step_starved s = stopped Memory tt refl refl
 
 module _ {V S : Type 0} (w : World V) (st : Store S) (c : Call V) (o : Opening) (opens : IsOpening w c o) where
@@ -53,17 +53,17 @@ module _ {V S : Type 0} (w : World V) (st : Store S) (c : Call V) (o : Opening) 
 
     -- asking the store fails
     pub step_failed : (e : KeyError) → IsFoundBy st (option_map string_bytes o.key) c.control (matching w c) (Rose second last) s (asked_of (Err e)) t
-        → Step w st c (Rose first last) s (Refused (why_of e)) t
+        → Step w st c (Rose first last) s (ReturnsError (why_of e)) t
     step_failed e h = by (found_under (Rose second last) s t (Failed (why_of e)) h)
       where
-        by : IsFound w st c (Rose second last) s (Failed (why_of e)) t → Step w st c (Rose first last) s (Refused (why_of e)) t
+        by : IsFound w st c (Rose second last) s (Failed (why_of e)) t → Step w st c (Rose first last) s (ReturnsError (why_of e)) t
         by (inl not) = absurd (failed_miss not.1)
         by (inr (k, is-k, control, asks)) =
             asked opens.opened k is-k control (Failed (why_of e)) t (wide_asks w c (Rose second last) (Rose first last) (rose_earlier first second last up) st k s (Failed (why_of e)) t asks) (refl, refl)
 
     -- the key is computed
     pub step_made : (third : ℕ) → second ≤ third → third ≤ last → (mid : S) (found : Option (String Global)) → found ≡ None
-        → IsFoundBy st (option_map string_bytes o.key) c.control (matching w c) (Rose second third) s (asked_of (Ok found)) mid → (r : Answer) → Makes w st c (Rose third last) mid r t
+        → IsFoundBy st (option_map string_bytes o.key) c.control (matching w c) (Rose second third) s (asked_of (Ok found)) mid → (r : CallResult) → Makes w st c (Rose third last) mid r t
         → Step w st c (Rose first last) s r t
     step_made third more rest mid found is h r makes =
         by (found_as (Rose second third) s mid found None is h) (wide_makes w c (Rose third last) (Rose first last) (rose_earlier first third last (omega (up, more, arith))) st mid r t makes)

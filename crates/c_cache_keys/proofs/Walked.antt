@@ -21,7 +21,7 @@ use Rattle.cck_walk.specs.Decided as decision
 use Rattle.cck_walk.specs.Digests.{digest_pair, written}
 use Rattle.cck_walk.specs.Walk.{IsWalk}
 use Rattle.cck_walk.specs.declared.walk.Walk as walk
-use Rattle.cck_walk.specs.declared.walk.Walk.TheVariants as answer
+use Rattle.cck_walk.specs.declared.walk.Walk.TheVariants as verdicts
 use Rattle.c_cache_keys.proofs.Decisions.{AreGathered, IsMeant, gathers, none_regular, one_decision, claim}
 use Rattle.c_cache_keys.proofs.Includes.{components-meant}
 use Rattle.c_cache_keys.proofs.PathEntries.{entry_of, made_from, made_in_order, made_of, of_entry}
@@ -119,10 +119,10 @@ module _ {V : Type 0} (w : World V) (c : Call V) (text : Bytes) where
 
   -- the result of a walk
   pub walked : (F : Type 0) (r : Result walk.Walk KeyError) → IsWalk (walk_context w c) F text r → IsWalked w c text F r
-  walked F (Ok (answer.Accepted files)) (digests, decides, is) =
+  walked F (Ok (verdicts.Accepted files)) (digests, decides, is) =
       (verdict_is_walked (Accepts digests) decides, subst (AreRecorded w c text) (sym (returned_on files.items (entries digests) is)) (all_recorded digests decides))
-  walked F (Ok answer.Refused) (inl decides) = inl (verdict_is_walked IsRefused decides)
-  walked F (Ok answer.Refused) (inr fault) = inr fault.0
+  walked F (Ok verdicts.Refused) (inl decides) = inl (verdict_is_walked IsRefused decides)
+  walked F (Ok verdicts.Refused) (inr fault) = inr fault.0
   walked F (Err error.Marker) decides = verdict_is_walked Errs decides
   walked F (Err error.Memory) h = tt
   walked F (Err (error.Extra e)) h = absurd h

@@ -7,7 +7,7 @@ use Rattle.cck_entry.specs.Results.{KeyResult}
 use Rattle.cck_include.specs.Include.{Include}
 use Rattle.cck_store.specs.Store.{Returned, Store}
 use Rattle.cck_store.specs.declared.store.StoreError.TheVariants as store
-use Rattle.c_cache_keys.specs.Call.{Answer, Call, Why, Memory, Extra, ExtraFault, Input, InputFault, Store as StoreFails, Damaged, NoText, TextFault, Marker}
+use Rattle.c_cache_keys.specs.Call.{CallResult, Call, Why, Memory, Extra, ExtraFault, Input, InputFault, Store as StoreFails, Damaged, NoText, TextFault, Marker}
 use Rattle.c_cache_keys.specs.Step.{matching, Asked, Asks, Failed, Gives, Hit, Makes, Miss, ReadsAs, StopsMaking, StopsOpening, gives, stops}
 use Rattle.c_cache_keys.specs.World.{World}
 
@@ -61,9 +61,9 @@ module _ {V : Type 0} (w : World V) (c : Call V) (F G : Type 0) (more : F → G)
   wide_gives (Ok (Some bytes)) o h = wide_reads bytes o h
 
   pub wide_asks : {S : Type 0} (st : Store S) (k : Bytes) (s : S) (o : Asked) (t : S) → Asks w st c F k s o t → Asks w st c G k s o t
-  wide_asks st k s o t a = record { answer = a.answer; got = a.got; gives = wide_gives a.answer o a.gives }
+  wide_asks st k s o t a = record { from_store = a.from_store; got = a.got; gives = wide_gives a.from_store o a.gives }
 
-  pub wide_makes : {S : Type 0} (st : Store S) (s : S) (r : Answer) (t : S) → Makes w st c F s r t → Makes w st c G s r t
+  pub wide_makes : {S : Type 0} (st : Store S) (s : S) (r : CallResult) (t : S) → Makes w st c F s r t → Makes w st c G s r t
   wide_makes st s r t (stops why cause is same) = stops why (wide_making why cause) is same
   wide_makes st s r t (gives key is-plain quiet is stores) =
       gives key is-plain (λ text k printed erred. more (quiet text k printed erred)) is

@@ -242,7 +242,7 @@ witness_size fed = refl
 abbrev witness_digested : Digested
 witness_digested = (digest_text witness_hash header_text, codes "/w/h.h")
 
-abbrev witness_include : Include
+abbrev pub witness_include : Include
 witness_include = include_of (second 5) witness_digested (metadata_of included_node)
 
 include_path : components (codes "/w/h.h") ≡ included_in_w
@@ -288,16 +288,16 @@ own_includes = record {
 
 -- ---- the entry
 
-abbrev witness_entry : Entry
+abbrev pub witness_entry : Entry
 witness_entry = added empty witness_object_key (witness_include ∷ [])
 
-abbrev only_result : KeyResult
+abbrev pub only_result : KeyResult
 only_result = (witness_object_key, witness_include ∷ [])
 
-entry_is : entries witness_entry ≡ only_result ∷ []
+pub entry_is : entries witness_entry ≡ only_result ∷ []
 entry_is = entries-added witness_object_key (witness_include ∷ [])
 
-abbrev witness_bytes : Bytes
+abbrev pub witness_bytes : Bytes
 witness_bytes = entry_bytes (only_result ∷ [])
 
 each_ascii : (text : Bytes) → list_all (λ b. nat_lt b 128) text ≡ true → All (λ b. b < 128) text
@@ -322,22 +322,22 @@ fits_include = record {
   changed = fits_second;
 }
 
-answer_size : length (material (key_parts (params witness_world first_call.request [] printed_text))) ≡ 121
+key_size : length (material (key_parts (params witness_world first_call.request [] printed_text))) ≡ 121
 unfolding params stripped text_site longest_prefix material length_bytes
-answer_size = refl
+key_size = refl
 
-answer_text : is_utf8 witness_object_key ≡ true
-answer_text = ap (λ n. is_utf8 (hex_text (sized n))) answer_size ∙ ascii_text (hex_text (sized 121)) refl
+key_is_text : is_utf8 witness_object_key ≡ true
+key_is_text = ap (λ n. is_utf8 (hex_text (sized n))) key_size ∙ ascii_text (hex_text (sized 121)) refl
 
 fits_result : FitsResult only_result
 fits_result = record {
   key = lit< tt;
-  key_text = answer_text;
+  key_text = key_is_text;
   count = lit< tt;
   includes = (fits_include, tt);
 }
 
-entry_text : EntryText witness_entry witness_bytes
+pub entry_text : EntryText witness_entry witness_bytes
 entry_text = record {
   count = subst (λ (rs : List KeyResult). length rs < 2 ^ 64) (sym entry_is) (lit< tt);
   each = subst (AllByRecursion FitsResult) (sym entry_is) (fits_result, tt);
@@ -347,7 +347,7 @@ entry_text = record {
 pub own_pair : OwnPair witness_world first_call witness_object_key witness_key witness_bytes
 own_pair = record { is_key = key_is (codes "a.o"); is_plain = plain_is; includes = witness_include ∷ []; keeps = own_includes; is_text = entry_text }
 
-matched : (object : Bytes) → matching witness_world (witness_call object) witness_include ≡ true
+pub matched : (object : Bytes) → matching witness_world (witness_call object) witness_include ≡ true
 matched object = match_by_digest (setting witness_world first_call) witness_files witness_include included_in_w included_node include_path included_at refl included_digest
 
 -- ---- the steps
@@ -359,7 +359,7 @@ after_calls calls pairs = record empty_state { pairs = pairs; armed = record new
 abbrev pub holds_entry : State
 holds_entry = after_calls 2 ((witness_key, witness_bytes) ∷ [])
 
-abbrev asked_again : State
+abbrev pub asked_again : State
 asked_again = after_calls 3 holds_entry.pairs
 
 opened : (object : Bytes) → Opened witness_world (witness_call object)
@@ -379,23 +379,23 @@ not_erring text is (marks, are, decide) =
 module _ (F : Type 0) where
   pub first_step : Step witness_world map_store first_call F empty_state (Keyed witness_object_key true) holds_entry
   first_step =
-      asked (opened (codes "a.o")) witness_key (key_is (codes "a.o")) refl Miss (after_calls 1 []) (record { answer = Ok None; got = (refl, refl, refl); gives = refl })
+      asked (opened (codes "a.o")) witness_key (key_is (codes "a.o")) refl Miss (after_calls 1 []) (record { from_store = Ok None; got = (refl, refl, refl); gives = refl })
       (gives witness_object_key plain_is (λ text asks is errs. absurd (not_erring text is errs)) refl (inl (record {
         k = witness_key;
         bytes = witness_bytes;
         own = own_pair;
-        answer = Ok tt;
+        from_store = Ok tt;
         put = (refl, refl);
       })))
 
-  found_again : Some witness_bytes ≡ find text_cmp witness_key holds_entry.pairs
+  pub found_again : Some witness_bytes ≡ find text_cmp witness_key holds_entry.pairs
   found_again = sym (ap (λ o. cond (is_eq o) (Some witness_bytes) None) (tied_itself nat_list_cmp_total witness_key))
 
   pub second_step : Step witness_world map_store second_call F holds_entry (Keyed witness_object_key false) asked_again
   second_step =
       let all : list_all (matching witness_world second_call) (witness_include ∷ []) ≡ true = ap (λ b. b && true) (matched (codes "b.o")) in
       asked (opened (codes "b.o")) witness_key (key_is (codes "b.o")) refl (Hit witness_object_key) asked_again (record {
-        answer = Ok (Some witness_bytes);
+        from_store = Ok (Some witness_bytes);
         got = (refl, found_again, refl);
         gives = (
           witness_entry,

@@ -7,7 +7,7 @@ use Rattle.cck_compiler.specs.ExtraFiles.{is_hip}
 use Rattle.cck_compiler.specs.declared.compiler.CompilerArguments.{CompilerArguments}
 use Rattle.cck_compiler.specs.declared.compiler.CompilerArguments.TheVariants as parsed
 use Rattle.cck_digest.specs.Digest.{digest_text}
-use Rattle.cck_file_digest.specs.FileDigest.{text_at}
+use Rattle.cck_file_digest.specs.FileDigest.{digest_text_at}
 use Rattle.cck_files.specs.FileMap.{FileMap}
 use Rattle.cck_path.specs.Bytes.{Bytes}
 use Rattle.cck_path.specs.Path.{Path}
@@ -16,7 +16,7 @@ use Rattle.c_cache_keys.specs.declared.hasher.CCompilerHasher.{CCompilerHasher}
 
 -- the hex digest of an executable: that of the node at its path or, of a compiler with a version, that of this hex digest and the version
 unfoldable pub executable_text : (Bytes → Bytes) → Option Bytes → FileMap → Path → Option Bytes
-executable_text hash version m p = option_map (λ text. option_map_or (λ v. digest_text hash (text ++ v)) version text) (text_at hash m p)
+executable_text hash version m p = option_map (λ text. option_map_or (λ v. digest_text hash (text ++ v)) version text) (digest_text_at hash m p)
 
 -- the result of parsing a command line, as a value of the definitions
 abbrev pub found_of : {I : Type 0} → CompilerArguments (CCompilerHasher I) → Parsed

@@ -55,6 +55,6 @@ pub data Why : Type 0 where
   Marker : Why
 
 -- the result of a call: a key and whether it was computed, or an error
-pub data Answer : Type 0 where
-  Keyed : Bytes → Bool → Answer
-  Refused : Why → Answer
+pub data CallResult : Type 0 where
+  Keyed : Bytes → Bool → CallResult
+  ReturnsError : Why → CallResult

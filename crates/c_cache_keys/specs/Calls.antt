@@ -9,7 +9,7 @@ use Rattle.c_cache_keys.specs.Call as seen
 use Rattle.c_cache_keys.specs.Conditions.{request_of}
 use Rattle.c_cache_keys.specs.Hasher.{toolchain_key}
 use Rattle.c_cache_keys.specs.Reasons.{IsReason}
-use Rattle.c_cache_keys.specs.Seen.{answer_of}
+use Rattle.c_cache_keys.specs.Seen.{result_of}
 use Rattle.c_cache_keys.specs.Step.{Step}
 use Rattle.c_cache_keys.specs.World.{World}
 use Rattle.c_cache_keys.specs.declared.call.HashResult.{HashResult}
@@ -43,7 +43,7 @@ module _ {I F V : Type 0} (value : I → V) (file_map : F → FileMap) (faults :
   module _ {S : Type 0} (w : World V) (st : Store S) where
     -- This call had this result, from one store to another: it is a step, an error gives its reason, and a result has the toolchain's key.
     pub record IsReturned (s : S) (before after : Call I F) (r : Result HashResult KeyError) (t : S) : Type 0 where
-      pub step : Step w st (call_in before) (seen.Fault (done_in before after.files)) s (answer_of r) t
+      pub step : Step w st (call_in before) (seen.Fault (done_in before after.files)) s (result_of r) t
       pub reason : IfErr r (IsReason w st (call_in before) (seen.Fault (done_in before after.files)) s t)
       pub toolchain : IfOk r (λ found. string_bytes found.weak_toolchain_key ≡ toolchain_key before.hasher.executable.items (string_bytes before.hasher.executable_digest))
 

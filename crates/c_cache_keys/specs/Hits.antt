@@ -8,8 +8,9 @@ use Rattle.cck_include.specs.Include.{Include}
 use Rattle.cck_include.specs.Recorded.{recorded}
 use Rattle.cck_path.specs.Bytes.{Bytes}
 use Rattle.cck_path.specs.Path.{Path}
+use Rattle.cck_store.specs.MapStore.{State, call_begun, map_store}
 use Rattle.cck_store.specs.Store.{HoldsOnly, StoreFailure, Store}
-use Rattle.c_cache_keys.specs.Call.{Answer, Call, Done, Fault, Keyed, Refused, calls_of, Why, Memory, Extra, ExtraFault, Input, InputFault, Store as StoreFails, Damaged, NoText, TextFault, Marker}
+use Rattle.c_cache_keys.specs.Call.{CallResult, Call, Done, Fault, Keyed, ReturnsError, calls_of, Why, Memory, Extra, ExtraFault, Input, InputFault, Store as StoreFails, Damaged, NoText, TextFault, Marker}
 use Rattle.c_cache_keys.specs.Keys.{extra_texts, input_file, is_preprocessed, preprocessor_key_of, printed, uses_cache}
 use Rattle.c_cache_keys.specs.Laws.{CanHit}
 use Rattle.c_cache_keys.specs.Step.{AreOwnIncludes, Run, Step, found}
@@ -23,8 +24,16 @@ SameRecords w c d text =
     → (o : FileNode) × (file_at d.files p ≡ Ok o) × (length o.contents ≡ length n.contents) × (recorded (setting w d) o ≡ recorded (setting w c) n)
 
 -- the call doesn't return a computed key with this preprocessor key
-abbrev pub IsUnrelated : {V : Type 0} → World V → Bytes → Call V → Answer → Type 0
+abbrev pub IsUnrelated : {V : Type 0} → World V → Bytes → Call V → CallResult → Type 0
 IsUnrelated w k c r = (key : Bytes) → r ≡ Keyed key true → preprocessor_key_of w c ≢ Some k
+
+module _ {V : Type 0} (w : World V) where
+  -- On a store in memory a call that can hit returns the held key that matches, if there is no store failure. The call leaves the store as
+  -- its one get leaves it.
+  abbrev pub MapStoreReturnsStored : Type 0
+  MapStoreReturnsStored =
+      (d : Done V) (s t : State) (r : CallResult) (k bytes key : Bytes) (e : Entry) → CanHit w d k r → (StoreFailure map_store s t → ⊥) → map_store.held s k bytes → EntryText e bytes
+      → found w d.call e ≡ Some key → Step w map_store d.call (Fault d) s r t → (r ≡ Keyed key false) × (t ≡ call_begun s)
 
 module _ {V S : Type 0} (w : World V) (st : Store S) where
   -- After a miss the store holds that one result under the call's key, and nothing else there. The conditions are that something can be
@@ -39,7 +48,7 @@ module _ {V S : Type 0} (w : World V) (st : Store S) where
   -- failure, the call returns such a key.
   abbrev pub HeldKeyIsReturned : Type 0
   HeldKeyIsReturned =
-      (d : Done V) (s t : S) (r : Answer) (k bytes : Bytes) → CanHit w d k r → (StoreFailure st s t → ⊥) → st.held s k bytes
+      (d : Done V) (s t : S) (r : CallResult) (k bytes : Bytes) → CanHit w d k r → (StoreFailure st s t → ⊥) → st.held s k bytes
       → ((x : Bytes) → st.held s k x → (e : Entry) × EntryText e x × (key : Bytes) × (found w d.call e ≡ Some key))
       → Step w st d.call (Fault d) s r t
       → (key : Bytes) × (x : Bytes) × (e : Entry) × st.held s k x × EntryText e x × (found w d.call e ≡ Some key) × (r ≡ Keyed key false)
@@ -49,9 +58,9 @@ module _ {V S : Type 0} (w : World V) (st : Store S) where
   -- must be no fault in the first call and no store failure.
   abbrev pub StoredIsHit : Type 0
   StoredIsHit =
-      (c d : Done V) (between : List (Done V)) (answers : List Answer) (s after before t : S) (k key : Bytes) (includes : List Include) (r : Answer)
+      (c d : Done V) (between : List (Done V)) (call_results : List CallResult) (s after before t : S) (k key : Bytes) (includes : List Include) (r : CallResult)
       → preprocessor_key_of w c.call ≡ Some k → (keeps : AreOwnIncludes w c.call includes) → (Fault c → ⊥) → Step w st c.call (Fault c) s (Keyed key true) after
-      → Run w st after between answers before → AllZip (IsUnrelated w k) (calls_of between) answers
+      → Run w st after between call_results before → AllZip (IsUnrelated w k) (calls_of between) call_results
       → CanHit w d k r → SameRecords w c.call d.call keeps.text → Step w st d.call (Fault d) before r t
       → (StoreFailure st s t → ⊥)
       → r ≡ Keyed key false
@@ -71,4 +80,4 @@ module _ {V S : Type 0} (w : World V) (st : Store S) where
 
   -- each error has its cause
   abbrev pub ErrorsHaveCauses : Type 0
-  ErrorsHaveCauses = (d : Done V) (s t : S) (why : Why) → (Fault d → ⊥) → Step w st d.call (Fault d) s (Refused why) t → Cause d.call s t why
+  ErrorsHaveCauses = (d : Done V) (s t : S) (why : Why) → (Fault d → ⊥) → Step w st d.call (Fault d) s (ReturnsError why) t → Cause d.call s t why

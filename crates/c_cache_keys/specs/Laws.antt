@@ -4,24 +4,24 @@ use Rattle.std.specs.List.{AllZip}
 use Rattle.cck_path.specs.Bytes.{Bytes}
 use Rattle.cck_entry.specs.Entry.{Entry, EntryText}
 use Rattle.cck_store.specs.Store.{Returned, Store}
-use Rattle.c_cache_keys.specs.Call.{Answer, Call, Damaged, Done, Fault, Keyed, Memory, Refused, calls_of}
+use Rattle.c_cache_keys.specs.Call.{CallResult, Call, Damaged, Done, Fault, Keyed, Memory, ReturnsError, calls_of}
 use Rattle.c_cache_keys.specs.Keys.{plain_key, preprocessor_key_of}
 use Rattle.c_cache_keys.specs.Premises.{Premises}
-use Rattle.c_cache_keys.specs.Step.{IsEmpty, OwnPair, Run, Sound, Step, found}
+use Rattle.c_cache_keys.specs.Step.{Asked, Ends, Gives, IsEmpty, OwnPair, Run, Sound, Step, found}
 use Rattle.c_cache_keys.specs.World.{World}
 use Rattle.c_cache_keys.specs.declared.call.CacheControl.TheVariants.{Default, ForceRecache}
 
 -- a key that is returned is the plain key, and an error isn't caused by what the store returned
-abbrev pub IsTransparent : {V : Type 0} → World V → Call V → Answer → Type 0
+abbrev pub IsTransparent : {V : Type 0} → World V → Call V → CallResult → Type 0
 IsTransparent w c (Keyed key fresh) = plain_key w c ≡ Some key
-IsTransparent w c (Refused why) = why ≢ Damaged
+IsTransparent w c (ReturnsError why) = why ≢ Damaged
 
 -- the call may return a stored key: its control allows it, there is a preprocessor key, and there was no fault and no lack of memory
-pub record CanHit {V : Type 0} (w : World V) (d : Done V) (k : Bytes) (r : Answer) : Type 0 where
+pub record CanHit {V : Type 0} (w : World V) (d : Done V) (k : Bytes) (r : CallResult) : Type 0 where
   pub control : d.call.control ≡ Default
   pub key : preprocessor_key_of w d.call ≡ Some k
   pub no_fault : Fault d → ⊥
-  pub enough_memory : r ≢ Refused Memory
+  pub enough_memory : r ≢ ReturnsError Memory
 
 -- these lists joined, in their order
 abbrev pub joined_lists : {X : Type 0} → List (List X) → List X
@@ -32,8 +32,8 @@ module _ {V S : Type 0} (w : World V) (st : Store S) where
   -- a run over one list and then another is a run over both lists joined, and conversely
   abbrev pub RunsJoin : Type 0
   RunsJoin =
-      (s t : S) (first second : List (Done V)) (answers : List Answer) → Run w st s (first ++ second) answers t
-      ↔ ((mid : S) × (before : List Answer) × (after : List Answer) × (answers ≡ before ++ after) × Run w st s first before mid × Run w st mid second after t)
+      (s t : S) (first second : List (Done V)) (call_results : List CallResult) → Run w st s (first ++ second) call_results t
+      ↔ ((mid : S) × (before : List CallResult) × (after : List CallResult) × (call_results ≡ before ++ after) × Run w st s first before mid × Run w st mid second after t)
 
   -- a computed key is the plain key, whatever the store holds
   abbrev pub FreshIsPlain : Type 0
@@ -41,7 +41,7 @@ module _ {V S : Type 0} (w : World V) (st : Store S) where
 
   -- a call on a sound store leaves a sound one
   abbrev pub StaysSound : Type 0
-  StaysSound = (earlier : List (Call V)) (d : Done V) (s t : S) (r : Answer) → Sound w st s earlier → Step w st d.call (Fault d) s r t → Sound w st t (earlier ++ d.call ∷ [])
+  StaysSound = (earlier : List (Call V)) (d : Done V) (s t : S) (r : CallResult) → Sound w st s earlier → Step w st d.call (Fault d) s r t → Sound w st t (earlier ++ d.call ∷ [])
 
   -- under the premises, a key that is returned from a sound store is the plain key
   abbrev pub HitIsPlain : Type 0
@@ -51,21 +51,23 @@ module _ {V S : Type 0} (w : World V) (st : Store S) where
 
   -- a sound store returns nothing that is no entry
   abbrev pub NothingDamaged : Type 0
-  NothingDamaged = (earlier : List (Call V)) (d : Done V) (s t : S) → Sound w st s earlier → Step w st d.call (Fault d) s (Refused Damaged) t → ⊥
+  NothingDamaged = (earlier : List (Call V)) (d : Done V) (s t : S) → Sound w st s earlier → Step w st d.call (Fault d) s (ReturnsError Damaged) t → ⊥
 
-  -- A call that can hit asks the store once, under its key. If the store returns an entry with a key whose included files are all
-  -- unchanged, the call returns the greatest such key, as a stored one, and puts nothing. So it does whatever a preprocessor would print.
-  abbrev pub ReturnsStored : Done V → S → Answer → S → Type 0
+  -- A call that can hit asks the store once, under its key, and what the store returned determines what the call does next (`Gives`,
+  -- `Ends`): after a fault of the store the call returns that error, after nothing it computes its key. If the store returns an entry with a
+  -- key whose included files are all unchanged, the call returns the greatest such key, as a stored one, and puts nothing. So it does
+  -- whatever a preprocessor would print.
+  abbrev pub ReturnsStored : Done V → S → CallResult → S → Type 0
   ReturnsStored d s r t =
       (k : Bytes) → CanHit w d k r
-      → (returned : Returned) × (mid : S) × st.got s k returned mid
+      → (returned : Returned) × (mid : S) × (o : Asked) × st.got s k returned mid × Gives w d.call (Fault d) returned o × Ends w st d.call (Fault d) o mid r t
       × ((bytes key : Bytes) (e : Entry) → returned ≡ Ok (Some bytes) → EntryText e bytes → found w d.call e ≡ Some key → (r ≡ Keyed key false) × (t ≡ mid))
 
   abbrev pub StoredKeyIsReturned : Type 0
-  StoredKeyIsReturned = (d : Done V) (s t : S) (r : Answer) → Step w st d.call (Fault d) s r t → ReturnsStored d s r t
+  StoredKeyIsReturned = (d : Done V) (s t : S) (r : CallResult) → Step w st d.call (Fault d) s r t → ReturnsStored d s r t
 
   -- a run, each of whose calls does so between the same two states as its step
-  abbrev pub AllReturnStored : S → List (Done V) → List Answer → S → Type 0
+  abbrev pub AllReturnStored : S → List (Done V) → List CallResult → S → Type 0
   AllReturnStored s [] [] t = t ≡ s
   AllReturnStored s (d ∷ ds) (r ∷ rs) t = (mid : S) × Step w st d.call (Fault d) s r mid × ReturnsStored d s r mid × AllReturnStored mid ds rs t
   AllReturnStored s [] (r ∷ rs) t = ⊥
@@ -73,7 +75,7 @@ module _ {V S : Type 0} (w : World V) (st : Store S) where
 
   -- each run is one of these, whatever the store holds at first
   abbrev pub RunReturnsStored : Type 0
-  RunReturnsStored = (s t : S) (done : List (Done V)) (answers : List Answer) → Run w st s done answers t → AllReturnStored s done answers t
+  RunReturnsStored = (s t : S) (done : List (Done V)) (call_results : List CallResult) → Run w st s done call_results t → AllReturnStored s done call_results t
 
   -- The headline. Its first half: every key that a run from an empty store returns, stored or computed, is the plain key of its call. And
   -- no call returns an error because of what the store returned. Its second half: a stored key that matches is returned, whatever a
@@ -83,26 +85,26 @@ module _ {V S : Type 0} (w : World V) (st : Store S) where
   -- store. It needs that the call can hit (`CanHit`).
   abbrev pub Headline : Type 0
   Headline =
-      (s t : S) (done : List (Done V)) (answers : List Answer) → Run w st s done answers t
-      → (IsEmpty w st s → Premises w (calls_of done) → AllZip (IsTransparent w) (calls_of done) answers) × AllReturnStored s done answers t
+      (s t : S) (done : List (Done V)) (call_results : List CallResult) → Run w st s done call_results t
+      → (IsEmpty w st s → Premises w (calls_of done) → AllZip (IsTransparent w) (calls_of done) call_results) × AllReturnStored s done call_results t
 
   -- several runs on one store, each starting where the one before it ended
-  abbrev pub Runs : S → List (List (Done V)) → List (List Answer) → S → Type 0
+  abbrev pub Runs : S → List (List (Done V)) → List (List CallResult) → S → Type 0
   Runs s [] [] t = t ≡ s
-  Runs s (run ∷ runs) (answers ∷ others) t = (mid : S) × Run w st s run answers mid × Runs mid runs others t
-  Runs s [] (answers ∷ others) t = ⊥
+  Runs s (run ∷ runs) (call_results ∷ others) t = (mid : S) × Run w st s run call_results mid × Runs mid runs others t
+  Runs s [] (call_results ∷ others) t = ⊥
   Runs s (run ∷ runs) [] t = ⊥
 
   abbrev pub RunsHeadline : Type 0
   RunsHeadline =
-      (s t : S) (runs : List (List (Done V))) (answers : List (List Answer)) → Runs s runs answers t
-      → (IsEmpty w st s → Premises w (calls_of (joined_lists runs)) → AllZip (IsTransparent w) (calls_of (joined_lists runs)) (joined_lists answers))
-      × AllReturnStored s (joined_lists runs) (joined_lists answers) t
+      (s t : S) (runs : List (List (Done V))) (call_results : List (List CallResult)) → Runs s runs call_results t
+      → (IsEmpty w st s → Premises w (calls_of (joined_lists runs)) → AllZip (IsTransparent w) (calls_of (joined_lists runs)) (joined_lists call_results))
+      × AllReturnStored s (joined_lists runs) (joined_lists call_results) t
 
   -- what is held after a call was held before it, or is the call's own pair, whose key was returned as a computed one
   abbrev pub KeepsOldOrOwn : Type 0
   KeepsOldOrOwn =
-      (d : Done V) (s t : S) (r : Answer) → Step w st d.call (Fault d) s r t → (k bytes : Bytes) → st.held t k bytes
+      (d : Done V) (s t : S) (r : CallResult) → Step w st d.call (Fault d) s r t → (k bytes : Bytes) → st.held t k bytes
       → st.held s k bytes ⊎ ((key : Bytes) × (r ≡ Keyed key true) × OwnPair w d.call key k bytes)
 
   -- a call that may not return a stored key returns none

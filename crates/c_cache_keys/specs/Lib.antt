@@ -12,7 +12,7 @@ pub mod Making
 pub mod Opening
 pub mod Premises
 pub mod Reasons
-pub mod Refusals
+pub mod Errors
 pub mod Seen
 pub mod Step
 pub mod Storing

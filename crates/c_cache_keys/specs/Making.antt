@@ -2,7 +2,7 @@
 use Rattle.std.specs.Prelude.{◌≡◌, true, map, Some, Result, Ok, Err, String, string_bytes}
 use Rattle.std.specs.declared.alloc.Global.{Global}
 use Rattle.cck_key_error.specs.declared.key_error.KeyError.{KeyError}
-use Rattle.c_cache_keys.specs.Call.{Answer, Call, Keyed, Refused}
+use Rattle.c_cache_keys.specs.Call.{CallResult, Call, Keyed, ReturnsError}
 use Rattle.c_cache_keys.specs.Keys.{extra_texts, is_preprocessed, preprocessor_key_of, printed}
 use Rattle.c_cache_keys.specs.Seen.{why_of}
 use Rattle.c_cache_keys.specs.Walk.{input_path}
@@ -10,9 +10,9 @@ use Rattle.c_cache_keys.specs.World.{World}
 use Rattle.c_cache_keys.specs.declared.hasher.making.PreprocessedInput.{PreprocessedInput}
 
 -- the result of computing a key, as a value of the definitions
-abbrev pub made_of : Result (String Global) KeyError → Answer
+abbrev pub made_of : Result (String Global) KeyError → CallResult
 made_of (Ok key) = Keyed (string_bytes key) true
-made_of (Err e) = Refused (why_of e)
+made_of (Err e) = ReturnsError (why_of e)
 
 -- the call's input, which needs a preprocessor, with the call's preprocessor key, the hex digests of its extra files and its printed text
 pub record IsPreprocessed {V : Type 0} (w : World V) (c : Call V) (input : PreprocessedInput) : Type 0 where

@@ -5,7 +5,7 @@ use Rattle.cck_digest.specs.Digest.{digest_text}
 use Rattle.cck_files.specs.FileMap.{FileNode}
 use Rattle.cck_include.specs.Recorded.{recorded}
 use Rattle.cck_key_error.specs.declared.key_error.KeyError.{KeyError}
-use Rattle.cck_key_error.specs.declared.key_error.KeyError.TheVariants as refusal
+use Rattle.cck_key_error.specs.declared.key_error.KeyError.TheVariants as error
 use Rattle.cck_path.specs.Bytes.{Bytes}
 use Rattle.cck_preprocessor_key.specs.PreprocessorKey.{preprocessor_material}
 use Rattle.c_cache_keys.specs.Call.{Call}
@@ -30,6 +30,6 @@ IsKeyOfInput w c extra_hashes key =
 
 -- why there is no such result: the input is no regular file, there was a fault, or memory is lacking
 abbrev pub IsInputError : {V : Type 0} → World V → Call V → Type 0 → KeyError → Type 0
-IsInputError w c HasFault refusal.Memory = Unit {0}
-IsInputError w c HasFault (refusal.Input e) = IsInputReason w c HasFault e
+IsInputError w c HasFault error.Memory = Unit {0}
+IsInputError w c HasFault (error.Input e) = IsInputReason w c HasFault e
 IsInputError w c HasFault _ = ⊥

@@ -7,7 +7,7 @@ use Rattle.cck_file_digest.specs.FileDigest.{IsFirstError}
 use Rattle.cck_files.specs.Calls.{IsError}
 use Rattle.cck_files.specs.FileMap.{file_at}
 use Rattle.cck_key_error.specs.declared.key_error.KeyError.{KeyError}
-use Rattle.cck_key_error.specs.declared.key_error.KeyError.TheVariants as refusal
+use Rattle.cck_key_error.specs.declared.key_error.KeyError.TheVariants as error
 use Rattle.cck_key_error.specs.declared.preprocess_error.PreprocessError.TheVariants as text
 use Rattle.cck_path.specs.Bytes.{Bytes}
 use Rattle.cck_path.specs.Path.{components}
@@ -28,13 +28,13 @@ module _ {V : Type 0} (w : World V) (c : Call V) (F : Type 0) where
 
   -- the reason of an error that is caused by files: for an extra file it is that of the first one without a digest
   abbrev pub IsFileReason : KeyError → Type 0
-  IsFileReason refusal.Memory = Unit {0}
-  IsFileReason (refusal.Extra e) = (e ≢ util.Memory) × IsFirstError w.hash c.files (map components c.request.arguments.extra_hash_files) F e
-  IsFileReason (refusal.Input e) = IsInputReason e
-  IsFileReason refusal.Store = ⊥
-  IsFileReason (refusal.Entry e) = ⊥
-  IsFileReason (refusal.Preprocess e) = e ≢ text.Memory
-  IsFileReason refusal.Marker = Unit {0}
+  IsFileReason error.Memory = Unit {0}
+  IsFileReason (error.Extra e) = (e ≢ util.Memory) × IsFirstError w.hash c.files (map components c.request.arguments.extra_hash_files) F e
+  IsFileReason (error.Input e) = IsInputReason e
+  IsFileReason error.Store = ⊥
+  IsFileReason (error.Entry e) = ⊥
+  IsFileReason (error.Preprocess e) = e ≢ text.Memory
+  IsFileReason error.Marker = Unit {0}
 
 module _ {S : Type 0} (st : Store S) (k : Bytes) (s t : S) where
   -- under this key the store returned bytes that are no entry, for this reason
@@ -46,14 +46,14 @@ module _ {S : Type 0} (st : Store S) (k : Bytes) (s t : S) where
 
   -- the reason of an error that is caused by asking the store under this key
   abbrev pub IsStoreReason : KeyError → Type 0
-  IsStoreReason refusal.Memory = Unit {0}
-  IsStoreReason refusal.Store = Unit {0}
-  IsStoreReason (refusal.Entry e) = IsNoEntry e
+  IsStoreReason error.Memory = Unit {0}
+  IsStoreReason error.Store = Unit {0}
+  IsStoreReason (error.Entry e) = IsNoEntry e
   IsStoreReason _ = ⊥
 
 module _ {V S : Type 0} (w : World V) (st : Store S) (c : Call V) (F : Type 0) (s t : S) where
   -- the reason of any error
   abbrev pub IsReason : KeyError → Type 0
-  IsReason refusal.Store = Unit {0}
-  IsReason (refusal.Entry e) = (k : Bytes) × (preprocessor_key_of w c ≡ Some k) × IsNoEntry st k s t e
+  IsReason error.Store = Unit {0}
+  IsReason (error.Entry e) = (k : Bytes) × (preprocessor_key_of w c ≡ Some k) × IsNoEntry st k s t e
   IsReason other = IsFileReason w c F other

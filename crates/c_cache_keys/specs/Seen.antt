@@ -8,7 +8,7 @@ use Rattle.cck_key_error.specs.declared.key_error.KeyError.{KeyError}
 use Rattle.cck_key_error.specs.declared.key_error.KeyError.TheVariants as key
 use Rattle.cck_key_error.specs.declared.preprocess_error.PreprocessError.TheVariants as text
 use Rattle.c_cache_keys.specs.Call as calls
-use Rattle.c_cache_keys.specs.Call.{Answer, Keyed, Refused, Why}
+use Rattle.c_cache_keys.specs.Call.{CallResult, Keyed, ReturnsError, Why}
 use Rattle.c_cache_keys.specs.declared.call.HashResult.{HashResult}
 
 -- the cause of an error: a fault, or the other one
@@ -39,6 +39,6 @@ why_of (key.Preprocess text.Failed) = calls.NoText
 why_of (key.Preprocess text.Memory) = calls.NoText
 why_of key.Marker = calls.Marker
 
-abbrev pub answer_of : Result HashResult KeyError → Answer
-answer_of (Ok r) = Keyed (string_bytes r.key) r.is_locally_preprocessed
-answer_of (Err e) = Refused (why_of e)
+abbrev pub result_of : Result HashResult KeyError → CallResult
+result_of (Ok r) = Keyed (string_bytes r.key) r.is_locally_preprocessed
+result_of (Err e) = ReturnsError (why_of e)

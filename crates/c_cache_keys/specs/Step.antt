@@ -10,7 +10,7 @@ use Rattle.cck_include.specs.Include.{Include}
 use Rattle.cck_include.specs.Matching.{matches}
 use Rattle.cck_store.specs.Store.{Returned, Store, Stored}
 use Rattle.cck_store.specs.declared.store.StoreError.TheVariants as store
-use Rattle.c_cache_keys.specs.Call.{Answer, Call, Done, Fault, Keyed, Refused, Why, Memory, Extra, ExtraFault, Input, InputFault, Store as StoreFails, Damaged, NoText, TextFault, Marker}
+use Rattle.c_cache_keys.specs.Call.{CallResult, Call, Done, Fault, Keyed, ReturnsError, Why, Memory, Extra, ExtraFault, Input, InputFault, Store as StoreFails, Damaged, NoText, TextFault, Marker}
 use Rattle.c_cache_keys.specs.Keys.{extra_texts, input_file, is_preprocessed, plain_key, preprocessor_key_of, printed, uses_cache}
 use Rattle.c_cache_keys.specs.Walk.{Accepted, AreRecorded, Errs, Walk}
 use Rattle.c_cache_keys.specs.World.{World, setting}
@@ -46,9 +46,9 @@ GivesBy test F (Ok (Some bytes)) o = ReadsBy test F bytes o
 
 -- the store is asked once, under this key
 pub record AsksBy {S : Type 0} (st : Store S) (test : Include → Bool) (F : Type 0) (k : Bytes) (s : S) (o : Asked) (t : S) : Type 0 where
-  pub answer : Returned
-  pub got : st.got s k answer t
-  pub gives : GivesBy test F answer o
+  pub from_store : Returned
+  pub got : st.got s k from_store t
+  pub gives : GivesBy test F from_store o
 
 module _ {V : Type 0} (w : World V) where
   -- an included file is unchanged, for this call
@@ -133,32 +133,32 @@ module _ {V S : Type 0} (w : World V) (st : Store S) where
     pub k : Bytes
     pub bytes : Bytes
     pub own : OwnPair w c key k bytes
-    pub answer : Stored
-    pub put : st.put s k bytes answer t
+    pub from_store : Stored
+    pub put : st.put s k bytes from_store t
 
   -- the pair is put; or nothing is, where nothing can be recorded or there was a fault
   abbrev pub Stores : Call V → Type 0 → Bytes → S → S → Type 0
   Stores c F key s t = Puts c key s t ⊎ ((t ≡ s) × (F ⊎ NothingNew w c))
 
   -- the key is computed: there is an error and nothing is put, or it is the plain key
-  pub data Makes (c : Call V) (F : Type 0) (s : S) (r : Answer) (t : S) : Type 0 where
-    stops : (why : Why) → StopsMaking w c F why → r ≡ Refused why → t ≡ s → Makes c F s r t
+  pub data Makes (c : Call V) (F : Type 0) (s : S) (r : CallResult) (t : S) : Type 0 where
+    stops : (why : Why) → StopsMaking w c F why → r ≡ ReturnsError why → t ≡ s → Makes c F s r t
     gives : (key : Bytes) → plain_key w c ≡ Some key → NotErring w c F → r ≡ Keyed key true → Stores c F key s t → Makes c F s r t
 
-  abbrev pub Ends : Call V → Type 0 → Asked → S → Answer → S → Type 0
+  abbrev pub Ends : Call V → Type 0 → Asked → S → CallResult → S → Type 0
   Ends c F (Hit key) mid r t = (r ≡ Keyed key false) × (t ≡ mid)
-  Ends c F (Failed why) mid r t = (r ≡ Refused why) × (t ≡ mid)
+  Ends c F (Failed why) mid r t = (r ≡ ReturnsError why) × (t ≡ mid)
   Ends c F Miss mid r t = Makes c F mid r t
 
   -- One call. It may return an error before the store is asked. If it has no preprocessor key or may not ask, it computes its key.
   -- Otherwise it asks, and computes its key after a miss.
-  pub data Step (c : Call V) (F : Type 0) (s : S) (r : Answer) (t : S) : Type 0 where
-    stopped : (why : Why) → StopsOpening w c F why → r ≡ Refused why → t ≡ s → Step c F s r t
+  pub data Step (c : Call V) (F : Type 0) (s : S) (r : CallResult) (t : S) : Type 0 where
+    stopped : (why : Why) → StopsOpening w c F why → r ≡ ReturnsError why → t ≡ s → Step c F s r t
     made : Opened w c → (preprocessor_key_of w c ≡ None) ⊎ (c.control ≡ ForceRecache) → Makes c F s r t → Step c F s r t
     asked : Opened w c → (k : Bytes) → preprocessor_key_of w c ≡ Some k → c.control ≡ Default → (o : Asked) (mid : S) → Asks c F k s o mid → Ends c F o mid r t → Step c F s r t
 
   -- calls in order, each starting where the one before it ended
-  abbrev pub Run : S → List (Done V) → List Answer → S → Type 0
+  abbrev pub Run : S → List (Done V) → List CallResult → S → Type 0
   Run s [] [] t = t ≡ s
   Run s (d ∷ ds) (r ∷ rs) t = (mid : S) × Step d.call (Fault d) s r mid × Run mid ds rs t
   Run s [] (r ∷ rs) t = ⊥

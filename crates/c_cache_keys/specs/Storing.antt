@@ -16,4 +16,4 @@ IsPut st files moment digested k key HasFault s (Err e) t = t ≡ s
 IsPut st files moment digested k key HasFault s (Ok u) t =
     ((t ≡ s) × (HasFault ⊎ (gathered files moment digested ≡ None)))
     ⊎ ((includes : List Include) × (gathered files moment digested ≡ Some includes)
-    × (bytes : Bytes) × EntryText (added empty key includes) bytes × (answer : Stored) × st.put s k bytes answer t)
+    × (bytes : Bytes) × EntryText (added empty key includes) bytes × (from_store : Stored) × st.put s k bytes from_store t)

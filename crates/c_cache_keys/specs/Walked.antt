@@ -10,7 +10,7 @@ use Rattle.cck_path.specs.Text.{path_text}
 use Rattle.cck_walk.specs.Decided.{Accepts, Context, Decided, Digests, IsRefused}
 use Rattle.cck_walk.specs.Decided as decision
 use Rattle.cck_walk.specs.declared.walk.Walk as walk
-use Rattle.cck_walk.specs.declared.walk.Walk.TheVariants as answer
+use Rattle.cck_walk.specs.declared.walk.Walk.TheVariants as walked
 use Rattle.c_cache_keys.specs.Call.{Call}
 use Rattle.c_cache_keys.specs.Included.{digested_of}
 use Rattle.c_cache_keys.specs.Walk.{Accepted, AreRecorded, Errs, NotAccepted, Verdict, Walk, input_path}
@@ -46,8 +46,8 @@ VerdictIsDecided {V} w =
 -- The result of a walk over a call's text: its verdict, and for an accepted text what is recorded. With a fault the text may be refused
 -- whatever its verdict.
 abbrev pub IsWalked : {V : Type 0} → World V → Call V → Bytes → Type 0 → Result walk.Walk KeyError → Type 0
-IsWalked w c text HasFault (Ok (answer.Accepted files)) = Walk w c text Accepted × AreRecorded w c text (digested_of files.items)
-IsWalked w c text HasFault (Ok answer.Refused) = Walk w c text NotAccepted ⊎ HasFault
+IsWalked w c text HasFault (Ok (walked.Accepted files)) = Walk w c text Accepted × AreRecorded w c text (digested_of files.items)
+IsWalked w c text HasFault (Ok walked.Refused) = Walk w c text NotAccepted ⊎ HasFault
 IsWalked w c text HasFault (Err Marker) = Walk w c text Errs
 IsWalked w c text HasFault (Err Memory) = Unit {0}
 IsWalked w c text HasFault (Err other) = ⊥

@@ -1,9 +1,8 @@
 -- two calls that meet the premises of a run; the second is of another request and returns its key from the store
 use Rattle.std.specs.Prelude.{◌≢◌, ◌%◌, ℕ, List, [], ◌∷◌, length, pos, true, false, Some, None, codes}
 use Rattle.std.specs.FinMap.{empty, from_sorted}
-use Rattle.cck_compiler.specs.Arguments.{Arguments}
+use Rattle.cck_compiler.specs.Arguments.{Arguments, only_input}
 use Rattle.cck_compiler.specs.Compiler.{Compilation, Compiler}
-use Rattle.cck_compiler.specs.declared.arguments.ColorMode.TheVariants.{Auto}
 use Rattle.cck_compiler.specs.declared.compiler.CCompilerKind.TheVariants.{Gcc}
 use Rattle.cck_files.specs.FileMap.{FileMap, FileNode}
 use Rattle.cck_path.specs.Bytes.{Bytes}
@@ -59,27 +58,9 @@ witness_files = record { nodes = from_sorted {R = path_cmp} witness_nodes; canon
 
 -- the arguments of a compilation that writes its object at this path
 abbrev pub witness_arguments : Bytes → Arguments
-witness_arguments object = record {
-  input = codes "a.c";
-  double_dash_input = false;
-  language = C;
+witness_arguments object = record (only_input (codes "a.c") C) {
   compilation_flag = codes "-c";
-  depfile = None;
   outputs = record { name = codes "obj"; path = object; optional = false } ∷ [];
-  dependency_args = [];
-  preprocessor_args = [];
-  common_args = [];
-  arch_args = [];
-  unhashed_args = [];
-  extra_dist_files = [];
-  extra_hash_files = [];
-  uses_external_assembler = false;
-  msvc_show_includes = false;
-  msvc_explicit_language = false;
-  profile_generate = false;
-  color_mode = Auto;
-  suppress_rewrite_includes_only = false;
-  too_hard_for_preprocessor_cache_mode = None;
 }
 
 -- a compiler that prints this one text

@@ -2,7 +2,7 @@
 ghost use Rattle.std.specs.Prelude.{◌≡◌, ◌⊎◌, ◌++◌, Some, IfErr, IfOk, IsOkUnless, string_bytes};
 ghost use Rattle.cck_compiler.specs.ExtraFiles.{completed};
 ghost use Rattle.cck_digest.specs.Digest.{digest_text};
-ghost use Rattle.cck_file_digest.specs.Refusals.{IsDigestError};
+ghost use Rattle.cck_file_digest.specs.Errors.{IsDigestError};
 ghost use Rattle.cck_files.specs.Calls.{Keeps, Rose};
 ghost use Rattle.cck_key_error.specs.KeyError.{IsFileFault};
 ghost use Rattle.cck_path.specs.Bytes.{lists_of, variables_of};

@@ -7,7 +7,7 @@ ghost use Rattle.c_cache_keys.specs.Call.{calls_of};
 ghost use Rattle.c_cache_keys.specs.Calls.{AreReturned, IsAfter, done_all};
 ghost use Rattle.c_cache_keys.specs.Laws.{AllReturnStored, IsTransparent};
 ghost use Rattle.c_cache_keys.specs.Premises.{Premises};
-ghost use Rattle.c_cache_keys.specs.Seen.{answer_of};
+ghost use Rattle.c_cache_keys.specs.Seen.{result_of};
 ghost use Rattle.c_cache_keys.specs.Step.{IsEmpty, Run};
 ghost use Rattle.c_cache_keys.specs.World.{world_of};
 
@@ -64,6 +64,9 @@ pub struct Call<I, F> {
 /// - the store returned an entry with a key whose included files are all unchanged. The greatest
 ///   such key is returned, and nothing is put.
 ///
+/// Such a call asks the store once. If the store returned nothing, the call computes its key, and if
+/// the store failed, the call returns that error.
+///
 /// Of a call only the state of its files changes. Each result is that of
 /// [`generate_hash_key`](CCompilerHasher::generate_hash_key) on the store that the calls before it
 /// left. The only error is [`UtilError::Memory`], and then no call was made.
@@ -75,27 +78,27 @@ pub fn run_calls<H: HashState, I: CCompilerImpl, F: Files, S: PreprocessorStore>
     basedirs: &[Vec<u8>],
     calls: &mut [Call<I, F>],
 ) -> Result<Vec<Result<HashResult, KeyError>>, UtilError>
-    ensures results_returned { IfOk result (λ answers.
+    ensures results_returned { IfOk result (λ call_results.
         let w = world_of H.hash I.compiler (plain_zone zone.now) config (lists_of basedirs.now) in
-        AreReturned I.value F.file_map F.faults w S.store store.old calls.old calls.new answers.items store.new) }
-    ensures run { IfOk result (λ answers.
+        AreReturned I.value F.file_map F.faults w S.store store.old calls.old calls.new call_results.items store.new) }
+    ensures run { IfOk result (λ call_results.
         let w = world_of H.hash I.compiler (plain_zone zone.now) config (lists_of basedirs.now) in
-        Run w S.store store.old (done_all I.value F.file_map F.faults calls.old calls.new) (map answer_of answers.items) store.new) }
-    ensures headline { IfOk result (λ answers.
+        Run w S.store store.old (done_all I.value F.file_map F.faults calls.old calls.new) (map result_of call_results.items) store.new) }
+    ensures headline { IfOk result (λ call_results.
         let w = world_of H.hash I.compiler (plain_zone zone.now) config (lists_of basedirs.now) in
         let made = calls_of (done_all I.value F.file_map F.faults calls.old calls.new) in
-        IsEmpty w S.store store.old → Premises w made → AllZip (IsTransparent w) made (map answer_of answers.items)) }
-    ensures returned { IfOk result (λ answers.
+        IsEmpty w S.store store.old → Premises w made → AllZip (IsTransparent w) made (map result_of call_results.items)) }
+    ensures returned { IfOk result (λ call_results.
         let w = world_of H.hash I.compiler (plain_zone zone.now) config (lists_of basedirs.now) in
-        AllReturnStored w S.store store.old (done_all I.value F.file_map F.faults calls.old calls.new) (map answer_of answers.items) store.new) }
-    ensures each { IfOk result (λ answers. length answers.items ≡ length calls.old) }
+        AllReturnStored w S.store store.old (done_all I.value F.file_map F.faults calls.old calls.new) (map result_of call_results.items) store.new) }
+    ensures each { IfOk result (λ call_results. length call_results.items ≡ length calls.old) }
     ensures keeps { AllZip (IsAfter F.file_map F.faults F.is_quiet) calls.old calls.new }
     ensures errors { IsOkUnless result UtilError.Memory }
     ensures untouched { OnErr result ((calls.new ≡ calls.old) × (store.new ≡ store.old)) }
 {
-    let mut answers = Vec::with_capacity(alloc, calls.len())?;
+    let mut call_results = Vec::with_capacity(alloc, calls.len())?;
     for call in calls.iter_mut() {
-        let answer = call.hasher.generate_hash_key::<H, F, S>(
+        let call_result = call.hasher.generate_hash_key::<H, F, S>(
             alloc,
             &mut call.files,
             store,
@@ -107,7 +110,7 @@ pub fn run_calls<H: HashState, I: CCompilerImpl, F: Files, S: PreprocessorStore>
             basedirs,
             call.control,
         );
-        answers.push(answer)?;
+        call_results.push(call_result)?;
     }
-    Ok(answers)
+    Ok(call_results)
 }

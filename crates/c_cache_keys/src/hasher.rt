@@ -8,7 +8,7 @@ ghost use Rattle.jiff.specs.Words.{plain_zone};
 ghost use Rattle.c_cache_keys.specs.Conditions.{call_under, given_by, world_under};
 ghost use Rattle.c_cache_keys.specs.Hasher.{toolchain_key};
 ghost use Rattle.c_cache_keys.specs.Reasons.{IsReason};
-ghost use Rattle.c_cache_keys.specs.Seen.{answer_of};
+ghost use Rattle.c_cache_keys.specs.Seen.{result_of};
 ghost use Rattle.c_cache_keys.specs.Step.{Step};
 
 mod asking;
@@ -92,7 +92,7 @@ impl<I: CCompilerImpl> CCompilerHasher<I> {
         ensures keeps { Keeps F.file_map F.faults F.is_quiet files.old files.new }
         ensures step { let given = given_by cwd.now (variables_of vars.now) moment (plain_zone zone.now) config (lists_of basedirs.now) control in
             Step (world_under H.hash I.compiler given) S.store (call_under I.value (F.file_map files.old) self.now given)
-            (Rose (F.faults files.old) (F.faults files.new)) store.old (answer_of result) store.new }
+            (Rose (F.faults files.old) (F.faults files.new)) store.old (result_of result) store.new }
         ensures reason { let given = given_by cwd.now (variables_of vars.now) moment (plain_zone zone.now) config (lists_of basedirs.now) control in
             IfErr result (IsReason (world_under H.hash I.compiler given) S.store (call_under I.value (F.file_map files.old) self.now given)
             (Rose (F.faults files.old) (F.faults files.new)) store.old store.new) }

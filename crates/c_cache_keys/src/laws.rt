@@ -1,9 +1,9 @@
 //! Laws about calls and runs, over the definitions alone. Each is the contract of a function with
-//! an empty body. All but the last two hold for every hash, compiler and store.
+//! an empty body. All but the last three hold for every hash, compiler and store.
 ghost use Rattle.std.specs.Prelude.{◌≡◌, ◌↔◌, ℕ, IsTrue, List};
 ghost use Rattle.cck_time.specs.declared.config.PreprocessorCacheModeConfig.{PreprocessorCacheModeConfig};
 ghost use Rattle.jiff.specs.Types.{TimeZone};
-ghost use Rattle.c_cache_keys.specs.Hits.{FreshIsHeld, HeldKeyIsReturned, ErrorsHaveCauses, StoredIsHit};
+ghost use Rattle.c_cache_keys.specs.Hits.{FreshIsHeld, HeldKeyIsReturned, ErrorsHaveCauses, MapStoreReturnsStored, StoredIsHit};
 ghost use Rattle.c_cache_keys.specs.Laws.{FreshIsPlain, StoredKeyIsReturned, Headline, HitIsPlain, KeepsOldOrOwn, NothingDamaged, RecacheIsFresh, RunReturnsStored, RunsHeadline, RunsJoin, StaysSound};
 ghost use Rattle.c_cache_keys.specs.Walked.{VerdictIsDecided};
 ghost use Rattle.c_cache_keys.specs.Witness.{PremisesCanHold};
@@ -57,9 +57,10 @@ pub fn runs_headline<H: HashState, I: CCompilerImpl, S: PreprocessorStore>()
         RunsHeadline (world_of H.hash I.compiler zone config basedirs) S.store }
 {}
 
-/// A call that can hit asks the store once. If the store returns an entry with a key whose included
-/// files are all unchanged, the call returns the greatest such key and puts nothing. So it does
-/// whatever a preprocessor would print.
+/// A call that can hit asks the store once, and what the store returned determines what the call
+/// does next. If the store returns an entry with a key whose included files are all unchanged, the
+/// call returns the greatest such key and puts nothing. So it does whatever a preprocessor would
+/// print.
 pub fn stored_key_is_returned<H: HashState, I: CCompilerImpl, S: PreprocessorStore>()
     ensures { (zone : TimeZone) (config : PreprocessorCacheModeConfig) (basedirs : List (List ℕ)) →
         StoredKeyIsReturned (world_of H.hash I.compiler zone config basedirs) S.store }
@@ -120,6 +121,13 @@ pub fn errors_have_causes<H: HashState, I: CCompilerImpl, S: PreprocessorStore>(
 pub fn verdict_is_decided<H: HashState, I: CCompilerImpl>()
     ensures { (zone : TimeZone) (config : PreprocessorCacheModeConfig) (basedirs : List (List ℕ)) →
         VerdictIsDecided (world_of H.hash I.compiler zone config basedirs) }
+{}
+
+/// On a store in memory, a call that can hit returns the held key that matches, if there is no store
+/// failure. It leaves the store as its one get leaves it.
+pub fn map_store_returns_stored<H: HashState, I: CCompilerImpl>()
+    ensures { (zone : TimeZone) (config : PreprocessorCacheModeConfig) (basedirs : List (List ℕ)) →
+        MapStoreReturnsStored (world_of H.hash I.compiler zone config basedirs) }
 {}
 
 /// The premises can hold, and a stored key can be returned. Two calls of two requests, which write

@@ -70,7 +70,7 @@
 //! The results are in the order of the calls:
 //!
 //! ```rust
-//! let answers = run_calls::<Sha256State, I, F, S>(alloc, &mut store, &zone, config, &[], &mut calls)?;
+//! let call_results = run_calls::<Sha256State, I, F, S>(alloc, &mut store, &zone, config, &[], &mut calls)?;
 //! ```
 #![tactic(auto)]
 
@@ -78,10 +78,10 @@ mod c_compiler;
 mod call;
 mod calls;
 mod conditions;
+mod errors;
 mod hasher;
 mod included;
 pub mod laws;
-mod refusals;
 
 pub use c_compiler::CCompiler;
 pub use call::{CacheControl, HashResult};
@@ -91,7 +91,7 @@ pub use cck_compiler::{
     ParsedArguments, PreprocessError,
 };
 pub use cck_entry;
-pub use cck_store::{EmptyStore, MapStore, PreprocessorStore, StoreError};
+pub use cck_store::{EmptyStore, MapStore, PreprocessorStore, StoreError, one_more};
 pub use cck_util;
 pub use cck_walk::{
     LineAction, Records, Walk, process_preprocessed_file, process_preprocessor_line,

@@ -1,5 +1,5 @@
 -- a parsed command line
-use Rattle.std.specs.Prelude.{List, [], ◌∷◌, Bool, not, Option, codes, filter, length, nat_le}
+use Rattle.std.specs.Prelude.{List, [], ◌∷◌, Bool, false, not, Option, None, codes, filter, length, nat_le}
 use Rattle.std.specs.List.{find}
 use Rattle.std.specs.Option.{option_and_then, option_map, option_map_or}
 use Rattle.std.specs.Str.{bytes_eq}
@@ -9,6 +9,7 @@ use Rattle.cck_path.specs.Names.{file_name_of}
 use Rattle.cck_path.specs.Path.{components}
 use Rattle.cck_util.specs.declared.language.Language.{Language}
 use Rattle.cck_compiler.specs.declared.arguments.ColorMode.{ColorMode}
+use Rattle.cck_compiler.specs.declared.arguments.ColorMode.TheVariants.{Auto}
 
 -- a file that a compilation writes: under which name, where, and whether it may be left out
 pub record Output : Type 0 where
@@ -38,6 +39,31 @@ pub record Arguments : Type 0 where
   pub color_mode : ColorMode
   pub suppress_rewrite_includes_only : Bool
   pub too_hard_for_preprocessor_cache_mode : Option Bytes
+
+-- the command line with this input alone
+abbrev pub only_input : Bytes → Language → Arguments
+only_input input language = record {
+  input = input;
+  double_dash_input = false;
+  language = language;
+  compilation_flag = [];
+  depfile = None;
+  outputs = [];
+  dependency_args = [];
+  preprocessor_args = [];
+  common_args = [];
+  arch_args = [];
+  unhashed_args = [];
+  extra_dist_files = [];
+  extra_hash_files = [];
+  uses_external_assembler = false;
+  msvc_show_includes = false;
+  msvc_explicit_language = false;
+  profile_generate = false;
+  color_mode = Auto;
+  suppress_rewrite_includes_only = false;
+  too_hard_for_preprocessor_cache_mode = None;
+}
 
 -- these, each at its first place alone
 abbrev pub each_once : List Bytes → List Bytes

@@ -5,7 +5,7 @@ ghost use Rattle.std.specs.Option.{option_map};
 ghost use Rattle.std.specs.Str.{bytes_eq};
 ghost use Rattle.cck_path.specs.Bytes.{lists_of};
 ghost use Rattle.cck_file_digest.specs.FolderText.{lossy};
-ghost use Rattle.cck_compiler.specs.Arguments.{archs, is_arch, is_multiarch, output_name};
+ghost use Rattle.cck_compiler.specs.Arguments.{archs, is_arch, is_multiarch, only_input, output_name};
 ghost use Rattle.cck_compiler.specs.Seen.{arguments_of};
 
 use bstr::ByteSlice;
@@ -87,6 +87,35 @@ pub struct ParsedArguments {
 }
 
 impl ParsedArguments {
+    /// Returns the command line with this input alone: it has no other argument and no output, all its
+    /// flags are `false`, and diagnostics are coloured if they go to a terminal.
+    pub fn new(alloc: Global, input: Vec<u8>, language: Language) -> ParsedArguments
+        ensures { arguments_of result ≡ only_input input.items language }
+    {
+        ParsedArguments {
+            input,
+            double_dash_input: false,
+            language,
+            compilation_flag: Vec::new(alloc),
+            depfile: None,
+            outputs: BTreeMap::new(alloc),
+            dependency_args: Vec::new(alloc),
+            preprocessor_args: Vec::new(alloc),
+            common_args: Vec::new(alloc),
+            arch_args: Vec::new(alloc),
+            unhashed_args: Vec::new(alloc),
+            extra_dist_files: Vec::new(alloc),
+            extra_hash_files: Vec::new(alloc),
+            uses_external_assembler: false,
+            msvc_show_includes: false,
+            msvc_explicit_language: false,
+            profile_generate: false,
+            color_mode: ColorMode::Auto,
+            suppress_rewrite_includes_only: false,
+            too_hard_for_preprocessor_cache_mode: None,
+        }
+    }
+
     /// Returns whether two or more architectures are asked for. It allocates no memory.
     ///
     /// Upstream's `ParsedArguments::is_multiarch`.

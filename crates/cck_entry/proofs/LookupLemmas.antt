@@ -21,7 +21,7 @@ found_push m rs r false e = ap (find (λ r. list_all m r.1)) (reverse_push rs r)
 -- one more that does not match
 pub misses : {A : Type 0} (shown : A → KeyResult) (m : Include → Bool) (s t : List A) (x : A) (total : Option (KeyResult)) (a b c : ℕ) → s ≡ t ++ x ∷ [] → a ≤ b → b ≤ c
     → (found_in m (map shown s) ≡ total) ⊎ Rose a b → MayMiss (Rose b c) false (list_all m ((shown x).1)) → (found_in m (map shown t) ≡ total) ⊎ Rose a c
-misses {A = A} shown m s t x total a b c e le le' (inr risen) answer = inr (rose_later a b c le' risen)
+misses {A = A} shown m s t x total a b c e le le' (inr risen) is_match = inr (rose_later a b c le' risen)
 misses {A = A} shown m s t x total a b c e le le' (inl same) (inr risen) = inr (rose_earlier a b c le risen)
 misses {A = A} shown m s t x total a b c e le le' (inl same) (inl differs) =
     inl (sym (ap (λ (l : List A). found_in m (map shown l)) e ∙ ap (found_in m) (map_push shown t x) ∙ found_push m (map shown t) (shown x) false differs) ∙ same)

@@ -3,7 +3,7 @@ ghost use Rattle.std.specs.Prelude.{◌≡◌, List, MatchResult, None, Some};
 ghost use Rattle.cck_files.specs.Calls.{Keeps, Rose};
 ghost use Rattle.cck_include.specs.Gathered.{digested_in, gathered};
 ghost use Rattle.cck_include.specs.Include.{Include};
-ghost use Rattle.cck_include.specs.Refusal.{IsMissing};
+ghost use Rattle.cck_include.specs.Errors.{IsMissing};
 ghost use Rattle.cck_entry.specs.Entry.{added};
 
 use crate::PreprocessorCacheEntry;

@@ -166,7 +166,7 @@ fn lent_matches<H: HashState, F: Files>(
         AreKnown s (F.file_map files.old) known.old → AreKnown s (F.file_map files.old) known.new }
     ensures outcome { let s = setting_of H.hash context.now in
         AreKnown s (F.file_map files.old) known.old
-        → IfOk result (λ answer. MayMiss (Rose (F.faults files.old) (F.faults files.new)) answer
+        → IfOk result (λ is_match. MayMiss (Rose (F.faults files.old) (F.faults files.new)) is_match
         (list_all (matches s (F.file_map files.old)) (includes_begun lent.now.count lent.now.includes.now))) }
 {
     let mut rest = lent.includes;

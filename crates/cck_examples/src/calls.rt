@@ -4,8 +4,8 @@ mod own_compiler;
 use crate::calls::own_compiler::OwnCompiler;
 use c_cache_keys::cck_util::{FileKind, Language, MapFiles, Node, Sha256State, Timestamp};
 use c_cache_keys::{
-    ArtifactDescriptor, CCompiler, CacheControl, ColorMode, CompilerArguments, EmptyStore,
-    KeyError, MapStore, ParsedArguments, PreprocessorStore, StoreError,
+    ArtifactDescriptor, CCompiler, CacheControl, CompilerArguments, EmptyStore, KeyError, MapStore,
+    ParsedArguments, PreprocessorStore, StoreError,
 };
 use cck_compiler::add_extra_files;
 use jiff::tz::TimeZone;
@@ -27,28 +27,11 @@ fn arguments(alloc: Global) -> Result<ParsedArguments, KeyError> {
     for word in [b"-arch", b"arm64", b"-arch", b"i386".as_slice()] {
         arch_args.push(word.to_vec(alloc)?)?;
     }
-    Ok(ParsedArguments {
-        input: b"a.i".to_vec(alloc)?,
-        double_dash_input: false,
-        language: Language::CPreprocessed,
-        compilation_flag: b"-c".to_vec(alloc)?,
-        depfile: None,
-        outputs,
-        dependency_args: Vec::new(alloc),
-        preprocessor_args: Vec::new(alloc),
-        common_args: Vec::new(alloc),
-        arch_args,
-        unhashed_args: Vec::new(alloc),
-        extra_dist_files: Vec::new(alloc),
-        extra_hash_files: Vec::new(alloc),
-        uses_external_assembler: false,
-        msvc_show_includes: false,
-        msvc_explicit_language: false,
-        profile_generate: false,
-        color_mode: ColorMode::Auto,
-        suppress_rewrite_includes_only: false,
-        too_hard_for_preprocessor_cache_mode: None,
-    })
+    let mut arguments = ParsedArguments::new(alloc, b"a.i".to_vec(alloc)?, Language::CPreprocessed);
+    arguments.compilation_flag = b"-c".to_vec(alloc)?;
+    arguments.outputs = outputs;
+    arguments.arch_args = arch_args;
+    Ok(arguments)
 }
 
 // `cck_compiler`: a parsed command line, and the files that variables add.

@@ -12,7 +12,7 @@ use Rattle.cck_path.specs.declared.metadata.FileKind.TheVariants.{File, Folder, 
 use Rattle.cck_files.specs.FileMap.{FileMap, FileNode, Nodes, contents_at, contents_if, contents_in, folder_at, folder_if, folder_in, exists_at}
 use Rattle.cck_file_digest.specs.FolderText.{following, digest_material, if_reached, is_folder_kind, is_other, is_reached, is_too_deep, nodes_material, material_of, opening, piece_of, reached, relative_text, node_and_reached, whole_part}
 use Rattle.cck_file_digest.specs.Laws.{named_piece, named_piece_of}
-use Rattle.cck_file_digest.specs.Refusals.{IsDigestError}
+use Rattle.cck_file_digest.specs.Errors.{IsDigestError}
 use Rattle.cck_file_digest.proofs.ReachedLemmas.{below}
 
 pub material_of_file : (fm : FileMap) (p : Path) (contents : List ℕ) → contents_at fm p ≡ Ok contents → digest_material fm p ≡ Some contents

@@ -21,7 +21,7 @@ use Rattle.cck_files.specs.FileMap.{FileMap, FileNode, metadata_at, metadata_in,
 use Rattle.cck_files.specs.Calls.{IsError, IsErrorOrMemory}
 use Rattle.cck_file_digest.specs.Folder.{AreChildNames, IsFedNodes}
 use Rattle.cck_file_digest.specs.FolderText.{is_folder_kind, is_other, is_other_kind, is_too_deep, name_below, opening, piece_of, nodes_material, reached, node_and_reached, whole_part}
-use Rattle.cck_file_digest.specs.Refusals.{IsErrorAt}
+use Rattle.cck_file_digest.specs.Errors.{IsErrorAt}
 use Rattle.cck_file_digest.proofs.FolderSteps.{other_reached, deep_reached}
 
 -- there is a node of this kind at a path

@@ -9,7 +9,7 @@ use Rattle.cck_digest.specs.Digest.{digest_text}
 use Rattle.cck_digest.specs.declared.error.UtilError.{UtilError}
 use Rattle.cck_path.specs.Path.{Path, components}
 use Rattle.cck_files.specs.FileMap.{FileMap, FileNode, exists_at}
-use Rattle.cck_file_digest.specs.FileDigest.{text_and, text_at, texts}
+use Rattle.cck_file_digest.specs.FileDigest.{text_and, digest_text_at, texts}
 use Rattle.cck_file_digest.specs.FolderText.{is_other, is_too_deep, nodes_material, material_of, node_and_reached, whole_part, digest_material}
 
 pub material_some : (fm : FileMap) (p : Path) → exists_at fm p ≡ true → list_any is_other (node_and_reached fm.nodes p) ≡ false → list_any (is_too_deep 1) (node_and_reached fm.nodes p) ≡ false
@@ -27,14 +27,14 @@ material_some fm p present other deep = by (get fm.nodes p) present other deep
     by None s e f = cc
     by (Some node) s e f = given _ _ _ e f
 
-pub text_some : (hash : List ℕ → List ℕ) (fm : FileMap) (p : Path) (bytes text : List ℕ) → digest_material fm p ≡ Some bytes → text ≡ digest_text hash bytes → text_at hash fm p ≡ Some text
-unfolding text_at
+pub text_some : (hash : List ℕ → List ℕ) (fm : FileMap) (p : Path) (bytes text : List ℕ) → digest_material fm p ≡ Some bytes → text ≡ digest_text hash bytes → digest_text_at hash fm p ≡ Some text
+unfolding digest_text_at
 text_some hash fm p bytes text e f = ap (option_map (digest_text hash)) e ∙ ap Some (sym f)
 
 module _ (hash : List ℕ → List ℕ) (fm : FileMap) where
-  texts-push : (ps : List Path) (p : Path) (ts : List (List ℕ)) (t : List ℕ) → texts hash fm ps ≡ Some ts → text_at hash fm p ≡ Some t → texts hash fm (ps ++ p ∷ []) ≡ Some (ts ++ t ∷ [])
+  texts-push : (ps : List Path) (p : Path) (ts : List (List ℕ)) (t : List ℕ) → texts hash fm ps ≡ Some ts → digest_text_at hash fm p ≡ Some t → texts hash fm (ps ++ p ∷ []) ≡ Some (ts ++ t ∷ [])
   texts-push [] p ts t e f = let none : [] ≡ ts = cc in ap (λ o. text_and o (Some [])) f ∙ ap (λ l. Some (l ++ t ∷ [])) none
-  texts-push (q ∷ ps) p ts t e f = by (text_at hash fm q) (texts hash fm ps) (λ us is. texts-push ps p us t is f) e
+  texts-push (q ∷ ps) p ts t e f = by (digest_text_at hash fm q) (texts hash fm ps) (λ us is. texts-push ps p us t is f) e
     where
       by : (first : Option (List ℕ)) (others : Option (List (List ℕ))) → ((us : List (List ℕ)) → others ≡ Some us → texts hash fm (ps ++ p ∷ []) ≡ Some (us ++ t ∷ []))
           → text_and first others ≡ Some ts → text_and first (texts hash fm (ps ++ p ∷ [])) ≡ Some (ts ++ t ∷ [])
@@ -45,7 +45,7 @@ module _ (hash : List ℕ → List ℕ) (fm : FileMap) where
           ap (option_map (λ l. u ∷ l)) (more us refl) ∙ ap (λ l. Some (l ++ t ∷ [])) same
 
   -- one more hex digest
-  pub texts_more : (ps : List Path) (i : ℕ) (ts : List (List ℕ)) (t : List ℕ) → i < length ps → texts hash fm (take i ps) ≡ Some ts → text_at hash fm (get_or ps i []) ≡ Some t
+  pub texts_more : (ps : List Path) (i : ℕ) (ts : List (List ℕ)) (t : List ℕ) → i < length ps → texts hash fm (take i ps) ≡ Some ts → digest_text_at hash fm (get_or ps i []) ≡ Some t
       → texts hash fm (take (i + 1) ps) ≡ Some (ts ++ t ∷ [])
   texts_more ps i ts t here e f = ap (texts hash fm) (take_more ps i [] here) ∙ texts-push (take i ps) (get_or ps i []) ts t e f
 

@@ -7,11 +7,11 @@ use Rattle.cck_digest.specs.declared.error.UtilError.{UtilError}
 use Rattle.cck_path.specs.Path.{Path, components}
 use Rattle.cck_files.specs.FileMap.{FileMap}
 use Rattle.cck_file_digest.specs.FolderText.{digest_material}
-use Rattle.cck_file_digest.specs.Refusals.{IsDigestError}
+use Rattle.cck_file_digest.specs.Errors.{IsDigestError}
 
 -- the hex digest of the node at a path, by this hash function, if it has one
-unfoldable pub text_at : (List ℕ → List ℕ) → FileMap → Path → Option (List ℕ)
-text_at hash fm p = option_map (digest_text hash) (digest_material fm p)
+unfoldable pub digest_text_at : (List ℕ → List ℕ) → FileMap → Path → Option (List ℕ)
+digest_text_at hash fm p = option_map (digest_text hash) (digest_material fm p)
 
 abbrev pub text_and : Option (List ℕ) → Option (List (List ℕ)) → Option (List (List ℕ))
 text_and None others = None
@@ -20,7 +20,7 @@ text_and (Some t) others = option_map (λ ts. t ∷ ts) others
 -- the hex digests of the nodes at these paths, in their order, if each has one
 abbrev pub texts : (List ℕ → List ℕ) → FileMap → List Path → Option (List (List ℕ))
 texts hash fm [] = Some []
-texts hash fm (p ∷ ps) = text_and (text_at hash fm p) (texts hash fm ps)
+texts hash fm (p ∷ ps) = text_and (digest_text_at hash fm p) (texts hash fm ps)
 
 -- the paths of these texts
 abbrev pub paths_of : List (Vec ℕ Global) → List Path

@@ -9,7 +9,7 @@ use Rattle.cck_path.specs.declared.metadata.FileKind.{FileKind}
 use Rattle.cck_path.specs.declared.metadata.FileKind.TheVariants.{File, Folder, Other}
 use Rattle.cck_files.specs.FileMap.{FileMap, FileNode, Nodes, contents_at, folder_at}
 use Rattle.cck_file_digest.specs.FolderText.{digest_material, is_folder, is_name, is_other, is_too_deep, lossy, reached, relative_text}
-use Rattle.cck_file_digest.specs.Refusals.{IsDigestError}
+use Rattle.cck_file_digest.specs.Errors.{IsDigestError}
 
 -- a relative path of names leads from a directory through directories
 pub record LeadsThrough (m : Nodes) (f q : Path) : Type 0 where

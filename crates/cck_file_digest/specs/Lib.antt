@@ -3,4 +3,4 @@ pub mod FileDigest
 pub mod Folder
 pub mod FolderText
 pub mod Laws
-pub mod Refusals
+pub mod Errors

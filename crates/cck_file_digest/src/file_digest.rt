@@ -2,8 +2,8 @@
 ghost use Rattle.std.specs.Prelude.{◌≡◌, Some, map, MatchResult, string_bytes};
 ghost use Rattle.cck_path.specs.Path.{components};
 ghost use Rattle.cck_files.specs.Calls.{Keeps, Rose};
-ghost use Rattle.cck_file_digest.specs.FileDigest.{IsFirstError, paths_of, text_at, texts};
-ghost use Rattle.cck_file_digest.specs.Refusals.{IsDigestError};
+ghost use Rattle.cck_file_digest.specs.FileDigest.{IsFirstError, paths_of, digest_text_at, texts};
+ghost use Rattle.cck_file_digest.specs.Errors.{IsDigestError};
 
 use crate::folder::feed_node;
 use cck_digest::{Digest, HashState, UtilError, new_hash_buffer};
@@ -37,14 +37,14 @@ pub trait DigestFiles {
     fn file<F: Files>(alloc: Global, files: &mut F, path: &[u8]) -> Result<String, UtilError>
         ensures keeps { Keeps F.file_map F.faults F.is_quiet files.old files.new }
         ensures outcome { let fm = F.file_map files.old in MatchResult result
-            (λ text. text_at hash fm (components path.now) ≡ Some (string_bytes text))
+            (λ text. digest_text_at hash fm (components path.now) ≡ Some (string_bytes text))
             (IsDigestError fm (components path.now) (Rose (F.faults files.old) (F.faults files.new))) };
 
     /// The same as [`DigestFiles::file`]. Upstream's `Digest::reader`.
     fn reader<F: Files>(alloc: Global, files: &mut F, path: &[u8]) -> Result<String, UtilError>
         ensures keeps { Keeps F.file_map F.faults F.is_quiet files.old files.new }
         ensures outcome { let fm = F.file_map files.old in MatchResult result
-            (λ text. text_at hash fm (components path.now) ≡ Some (string_bytes text))
+            (λ text. digest_text_at hash fm (components path.now) ≡ Some (string_bytes text))
             (IsDigestError fm (components path.now) (Rose (F.faults files.old) (F.faults files.new))) };
 }
 
@@ -68,7 +68,7 @@ fn digest_path<H: HashState, F: Files>(
 ) -> Result<String, UtilError>
     ensures keeps { Keeps F.file_map F.faults F.is_quiet files.old files.new }
     ensures outcome { let fm = F.file_map files.old in MatchResult result
-        (λ text. text_at H.hash fm (components path.now) ≡ Some (string_bytes text))
+        (λ text. digest_text_at H.hash fm (components path.now) ≡ Some (string_bytes text))
         (IsDigestError fm (components path.now) (Rose (F.faults files.old) (F.faults files.new))) }
 {
     let mut buffer = new_hash_buffer(alloc)?;

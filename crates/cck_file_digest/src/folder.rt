@@ -7,7 +7,7 @@ ghost use Rattle.cck_files.specs.FileMap.{contents_at, folder_at, exists_at};
 ghost use Rattle.cck_files.specs.Calls.{Keeps, IsErrorOrMemory, Rose};
 ghost use Rattle.cck_file_digest.specs.Folder.{IsFedNodes, AreChildNames, child_name, child_names};
 ghost use Rattle.cck_file_digest.specs.FolderText.{lossy, opening, node_and_reached};
-ghost use Rattle.cck_file_digest.specs.Refusals.{IsErrorAt};
+ghost use Rattle.cck_file_digest.specs.Errors.{IsErrorAt};
 
 use crate::contents::feed_contents;
 use bstr::ByteSlice;

@@ -23,18 +23,18 @@ pub data AreCalls {F : Type 0} (is_call : F → Path → F → Type 0) (At : Pat
 
 -- the error of a call: the map's own, or a fault where there was one, or lack of memory where it is possible
 abbrev pub IsErrorWhere : {X : Type 0} → Result X FileError → Type 0 → Type 0 → FileError → Type 0
-IsErrorWhere answer HasFault TakesMemory NotFound = answer ≡ Err NotFound
-IsErrorWhere answer HasFault TakesMemory OtherKind = answer ≡ Err OtherKind
-IsErrorWhere answer HasFault TakesMemory Fault = HasFault
-IsErrorWhere answer HasFault TakesMemory Memory = TakesMemory
+IsErrorWhere found HasFault TakesMemory NotFound = found ≡ Err NotFound
+IsErrorWhere found HasFault TakesMemory OtherKind = found ≡ Err OtherKind
+IsErrorWhere found HasFault TakesMemory Fault = HasFault
+IsErrorWhere found HasFault TakesMemory Memory = TakesMemory
 
 -- the error of a call that takes no memory
 abbrev pub IsError : {X : Type 0} → Result X FileError → Type 0 → FileError → Type 0
-IsError answer HasFault = IsErrorWhere answer HasFault ⊥
+IsError found HasFault = IsErrorWhere found HasFault ⊥
 
 -- the error of a call that takes memory
 abbrev pub IsErrorOrMemory : {X : Type 0} → Result X FileError → Type 0 → FileError → Type 0
-IsErrorOrMemory answer HasFault = IsErrorWhere answer HasFault (Unit {0})
+IsErrorOrMemory found HasFault = IsErrorWhere found HasFault (Unit {0})
 
 -- n bytes of these contents were read from an offset on, and none of them only at the end
 pub record IsRead (contents : List ℕ) (offset n : ℕ) (buffer : List ℕ) : Type 0 where

@@ -1,4 +1,5 @@
 pub mod EqualityLemmas
+pub mod ErrorLemmas
 pub mod GatherLemmas
 pub mod KnownLemmas
 pub mod LawLemmas

@@ -20,7 +20,7 @@ use Rattle.cck_include.specs.Recorded.{recorded}
 use Rattle.cck_include.specs.Setting.{Setting}
 
 -- an exact result misses no match
-pub exact : (answer right : Bool) (P : Type 0) → answer ≡ right → MayMiss P answer right
+pub exact : (is_match right : Bool) (P : Type 0) → is_match ≡ right → MayMiss P is_match right
 exact true right P e = sym e
 exact false right P e = inl (sym e)
 
@@ -35,7 +35,7 @@ pub by_known : (s : Setting) (files : FileMap) (p : Path) (digest : Option (Stri
 by_known s files p digest expected h = found_known s (file_at files p) digest expected h
 
 -- with a fault a match may be missed, also with a fault that came earlier
-pub may_miss_more : (P Q : Type 0) (answer right : Bool) → (P → Q) → MayMiss P answer right → MayMiss Q answer right
+pub may_miss_more : (P Q : Type 0) (is_match right : Bool) → (P → Q) → MayMiss P is_match right → MayMiss Q is_match right
 may_miss_more P Q true right f h = h
 may_miss_more P Q false right f (inl h) = inl h
 may_miss_more P Q false right f (inr h) = inr (f h)

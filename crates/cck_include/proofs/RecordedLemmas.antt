@@ -7,7 +7,6 @@ use Rattle.std.specs.declared.alloc.Global.{Global}
 use Rattle.cck_digest.specs.Digest.{digest_text}
 use Rattle.cck_digest.specs.declared.error.FileError.{FileError}
 use Rattle.cck_digest.specs.declared.error.FileError.TheVariants.{NotFound, OtherKind, Fault, Memory}
-use Rattle.cck_digest.specs.declared.error.UtilError.TheVariants as util
 use Rattle.cck_files.proofs.CallsLemmas.{error_by}
 use Rattle.cck_files.proofs.FileLemmas.{file_with_contents, metadata_of_file, no_file_without_contents, no_file_without_metadata}
 use Rattle.cck_files.specs.Calls.{IsError, IsErrorOrMemory}
@@ -17,9 +16,10 @@ use Rattle.cck_path.specs.declared.metadata.Metadata.{Metadata}
 use Rattle.cck_time.specs.TimePart.{time_part}
 use Rattle.cck_time.specs.declared.error.Error.{Error}
 use Rattle.cck_time.specs.declared.error.Error.TheVariants as error
+use Rattle.cck_include.proofs.ErrorLemmas.{by_file_error}
 use Rattle.cck_include.specs.Recorded.{recorded, recorded_by}
 use Rattle.cck_include.specs.Setting.{Setting}
-use Rattle.cck_include.specs.Refusal.{IsIoError, io_error}
+use Rattle.cck_include.specs.Errors.{IsIoError, io_error}
 use Rattle.cck_include.specs.Scan.{IsScanOf}
 use Rattle.cck_include.specs.declared.recorded.Scan.{Scan}
 
@@ -49,24 +49,12 @@ without_contents files p P Q Memory f r = tt
 
 -- a fault of a part is a fault of the whole
 error_by_fault : {X : Type 0} (found : Result X FileError) (P Q : Type 0) (e : Error) → (P → Q) → IsIoError found P e → IsIoError found Q e
-error_by_fault found P Q error.Memory f h = tt
-error_by_fault found P Q (error.Io (util.File e)) f h = error_by found P Q e f h
-error_by_fault found P Q (error.Io util.Memory) f h = h
-error_by_fault found P Q (error.Io util.Read) f h = h
-error_by_fault found P Q (error.Io util.TooDeep) f h = h
-error_by_fault found P Q (error.Io util.TooLong) f h = h
-error_by_fault found P Q (error.Io util.Write) f h = h
-error_by_fault found P Q (error.Io util.IncompleteEscape) f h = h
-error_by_fault found P Q (error.Io util.InvalidEscape) f h = h
-error_by_fault found P Q (error.Io util.IncompleteHex) f h = h
-error_by_fault found P Q (error.Io util.InvalidHex) f h = h
-error_by_fault found P Q error.Deserialization f h = h
-error_by_fault found P Q (error.UnknownFormat byte) f h = h
+error_by_fault found P Q e f h = by_file_error (IsError found P) (IsIoError found Q) e h tt (λ x at. error_by found P Q x f at)
 
-pub returned_by_result : {X Y : Type 0} (r : Result X Error) (Answer : X → Type 0) (found : Result Y FileError) (P Q : Type 0) → (P → Q)
-    → MatchResult r Answer (IsIoError found P) → MatchResult r Answer (IsIoError found Q)
-returned_by_result (Ok x) Answer found P Q f h = h
-returned_by_result (Err e) Answer found P Q f h = error_by_fault found P Q e f h
+pub returned_by_result : {X Y : Type 0} (r : Result X Error) (Holds : X → Type 0) (found : Result Y FileError) (P Q : Type 0) → (P → Q)
+    → MatchResult r Holds (IsIoError found P) → MatchResult r Holds (IsIoError found Q)
+returned_by_result (Ok x) Holds found P Q f h = h
+returned_by_result (Err e) Holds found P Q f h = error_by_fault found P Q e f h
 
 -- a file that was read
 with_contents : (files : FileMap) (p : Path) (r : Result (List ℕ) FileError) (P : List ℕ → Type 0) → contents_at files p ≡ r → IsOkAnd r P

@@ -42,8 +42,8 @@ include_of_metadata moment d (Ok m) = Some (include_of moment d m)
 include_of_metadata moment d (Err e) = None
 
 -- the same, if there is a node
-abbrev pub include_at : FileMap → Moment → Digested → Option Include
-include_at files moment d = include_of_metadata moment d (metadata_at files (components (d.1)))
+abbrev pub gathered_include : FileMap → Moment → Digested → Option Include
+gathered_include files moment d = include_of_metadata moment d (metadata_at files (components (d.1)))
 
 -- all of them, if none is missing
 abbrev pub all_of : {A : Type 0} → List (Option A) → Option (List A)
@@ -53,7 +53,7 @@ all_of (Some x ∷ os) = option_map (λ xs. x ∷ xs) (all_of os)
 
 -- what is recorded of all the files, if there is a node at each path
 unfoldable pub gathered : FileMap → Moment → List Digested → Option (List Include)
-gathered files moment ds = all_of (map (include_at files moment) ds)
+gathered files moment ds = all_of (map (gathered_include files moment) ds)
 
 -- the digests and the paths in a list of pairs
 abbrev pub digested_in : List (String Global × Vec ℕ) → List Digested

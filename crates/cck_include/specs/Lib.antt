@@ -5,6 +5,6 @@ pub mod Known
 pub mod Laws
 pub mod Matching
 pub mod Recorded
-pub mod Refusal
+pub mod Errors
 pub mod Scan
 pub mod Setting

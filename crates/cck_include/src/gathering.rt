@@ -1,12 +1,12 @@
 //! What is recorded of included files.
 ghost use Rattle.std.specs.Prelude.{◌≡◌, None, Some, MatchResult};
 ghost use Rattle.cck_files.specs.Calls.{Keeps, Rose};
-ghost use Rattle.cck_include.specs.Gathered.{digested_in, gathered, include_at, is_before, kept, are_before};
+ghost use Rattle.cck_include.specs.Gathered.{digested_in, gathered, gathered_include, is_before, kept, are_before};
 ghost use Rattle.cck_include.specs.Include.{include_in, includes_in};
-ghost use Rattle.cck_include.specs.Refusal.{IsMissing};
+ghost use Rattle.cck_include.specs.Errors.{IsMissing};
 
 use crate::IncludeEntry;
-use crate::refusal::io_error;
+use crate::errors::io_error;
 use cck_files::Files;
 use cck_path::Timestamp;
 use cck_time::Error;
@@ -39,7 +39,7 @@ fn kept(keeps: bool, time: Option<Timestamp>) -> Option<Timestamp>
 }
 
 // What is recorded of the node at a path, with this digest.
-fn include_at<F: Files>(
+fn gathered_include<F: Files>(
     alloc: Global,
     files: &mut F,
     moment: Timestamp,
@@ -47,7 +47,7 @@ fn include_at<F: Files>(
     path: &[u8],
 ) -> Result<IncludeEntry, Error>
     ensures keeps { Keeps F.file_map F.faults F.is_quiet files.old files.new }
-    ensures outcome { let found = include_at (F.file_map files.old) moment (digest.now, path.now) in
+    ensures outcome { let found = gathered_include (F.file_map files.old) moment (digest.now, path.now) in
         MatchResult result (λ include. found ≡ Some (include_in include))
         (IsMissing (found ≡ None) (Rose (F.faults files.old) (F.faults files.new))) }
 {
@@ -89,7 +89,7 @@ pub fn gather<F: Files>(
 {
     let mut includes = Vec::new(alloc);
     for (digest, path) in included {
-        let include = include_at(alloc, files, moment, digest, path)?;
+        let include = gathered_include(alloc, files, moment, digest, path)?;
         includes.push(include)?;
     }
     Ok(includes)

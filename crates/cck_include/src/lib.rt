@@ -27,6 +27,7 @@
 //! ```
 #![tactic(auto)]
 
+mod errors;
 mod gathering;
 mod include;
 mod judge_context;
@@ -34,7 +35,6 @@ mod known;
 pub mod laws;
 mod matching;
 mod recorded;
-mod refusal;
 
 pub use gathering::gather;
 pub use include::{IncludeEntry, IncludeRef};

@@ -97,7 +97,7 @@ fn is_recorded<H: HashState, F: Files>(
     ensures unasked { IsSome file.old.digest → files.new ≡ files.old }
     ensures outcome { let s = setting_of H.hash context.now in
         IsRight s (F.file_map files.old) file.old
-        → IfOk result (λ answer. MayMiss (Rose (F.faults files.old) (F.faults files.new)) answer
+        → IfOk result (λ is_match. MayMiss (Rose (F.faults files.old) (F.faults files.new)) is_match
         (digest_found s expected.now (file_at (F.file_map files.old) (known_path file.old)))) }
 {
     if let Some(digest) = &file.digest {
@@ -109,9 +109,9 @@ fn is_recorded<H: HashState, F: Files>(
         Err(Error::Memory) => return Err(AllocError),
         Err(_) => return Ok(false),
     };
-    let answer = is_digest(&digest, expected);
+    let is_match = is_digest(&digest, expected);
     file.digest = Some(digest);
-    Ok(answer)
+    Ok(is_match)
 }
 
 // Whether an included file still matches, by what is known of the file at its path. With a fault the
@@ -129,7 +129,7 @@ fn known_matches<H: HashState, F: Files>(
     ensures path { file.new.path ≡ file.old.path }
     ensures outcome { let s = setting_of H.hash context.now in
         IsRight s (F.file_map files.old) file.old → known_path file.old ≡ components include.now.path.now
-        → IfOk result (λ answer. MayMiss (Rose (F.faults files.old) (F.faults files.new)) answer
+        → IfOk result (λ is_match. MayMiss (Rose (F.faults files.old) (F.faults files.new)) is_match
         (matches s (F.file_map files.old) (include_lent include.now))) }
 {
     if !is_file(&file.metadata) {
@@ -158,7 +158,7 @@ pub fn include_matches<H: HashState, F: Files>(
         AreKnown s (F.file_map files.old) known.old → AreKnown s (F.file_map files.old) known.new }
     ensures outcome { let s = setting_of H.hash context.now in
         AreKnown s (F.file_map files.old) known.old
-        → IfOk result (λ answer. MayMiss (Rose (F.faults files.old) (F.faults files.new)) answer
+        → IfOk result (λ is_match. MayMiss (Rose (F.faults files.old) (F.faults files.new)) is_match
         (matches s (F.file_map files.old) (include_lent include.now))) }
 {
     let Some(place) = place_for::<F>(alloc, files, known, include.path)? else {
@@ -190,7 +190,7 @@ pub fn includes_match<H: HashState, F: Files>(
         AreKnown s (F.file_map files.old) known.old → AreKnown s (F.file_map files.old) known.new }
     ensures outcome { let s = setting_of H.hash context.now in
         AreKnown s (F.file_map files.old) known.old
-        → IfOk result (λ answer. MayMiss (Rose (F.faults files.old) (F.faults files.new)) answer
+        → IfOk result (λ is_match. MayMiss (Rose (F.faults files.old) (F.faults files.new)) is_match
         (list_all (matches s (F.file_map files.old)) (includes_in includes.now))) }
 {
     for include in includes {

@@ -10,12 +10,12 @@ ghost use Rattle.cck_time.specs.TimePart.{time_part};
 ghost use Rattle.jiff.specs.Words.{plain_zone};
 ghost use Rattle.cck_include.specs.JudgeContext.{setting_of};
 ghost use Rattle.cck_include.specs.Recorded.{recorded, recorded_by};
-ghost use Rattle.cck_include.specs.Refusal.{IsIoError};
+ghost use Rattle.cck_include.specs.Errors.{IsIoError};
 ghost use Rattle.cck_include.specs.Scan.{IsScanOf};
 ghost use Rattle.cck_include.specs.Setting.{setting_in};
 
 use crate::JudgeContext;
-use crate::refusal::io_error;
+use crate::errors::io_error;
 use cck_digest::{Digest, FileError, HashState, WatchedDigest};
 use cck_file_digest::feed_file_of_size;
 use cck_files::Files;

@@ -55,6 +55,32 @@ impl KeyError {
     }
 }
 
+/// [`UtilError::Memory`] becomes [`KeyError::Memory`], and every other error becomes
+/// [`KeyError::Extra`].
+///
+/// So `?` converts the error of a call such as `join_path`, which fails only for lack of memory, and
+/// that of a call for the digest of an extra file. For an error at the input write a `match` that
+/// returns [`KeyError::Input`].
+///
+/// ```rust
+/// fn working_file(alloc: Global, cwd: &[u8]) -> Result<Vec<u8>, KeyError> {
+///     let path = join_path(alloc, cwd, b"flags")?;
+///     Ok(normalize_path(alloc, &path)?)
+/// }
+/// ```
+impl From<UtilError> for KeyError {
+    ghost use Rattle.cck_key_error.specs.KeyError.{extra_error};
+
+    ghost from_gives = { λ cause e. e ≡ extra_error cause };
+
+    fn from(error: UtilError) -> KeyError {
+        match error {
+            UtilError::Memory => KeyError::Memory,
+            other => KeyError::Extra(other),
+        }
+    }
+}
+
 impl From<AllocError> for KeyError {
     ghost from_gives = { λ _ e. e ≡ Memory };
 

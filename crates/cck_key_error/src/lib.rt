@@ -6,6 +6,7 @@
 //! compiler returned no preprocessed text, which is one of the causes.
 //!
 //! - [`KeyError::number`] is the number of each variant.
+//! - `From` makes a [`KeyError`] of lack of memory and of a `UtilError`, so `?` converts both.
 //! - [`laws`] states what `==` means for the two types.
 //!
 //! ```rust

@@ -11,8 +11,8 @@ use Rattle.cck_path.specs.Timestamp.{Moment}
 use Rattle.cck_path.specs.declared.metadata.FileKind.{FileKind}
 use Rattle.cck_path.specs.declared.metadata.FileKind.TheVariants.{File, Folder, Other}
 use Rattle.cck_path.specs.declared.metadata.Metadata.{Metadata}
-use Rattle.cck_mini.specs.Printed.{text_at, text_if}
-use Rattle.cck_mini.specs.Refusal.{IsPrintError, print_error}
+use Rattle.cck_mini.specs.Printed.{file_text_at, text_if}
+use Rattle.cck_mini.specs.Errors.{IsPrintError, print_error}
 
 abbrev modified_in : Result Metadata FileError → Option Moment
 modified_in (Ok m) = m.modified
@@ -33,8 +33,8 @@ of_node (Some n) metadata s m c = of_kind n.kind n s metadata.modified c (ap mod
 
 -- what is known of a regular file, and its contents
 pub file_read : (map : FileMap) (path : Bytes) (metadata : Metadata) (s : Bytes) → metadata_at map (components path) ≡ Ok metadata → contents_at map (components path) ≡ Ok s
-    → text_at map path ≡ Some (s, metadata.modified)
-unfolding text_at metadata_at contents_at file_at
+    → file_text_at map path ≡ Some (s, metadata.modified)
+unfolding file_text_at metadata_at contents_at file_at
 file_read map path metadata s m c = of_node (get map.nodes (components path)) metadata s m c
 
 no_node : (o : Option FileNode) (e : FileError) → metadata_in o ≡ Err e → text_if (file_in o) ≡ None
@@ -51,16 +51,16 @@ no_file None e c = refl
 no_file (Some n) e c = no_kind n.kind n e c
 
 -- nothing is known, so there is no regular file
-pub unknown : (map : FileMap) (path : Bytes) (F : Type 0) (e : FileError) → IsError (metadata_at map (components path)) F e → IsPrintError (text_at map path) F (print_error e)
-unfolding text_at metadata_at file_at
+pub unknown : (map : FileMap) (path : Bytes) (F : Type 0) (e : FileError) → IsError (metadata_at map (components path)) F e → IsPrintError (file_text_at map path) F (print_error e)
+unfolding file_text_at metadata_at file_at
 unknown map path F file.NotFound r = no_node (get map.nodes (components path)) file.NotFound r
 unknown map path F file.OtherKind r = no_node (get map.nodes (components path)) file.OtherKind r
 unknown map path F file.Fault r = r
 unknown map path F file.Memory r = tt
 
 -- no contents can be read, so there is no regular file
-pub unread : (map : FileMap) (path : Bytes) (F G : Type 0) (e : FileError) → (F → G) → IsErrorOrMemory (contents_at map (components path)) F e → IsPrintError (text_at map path) G (print_error e)
-unfolding text_at contents_at file_at
+pub unread : (map : FileMap) (path : Bytes) (F G : Type 0) (e : FileError) → (F → G) → IsErrorOrMemory (contents_at map (components path)) F e → IsPrintError (file_text_at map path) G (print_error e)
+unfolding file_text_at contents_at file_at
 unread map path F G file.NotFound f r = no_file (get map.nodes (components path)) file.NotFound r
 unread map path F G file.OtherKind f r = no_file (get map.nodes (components path)) file.OtherKind r
 unread map path F G file.Fault f r = f r

@@ -1,3 +1,3 @@
 pub mod Printed
-pub mod Refusal
+pub mod Errors
 pub mod Seen

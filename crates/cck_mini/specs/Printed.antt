@@ -98,8 +98,8 @@ text_if (Ok n) = Some (n.contents, n.modified)
 text_if (Err e) = None
 
 -- the regular file at a path, if there is one
-unfoldable pub text_at : FileMap → Bytes → Option FileText
-text_at map path = text_if (file_at map (components path))
+unfoldable pub file_text_at : FileMap → Bytes → Option FileText
+file_text_at map path = text_if (file_at map (components path))
 
 -- an included file between its markers, of which the last has the number of the line after the inclusion
 unfoldable pub included_text : Macros → Bytes → Bytes → ℕ → Bytes → Bytes
@@ -122,7 +122,7 @@ module _ (zone : ℤ) (moment : Moment) (map : FileMap) (folder path : Bytes) wh
   -- what a line is printed as, by the name that it includes: that file, if it is regular, or the line itself with these macros replaced
   abbrev pub line_text : Macros → Option Bytes → Bytes × Bytes → ℕ → Option Bytes
   line_text m None line n = Some (expanded m line.0 ++ line.1)
-  line_text m (Some name) line n = included (join_path folder name) n (text_at map (join_path folder name))
+  line_text m (Some name) line n = included (join_path folder name) n (file_text_at map (join_path folder name))
 
   -- what lines are printed as, where n is the number of the line after the first of them
   abbrev pub lines_text : Macros → ℕ → List (Bytes × Bytes) → Option Bytes
@@ -135,4 +135,4 @@ module _ (zone : ℤ) (moment : Moment) (map : FileMap) (folder path : Bytes) wh
 
 -- what is printed at a call time for an input in a directory, if it and all that it includes are regular files
 unfoldable pub printed : ℤ → Moment → FileMap → Bytes → Bytes → Option Bytes
-printed zone moment map folder input = input_text zone moment map folder (join_path folder input) (text_at map (join_path folder input))
+printed zone moment map folder input = input_text zone moment map folder (join_path folder input) (file_text_at map (join_path folder input))

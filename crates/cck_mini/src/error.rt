@@ -1,6 +1,6 @@
 //! Why no text is printed.
 ghost use Rattle.std.specs.Prelude.{◌≡◌};
-ghost use Rattle.cck_mini.specs.Refusal.{print_error};
+ghost use Rattle.cck_mini.specs.Errors.{print_error};
 ghost use Rattle.cck_mini.specs.declared.error.PrintError.TheVariants.{Memory};
 
 use cck_digest::FileError;

@@ -1,8 +1,8 @@
 //! Regular files.
 ghost use Rattle.std.specs.Prelude.{◌≡◌, Some, MatchResult};
 ghost use Rattle.cck_files.specs.Calls.{Keeps, Rose};
-ghost use Rattle.cck_mini.specs.Printed.{text_at};
-ghost use Rattle.cck_mini.specs.Refusal.{IsPrintError};
+ghost use Rattle.cck_mini.specs.Printed.{file_text_at};
+ghost use Rattle.cck_mini.specs.Errors.{IsPrintError};
 
 use crate::error::{PrintError, print_error};
 use cck_file_digest::read_contents_of_size;
@@ -30,7 +30,7 @@ pub(crate) fn read_file<F: Files>(
     path: &[u8],
 ) -> Result<FileText, PrintError>
     ensures keeps { Keeps F.file_map F.faults F.is_quiet files.old files.new }
-    ensures outcome { let found = text_at (F.file_map files.old) path.now in
+    ensures outcome { let found = file_text_at (F.file_map files.old) path.now in
         MatchResult result (λ f. found ≡ Some (f.contents.items, f.modified))
         (IsPrintError found (Rose (F.faults files.old) (F.faults files.new))) }
 {

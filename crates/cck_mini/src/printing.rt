@@ -3,7 +3,7 @@ ghost use Rattle.std.specs.Prelude.{◌≡◌, ◌++◌, Some, IfOk, IsSomeAnd, 
 ghost use Rattle.cck_files.specs.Calls.{Keeps, Rose};
 ghost use Rattle.cck_path.specs.Text.{join_path};
 ghost use Rattle.cck_mini.specs.Printed.{include_name, included_text, line_text, lines_in, lines_text, marker, printed};
-ghost use Rattle.cck_mini.specs.Refusal.{IsPrintError};
+ghost use Rattle.cck_mini.specs.Errors.{IsPrintError};
 ghost use Rattle.cck_mini.specs.Seen.{macros_seen};
 
 use crate::error::PrintError;

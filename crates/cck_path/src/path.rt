@@ -12,7 +12,7 @@ ghost use Rattle.cck_path.specs.Components.{IsInName, component_of, components_a
 
 use cck_digest::UtilError;
 use memchr::{memchr, memrchr};
-use std::alloc::Global;
+use std::alloc::{AllocError, Global};
 use std::cmp::Ordering;
 use std::io::Write;
 
@@ -351,10 +351,9 @@ pub fn normalize_path(alloc: Global, path: &[u8]) -> Result<Vec<u8>, UtilError>
 }
 
 // Appends the names, separated by `/`.
-fn push_names(text: &mut Vec<u8>, names: &[&[u8]]) -> Result<(), UtilError>
-    ensures appended { OnOk result
+fn push_names(text: &mut Vec<u8>, names: &[&[u8]]) -> Result<(), AllocError>
+    ensures { OnOk result
         (text.new.items ≡ text.old.items ++ join_with_byte 47 (map (λ n. n.now) names.now)) }
-    ensures errors { IsOkUnless result UtilError.Memory }
 {
     let Some((first, others)) = names.split_first() else {
         return Ok(());

@@ -4,7 +4,7 @@ ghost use Rattle.std.specs.Option.{option_map};
 ghost use Rattle.cck_files.specs.Calls.{Keeps, Rose};
 ghost use Rattle.cck_files.specs.FileMap.{file_at};
 ghost use Rattle.cck_include.specs.Recorded.{recorded};
-ghost use Rattle.cck_include.specs.Refusal.{IsIoError};
+ghost use Rattle.cck_include.specs.Errors.{IsIoError};
 ghost use Rattle.cck_include.specs.Setting.{setting_in};
 ghost use Rattle.cck_path.specs.Bytes.{lists_of, variables_of};
 ghost use Rattle.cck_path.specs.Path.{components};

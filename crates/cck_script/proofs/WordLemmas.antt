@@ -5,7 +5,7 @@ use Rattle.std.specs.List.{slice_split, position_or_len, onto_first}
 use Rattle.std.proofs.lemmas.List.Splits.{slice_split_first}
 use Rattle.std.proofs.lemmas.List.{map-append}
 use Rattle.cck_path.specs.Bytes.{Bytes, lists_of}
-use Rattle.cck_script.specs.Words.{cut, cut_at, word, with_rest, next_word, with_word, all_words}
+use Rattle.cck_script.specs.Words.{cut, parts_at, word, with_rest, next_word, with_word, all_words}
 
 -- the parts that are left after a separator, if there is one
 abbrev pub parts_left : ℕ → Option Bytes → List Bytes
@@ -29,7 +29,7 @@ module _ (c : ℕ) where
   none_split [] h = refl
   none_split (x ∷ xs) h = none_step x xs (is_end x) refl (none_split xs) h
 
-  split_if : (s : List ℕ) (b : Bool) → nat_lt (position_or_len is_end s) (length s) ≡ b → slice_split is_end s ≡ (cut_at (cond b (Some (position_or_len is_end s)) None) s).0 ∷ parts_left c ((cut_at (cond b (Some (position_or_len is_end s)) None) s).1)
+  split_if : (s : List ℕ) (b : Bool) → nat_lt (position_or_len is_end s) (length s) ≡ b → slice_split is_end s ≡ (parts_at (cond b (Some (position_or_len is_end s)) None) s).0 ∷ parts_left c ((parts_at (cond b (Some (position_or_len is_end s)) None) s).1)
   split_if s true e = slice_split_first is_end s 0 (ltb-true _ _ e)
   split_if s false e = none_split s (ltb-false _ _ e)
 
@@ -38,7 +38,7 @@ module _ (c : ℕ) where
   unfolding cut
   split_cut s = split_if s (nat_lt (position_or_len is_end s) (length s)) refl
 
-  cut_falls : (s : List ℕ) (b : Bool) → nat_lt (position_or_len is_end s) (length s) ≡ b → left_size ((cut_at (cond b (Some (position_or_len is_end s)) None) s).1) < left_size (Some s)
+  cut_falls : (s : List ℕ) (b : Bool) → nat_lt (position_or_len is_end s) (length s) ≡ b → left_size ((parts_at (cond b (Some (position_or_len is_end s)) None) s).1) < left_size (Some s)
   cut_falls s true e = let h = ltb-true _ _ e in simp length-drop (omega arith)
   cut_falls s false e = omega arith
 

@@ -17,13 +17,13 @@ is_nil (x ∷ xs) = false
 unfoldable pub word : Bytes → Option Bytes
 word part = if is_nil part then None else text_of (unescaped part)
 
-abbrev pub cut_at : Option ℕ → Bytes → Bytes × Option Bytes
-cut_at None s = (s, None)
-cut_at (Some i) s = (take i s, Some (drop (i + 1) s))
+abbrev pub parts_at : Option ℕ → Bytes → Bytes × Option Bytes
+parts_at None s = (s, None)
+parts_at (Some i) s = (take i s, Some (drop (i + 1) s))
 
 -- what is before the first separator, and what is after it if there is one
 unfoldable pub cut : ℕ → Bytes → Bytes × Option Bytes
-cut separator s = cut_at (position (λ b. b == separator) s) s
+cut separator s = parts_at (position (λ b. b == separator) s) s
 
 abbrev pub with_rest : Option Bytes → Option Bytes → Option (Bytes × Option Bytes)
 with_rest None rest = None

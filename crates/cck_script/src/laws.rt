@@ -9,7 +9,7 @@ use crate::{Command, EXECUTABLE, ScriptError, WORKING_DIRECTORY};
 pub fn equality_is_exact()
     ensures commands { (a b : Command) →
         IsTrue (⟦<Command as PartialEq>⟧.eq a b) ↔ (line_of a ≡ line_of b) }
-    ensures refusals { (a b : ScriptError) →
+    ensures errors { (a b : ScriptError) →
         IsTrue (⟦<ScriptError as PartialEq>⟧.eq a b) ↔ (a ≡ b) }
 {}
 

@@ -1,5 +1,5 @@
 //! A script, read.
-ghost use Rattle.std.specs.Prelude.{◌≡◌, ◌++◌, None, IfOk, IsOkUnless, MatchResult, OnOk, map};
+ghost use Rattle.std.specs.Prelude.{◌≡◌, ◌++◌, None, IfOk, MatchResult, OnOk, map};
 ghost use Rattle.std.specs.Option.{option_to_list, unwrap_or};
 ghost use Rattle.cck_path.specs.Bytes.{lists_of};
 ghost use Rattle.cck_script.specs.Script.{IsScriptError, basedir_of_command, basedirs_of, fail_of, fail_of_command, forget_of, forget_of_command, commands_of, wrong_line, zone_of, zone_of_command};
@@ -9,8 +9,7 @@ use crate::command::Command;
 use crate::error::ScriptError;
 use crate::line::{Reading, read_line};
 use crate::word::cut;
-use cck_digest::UtilError;
-use std::alloc::Global;
+use std::alloc::{AllocError, Global};
 
 /// A script, read.
 #[derive(Debug, Drop)]
@@ -76,14 +75,13 @@ impl Script {
     /// Returns what holds for the whole run. Of several lines `zone`, `store forget` or
     /// `store fail` the last one counts.
     ///
-    /// The only error is [`UtilError::Memory`].
-    pub fn options(&self, alloc: Global) -> Result<RunOptions, UtilError>
+    /// The only error is lack of memory.
+    pub fn options(&self, alloc: Global) -> Result<RunOptions, AllocError>
         ensures zone { IfOk result (λ o. o.zone_offset ≡ zone_of (lines_of self.now)) }
         ensures basedirs { IfOk result (λ o.
             lists_of o.basedirs.items ≡ basedirs_of (lines_of self.now)) }
         ensures forget { IfOk result (λ o. o.forget_at ≡ forget_of (lines_of self.now)) }
         ensures fail { IfOk result (λ o. o.fail_at ≡ fail_of (lines_of self.now)) }
-        ensures errors { IsOkUnless result UtilError.Memory }
     {
         let mut options = RunOptions {
             zone_offset: 0,
@@ -100,7 +98,7 @@ impl Script {
 
 impl RunOptions {
     // Applies the next line.
-    fn take_in(&mut self, alloc: Global, command: &Command) -> Result<(), UtilError>
+    fn take_in(&mut self, alloc: Global, command: &Command) -> Result<(), AllocError>
         ensures zone { OnOk result (self.new.zone_offset
             ≡ unwrap_or (zone_of_command (line_of command.now)) self.old.zone_offset) }
         ensures basedirs { OnOk result (lists_of self.new.basedirs.items
@@ -109,7 +107,6 @@ impl RunOptions {
             ≡ unwrap_or (forget_of_command (line_of command.now)) self.old.forget_at) }
         ensures fail { OnOk result (self.new.fail_at
             ≡ unwrap_or (fail_of_command (line_of command.now)) self.old.fail_at) }
-        ensures errors { IsOkUnless result UtilError.Memory }
     {
         match command {
             Command::Zone { offset } => self.zone_offset = *offset,

@@ -1,16 +1,18 @@
 //! The files and variables that a call is made over.
-ghost use Rattle.std.specs.Prelude.{◌≡◌, ◌∷◌, [], List, IfOk, IsOkUnless, OnErr, OnOk};
+ghost use Rattle.std.specs.Prelude.{◌≡◌, ◌∷◌, [], List, IfOk, OnErr, OnOk};
 ghost use Rattle.cck_files.specs.ArmedCalls.{IsUnarmed};
+ghost use Rattle.cck_files.specs.FileState.{with_place};
+ghost use Rattle.cck_files.specs.Node.{node_of};
 ghost use Rattle.cck_path.specs.Bytes.{variables_of};
+ghost use Rattle.cck_path.specs.Path.{components, normal};
 ghost use Rattle.cck_script.specs.Surroundings.{AreAfter, AreFiles, ArePlacesOf, with_variable};
 ghost use Rattle.cck_script.specs.Lines.{Line};
 ghost use Rattle.cck_script.specs.Seen.{line_of};
 
 use crate::command::Command;
-use cck_digest::UtilError;
 use cck_files::{MapFiles, Node};
 use cck_path::{FileKind, Timestamp};
-use std::alloc::Global;
+use std::alloc::{AllocError, Global};
 use std::collections::BTreeMap;
 
 /// The path of the compiler's executable, which is there before any line.
@@ -25,16 +27,16 @@ const EXECUTABLE_CONTENTS: &[u8] = b"cc";
 /// Returns the files before any line: [`EXECUTABLE`] alone, with the contents `cc` and both times
 /// at 1970-01-01T00:00:00Z. No call on them is armed to fail.
 ///
-/// The only error is [`UtilError::Memory`].
-pub fn first_files(alloc: Global) -> Result<MapFiles, UtilError>
+/// The only error is lack of memory.
+pub fn first_files(alloc: Global) -> Result<MapFiles, AllocError>
     ensures files { IfOk result (λ files. AreFiles [] files.files) }
     ensures quiet { IfOk result (λ files. (files.faults ≡ 0) × IsUnarmed files.armed) }
-    ensures errors { IsOkUnless result UtilError.Memory }
 {
     let mut files = MapFiles::new(alloc);
     let start = Timestamp::new(0, 0);
     let contents = EXECUTABLE_CONTENTS.to_vec(alloc)?;
-    files.put(
+    put_node(
+        &mut files,
         EXECUTABLE,
         Node {
             kind: FileKind::File,
@@ -66,10 +68,9 @@ pub struct Surroundings {
 impl Surroundings {
     /// Returns the files and variables before any line: those of [`first_files`], and no variables.
     ///
-    /// The only error is [`UtilError::Memory`].
-    pub fn new(alloc: Global) -> Result<Surroundings, UtilError>
-        ensures first { IfOk result (AreAfter []) }
-        ensures errors { IsOkUnless result UtilError.Memory }
+    /// The only error is lack of memory.
+    pub fn new(alloc: Global) -> Result<Surroundings, AllocError>
+        ensures { IfOk result (AreAfter []) }
     {
         Ok(Surroundings {
             files: first_files(alloc)?,
@@ -81,14 +82,12 @@ impl Surroundings {
     /// Applies the next line. A line that asks for a call, or that holds for the whole run, changes
     /// nothing here. The contents of a file and the value of a variable are moved, not copied.
     ///
-    /// The only error is [`UtilError::Memory`]. The files and variables are then those before the
-    /// line.
-    pub fn follow(&mut self, alloc: Global, command: Command) -> Result<(), UtilError>
+    /// The only error is lack of memory. The files and variables are then those before the line.
+    pub fn follow(&mut self, alloc: Global, command: Command) -> Result<(), AllocError>
         ensures after { OnOk result ((lines : List Line) → AreAfter lines self.old
             → AreAfter (line_of command ∷ lines) self.new) }
         ensures kept { OnErr result ((lines : List Line) → AreAfter lines self.old
             → AreAfter lines self.new) }
-        ensures errors { IsOkUnless result UtilError.Memory }
     {
         match command {
             Command::File {
@@ -96,7 +95,8 @@ impl Surroundings {
                 modified,
                 changed,
                 contents,
-            } => self.files.put(
+            } => put_node(
+                &mut self.files,
                 &path,
                 Node {
                     kind: FileKind::File,
@@ -105,7 +105,8 @@ impl Surroundings {
                     changed,
                 },
             ),
-            Command::Folder { path } => self.files.put(
+            Command::Folder { path } => put_node(
+                &mut self.files,
                 &path,
                 Node {
                     kind: FileKind::Folder,
@@ -133,19 +134,33 @@ impl Surroundings {
 
 /// A copy of these variables, in the same order.
 ///
-/// The only error is [`UtilError::Memory`].
+/// The only error is lack of memory.
 pub fn copy_variables(
     alloc: Global,
     variables: &[(Vec<u8>, Vec<u8>)],
-) -> Result<Vec<(Vec<u8>, Vec<u8>)>, UtilError>
-    ensures same { IfOk result (λ copy. variables_of copy.items ≡ variables_of variables.now) }
-    ensures errors { IsOkUnless result UtilError.Memory }
+) -> Result<Vec<(Vec<u8>, Vec<u8>)>, AllocError>
+    ensures { IfOk result (λ copy. variables_of copy.items ≡ variables_of variables.now) }
 {
     let mut copy = Vec::new(alloc);
     for (name, value) in variables {
         copy.push((name.to_vec(alloc)?, value.to_vec(alloc)?))?;
     }
     Ok(copy)
+}
+
+// Sets the node at a path, as [`MapFiles::put`] does.
+fn put_node(files: &mut MapFiles, path: &[u8], node: Node) -> Result<(), AllocError>
+    ensures set { OnOk result (files.new ≡ record files.old {
+      files =
+          with_place files.old.files (components path.now) (node_of node)
+          (normal (components path.now));
+    }) }
+    ensures kept { OnErr result (files.new ≡ files.old) }
+{
+    match files.put(path, node) {
+        Ok(()) => Ok(()),
+        Err(_) => Err(AllocError),
+    }
 }
 
 // Gives a variable a value: a new name comes last, a known one keeps its place. After an error
@@ -156,14 +171,13 @@ fn set_variable(
     places: &mut BTreeMap<Vec<u8>, usize>,
     name: Vec<u8>,
     value: Vec<u8>,
-) -> Result<(), UtilError>
+) -> Result<(), AllocError>
     ensures set { OnOk result (ArePlacesOf variables.old.items places.old
         → (variables_of variables.new.items
         ≡ with_variable name.items value.items (variables_of variables.old.items))
         × ArePlacesOf variables.new.items places.new) }
     ensures kept { OnErr result ((variables.new.items ≡ variables.old.items)
         × (places.new.entries ≡ places.old.entries)) }
-    ensures errors { IsOkUnless result UtilError.Memory }
 {
     let count = variables.len();
     let at = places.get(name.as_slice()).copied().unwrap_or(count);

@@ -19,15 +19,15 @@ raised s t e = subst (λ n. Rose (counted s) (counted n)) (sym e) (more_rises s)
 pub empty_store_laws : StoreLaws empty_store
 empty_store_laws = record {
   failures_fit = counted_fits;
-  got_count = λ s t key answer got. rw (got.1) (le_refl _);
-  got_old = λ s t key answer got k b held. held;
+  got_count = λ s t key returned got. rw (got.1) (le_refl _);
+  got_old = λ s t key returned got k b held. held;
   got_some = λ s t key bytes got. something got.0;
-  got_calm = λ s t key answer got calm k b held. held;
+  got_calm = λ s t key returned got calm k b held. held;
   got_none = λ s t key got calm b held. held;
   got_error = λ s t key e got. absurd (refused got.0);
-  put_count = λ s t key bytes answer put. rw (put.1) (counted_higher s (more s) (more_higher s));
-  put_old = λ s t key bytes answer put k b held. absurd held;
-  put_calm = λ s t key bytes answer put calm k b apart held. held;
-  put_new = λ s t key bytes answer put calm. absurd (calm (raised s t put.1));
+  put_count = λ s t key bytes returned put. rw (put.1) (counted_higher s (more s) (more_higher s));
+  put_old = λ s t key bytes returned put k b held. absurd held;
+  put_calm = λ s t key bytes returned put calm k b apart held. held;
+  put_new = λ s t key bytes returned put calm. absurd (calm (raised s t put.1));
   put_error = λ s t key bytes e put. raised s t put.1;
 }

@@ -45,14 +45,14 @@ HoldsOnly st s key bytes = st.held s key bytes × ((others : Bytes) → st.held 
 -- what its own key holds.
 pub record StoreLaws {S : Type 0} (st : Store S) : Type 0 where
   pub failures_fit : (s : S) → st.failures s < 2 ^ 64
-  pub got_count : (s t : S) (key : Bytes) (answer : Returned) → st.got s key answer t → st.failures s ≤ st.failures t
-  pub got_old : (s t : S) (key : Bytes) (answer : Returned) → st.got s key answer t → (k b : Bytes) → st.held t k b → st.held s k b
+  pub got_count : (s t : S) (key : Bytes) (returned : Returned) → st.got s key returned t → st.failures s ≤ st.failures t
+  pub got_old : (s t : S) (key : Bytes) (returned : Returned) → st.got s key returned t → (k b : Bytes) → st.held t k b → st.held s k b
   pub got_some : (s t : S) (key bytes : Bytes) → st.got s key (Ok (Some bytes)) t → st.held s key bytes
-  pub got_calm : (s t : S) (key : Bytes) (answer : Returned) → st.got s key answer t → (StoreFailure st s t → ⊥) → (k b : Bytes) → st.held s k b → st.held t k b
+  pub got_calm : (s t : S) (key : Bytes) (returned : Returned) → st.got s key returned t → (StoreFailure st s t → ⊥) → (k b : Bytes) → st.held s k b → st.held t k b
   pub got_none : (s t : S) (key : Bytes) → st.got s key (Ok None) t → (StoreFailure st s t → ⊥) → (b : Bytes) → st.held s key b → ⊥
   pub got_error : (s t : S) (key : Bytes) (e : StoreError) → st.got s key (Err e) t → StoreFailure st s t
-  pub put_count : (s t : S) (key bytes : Bytes) (answer : Stored) → st.put s key bytes answer t → st.failures s ≤ st.failures t
-  pub put_old : (s t : S) (key bytes : Bytes) (answer : Stored) → st.put s key bytes answer t → (k b : Bytes) → st.held t k b → st.held s k b ⊎ ((k ≡ key) × (b ≡ bytes))
-  pub put_calm : (s t : S) (key bytes : Bytes) (answer : Stored) → st.put s key bytes answer t → (StoreFailure st s t → ⊥) → (k b : Bytes) → (k ≡ key → ⊥) → st.held s k b → st.held t k b
-  pub put_new : (s t : S) (key bytes : Bytes) (answer : Stored) → st.put s key bytes answer t → (StoreFailure st s t → ⊥) → HoldsOnly st t key bytes
+  pub put_count : (s t : S) (key bytes : Bytes) (returned : Stored) → st.put s key bytes returned t → st.failures s ≤ st.failures t
+  pub put_old : (s t : S) (key bytes : Bytes) (returned : Stored) → st.put s key bytes returned t → (k b : Bytes) → st.held t k b → st.held s k b ⊎ ((k ≡ key) × (b ≡ bytes))
+  pub put_calm : (s t : S) (key bytes : Bytes) (returned : Stored) → st.put s key bytes returned t → (StoreFailure st s t → ⊥) → (k b : Bytes) → (k ≡ key → ⊥) → st.held s k b → st.held t k b
+  pub put_new : (s t : S) (key bytes : Bytes) (returned : Stored) → st.put s key bytes returned t → (StoreFailure st s t → ⊥) → HoldsOnly st t key bytes
   pub put_error : (s t : S) (key bytes : Bytes) (e : StoreError) → st.put s key bytes (Err e) t → StoreFailure st s t

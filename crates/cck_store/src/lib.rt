@@ -6,7 +6,7 @@
 //! interface alone, so they hold for any store.
 //!
 //! This crate has two stores: [`MapStore`] in memory, which can be armed to lose entries and to
-//! fail, and [`EmptyStore`], which keeps nothing.
+//! fail, and [`EmptyStore`], which keeps nothing. They count a store failure by [`one_more`].
 //!
 //! ```rust
 //! let mut store = MapStore::new(alloc);
@@ -25,4 +25,4 @@ mod store;
 
 pub use empty_store::EmptyStore;
 pub use map_store::MapStore;
-pub use store::{PreprocessorStore, StoreError};
+pub use store::{PreprocessorStore, StoreError, one_more};

@@ -61,9 +61,12 @@ pub trait PreprocessorStore {
     ghost laws: { StoreLaws store };
 }
 
-/// The count plus one; it stays at its greatest value.
+/// Returns a count plus one, and `u64::MAX` for `u64::MAX`.
+///
+/// This is how the stores of this crate count a store failure, and a store of another crate can
+/// count its failures so too. It allocates no memory.
 #[tactic(auto, unfolding(crate::specs::Store::more))]
-pub(crate) fn one_more(count: u64) -> u64
+pub fn one_more(count: u64) -> u64
     ensures { result ≡ more count }
 {
     if count < u64::MAX { count + 1 } else { count }

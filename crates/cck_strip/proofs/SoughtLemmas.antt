@@ -24,7 +24,7 @@ occurs_in_rest text word from k h o =
       reads = λ j lt. get_or-drop from text (k - from + j) 0 ∙ (ap (λ i. get_or text i 0) (omega arith) ∙ o.reads j lt);
     }
 
--- a search for an equal word, with an equal answer
+-- a search for an equal word, with an equal result
 pub FindsNeedle-same : (hay own needle word : List ℕ) (r now : Option ℕ) → hay ≡ own → needle ≡ word → r ≡ now → FindsNeedle hay needle 0 r → FindsNeedle own word 0 now
 FindsNeedle-same hay own needle word r now h n e f = rw (← h, ← n, ← e) f
 

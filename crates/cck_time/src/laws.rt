@@ -68,5 +68,5 @@ pub fn equal_parts_tell()
 pub fn equality_is_exact()
     ensures options { (a b : PreprocessorCacheModeConfig) →
         IsTrue (⟦<PreprocessorCacheModeConfig as PartialEq>⟧.eq a b) ↔ (a ≡ b) }
-    ensures refusals { (a b : Error) → IsTrue (⟦<Error as PartialEq>⟧.eq a b) ↔ (a ≡ b) }
+    ensures errors { (a b : Error) → IsTrue (⟦<Error as PartialEq>⟧.eq a b) ↔ (a ≡ b) }
 {}

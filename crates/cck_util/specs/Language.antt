@@ -33,5 +33,5 @@ is_preprocessed_first _ = true
 
 -- the result for a text: the language that it names, or an error exactly if it names none
 abbrev pub NamesLanguage : List ℕ → Result Language UnknownLanguage → Type 0
-NamesLanguage name answer =
-    MatchResult answer (λ language. language_name language ≡ name) (λ _. (language : Language) → language_name language ≢ name)
+NamesLanguage name read =
+    MatchResult read (λ language. language_name language ≡ name) (λ _. (language : Language) → language_name language ≢ name)

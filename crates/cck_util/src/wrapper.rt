@@ -14,7 +14,7 @@ ghost use Rattle.cck_util.specs.Wrapper.{begins_with, is_wrapper_name, is_wrappe
 use cck_digest::{FileError, UtilError};
 use cck_files::Files;
 use cck_path::{Component, Components, file_name, first_value, is_absolute, join_path};
-use std::alloc::Global;
+use std::alloc::{AllocError, Global};
 
 /// Returns the path of the compiler that `executable` names, past a wrapper such as `ccache`.
 ///
@@ -61,7 +61,7 @@ fn find_compiler<F: Files>(
     files: &mut F,
     executable: &[u8],
     vars: &[(Vec<u8>, Vec<u8>)],
-) -> Result<Option<Vec<u8>>, UtilError>
+) -> Result<Option<Vec<u8>>, AllocError>
     ensures keeps { Keeps F.file_map F.faults F.is_quiet files.old files.new }
     ensures outcome { IfOk result (λ compiler.
         (option_map (λ path. path.items) compiler ≡ found (F.file_map files.old) executable.now
@@ -72,7 +72,6 @@ fn find_compiler<F: Files>(
         path.items)) }
     ensures judgement { IfOk result (λ compiler. IfSome compiler (λ path.
         exists_at (F.file_map files.old) (components path.items) ≡ true)) }
-    ensures errors { IsOkUnless result UtilError.Memory }
 {
     if is_settled(alloc, files, executable)? {
         return Ok(None);
@@ -88,12 +87,11 @@ fn find_compiler<F: Files>(
 }
 
 // Returns whether a path is absolute and doesn't lead to a wrapper.
-fn is_settled<F: Files>(alloc: Global, files: &mut F, path: &[u8]) -> Result<bool, UtilError>
+fn is_settled<F: Files>(alloc: Global, files: &mut F, path: &[u8]) -> Result<bool, AllocError>
     ensures keeps { Keeps F.file_map F.faults F.is_quiet files.old files.new }
     ensures outcome { IfOk result (λ settled.
         (settled ≡ is_settled (F.file_map files.old) (components path.now))
         ⊎ Rose (F.faults files.old) (F.faults files.new)) }
-    ensures errors { IsOkUnless result UtilError.Memory }
 {
     if !is_absolute(path) {
         return Ok(false);
@@ -103,16 +101,13 @@ fn is_settled<F: Files>(alloc: Global, files: &mut F, path: &[u8]) -> Result<boo
 }
 
 // Returns the parts of a search path that have no wrapper's component.
-fn kept_parts(alloc: Global, path: &[u8]) -> Result<Vec<&[u8]>, UtilError>
-    ensures parts { IfOk result (λ parts.
+fn kept_parts(alloc: Global, path: &[u8]) -> Result<Vec<&[u8]>, AllocError>
+    ensures { IfOk result (λ parts.
         map (λ part. part.now) parts.items ≡ kept_parts path.now) }
-    ensures errors { IsOkUnless result UtilError.Memory }
 {
-    Ok(
-        path.split(|byte| *byte == b':')
-            .filter(|part| !has_wrapper_component(part))
-            .collect(alloc)?,
-    )
+    path.split(|byte| *byte == b':')
+        .filter(|part| !has_wrapper_component(part))
+        .collect(alloc)
 }
 
 // Returns whether a path has a component `ccache` or `sccache`.
@@ -138,7 +133,7 @@ fn first_compiler<F: Files>(
     files: &mut F,
     parts: &[&[u8]],
     name: &[u8],
-) -> Result<Option<Vec<u8>>, UtilError>
+) -> Result<Option<Vec<u8>>, AllocError>
     ensures keeps { Keeps F.file_map F.faults F.is_quiet files.old files.new }
     ensures outcome { IfOk result (λ compiler.
         (option_map (λ path. path.items) compiler
@@ -149,10 +144,12 @@ fn first_compiler<F: Files>(
         (map (λ part. joined_text part.now name.now) parts.now) path.items)) }
     ensures judgement { IfOk result (λ compiler. IfSome compiler (λ path.
         exists_at (F.file_map files.old) (components path.items) ≡ true)) }
-    ensures errors { IsOkUnless result UtilError.Memory }
 {
     for part in parts {
-        let path = join_path(alloc, part, name)?;
+        let path = match join_path(alloc, part, name) {
+            Ok(path) => path,
+            Err(_) => return Err(AllocError),
+        };
         if is_compiler(alloc, files, &path)? {
             return Ok(Some(path));
         }
@@ -161,14 +158,13 @@ fn first_compiler<F: Files>(
 }
 
 // Returns whether a path exists and doesn't lead to a wrapper.
-fn is_compiler<F: Files>(alloc: Global, files: &mut F, path: &[u8]) -> Result<bool, UtilError>
+fn is_compiler<F: Files>(alloc: Global, files: &mut F, path: &[u8]) -> Result<bool, AllocError>
     ensures keeps { Keeps F.file_map F.faults F.is_quiet files.old files.new }
     ensures outcome { IfOk result (λ compiler.
         (compiler ≡ is_compiler (F.file_map files.old) (components path.now))
         ⊎ Rose (F.faults files.old) (F.faults files.new)) }
     ensures judgement { IfOk result (λ compiler. compiler ≡ true
         → exists_at (F.file_map files.old) (components path.now) ≡ true) }
-    ensures errors { IsOkUnless result UtilError.Memory }
 {
     if !files.exists(path) {
         return Ok(false);
@@ -178,17 +174,16 @@ fn is_compiler<F: Files>(alloc: Global, files: &mut F, path: &[u8]) -> Result<bo
 }
 
 // Returns whether a path leads to a wrapper.
-fn leads_to_wrapper<F: Files>(alloc: Global, files: &mut F, path: &[u8]) -> Result<bool, UtilError>
+fn leads_to_wrapper<F: Files>(alloc: Global, files: &mut F, path: &[u8]) -> Result<bool, AllocError>
     ensures keeps { Keeps F.file_map F.faults F.is_quiet files.old files.new }
     ensures outcome { IfOk result (λ leads.
         (leads ≡ leads_to_wrapper (F.file_map files.old) (components path.now))
         ⊎ Rose (F.faults files.old) (F.faults files.new)) }
-    ensures errors { IsOkUnless result UtilError.Memory }
 {
     match files.canonical(alloc, path) {
         Ok(canonical) => Ok(is_wrapper(&canonical)),
         Err(error) => match error {
-            FileError::Memory => Err(UtilError::Memory),
+            FileError::Memory => Err(AllocError),
             _ => Ok(false),
         },
     }

@@ -6,9 +6,10 @@ use Rattle.cck_digest.specs.declared.error.FileError.TheVariants.{NotFound, Othe
 use Rattle.cck_digest.specs.declared.error.UtilError.TheVariants as util
 use Rattle.cck_files.specs.Calls.{IsError}
 use Rattle.cck_files.specs.FileMap.{FileMap, FileNode, file_at, file_if, file_in, metadata_at, metadata_in, metadata_of}
+use Rattle.cck_include.proofs.ErrorLemmas.{by_file_error}
 use Rattle.cck_include.specs.Recorded.{recorded}
 use Rattle.cck_include.specs.Setting.{Setting}
-use Rattle.cck_include.specs.Refusal.{IsIoError}
+use Rattle.cck_include.specs.Errors.{IsIoError}
 use Rattle.cck_path.specs.Path.{Path}
 use Rattle.cck_path.specs.declared.metadata.FileKind.TheVariants as kind
 use Rattle.cck_path.specs.declared.metadata.Metadata.{Metadata}
@@ -73,20 +74,11 @@ module _ (s : Setting) (files : FileMap) (p : Path) (m : Metadata) (is : metadat
     readable e h = let bad : ◌≡◌ {A = Result FileNode FileError} (Ok node_at.0) (Err e) = sym found ∙ h in cc
 
     -- reading a regular file fails only for a fault or lack of memory
+    unread_node : (P Q : Type 0) (e : FileError) → (P → Q) → IsError (file_at files p) P e → IsJudged (judgement_at s files p) Q (judged_unread (error.Io (util.File e)))
+    unread_node P Q NotFound f r = absurd (readable NotFound r)
+    unread_node P Q OtherKind f r = absurd (readable OtherKind r)
+    unread_node P Q Fault f r = inr (f r)
+    unread_node P Q Memory f r = absurd r
+
     pub unread_at : (P Q : Type 0) (e : Error) → (P → Q) → IsIoError (file_at files p) P e → IsJudged (judgement_at s files p) Q (judged_unread e)
-    unread_at P Q error.Memory f r = tt
-    unread_at P Q (error.Io (util.File NotFound)) f r = absurd (readable NotFound r)
-    unread_at P Q (error.Io (util.File OtherKind)) f r = absurd (readable OtherKind r)
-    unread_at P Q (error.Io (util.File Fault)) f r = inr (f r)
-    unread_at P Q (error.Io (util.File Memory)) f r = absurd r
-    unread_at P Q (error.Io util.Memory) f r = absurd r
-    unread_at P Q (error.Io util.Read) f r = absurd r
-    unread_at P Q (error.Io util.TooDeep) f r = absurd r
-    unread_at P Q (error.Io util.TooLong) f r = absurd r
-    unread_at P Q (error.Io util.Write) f r = absurd r
-    unread_at P Q (error.Io util.IncompleteEscape) f r = absurd r
-    unread_at P Q (error.Io util.InvalidEscape) f r = absurd r
-    unread_at P Q (error.Io util.IncompleteHex) f r = absurd r
-    unread_at P Q (error.Io util.InvalidHex) f r = absurd r
-    unread_at P Q error.Deserialization f r = absurd r
-    unread_at P Q (error.UnknownFormat byte) f r = absurd r
+    unread_at P Q e f r = by_file_error (IsError (file_at files p) P) (λ e. IsJudged (judgement_at s files p) Q (judged_unread e)) e r tt (λ x at. unread_node P Q x f at)

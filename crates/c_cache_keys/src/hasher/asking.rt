@@ -10,7 +10,7 @@ ghost use Rattle.c_cache_keys.specs.Step.{AsksBy};
 use super::opening::Opening;
 use crate::call::CacheControl;
 use crate::conditions::Conditions;
-use crate::refusals::entry_error;
+use crate::errors::entry_error;
 use cck_compiler::KeyError;
 use cck_digest::HashState;
 use cck_entry::EntryView;

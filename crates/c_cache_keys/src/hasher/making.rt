@@ -13,8 +13,8 @@ use super::CCompilerHasher;
 use super::opening::Opening;
 use super::storing::put_result;
 use crate::conditions::Conditions;
+use crate::errors::{input_error, text_error};
 use crate::included::included_of;
-use crate::refusals::{input_error, text_error};
 use cck_compiler::{CCompilerImpl, KeyError, push_copies};
 use cck_digest::HashState;
 use cck_file_digest::read_contents;
@@ -58,10 +58,7 @@ impl<I: CCompilerImpl> CCompilerHasher<I> {
             IfErr result (IsFileReason (world_under H.hash I.compiler given) (call_under I.value (F.file_map files.old) self.now given)
             (Rose (F.faults files.old) (F.faults files.new))) }
     {
-        let input = match join_path(alloc, conditions.cwd, &self.parsed_args.input) {
-            Ok(input) => input,
-            Err(_) => return Err(KeyError::Memory),
-        };
+        let input = join_path(alloc, conditions.cwd, &self.parsed_args.input)?;
         if !self.parsed_args.language.needs_c_preprocessing() {
             let text = match read_contents(alloc, files, &input) {
                 Ok(text) => text,

@@ -14,7 +14,7 @@ ghost use Rattle.c_cache_keys.specs.Step.{StopsOpening};
 
 use super::CCompilerHasher;
 use crate::conditions::Conditions;
-use crate::refusals::{extra_error, key_error_of};
+use crate::errors::key_error_of;
 use cck_compiler::{CCompilerImpl, KeyError};
 use cck_digest::HashState;
 use cck_file_digest::hash_all;
@@ -103,14 +103,7 @@ impl<I: CCompilerImpl> CCompilerHasher<I> {
             IfErr result (IsFileReason (world_under H.hash I.compiler given) (call_under I.value (F.file_map files.old) self.now given)
             (Rose (F.faults files.old) (F.faults files.new))) }
     {
-        let extra_hashes = match hash_all::<H, F>(
-            alloc,
-            files,
-            &self.parsed_args.extra_hash_files,
-        ) {
-            Ok(extra_hashes) => extra_hashes,
-            Err(error) => return Err(extra_error(error)),
-        };
+        let extra_hashes = hash_all::<H, F>(alloc, files, &self.parsed_args.extra_hash_files)?;
         if !self.uses_cache(conditions) {
             return Ok(Opening {
                 extra_hashes,
@@ -139,10 +132,7 @@ impl<I: CCompilerImpl> CCompilerHasher<I> {
             (IsInputError w c (Rose (F.faults files.old) (F.faults files.new))) }
     {
         let args = &self.parsed_args;
-        let input = match join_path(alloc, conditions.cwd, &args.input) {
-            Ok(input) => input,
-            Err(_) => return Err(KeyError::Memory),
-        };
+        let input = join_path(alloc, conditions.cwd, &args.input)?;
         let key = preprocessor_cache_entry_hash_key::<H, F>(
             alloc,
             self.executable_digest.as_str(),

@@ -7,16 +7,16 @@ use Rattle.c_cache_keys.proofs.Stored.{run_returns_stored}
 use Rattle.c_cache_keys.specs.World.{world_of}
 use Rattle.c_cache_keys.proofs.calls.run_calls.Goals as goal
 
-pub returns-in_err-answers-clause-keeps : goal.returns-in_err-answers-clause-keeps
-returns-in_err-answers-clause-keeps g c = untouched g.F.Files.file_map g.F.Files.faults g.F.Files.is_quiet c.args.calls.now
+pub returns-in_err-call_results-clause-keeps : goal.returns-in_err-call_results-clause-keeps
+returns-in_err-call_results-clause-keeps g c = untouched g.F.Files.file_map g.F.Files.faults g.F.Files.is_quiet c.args.calls.now
 
 pub loop-call-init : goal.loop-call-init
 loop-call-init g c = record {
-  results_returned = rw c.in_ok-answers.ensures.items refl;
+  results_returned = rw c.in_ok-call_results.ensures.items refl;
   rest = refl;
   after = untouched g.F.Files.file_map g.F.Files.faults g.F.Files.is_quiet c.args.calls.now;
-  count = c.in_ok-answers.ensures.len;
-  room = omega (c.in_ok-answers.ensures.capacity, arith);
+  count = c.in_ok-call_results.ensures.len;
+  room = omega (c.in_ok-call_results.ensures.capacity, arith);
 }
 
 pub loop-call-preserved : goal.loop-call-preserved
@@ -27,13 +27,13 @@ loop-call-preserved g c =
       results_returned = rw (add-one, c.in_ok-push.ensures.items)
           (returned_more g.I.CCompilerImpl.value F.file_map F.faults w g.S.PreprocessorStore.store c.loop-call.call-index c.args.calls.now c.loop-call.calls _ c.call-item.result _ _ _ _ _
           c.loop-call-test.true c.loop-call.invariant.rest c.loop-call.invariant.results_returned (record {
-            step = rw (c.deref.ensures.value, c.deref-in-loop-call.ensures.value) at c.generate_hash_key-answer.ensures.step;
-            reason = rw (c.deref.ensures.value, c.deref-in-loop-call.ensures.value) at c.generate_hash_key-answer.ensures.reason;
-            toolchain = c.generate_hash_key-answer.ensures.toolchain;
+            step = rw (c.deref.ensures.value, c.deref-in-loop-call.ensures.value) at c.generate_hash_key-call_result.ensures.step;
+            reason = rw (c.deref.ensures.value, c.deref-in-loop-call.ensures.value) at c.generate_hash_key-call_result.ensures.reason;
+            toolchain = c.generate_hash_key-call_result.ensures.toolchain;
           }));
       rest = rw add-one (rest_more c.loop-call.call-index c.args.calls.now c.loop-call.calls _ c.loop-call.auto.calls c.loop-call.invariant.rest);
-      after = after_more F.file_map F.faults F.is_quiet c.loop-call.call-index c.args.calls.now c.loop-call.calls c.call-item.result c.generate_hash_key-answer.new.files c.loop-call-test.true
-          c.loop-call.invariant.rest c.generate_hash_key-answer.ensures.keeps c.loop-call.invariant.after;
+      after = after_more F.file_map F.faults F.is_quiet c.loop-call.call-index c.args.calls.now c.loop-call.calls c.call-item.result c.generate_hash_key-call_result.new.files c.loop-call-test.true
+          c.loop-call.invariant.rest c.generate_hash_key-call_result.ensures.keeps c.loop-call.invariant.after;
       count = c.in_ok-push.ensures.len ∙ ap (λ n. n + 1) c.loop-call.invariant.count;
       room = omega (c.in_ok-push.ensures.capacity, c.loop-call.invariant.room, arith);
     }

@@ -12,9 +12,9 @@ abbrev pub invariant-loop-call : goal.invariant-loop-call
 invariant-loop-call g l = let F = g.F.Files in record {
   results_returned : AreReturned g.I.CCompilerImpl.value F.file_map F.faults
       (world_of g.H.HashState.hash g.I.CCompilerImpl.compiler (plain_zone l.fn.zone) l.fn.config (lists_of l.fn.basedirs)) g.S.PreprocessorStore.store l.fn.store
-      (take l.call-index l.fn.calls) (take l.call-index l.calls) l.answers.items l.store;
+      (take l.call-index l.fn.calls) (take l.call-index l.calls) l.call_results.items l.store;
   rest : drop l.call-index l.calls ≡ drop l.call-index l.fn.calls;
   after : AllZip (IsAfter F.file_map F.faults F.is_quiet) l.fn.calls l.calls;
-  count : vec_len l.answers ≡ l.call-index;
-  room : length l.fn.calls ≤ vec_capacity l.answers;
+  count : vec_len l.call_results ≡ l.call-index;
+  room : length l.fn.calls ≤ vec_capacity l.call_results;
 }

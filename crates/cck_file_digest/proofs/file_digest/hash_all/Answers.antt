@@ -4,7 +4,7 @@ use Rattle.std.proofs.lemmas.List.{length-map, map-append}
 use Rattle.cck_path.specs.Path.{components}
 use Rattle.cck_files.specs.FileMap.{FileMap}
 use Rattle.cck_files.proofs.CallsLemmas.{keeps_all}
-use Rattle.cck_file_digest.specs.FileDigest.{paths_of, text_at}
+use Rattle.cck_file_digest.specs.FileDigest.{paths_of, digest_text_at}
 use Rattle.cck_file_digest.proofs.TextLemmas.{path_at, texts_more}
 use Rattle.cck_file_digest.proofs.file_digest.hash_all.Goals as goal
 
@@ -16,8 +16,8 @@ loop-path-preserved g c =
     let i = c.loop-path.path-index in
     let among : i < length xs = omega arith in
     let at : components c.deref.result.now ≡ get_or (paths_of xs) i [] = ap components c.deref.ensures.value ∙ path_at xs i c.path-item.result among c.path-item.is in
-    let text : text_at hash fm (get_or (paths_of xs) i []) ≡ Some (string_bytes c.in_ok-digest_path.field-0) =
-    ap (text_at hash fm) (sym at) ∙ (ap (λ m. text_at hash m (components c.deref.result.now)) (sym c.loop-path.invariant.keeps.same_map) ∙ c.in_ok-digest_path.ensures.outcome) in
+    let text : digest_text_at hash fm (get_or (paths_of xs) i []) ≡ Some (string_bytes c.in_ok-digest_path.field-0) =
+    ap (digest_text_at hash fm) (sym at) ∙ (ap (λ m. digest_text_at hash m (components c.deref.result.now)) (sym c.loop-path.invariant.keeps.same_map) ∙ c.in_ok-digest_path.ensures.outcome) in
     record {
       keeps = keeps_all _ _ _ c.loop-path.invariant.keeps c.in_ok-digest_path.ensures.keeps;
       claim = texts_more hash fm (paths_of xs) i _ _ (simp length-map among) c.loop-path.invariant.claim text

@@ -43,7 +43,7 @@ returns-clause-outcome g c = λ right.
     let own : IsRight s (F.file_map c.place_for.new.files) file =
     subst (λ m. IsRight s m file) (sym same) (right_there s old ks (components i.path) c.in-Some.place file c.index_mut-file.ensures.value at (c.in_ok-place.ensures.known s right).0) in
     let path = path_there ks (components i.path) c.in-Some.place file c.index_mut-file.ensures.value at in
-    IfOk-weaker c.known_matches.result _ _ (λ answer h. may_miss_more P Q answer (matches s old i)
+    IfOk-weaker c.known_matches.result _ _ (λ is_match h. may_miss_more P Q is_match (matches s old i)
     (rose_earlier (F.faults c.args.files.now) (F.faults c.place_for.new.files) (F.faults c.known_matches.new.files) c.in_ok-place.ensures.keeps.not_lower) h)
     (rw (← same) (c.known_matches.ensures.outcome own path))
 

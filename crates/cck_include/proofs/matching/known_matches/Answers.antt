@@ -48,7 +48,7 @@ returns-clause-outcome g c = λ right path.
     let k = c.args.file.now in
     let is = metadata_known s old k (components i.path) right path in
     let P = Rose (F.faults c.args.files.now) (F.faults c.is_recorded.new.files) in
-    let there : IfOk c.is_recorded.result (λ answer. MayMiss P answer (digest_found s i.digest (file_at old (components i.path)))) =
-    subst (λ q. IfOk c.is_recorded.result (λ answer. MayMiss P answer (digest_found s i.digest (file_at old q)))) path (c.is_recorded.ensures.outcome right) in
+    let there : IfOk c.is_recorded.result (λ is_match. MayMiss P is_match (digest_found s i.digest (file_at old (components i.path)))) =
+    subst (λ q. IfOk c.is_recorded.result (λ is_match. MayMiss P is_match (digest_found s i.digest (file_at old q)))) path (c.is_recorded.ensures.outcome right) in
     let decides = by_digest s old i k.metadata is c.if-not-is_file.ensures c.if-file-include.false (sym c.times_accept.ensures ∙ c.if-times_accept.false) in
-    subst (λ t. IfOk c.is_recorded.result (λ answer. MayMiss P answer t)) decides there
+    subst (λ t. IfOk c.is_recorded.result (λ is_match. MayMiss P is_match t)) decides there

@@ -6,7 +6,7 @@ use Rattle.cck_files.specs.Calls.{Rose}
 use Rattle.cck_files.specs.FileMap.{file_at}
 use Rattle.cck_include.proofs.RecordedLemmas.{returned_by_result, without_metadata}
 use Rattle.cck_include.specs.Recorded.{recorded}
-use Rattle.cck_include.specs.Refusal.{IsIoError}
+use Rattle.cck_include.specs.Errors.{IsIoError}
 use Rattle.cck_include.specs.Setting.{setting_in}
 use Rattle.cck_path.specs.Path.{components}
 use Rattle.jiff.specs.Words.{plain_zone}

@@ -3,8 +3,8 @@ use Rattle.std.proofs.lemmas.Int.{to_z-of_z}
 use Rattle.std.proofs.lemmas.Result.{err_from_is_err_and}
 use Rattle.cck_files.specs.Calls.{Rose}
 use Rattle.cck_files.proofs.CallsLemmas.{rose_earlier}
-use Rattle.cck_mini.specs.Printed.{lines_in, lines_text, macros_of, marker, text_at}
-use Rattle.cck_mini.specs.Refusal.{IsPrintError}
+use Rattle.cck_mini.specs.Printed.{lines_in, lines_text, macros_of, marker, file_text_at}
+use Rattle.cck_mini.specs.Errors.{IsPrintError}
 use Rattle.cck_mini.specs.Seen.{macros_seen}
 use Rattle.cck_mini.proofs.InputLemmas.{all_printed, no_input, no_lines}
 use Rattle.cck_mini.proofs.printing.print_input.Goals as goal
@@ -25,7 +25,7 @@ returns-in_err-print_lines-clause-outcome g c =
     let m = macros_seen c.in_ok-macros.macros in
     let p = err_from_is_err_and c.from_residual-in_err-print_lines.result c.from_residual-in_err-print_lines.ensures.1 in
     let z = to_z-of_z w32 c.args.zone_offset c.ranges.zone_offset in
-    let text : text_at map path ≡ Some (file.contents.items, file.modified) = rw c.deref.ensures.value at c.in_ok-file.ensures.outcome in
+    let text : file_text_at map path ≡ Some (file.contents.items, file.modified) = rw c.deref.ensures.value at c.in_ok-file.ensures.outcome in
     let macros : m ≡ macros_of c.args.zone_offset c.args.moment file.modified = rw z at c.in_ok-macros.ensures in
     let R = Rose (F.faults c.read_file.new.files) (F.faults c.print_lines.new.files) in
     let S = Rose (F.faults c.args.files.now) (F.faults c.print_lines.new.files) in
@@ -43,7 +43,7 @@ returns-clause-outcome g c =
     let file = c.in_ok-file.file in
     let m = macros_seen c.in_ok-macros.macros in
     let z = to_z-of_z w32 c.args.zone_offset c.ranges.zone_offset in
-    let text : text_at map path ≡ Some (file.contents.items, file.modified) = rw c.deref.ensures.value at c.in_ok-file.ensures.outcome in
+    let text : file_text_at map path ≡ Some (file.contents.items, file.modified) = rw c.deref.ensures.value at c.in_ok-file.ensures.outcome in
     let macros : m ≡ macros_of c.args.zone_offset c.args.moment file.modified = rw z at c.in_ok-macros.ensures in
     let printed : c.print_marker.new.out.items ≡ marker 1 path [] = rw (c.new-out.ensures.items, c.deref-2.ensures.value) at c.in_ok-print_marker.ensures in
     let first : c.reserve.new.self.items ≡ marker 1 path [] = c.reserve.ensures.items ∙ printed in

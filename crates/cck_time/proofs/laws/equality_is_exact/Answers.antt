@@ -16,5 +16,5 @@ returns-clause-options c = λ a b.
     (Decides-and _ _ (booleans_Decides a.skip_system_headers b.skip_system_headers)
     (booleans_Decides a.hash_working_directory b.hash_working_directory))))))
 
-pub returns-clause-refusals : goal.returns-clause-refusals
-returns-clause-refusals c = error_decides
+pub returns-clause-errors : goal.returns-clause-errors
+returns-clause-errors c = error_decides

@@ -26,11 +26,11 @@ returns-clause-outcome g c =
     let F = g.F.Files in
     let vars = variables_of c.args.vars.now in
     let paths = candidates_by c.args.executable.now c.in-Some.name.now c.in-Some-first_value.path.now vars c.deref.result.now
-    c.in-Some.ensures c.in-Some-first_value.ensures (ap (map (λ part. part.now)) c.deref.ensures.value ∙ c.in_ok-parts.ensures.parts) in
+    c.in-Some.ensures c.in-Some-first_value.ensures (ap (map (λ part. part.now)) c.deref.ensures.value ∙ c.in_ok-parts.ensures) in
     let settled = c.in_ok-is_settled.ensures in
-    if_ok c.first_compiler.result c.first_compiler.ensures.outcome (λ compiler answer.
+    if_ok c.first_compiler.result c.first_compiler.ensures.outcome (λ compiler found.
     in_turn (F.faults c.args.files.now) (F.faults c.is_settled.new.files) (F.faults c.first_compiler.new.files) settled.keeps.not_lower c.first_compiler.ensures.keeps.not_lower
-    settled.outcome answer
+    settled.outcome found
     (λ other first. first ∙ first_found (F.file_map c.args.files.now) (F.file_map c.is_settled.new.files) c.args.executable.now vars
     (map (λ part. join_path part.now c.in-Some.name.now) c.deref.result.now) settled.keeps.same_map paths (sym c.if-branch.false ∙ other)))
 
@@ -38,7 +38,7 @@ pub returns-clause-place : goal.returns-clause-place
 returns-clause-place g c =
     let vars = variables_of c.args.vars.now in
     let paths = candidates_by c.args.executable.now c.in-Some.name.now c.in-Some-first_value.path.now vars c.deref.result.now
-    c.in-Some.ensures c.in-Some-first_value.ensures (ap (map (λ part. part.now)) c.deref.ensures.value ∙ c.in_ok-parts.ensures.parts) in
+    c.in-Some.ensures c.in-Some-first_value.ensures (ap (map (λ part. part.now)) c.deref.ensures.value ∙ c.in_ok-parts.ensures) in
     if_ok c.first_compiler.result c.first_compiler.ensures.place
     (λ compiler place. subst (λ ps. IfSome compiler (λ path. Contains ps path.items)) paths place)
 

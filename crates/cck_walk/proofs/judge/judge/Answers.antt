@@ -5,7 +5,7 @@ use Rattle.cck_files.specs.Calls.{Rose}
 use Rattle.cck_files.specs.FileMap.{file_at}
 use Rattle.cck_include.specs.JudgeContext.{setting_of}
 use Rattle.cck_include.specs.Recorded.{recorded}
-use Rattle.cck_include.specs.Refusal.{IsIoError}
+use Rattle.cck_include.specs.Errors.{IsIoError}
 use Rattle.cck_path.specs.Path.{components}
 use Rattle.cck_walk.proofs.JudgeLemmas.{digest_at, folder_at, late_at, no_metadata, other_at, unread_at}
 use Rattle.cck_walk.proofs.judge.judge.Goals as goal

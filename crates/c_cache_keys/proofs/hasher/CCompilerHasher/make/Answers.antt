@@ -11,17 +11,19 @@ use Rattle.c_cache_keys.specs.Conditions.{call_under, given_of, world_under}
 use Rattle.c_cache_keys.specs.Keys.{printed}
 use Rattle.c_cache_keys.proofs.hasher.CCompilerHasher.make.Goals as goal
 
-pub returns-in-Err-clause-makes : goal.returns-in-Err-clause-makes
-returns-in-Err-clause-makes g c = stop_memory _ _ _ _ _ _ refl
+pub returns-in_err-input-clause-makes : goal.returns-in_err-input-clause-makes
+returns-in_err-input-clause-makes g c =
+    let p = err_from_is_err_and c.from_residual.result c.from_residual.ensures.1 in
+    rw (p.1, p.2, c.in_err-input.ensures.errors) (stop_memory _ _ _ _ _ _ refl)
 
-pub returns-in-Err-read_contents-clause-makes : goal.returns-in-Err-read_contents-clause-makes
-returns-in-Err-read_contents-clause-makes g c =
+pub returns-in-Err-clause-makes : goal.returns-in-Err-clause-makes
+returns-in-Err-clause-makes g c =
     let w = world_under g.H.HashState.hash g.I.CCompilerImpl.compiler (given_of c.args.conditions.now) in
     let call = call_under g.I.CCompilerImpl.value (g.F.Files.file_map c.args.files.now) c.args.self.now (given_of c.args.conditions.now) in
     let F = Rose (g.F.Files.faults c.args.files.now) (g.F.Files.faults c.read_contents.new.files) in
     rw c.input_error.ensures
-    (stop_input w g.S.PreprocessorStore.store call F c.args.store.now c.in-Err-read_contents.error (sym c.needs_c_preprocessing.ensures ∙ c.if-not-needs_c_preprocessing.true)
-    (rw (c.deref-then-not-needs_c_preprocessing.ensures.value, c.in-Ok.ensures.bytes, c.deref.ensures.value) at c.in-Err-read_contents.ensures.outcome))
+    (stop_input w g.S.PreprocessorStore.store call F c.args.store.now c.in-Err.error (sym c.needs_c_preprocessing.ensures ∙ c.if-not-needs_c_preprocessing.true)
+    (rw (c.deref-then-not-needs_c_preprocessing.ensures.value, c.in_ok-input.ensures.bytes, c.deref.ensures.value) at c.in-Err.ensures.outcome))
 
 pub returns-in-Err-preprocess-clause-makes : goal.returns-in-Err-preprocess-clause-makes
 unfolding printed
@@ -43,14 +45,14 @@ returns-clause-makes g c =
     wide_makes w call (Rose middle after) (Rose before after) (rose_earlier before middle after c.in-Ok-preprocess.ensures.keeps.not_lower) g.S.PreprocessorStore.store c.args.store.now _
     c.walk_and_put.new.store (rw c.in-Ok-preprocess.ensures.keeps.same_map at c.walk_and_put.ensures.makes)
 
-pub returns-in-Err-read_contents-clause-reason : goal.returns-in-Err-read_contents-clause-reason
-returns-in-Err-read_contents-clause-reason g c =
+pub returns-in-Err-clause-reason : goal.returns-in-Err-clause-reason
+returns-in-Err-clause-reason g c =
     let w = world_under g.H.HashState.hash g.I.CCompilerImpl.compiler (given_of c.args.conditions.now) in
     let call = call_under g.I.CCompilerImpl.value (g.F.Files.file_map c.args.files.now) c.args.self.now (given_of c.args.conditions.now) in
     let F = Rose (g.F.Files.faults c.args.files.now) (g.F.Files.faults c.read_contents.new.files) in
     rw c.input_error.ensures
-    (input_reason w call F c.in-Err-read_contents.error
-    (rw (c.deref-then-not-needs_c_preprocessing.ensures.value, c.in-Ok.ensures.bytes, c.deref.ensures.value) at c.in-Err-read_contents.ensures.outcome))
+    (input_reason w call F c.in-Err.error
+    (rw (c.deref-then-not-needs_c_preprocessing.ensures.value, c.in_ok-input.ensures.bytes, c.deref.ensures.value) at c.in-Err.ensures.outcome))
 
 pub returns-in-Err-preprocess-clause-reason : goal.returns-in-Err-preprocess-clause-reason
 returns-in-Err-preprocess-clause-reason g c =
@@ -71,7 +73,7 @@ returns-clause-reason g c =
 
 pub returns-in_err-plain_key-clause-makes : goal.returns-in_err-plain_key-clause-makes
 returns-in_err-plain_key-clause-makes g c =
-    let p = err_from_is_err_and c.from_residual.result c.from_residual.ensures.1 in
+    let p = err_from_is_err_and c.from_residual-in_err-plain_key.result c.from_residual-in_err-plain_key.ensures.1 in
     rw (p.1, p.2) (stop_memory _ _ _ _ _ _ refl)
 
 pub returns-then-not-needs_c_preprocessing-clause-makes : goal.returns-then-not-needs_c_preprocessing-clause-makes
@@ -79,9 +81,9 @@ returns-then-not-needs_c_preprocessing-clause-makes g c =
     let w = world_under g.H.HashState.hash g.I.CCompilerImpl.compiler (given_of c.args.conditions.now) in
     let call = call_under g.I.CCompilerImpl.value (g.F.Files.file_map c.args.files.now) c.args.self.now (given_of c.args.conditions.now) in
     let F = Rose (g.F.Files.faults c.args.files.now) (g.F.Files.faults c.read_contents.new.files) in
-    from_input w g.S.PreprocessorStore.store call F c.args.store.now c.in_ok-plain_key.field-0 (map string_bytes c.args.opening.now.extra_hashes.items) c.in-Ok-read_contents.text.items
+    from_input w g.S.PreprocessorStore.store call F c.args.store.now c.in_ok-plain_key.field-0 (map string_bytes c.args.opening.now.extra_hashes.items) c.in-Ok.text.items
     (sym c.needs_c_preprocessing.ensures ∙ c.if-not-needs_c_preprocessing.true) c.requires.extra
-    (rw (c.deref-then-not-needs_c_preprocessing.ensures.value, c.in-Ok.ensures.bytes, c.deref.ensures.value) at c.in-Ok-read_contents.ensures.outcome)
+    (rw (c.deref-then-not-needs_c_preprocessing.ensures.value, c.in_ok-input.ensures.bytes, c.deref.ensures.value) at c.in-Ok.ensures.outcome)
     (rw (c.deref-then-not-needs_c_preprocessing-2.ensures.value, c.deref-then-not-needs_c_preprocessing-3.ensures.value) at c.in_ok-plain_key.ensures)
 
 pub returns-in_err-plain_key-2-clause-makes : goal.returns-in_err-plain_key-2-clause-makes
@@ -103,7 +105,7 @@ returns-in_default-clause-makes g c =
 pub walk_and_put-requires : goal.walk_and_put-requires
 unfolding printed
 walk_and_put-requires g c = rw c.in-Ok-preprocess.ensures.keeps.same_map record {
-  path = c.deref-3.ensures.value ∙ c.in-Ok.ensures.bytes ∙ ap (join_path c.args.conditions.now.cwd.now) c.deref.ensures.value;
+  path = c.deref-3.ensures.value ∙ c.in_ok-input.ensures.bytes ∙ ap (join_path c.args.conditions.now.cwd.now) c.deref.ensures.value;
   key = rw c.as_str.ensures.value (c.requires.key ∙ ap (option_map string_bytes) c.in-Some.is);
   extra = rw c.deref-4.ensures.value c.requires.extra;
   first = sym c.needs_c_preprocessing.ensures ∙ c.if-not-needs_c_preprocessing.false;

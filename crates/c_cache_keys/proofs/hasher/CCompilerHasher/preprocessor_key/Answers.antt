@@ -6,13 +6,13 @@ use Rattle.c_cache_keys.specs.Conditions.{call_under, given_of, world_under}
 use Rattle.c_cache_keys.specs.Keys.{request_parts}
 use Rattle.c_cache_keys.proofs.hasher.CCompilerHasher.preprocessor_key.Goals as goal
 
-pub returns-in-Ok-key-clause-outcome : goal.returns-in-Ok-key-clause-outcome
+pub returns-in-Ok-clause-outcome : goal.returns-in-Ok-clause-outcome
 unfolding request_parts
-returns-in-Ok-key-clause-outcome g c =
+returns-in-Ok-clause-outcome g c =
     let w = world_under g.H.HashState.hash g.I.CCompilerImpl.compiler (given_of c.args.conditions.now) in
     let call = call_under g.I.CCompilerImpl.value (g.F.Files.file_map c.args.files.now) c.args.self.now (given_of c.args.conditions.now) in
     let F = Rose (g.F.Files.faults c.args.files.now) (g.F.Files.faults c.preprocessor_cache_entry_hash_key-key.new.files) in
-    key_of_input w call F (map string_bytes c.args.extra_hashes.now) (option_map string_bytes c.in-Ok-key.key) _ refl
+    key_of_input w call F (map string_bytes c.args.extra_hashes.now) (option_map string_bytes c.in-Ok.key) _ refl
     (rw (
       c.as_str.ensures.value,
       c.deref-2.ensures.value,
@@ -20,11 +20,11 @@ returns-in-Ok-key-clause-outcome g c =
       c.deref-4.ensures.value,
       c.assembler_digest.ensures,
       c.deref-5.ensures.value,
-      c.in-Ok.ensures.bytes,
+      c.in_ok-input.ensures.bytes,
       c.deref.ensures.value,
       c.plusplus.ensures,
       c.is_multiarch.ensures,
-    ) at c.in-Ok-key.ensures.outcome)
+    ) at c.in-Ok.ensures.outcome)
 
 pub returns-clause-outcome : goal.returns-clause-outcome
 returns-clause-outcome g c =
@@ -32,4 +32,4 @@ returns-clause-outcome g c =
     let call = call_under g.I.CCompilerImpl.value (g.F.Files.file_map c.args.files.now) c.args.self.now (given_of c.args.conditions.now) in
     let F = Rose (g.F.Files.faults c.args.files.now) (g.F.Files.faults c.preprocessor_cache_entry_hash_key-key.new.files) in
     rw c.key_error_of.ensures
-    (input_failed w call F c.in-Err-key.error (rw (c.deref-5.ensures.value, c.in-Ok.ensures.bytes, c.deref.ensures.value) at c.in-Err-key.ensures.outcome))
+    (input_failed w call F c.in-Err.error (rw (c.deref-5.ensures.value, c.in_ok-input.ensures.bytes, c.deref.ensures.value) at c.in-Err.ensures.outcome))

@@ -3,9 +3,9 @@ use Rattle.cck_path.specs.Bytes.{variables_of}
 use Rattle.cck_script.specs.Surroundings.{variables}
 use Rattle.cck_script.proofs.surroundings.Surroundings.new.Goals as goal
 
-pub returns-clause-first : goal.returns-clause-first
+pub returns : goal.returns
 unfolding variables
-returns-clause-first c = record {
+returns c = record {
   files = c.in_ok-first_files.ensures.files;
   no_faults = c.in_ok-first_files.ensures.quiet.0;
   unarmed = c.in_ok-first_files.ensures.quiet.1;

@@ -1,6 +1,6 @@
 use Rattle.cck_files.specs.Calls.{Rose}
 use Rattle.cck_include.proofs.GatherLemmas.{missing_one}
-use Rattle.cck_include.proofs.gathering.include_at.Goals as goal
+use Rattle.cck_include.proofs.gathering.gathered_include.Goals as goal
 
 pub returns-in-Err-clause-outcome : goal.returns-in-Err-clause-outcome
 returns-in-Err-clause-outcome g c =

@@ -1,6 +1,6 @@
 //! The errors of calls on files as the errors of entries.
 ghost use Rattle.std.specs.Prelude.{◌≡◌};
-ghost use Rattle.cck_include.specs.Refusal.{io_error};
+ghost use Rattle.cck_include.specs.Errors.{io_error};
 
 use cck_digest::{FileError, UtilError};
 use cck_time::Error;

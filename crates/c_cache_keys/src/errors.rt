@@ -1,21 +1,11 @@
 //! The error of a call for a key, from the error of a call that it makes. Lack of memory is always
 //! [`KeyError::Memory`].
 ghost use Rattle.std.specs.Prelude.{◌≡◌};
-ghost use Rattle.c_cache_keys.specs.Refusals.{entry_error, extra_error, input_error, key_error_of, text_error};
+ghost use Rattle.c_cache_keys.specs.Errors.{entry_error, input_error, key_error_of, text_error};
 
 use cck_compiler::{KeyError, PreprocessError};
 use cck_digest::{FileError, UtilError};
 use cck_time::Error;
-
-/// The error for an extra file without a digest.
-pub(crate) fn extra_error(error: UtilError) -> KeyError
-    ensures { result ≡ extra_error error }
-{
-    match error {
-        UtilError::Memory => KeyError::Memory,
-        other => KeyError::Extra(other),
-    }
-}
 
 /// The error for an input that can't be read.
 pub(crate) fn input_error(error: FileError) -> KeyError

@@ -1,18 +1,13 @@
 -- the error of a call for a key, from the error of a call that it makes
 use Rattle.cck_digest.specs.declared.error.FileError.{FileError}
 use Rattle.cck_digest.specs.declared.error.FileError.TheVariants as file
-use Rattle.cck_digest.specs.declared.error.UtilError.{UtilError}
 use Rattle.cck_digest.specs.declared.error.UtilError.TheVariants as util
 use Rattle.cck_key_error.specs.declared.key_error.KeyError.{KeyError}
-use Rattle.cck_key_error.specs.declared.key_error.KeyError.TheVariants.{Memory, Extra, Input, Entry, Preprocess}
+use Rattle.cck_key_error.specs.declared.key_error.KeyError.TheVariants.{Memory, Input, Entry, Preprocess}
 use Rattle.cck_key_error.specs.declared.preprocess_error.PreprocessError.{PreprocessError}
 use Rattle.cck_key_error.specs.declared.preprocess_error.PreprocessError.TheVariants as text
 use Rattle.cck_time.specs.declared.error.Error.{Error}
 use Rattle.cck_time.specs.declared.error.Error.TheVariants as entry
-
-abbrev pub extra_error : UtilError → KeyError
-extra_error util.Memory = Memory
-extra_error other = Extra other
 
 abbrev pub input_error : FileError → KeyError
 input_error file.Memory = Memory
