@@ -3,7 +3,7 @@ use Rattle.std.proofs.Common.{◌≡◌, [], ap, refl, ◌∙◌, Some, None, co
 use Rattle.std.specs.FinMap as finite
 use Rattle.std.specs.Option.{option_map}
 use Rattle.cck_digest.specs.Digest.{digest_text}
-use Rattle.cck_file_digest.specs.FileDigest.{text_at}
+use Rattle.cck_file_digest.specs.FileDigest.{digest_text_at}
 use Rattle.cck_file_digest.specs.FolderText.{digest_material, material_of, opening, node_and_reached, whole_part}
 use Rattle.cck_files.specs.FileMap.{FileMap}
 use Rattle.cck_path.specs.Bytes.{Bytes}
@@ -16,7 +16,7 @@ unfolding present components
 exists_there = refl
 
 text_there : (hash : Bytes → Bytes) (files : FileMap) (p : Path) → finite.get files.nodes p ≡ Some executable → executable_text hash None files p ≡ Some (digest_text hash (codes "cc"))
-unfolding executable_text text_at digest_material node_and_reached opening
+unfolding executable_text digest_text_at digest_material node_and_reached opening
 text_there hash files p here =
     ap (λ node. option_map (λ text. text) (option_map (digest_text hash) (material_of (whole_part files.nodes p node)))) here
 

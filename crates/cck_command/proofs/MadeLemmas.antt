@@ -20,7 +20,7 @@ use Rattle.cck_time.specs.Config.{activated}
 use Rattle.cck_time.specs.declared.config.PreprocessorCacheModeConfig.{PreprocessorCacheModeConfig}
 use Rattle.c_cache_keys.proofs.Runs.{run_joined, transparent}
 use Rattle.c_cache_keys.proofs.Stored.{run_returns_stored}
-use Rattle.c_cache_keys.specs.Call.{Answer}
+use Rattle.c_cache_keys.specs.Call.{CallResult}
 use Rattle.c_cache_keys.specs.Calls.{IsAfter, done_all, done_in}
 use Rattle.c_cache_keys.specs.Step.{IsEmpty, Run}
 use Rattle.c_cache_keys.specs.World.{HasSize, World, world_of}
@@ -60,16 +60,16 @@ one_done hash zone c asked old new of ready after = record {
 
 -- a call that was ready is the one that was asked for
 pub call_made : (hash : Bytes → Bytes) (zone : ℤ) (plain : TimeZone) (config : PreprocessorCacheModeConfig) (basedirs known : List Bytes) (c : CCompiler MiniCompiler) (asked : script.ScriptCallValue)
-    (old : Call MiniCompiler FileState) (olds news : List (Call MiniCompiler FileState)) (start end : State) (answers : List Answer) (before after : Bytes)
+    (old : Call MiniCompiler FileState) (olds news : List (Call MiniCompiler FileState)) (start end : State) (call_results : List CallResult) (before after : Bytes)
     → config ≡ activated → known ≡ basedirs → IsRunCompiler hash zone c → IsReady c asked old → olds ≡ old ∷ [] → AllZip IsCallAfter olds news
-    → Run (world_of hash mini_compiler plain config known) map_store start (done_all (λ (m : MiniCompiler). m.zone_offset) (λ s. s.files) fault_count olds news) answers end
-    → after ≡ before ++ flat_map result_line answers → AreMade hash zone (world_of hash mini_compiler plain activated basedirs) (asked ∷ []) start end before after
-call_made hash zone plain config basedirs known c asked old olds [] start end answers before after p q of ready one is run e = let none = rw one at is in absurd none
-call_made hash zone plain config basedirs known c asked old olds (new ∷ news) start end answers before after p q of ready one is run e =
+    → Run (world_of hash mini_compiler plain config known) map_store start (done_all (λ (m : MiniCompiler). m.zone_offset) (λ s. s.files) fault_count olds news) call_results end
+    → after ≡ before ++ flat_map result_line call_results → AreMade hash zone (world_of hash mini_compiler plain activated basedirs) (asked ∷ []) start end before after
+call_made hash zone plain config basedirs known c asked old olds [] start end call_results before after p q of ready one is run e = let none = rw one at is in absurd none
+call_made hash zone plain config basedirs known c asked old olds (new ∷ news) start end call_results before after p q of ready one is run e =
     let all = rw one at is in
     record {
       done = done_in (λ (m : MiniCompiler). m.zone_offset) (λ s. s.files) fault_count old new.files ∷ [];
-      answers = answers;
+      call_results = call_results;
       calls = (one_done hash zone c asked old new of ready all.0, tt);
       run = rw (p, q, one) at run;
       printed_are = e;
@@ -115,17 +115,17 @@ after_call c asked old new s ready named after =
 
 module _ (hash : Bytes → Bytes) (zone : ℤ) (w : World ℤ) where
   pub none_made : (s : State) (printed : Bytes) → AreMade hash zone w [] s s printed printed
-  none_made s printed = record { done = []; answers = []; calls = tt; run = refl; printed_are = sym (append-nil printed) }
+  none_made s printed = record { done = []; call_results = []; calls = tt; run = refl; printed_are = sym (append-nil printed) }
 
   pub made_joined : (xs ys : List script.ScriptCallValue) (s m t : State) (a b c : Bytes) → AreMade hash zone w xs s m a b → AreMade hash zone w ys m t b c → AreMade hash zone w (xs ++ ys) s t a c
   made_joined xs ys s m t a b c front back = record {
     done = front.done ++ back.done;
-    answers = front.answers ++ back.answers;
+    call_results = front.call_results ++ back.call_results;
     calls = zip_joined (IsRequested hash zone) xs ys front.done back.done front.calls back.calls;
-    run = run_joined w map_store s m t front.done back.done front.answers back.answers front.run back.run;
-    printed_are = back.printed_are ∙ ap (λ l. l ++ flat_map result_line back.answers) front.printed_are
-        ∙ append_assoc a (flat_map result_line front.answers) (flat_map result_line back.answers)
-        ∙ ap (λ l. a ++ l) (sym (flat_map-append result_line front.answers back.answers));
+    run = run_joined w map_store s m t front.done back.done front.call_results back.call_results front.run back.run;
+    printed_are = back.printed_are ∙ ap (λ l. l ++ flat_map result_line back.call_results) front.printed_are
+        ∙ append_assoc a (flat_map result_line front.call_results) (flat_map result_line back.call_results)
+        ∙ ap (λ l. a ++ l) (sym (flat_map-append result_line front.call_results back.call_results));
   }
 
 -- the store of a script is empty at first
@@ -138,16 +138,16 @@ pub ran : (hash : Bytes → Bytes) (lines : List Line) (printed : Bytes) (zone :
     → AreMade hash (zone_of lines) (world_of hash mini_compiler plain activated basedirs) (script_calls lines) (armed_by lines) end [] printed → Ran hash lines printed
 ran hash lines printed zone plain basedirs end size is p q made =
     let world = run_world hash zone lines in
-    let run : Run world map_store (armed_by lines) made.done made.answers end = rw (p, q) at made.run in
+    let run : Run world map_store (armed_by lines) made.done made.call_results end = rw (p, q) at made.run in
     record {
       zone = zone;
       zone_is = is;
       done = made.done;
-      answers = made.answers;
+      call_results = made.call_results;
       end = end;
       calls = made.calls;
       run = run;
-      headline = transparent world map_store size map_store_laws (armed_by lines) end made.done made.answers (none_held hash zone lines) run;
-      returned = run_returns_stored world map_store (armed_by lines) end made.done made.answers run;
+      headline = transparent world map_store size map_store_laws (armed_by lines) end made.done made.call_results (none_held hash zone lines) run;
+      returned = run_returns_stored world map_store (armed_by lines) end made.done made.call_results run;
       printed_are = made.printed_are;
     }

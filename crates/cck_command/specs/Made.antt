@@ -10,7 +10,7 @@ use Rattle.cck_files.specs.ArmedCalls.{IsUnarmed}
 use Rattle.cck_files.specs.FileState.{FileState}
 use Rattle.cck_script.specs.Calls as script
 use Rattle.cck_script.specs.Surroundings.{AreFiles, executable_path, variables, working_directory}
-use Rattle.c_cache_keys.specs.Call.{Answer, Done}
+use Rattle.c_cache_keys.specs.Call.{CallResult, Done}
 use Rattle.c_cache_keys.specs.Step.{Run}
 use Rattle.c_cache_keys.specs.World.{World}
 use Rattle.c_cache_keys.specs.declared.c_compiler.CCompiler.{CCompiler}
@@ -44,7 +44,7 @@ pub record IsReady (c : CCompiler MiniCompiler) (asked : script.ScriptCallValue)
 -- their lines were appended to `before`
 pub record AreMade (hash : Bytes → Bytes) (zone : ℤ) (w : World ℤ) (asked : List script.ScriptCallValue) (start end : State) (before after : Bytes) : Type 0 where
   pub done : List (Done ℤ)
-  pub answers : List Answer
+  pub call_results : List CallResult
   pub calls : AllZip (IsRequested hash zone) asked done
-  pub run : Run w map_store start done answers end
-  pub printed_are : after ≡ before ++ flat_map result_line answers
+  pub run : Run w map_store start done call_results end
+  pub printed_are : after ≡ before ++ flat_map result_line call_results

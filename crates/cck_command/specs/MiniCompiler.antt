@@ -2,8 +2,7 @@
 use Rattle.std.specs.Prelude.{ℤ, List, [], ◌∷◌, false, nat_eq, None, codes, if◌then◌else◌}
 use Rattle.std.specs.List.{ends_with}
 use Rattle.cck_compiler.specs.Compiler.{Compilation, Compiler, NotCompilation, Parsed}
-use Rattle.cck_compiler.specs.Arguments.{Arguments, Output}
-use Rattle.cck_compiler.specs.declared.arguments.ColorMode.TheVariants.{Auto}
+use Rattle.cck_compiler.specs.Arguments.{Arguments, Output, only_input}
 use Rattle.cck_compiler.specs.declared.compiler.CCompilerKind.TheVariants.{Gcc}
 use Rattle.cck_path.specs.Bytes.{Bytes}
 use Rattle.cck_mini.specs.Printed.{printed}
@@ -20,28 +19,7 @@ outputs = record { name = codes "obj"; path = codes "out.o"; optional = false } 
 
 -- a command line with an input and arguments, and nothing else
 abbrev pub compilation_of : Bytes → List Bytes → Arguments
-compilation_of input arguments = record {
-  input = input;
-  double_dash_input = false;
-  language = language_of input;
-  compilation_flag = [];
-  depfile = None;
-  outputs = outputs;
-  dependency_args = [];
-  preprocessor_args = [];
-  common_args = arguments;
-  arch_args = [];
-  unhashed_args = [];
-  extra_dist_files = [];
-  extra_hash_files = [];
-  uses_external_assembler = false;
-  msvc_show_includes = false;
-  msvc_explicit_language = false;
-  profile_generate = false;
-  color_mode = Auto;
-  suppress_rewrite_includes_only = false;
-  too_hard_for_preprocessor_cache_mode = None;
-}
+compilation_of input arguments = record (only_input input (language_of input)) { outputs = outputs; common_args = arguments }
 
 -- what a command line is parsed as: its first argument is the input
 abbrev pub parsed : List Bytes → Parsed

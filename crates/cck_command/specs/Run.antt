@@ -17,7 +17,7 @@ use Rattle.cck_script.specs.Calls as script
 use Rattle.cck_script.specs.Lines.{Line}
 use Rattle.cck_script.specs.Script.{basedirs_of, fail_of, forget_of, zone_of}
 use Rattle.cck_time.specs.Config.{activated}
-use Rattle.c_cache_keys.specs.Call.{Answer, Done, Keyed, Refused, calls_of, Why, Memory, Extra, ExtraFault, Input, InputFault, Store, Damaged, NoText, TextFault, Marker}
+use Rattle.c_cache_keys.specs.Call.{CallResult, Done, Keyed, ReturnsError, calls_of, Why, Memory, Extra, ExtraFault, Input, InputFault, Store, Damaged, NoText, TextFault, Marker}
 use Rattle.c_cache_keys.specs.Laws.{AllReturnStored, IsTransparent}
 use Rattle.c_cache_keys.specs.Premises.{Premises}
 use Rattle.c_cache_keys.specs.Step.{Run}
@@ -42,10 +42,10 @@ error_number TextFault = 6
 error_number Marker = 7
 
 -- the line for the result of a call: a stored key, a computed key, or an error
-abbrev pub result_line : Answer → Bytes
+abbrev pub result_line : CallResult → Bytes
 result_line (Keyed key false) = codes "hit " ++ key ++ 10 ∷ []
 result_line (Keyed key true) = codes "miss " ++ key ++ 10 ∷ []
-result_line (Refused why) = codes "error " ++ decimal (error_number why) ++ 10 ∷ []
+result_line (ReturnsError why) = codes "error " ++ decimal (error_number why) ++ 10 ∷ []
 
 -- ---- calls
 
@@ -84,13 +84,13 @@ pub record Ran (hash : Bytes → Bytes) (lines : List Line) (printed : Bytes) : 
   pub zone : Offset
   pub zone_is : zone.seconds ≡ zone_of lines
   pub done : List (Done ℤ)
-  pub answers : List Answer
+  pub call_results : List CallResult
   pub end : State
   pub calls : AllZip (IsRequested hash (zone_of lines)) (script_calls lines) done
-  pub run : Run (run_world hash zone lines) map_store (armed_by lines) done answers end
-  pub headline : Premises (run_world hash zone lines) (calls_of done) → AllZip (IsTransparent (run_world hash zone lines)) (calls_of done) answers
-  pub returned : AllReturnStored (run_world hash zone lines) map_store (armed_by lines) done answers end
-  pub printed_are : printed ≡ flat_map result_line answers
+  pub run : Run (run_world hash zone lines) map_store (armed_by lines) done call_results end
+  pub headline : Premises (run_world hash zone lines) (calls_of done) → AllZip (IsTransparent (run_world hash zone lines)) (calls_of done) call_results
+  pub returned : AllReturnStored (run_world hash zone lines) map_store (armed_by lines) done call_results end
+  pub printed_are : printed ≡ flat_map result_line call_results
 
 -- what is printed for a script whose first wrong line has this number
 abbrev pub wrong_text : ℕ → Bytes

@@ -39,7 +39,6 @@
 //! ```
 #![tactic(auto)]
 
-mod answers;
 mod calls;
 mod failed;
 pub mod laws;
@@ -47,14 +46,15 @@ mod mini_compiler;
 mod printing;
 mod program;
 mod request;
+mod result_lines;
 mod run;
 mod status;
 
-pub use answers::add_result_lines;
 pub use calls::{compiler_of, ready_calls};
 pub use failed::Failed;
 pub use mini_compiler::MiniCompiler;
 pub use printing::print;
 pub use program::{engine, refuse};
+pub use result_lines::add_result_lines;
 pub use run::{store_of, zone_at};
 pub use status::Status;

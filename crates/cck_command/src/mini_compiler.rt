@@ -5,8 +5,8 @@ ghost use Rattle.cck_path.specs.Bytes.{lists_of};
 ghost use Rattle.cck_command.specs.MiniCompiler.{compilation_of, language_of, outputs as outputs_seen};
 
 use c_cache_keys::{
-    ArtifactDescriptor, CCompilerImpl, CCompilerKind, ColorMode, CompilerArguments, KeyError,
-    ParsedArguments, PreprocessError,
+    ArtifactDescriptor, CCompilerImpl, CCompilerKind, CompilerArguments, KeyError, ParsedArguments,
+    PreprocessError,
 };
 use cck_compiler::copy_lists;
 use cck_files::Files;
@@ -108,28 +108,10 @@ fn parsed_arguments(
         arguments_of parsed ≡ compilation_of input.now (lists_of common_args.now)) }
     ensures errors { IsOkUnless result KeyError.Memory }
 {
-    Ok(ParsedArguments {
-        input: input.to_vec(alloc)?,
-        double_dash_input: false,
-        language: language_of(input),
-        compilation_flag: Vec::new(alloc),
-        depfile: None,
-        outputs: one_output(alloc)?,
-        dependency_args: Vec::new(alloc),
-        preprocessor_args: Vec::new(alloc),
-        common_args: copy_lists(alloc, common_args)?,
-        arch_args: Vec::new(alloc),
-        unhashed_args: Vec::new(alloc),
-        extra_dist_files: Vec::new(alloc),
-        extra_hash_files: Vec::new(alloc),
-        uses_external_assembler: false,
-        msvc_show_includes: false,
-        msvc_explicit_language: false,
-        profile_generate: false,
-        color_mode: ColorMode::Auto,
-        suppress_rewrite_includes_only: false,
-        too_hard_for_preprocessor_cache_mode: None,
-    })
+    let mut parsed = ParsedArguments::new(alloc, input.to_vec(alloc)?, language_of(input));
+    parsed.outputs = one_output(alloc)?;
+    parsed.common_args = copy_lists(alloc, common_args)?;
+    Ok(parsed)
 }
 
 // The language of an input.

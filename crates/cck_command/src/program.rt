@@ -10,10 +10,10 @@ ghost use Rattle.cck_command.specs.Program.{IsCutShort, IsOutput, IsSomeOutput, 
 ghost use Rattle.cck_command.specs.Request.{IsUsageError};
 ghost use Rattle.cck_command.specs.Run.{Ran, wrong_text};
 
-use crate::answers::wrong_text;
 use crate::failed::Failed;
 use crate::printing::print;
 use crate::request::{KeyRequest, asks_to_run, bytes_of};
+use crate::result_lines::wrong_text;
 use crate::run::run_script;
 use crate::status::Status;
 use cck_script::{Script, ScriptError};

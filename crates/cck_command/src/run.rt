@@ -17,10 +17,10 @@ ghost use Rattle.cck_command.specs.MiniCompiler.{mini_compiler};
 ghost use Rattle.cck_command.specs.Run.{Ran};
 ghost use Rattle.cck_command.specs.Made.{AreMade, IsReady, IsRunCompiler};
 
-use crate::answers::add_result_lines;
 use crate::calls::{compiler_of, ready_call};
 use crate::failed::Failed;
 use crate::mini_compiler::MiniCompiler;
+use crate::result_lines::add_result_lines;
 use c_cache_keys::{CCompiler, Call, MapStore, run_calls};
 use cck_files::MapFiles;
 use cck_script::{Command, Script, ScriptCall, Surroundings};
@@ -45,7 +45,7 @@ pub fn run_script<H: HashState>(alloc: Global, script: Script) -> Result<Vec<u8>
     let mut store = store_of(alloc, options.forget_at, options.fail_at);
     let compiler = compiler_of::<H>(alloc, options.zone_offset)?;
     let zone = zone_at(options.zone_offset)?;
-    let setting = Setting {
+    let context = RunContext {
         compiler,
         zone,
         basedirs: options.basedirs,
@@ -55,7 +55,7 @@ pub fn run_script<H: HashState>(alloc: Global, script: Script) -> Result<Vec<u8>
     for command in script.into_commands() {
         surroundings = follow_line::<H>(
             alloc,
-            &setting,
+            &context,
             &mut store,
             surroundings,
             command,
@@ -67,7 +67,7 @@ pub fn run_script<H: HashState>(alloc: Global, script: Script) -> Result<Vec<u8>
 
 // What is the same for all calls of a run.
 #[derive(Drop)]
-struct Setting {
+struct RunContext {
     compiler: CCompiler<MiniCompiler>,
     zone: TimeZone<'static>,
     basedirs: Vec<Vec<u8>>,
@@ -77,7 +77,7 @@ struct Setting {
 // variables.
 fn follow_line<H: HashState>(
     alloc: Global,
-    setting: &Setting,
+    context: &RunContext,
     store: &mut MapStore,
     surroundings: Surroundings,
     command: Command,
@@ -85,13 +85,13 @@ fn follow_line<H: HashState>(
 ) -> Result<Surroundings, Failed>
     ensures after { IfOk result (λ after. (earlier : List Line) → AreAfter earlier surroundings
         → AreAfter (line_of command ∷ earlier) after) }
-    ensures made { IfOk result (λ after. (zone : ℤ) (earlier : List Line) → IsRunCompiler H.hash zone setting.now.compiler
+    ensures made { IfOk result (λ after. (zone : ℤ) (earlier : List Line) → IsRunCompiler H.hash zone context.now.compiler
         → AreAfter earlier surroundings
-        → AreMade H.hash zone (world_of H.hash mini_compiler (plain_zone setting.now.zone) activated (lists_of setting.now.basedirs.items))
+        → AreMade H.hash zone (world_of H.hash mini_compiler (plain_zone context.now.zone) activated (lists_of context.now.basedirs.items))
         (option_to_list (call_of_command earlier (line_of command))) store.old store.new printed.old.items printed.new.items) }
 {
     let mut after = match command.call() {
-        Some(asked) => make_call::<H>(alloc, setting, store, surroundings, &asked, printed)?,
+        Some(asked) => make_call::<H>(alloc, context, store, surroundings, &asked, printed)?,
         None => surroundings,
     };
     after.follow(alloc, command)?;
@@ -102,16 +102,16 @@ fn follow_line<H: HashState>(
 // and variables.
 fn make_call<H: HashState>(
     alloc: Global,
-    setting: &Setting,
+    context: &RunContext,
     store: &mut MapStore,
     surroundings: Surroundings,
     asked: &ScriptCall<'_>,
     printed: &mut Vec<u8>,
 ) -> Result<Surroundings, Failed>
     ensures after { IfOk result (λ after. (earlier : List Line) → AreAfter earlier surroundings → AreAfter earlier after) }
-    ensures made { IfOk result (λ after. (zone : ℤ) (earlier : List Line) → IsRunCompiler H.hash zone setting.now.compiler
+    ensures made { IfOk result (λ after. (zone : ℤ) (earlier : List Line) → IsRunCompiler H.hash zone context.now.compiler
         → AreAfter earlier surroundings
-        → AreMade H.hash zone (world_of H.hash mini_compiler (plain_zone setting.now.zone) activated (lists_of setting.now.basedirs.items))
+        → AreMade H.hash zone (world_of H.hash mini_compiler (plain_zone context.now.zone) activated (lists_of context.now.basedirs.items))
         (call_after earlier asked.now ∷ []) store.old store.new printed.old.items printed.new.items) }
 {
     let Surroundings {
@@ -119,19 +119,19 @@ fn make_call<H: HashState>(
         variables,
         places,
     } = surroundings;
-    let ready = ready_call(alloc, &setting.compiler, files, variables, asked)?;
+    let ready = ready_call(alloc, &context.compiler, files, variables, asked)?;
     let mut calls = Vec::new(alloc);
     calls.push(ready)?;
     let config = PreprocessorCacheModeConfig::activated();
-    let answers = run_calls::<H, MiniCompiler, MapFiles, MapStore>(
+    let call_results = run_calls::<H, MiniCompiler, MapFiles, MapStore>(
         alloc,
         store,
-        &setting.zone,
+        &context.zone,
         config,
-        &setting.basedirs,
+        &context.basedirs,
         &mut calls,
     )?;
-    add_result_lines(alloc, printed, &answers)?;
+    add_result_lines(alloc, printed, &call_results)?;
     // `calls` holds the one call that was pushed.
     let Some(made) = calls.pop() else {
         return Err(Failed);

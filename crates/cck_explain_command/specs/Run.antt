@@ -18,12 +18,12 @@ use Rattle.cck_explain_command.specs.declared.request.Request.TheVariants.{Key, 
 
 -- the listing of a script that has no wrong line
 abbrev pub ListsScript : (Bytes → Bytes) → Bytes → Bytes → Type 0
-ListsScript hash text listing = (wrong_line text ≡ None) × script.IsListingOf hash (commands_of text) listing
+ListsScript hash text listing = (wrong_line text ≡ None) × script.IsScriptListing hash (commands_of text) listing
 
 -- the listing that is asked for, of this input
 abbrev pub Lists : (Bytes → Bytes) → Request → Bytes → Bytes → Type 0
 Lists hash (Key request) input listing = listing ≡ key_listing hash request.is_full (params_for request input)
-Lists hash Entry input listing = entry.IsListingOf input listing
+Lists hash Entry input listing = entry.IsEntryListing input listing
 Lists hash (Markers request) input listing = AreMarkerLines request.input.now request.cwd.now input listing
 Lists hash Script input listing = ListsScript hash input listing
 

@@ -1,6 +1,6 @@
 //! The listing of an entry.
 ghost use Rattle.std.specs.Prelude.{IfErr, IfSome, OnErr, OnOk};
-ghost use Rattle.cck_explain_entry.specs.Bytes.{IsListingOf};
+ghost use Rattle.cck_explain_entry.specs.Bytes.{IsEntryListing};
 ghost use Rattle.cck_explain_command.specs.Written.{BeginsOf, IsExplainErrorFor, WritesOf};
 
 use crate::error::ExplainError;
@@ -12,8 +12,8 @@ use std::io::{Read, Write};
 
 // Writes the listing of the entry that these bytes are.
 fn write_entry<W: Write>(alloc: Global, bytes: &[u8], writer: &mut W) -> Result<(), ExplainError>
-    ensures listed { OnOk result (WritesOf (IsListingOf bytes.now) (W.contents writer.old) (W.contents writer.new)) }
-    ensures begun { OnErr result (BeginsOf (IsListingOf bytes.now) (W.contents writer.old) (W.contents writer.new)) }
+    ensures listed { OnOk result (WritesOf (IsEntryListing bytes.now) (W.contents writer.old) (W.contents writer.new)) }
+    ensures begun { OnErr result (BeginsOf (IsEntryListing bytes.now) (W.contents writer.old) (W.contents writer.new)) }
     ensures errors { IfErr result (λ error. IsExplainErrorFor bytes.now error (W.contents writer.old) (W.contents writer.new)) }
 {
     let listing = entry_listing(alloc, bytes)?;
@@ -32,9 +32,9 @@ pub fn explain_entry<R: Read, W: Write>(
     writer: &mut W,
 ) -> Result<(), ExplainError>
     ensures listed { OnOk result (IfSome (R.remaining reader.old) (λ bytes.
-        WritesOf (IsListingOf bytes) (W.contents writer.old) (W.contents writer.new))) }
+        WritesOf (IsEntryListing bytes) (W.contents writer.old) (W.contents writer.new))) }
     ensures begun { OnErr result (IfSome (R.remaining reader.old) (λ bytes.
-        BeginsOf (IsListingOf bytes) (W.contents writer.old) (W.contents writer.new))) }
+        BeginsOf (IsEntryListing bytes) (W.contents writer.old) (W.contents writer.new))) }
     ensures errors { IfErr result (λ error. IfSome (R.remaining reader.old) (λ bytes.
         IsExplainErrorFor bytes error (W.contents writer.old) (W.contents writer.new))) }
 {

@@ -19,8 +19,8 @@ format_line [] = codes "format -" ++ 10 ∷ []
 format_line (format ∷ rest) = codes "format " ++ decimal format ++ 10 ∷ []
 
 -- the format of these bytes, and the lines of the entry that they are
-abbrev pub IsListingOf : Bytes → Bytes → Type 0
-IsListingOf bytes listing = (e : Entry) × IsEntryOf e bytes × (listing ≡ format_line bytes ++ entry_lines e)
+abbrev pub IsEntryListing : Bytes → Bytes → Type 0
+IsEntryListing bytes listing = (e : Entry) × IsEntryOf e bytes × (listing ≡ format_line bytes ++ entry_lines e)
 
 -- the bytes are no entry, and this is their first wrong field; or memory ran out
 abbrev pub IsErrorFor : Bytes → EntryError → Type 0

@@ -1,6 +1,6 @@
 //! The listing of bytes that may be an entry.
 ghost use Rattle.std.specs.Prelude.{◌≡◌, IfErr, IfOk};
-ghost use Rattle.cck_explain_entry.specs.Bytes.{IsEntryOf, IsErrorFor, IsListingOf, format_line};
+ghost use Rattle.cck_explain_entry.specs.Bytes.{IsEntryOf, IsErrorFor, IsEntryListing, format_line};
 
 use crate::fault::{Fault, fault_of};
 use crate::line::entry_lines;
@@ -65,7 +65,7 @@ fn format_line(alloc: Global, bytes: &[u8]) -> Result<Vec<u8>, AllocError>
 /// least one, with the place where they stop being an entry and the cause. It is
 /// [`EntryError::Memory`] for lack of memory.
 pub fn entry_listing(alloc: Global, bytes: &[u8]) -> Result<Vec<u8>, EntryError>
-    ensures listed { IfOk result (λ listing. IsListingOf bytes.now listing.items) }
+    ensures listed { IfOk result (λ listing. IsEntryListing bytes.now listing.items) }
     ensures errors { IfErr result (λ error. IsErrorFor bytes.now error) }
 {
     let entry = read(alloc, bytes)?;

@@ -19,10 +19,10 @@ unfolding position_after
 after_feed front byte is =
     let make : ℕ → ℕ → Position = λ line column. record { line = line; column = column } in
     let before = count_by (λ b. b == 10) front in
-    let behind = prefix_len (λ b. not (b == 10)) (reverse front) in
+    let ahead = prefix_len (λ b. not (b == 10)) (reverse front) in
     ap₂ make
     (ap (λ n. n + 1) (sum_by-append (λ b. cond (b == 10) 1 0) front (byte ∷ []) ∙ ap (λ t. before + (0 + cond t 1 0)) is))
-    (ap (λ l. prefix_len (λ b. not (b == 10)) l + 1) (reverse-append front (byte ∷ [])) ∙ ap (λ t. cond (not t) (1 + behind) 0 + 1) is)
+    (ap (λ l. prefix_len (λ b. not (b == 10)) l + 1) (reverse-append front (byte ∷ [])) ∙ ap (λ t. cond (not t) (1 + ahead) 0 + 1) is)
 
 -- after another byte
 after_other : (front : List ℕ) (byte : ℕ) → (byte == 10) ≡ false
@@ -31,11 +31,11 @@ unfolding position_after
 after_other front byte is =
     let make : ℕ → ℕ → Position = λ line column. record { line = line; column = column } in
     let before = count_by (λ b. b == 10) front in
-    let behind = prefix_len (λ b. not (b == 10)) (reverse front) in
-    let swap : 1 + behind + 1 ≡ behind + 1 + 1 = omega arith in
+    let ahead = prefix_len (λ b. not (b == 10)) (reverse front) in
+    let swap : 1 + ahead + 1 ≡ ahead + 1 + 1 = omega arith in
     ap₂ make
     (ap (λ n. n + 1) (sum_by-append (λ b. cond (b == 10) 1 0) front (byte ∷ []) ∙ ap (λ t. before + (0 + cond t 1 0)) is ∙ add-zero before))
-    (ap (λ l. prefix_len (λ b. not (b == 10)) l + 1) (reverse-append front (byte ∷ [])) ∙ ap (λ t. cond (not t) (1 + behind) 0 + 1) is ∙ swap)
+    (ap (λ l. prefix_len (λ b. not (b == 10)) l + 1) (reverse-append front (byte ∷ [])) ∙ ap (λ t. cond (not t) (1 + ahead) 0 + 1) is ∙ swap)
 
 -- one more byte of those after the front
 one_more : (front bytes : List ℕ) (i : ℕ) → i < length bytes → (front ++ take i bytes) ++ get_or bytes i 0 ∷ [] ≡ front ++ take (i + 1) bytes

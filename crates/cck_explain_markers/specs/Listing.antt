@@ -14,8 +14,8 @@ use Rattle.cck_explain_markers.specs.declared.place.PlacedMark.{PlacedMark}
 use Rattle.cck_explain_markers.specs.declared.place.Position.{Position}
 
 -- the path that a name means, joined to the working directory and normalised
-abbrev pub path_in : Bytes → Bytes → Path
-path_in cwd name = normal (joined (components cwd) (components name))
+abbrev pub named_path : Bytes → Bytes → Path
+named_path cwd name = normal (joined (components cwd) (components name))
 
 -- the name is enclosed in `<` and `>`
 unfoldable pub is_bracketed : Bytes → Bool
@@ -35,7 +35,7 @@ abbrev pub name_words : Bytes → Bytes → Bytes → Bool → Bytes
 name_words input cwd name is_system =
     if length name == 0 then codes "empty " ++ quoted name else
     if is_bracketed name then codes "angled " ++ quoted name else
-    path_words (path_in cwd input) (path_in cwd name) name is_system
+    path_words (named_path cwd input) (named_path cwd name) name is_system
 
 -- a mark by what it says
 abbrev pub mark_words : Bytes → Bytes → Mark → Bytes

@@ -4,7 +4,7 @@ ghost use Rattle.std.specs.List.{flat_map};
 ghost use Rattle.std.specs.Ordering.{eq_by_cmp};
 ghost use Rattle.cck_path.specs.Path.{components, path_cmp};
 ghost use Rattle.cck_path.specs.Text.{path_text};
-ghost use Rattle.cck_explain_markers.specs.Listing.{AreMarkerLines, is_bracketed, mark_line, mark_words, name_words, path_in, path_word, path_words};
+ghost use Rattle.cck_explain_markers.specs.Listing.{AreMarkerLines, is_bracketed, mark_line, mark_words, name_words, named_path, path_word, path_words};
 
 use crate::place::{PlacedMark, placed_marks};
 use cck_explain_text::push_quoted;
@@ -21,9 +21,9 @@ fn is_bracketed(name: &[u8]) -> bool
 }
 
 // The path that a name means, joined to the working directory and normalised.
-fn path_in(alloc: Global, cwd: &[u8], name: &[u8]) -> Result<Vec<u8>, AllocError>
-    ensures components { IfOk result (λ path. components path.items ≡ path_in cwd.now name.now) }
-    ensures bytes { IfOk result (λ path. path.items ≡ path_text (path_in cwd.now name.now)) }
+fn named_path(alloc: Global, cwd: &[u8], name: &[u8]) -> Result<Vec<u8>, AllocError>
+    ensures components { IfOk result (λ path. components path.items ≡ named_path cwd.now name.now) }
+    ensures bytes { IfOk result (λ path. path.items ≡ path_text (named_path cwd.now name.now)) }
 {
     let Ok(joined) = join_path(alloc, cwd, name) else {
         return Err(AllocError);
@@ -64,10 +64,10 @@ fn push_path(
     is_system: bool,
 ) -> Result<(), AllocError>
     ensures { OnOk result (lines.new.items ≡ lines.old.items
-        ++ path_words (path_in cwd.now input.now) (path_in cwd.now name.now) name.now is_system) }
+        ++ path_words (named_path cwd.now input.now) (named_path cwd.now name.now) name.now is_system) }
 {
-    let path = path_in(alloc, cwd, name)?;
-    let is_input = is_same(&path, &path_in(alloc, cwd, input)?);
+    let path = named_path(alloc, cwd, name)?;
+    let is_input = is_same(&path, &named_path(alloc, cwd, input)?);
     lines.extend_from_slice(path_word(is_input, is_system))?;
     lines.extend_from_slice(b" ")?;
     push_quoted(lines, name)?;

@@ -6,7 +6,7 @@ use Rattle.cck_files.specs.FileState.{FileState}
 use Rattle.cck_store.specs.MapStore.{State, map_store}
 use Rattle.cck_script.specs.Calls.{ScriptCallValue}
 use Rattle.c_cache_keys.proofs.Runs.{run_joined}
-use Rattle.c_cache_keys.specs.Call.{Answer, Done}
+use Rattle.c_cache_keys.specs.Call.{CallResult, Done}
 use Rattle.c_cache_keys.specs.Step.{Run}
 use Rattle.c_cache_keys.specs.World.{World}
 use Rattle.c_cache_keys.specs.declared.c_compiler.CCompiler.{CCompiler}
@@ -18,44 +18,44 @@ use Rattle.cck_command.specs.declared.mini_compiler.MiniCompiler.{MiniCompiler}
 use Rattle.cck_explain_script.specs.Listing.{AreNoted, noted}
 
 -- one more note, and the line of its result
-noted-push : (notes : List Bytes) (answers : List Answer) (note : Bytes) (answer : Answer) → length notes ≡ length answers
-    → noted (notes ++ note ∷ []) (answers ++ answer ∷ []) ≡ noted notes answers ++ (note ++ result_line answer)
-noted-push [] [] note answer e = append-nil (note ++ result_line answer)
-noted-push [] (a ∷ answers) note answer e = absurd (omega arith)
-noted-push (n ∷ notes) [] note answer e = absurd (omega arith)
-noted-push (n ∷ notes) (a ∷ answers) note answer e =
-    ap (λ l. n ++ result_line a ++ l) (noted-push notes answers note answer (omega arith))
-    ∙ sym (append_assoc (n ++ result_line a) (noted notes answers) (note ++ result_line answer))
+noted-push : (notes : List Bytes) (call_results : List CallResult) (note : Bytes) (call_result : CallResult) → length notes ≡ length call_results
+    → noted (notes ++ note ∷ []) (call_results ++ call_result ∷ []) ≡ noted notes call_results ++ (note ++ result_line call_result)
+noted-push [] [] note call_result e = append-nil (note ++ result_line call_result)
+noted-push [] (a ∷ call_results) note call_result e = absurd (omega arith)
+noted-push (n ∷ notes) [] note call_result e = absurd (omega arith)
+noted-push (n ∷ notes) (a ∷ call_results) note call_result e =
+    ap (λ l. n ++ result_line a ++ l) (noted-push notes call_results note call_result (omega arith))
+    ∙ sym (append_assoc (n ++ result_line a) (noted notes call_results) (note ++ result_line call_result))
 
 module _ (hash : Bytes → Bytes) (zone : ℤ) (w : World ℤ) where
   -- one call has one result
-  one_answer : (s t : State) (asked : ScriptCallValue) (done : List (Done ℤ)) (answers : List Answer) → AllZip (IsRequested hash zone) (asked ∷ []) done
-      → Run w map_store s done answers t → (answer : Answer) × (answers ≡ answer ∷ [])
-  one_answer s t asked [] answers calls run = absurd calls
-  one_answer s t asked (d ∷ e ∷ done) answers calls run = absurd calls.1
-  one_answer s t asked (d ∷ []) [] calls run = absurd run
-  one_answer s t asked (d ∷ []) (a ∷ []) calls run = (a, refl)
-  one_answer s t asked (d ∷ []) (a ∷ b ∷ answers) calls run = absurd run.2
+  one_result : (s t : State) (asked : ScriptCallValue) (done : List (Done ℤ)) (call_results : List CallResult) → AllZip (IsRequested hash zone) (asked ∷ []) done
+      → Run w map_store s done call_results t → (call_result : CallResult) × (call_results ≡ call_result ∷ [])
+  one_result s t asked [] call_results calls run = absurd calls
+  one_result s t asked (d ∷ e ∷ done) call_results calls run = absurd calls.1
+  one_result s t asked (d ∷ []) [] calls run = absurd run
+  one_result s t asked (d ∷ []) (a ∷ []) calls run = (a, refl)
+  one_result s t asked (d ∷ []) (a ∷ b ∷ call_results) calls run = absurd run.2
 
   pub none_noted : (s : State) → AreNoted hash zone w [] s s []
-  none_noted s = record { done = []; answers = []; calls = tt; run = refl; notes = []; count = refl; listed = refl }
+  none_noted s = record { done = []; call_results = []; calls = tt; run = refl; notes = []; count = refl; listed = refl }
 
   -- one more call, whose note and result line were appended
   pub one_noted : (front : List ScriptCallValue) (asked : ScriptCallValue) (s m t : State) (listing note printed after : Bytes)
       → AreNoted hash zone w front s m listing → AreMade hash zone w (asked ∷ []) m t [] printed
       → after ≡ (listing ++ note) ++ printed → AreNoted hash zone w (front ++ asked ∷ []) s t after
   one_noted front asked s m t listing note printed after before made is =
-      let one = one_answer m t asked made.done made.answers made.calls made.run in
+      let one = one_result m t asked made.done made.call_results made.calls made.run in
       let line : printed ≡ result_line (one.0) = made.printed_are ∙ ap (flat_map result_line) one.1 ∙ append-nil (result_line (one.0)) in
       record {
         done = before.done ++ made.done;
-        answers = before.answers ++ made.answers;
+        call_results = before.call_results ++ made.call_results;
         calls = zip_joined (IsRequested hash zone) front (asked ∷ []) before.done made.done before.calls made.calls;
-        run = run_joined w map_store s m t before.done made.done before.answers made.answers before.run made.run;
+        run = run_joined w map_store s m t before.done made.done before.call_results made.call_results before.run made.run;
         notes = before.notes ++ note ∷ [];
-        count = length-append before.notes (note ∷ []) ∙ ap (λ n. n + 1) before.count ∙ sym (ap (λ l. length (before.answers ++ l)) one.1 ∙ length-append before.answers (one.0 ∷ []));
+        count = length-append before.notes (note ∷ []) ∙ ap (λ n. n + 1) before.count ∙ sym (ap (λ l. length (before.call_results ++ l)) one.1 ∙ length-append before.call_results (one.0 ∷ []));
         listed = is ∙ ap (λ l. (listing ++ note) ++ l) line ∙ append_assoc listing note (result_line (one.0)) ∙ ap (λ l. l ++ (note ++ result_line (one.0))) before.listed
-            ∙ sym (ap (λ l. noted (before.notes ++ note ∷ []) (before.answers ++ l)) one.1 ∙ noted-push before.notes before.answers note (one.0) before.count);
+            ∙ sym (ap (λ l. noted (before.notes ++ note ∷ []) (before.call_results ++ l)) one.1 ∙ noted-push before.notes before.call_results note (one.0) before.count);
       }
 
 -- the calls so far are noted, and those that are left are ready

@@ -104,10 +104,10 @@ pub fn difference_of<H: HashState, F: Files>(
         AreKnown s (F.file_map files.old) known.old → AreKnown s (F.file_map files.old) known.new }
     ensures matching { let s = setting_of H.hash context.now in
         AreKnown s (F.file_map files.old) known.old
-        → IfOk result (λ answer. MayMiss (Rose (F.faults files.old) (F.faults files.new)) (is_none answer)
+        → IfOk result (λ seen. MayMiss (Rose (F.faults files.old) (F.faults files.new)) (is_none seen)
         (matches s (F.file_map files.old) (include_lent include.now))) }
     ensures difference { let found = contents_at (F.file_map files.old) (components include.now.path.now) in
-        IfOk result (λ answer. IfSome answer
+        IfOk result (λ seen. IfSome seen
         (IsDifference H.hash (Rose (F.faults files.old) (F.faults files.new)) found include.now.digest.now)) }
 {
     if include_matches::<H, F>(alloc, files, known, include, context)? {

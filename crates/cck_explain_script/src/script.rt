@@ -12,7 +12,7 @@ ghost use Rattle.cck_command.specs.MiniCompiler.{mini_compiler};
 ghost use Rattle.cck_command.specs.Made.{IsReady, IsRunCompiler};
 ghost use Rattle.c_cache_keys.specs.declared.c_compiler.CCompiler.{CCompiler};
 ghost use Rattle.cck_command.specs.declared.mini_compiler.MiniCompiler.{MiniCompiler as MiniCompilerValue};
-ghost use Rattle.cck_explain_script.specs.Listing.{AreNoted, IsListingOf};
+ghost use Rattle.cck_explain_script.specs.Listing.{AreNoted, IsScriptListing};
 
 use crate::note::{push_head, push_note};
 use crate::watched_store::WatchedStore;
@@ -30,7 +30,7 @@ use std::alloc::{AllocError, Global};
 
 // What is the same for all calls of a run.
 #[derive(Drop)]
-struct Setting {
+struct ListingContext {
     zone: TimeZone<'static>,
     basedirs: Vec<Vec<u8>>,
 }
@@ -38,7 +38,7 @@ struct Setting {
 // Returns what a call did that was made on this store, but for its result.
 fn note_of<H: HashState>(
     alloc: Global,
-    setting: &Setting,
+    context: &ListingContext,
     store: &mut WatchedStore,
     number: u64,
     made: &mut Call<MiniCompiler, MapFiles>,
@@ -48,20 +48,20 @@ fn note_of<H: HashState>(
     let calls = store.take_calls(alloc)?;
     let mut note = Vec::new(alloc);
     push_head(alloc, &mut note, number, &made.hasher.parsed_args.input)?;
-    let context = JudgeContext {
+    let judge_context = JudgeContext {
         moment: made.moment,
-        zone: &setting.zone,
+        zone: &context.zone,
         vars: &made.vars,
         config: PreprocessorCacheModeConfig::activated(),
     };
-    push_note::<H, MapFiles>(alloc, &mut note, &calls, &mut made.files, &context)?;
+    push_note::<H, MapFiles>(alloc, &mut note, &calls, &mut made.files, &judge_context)?;
     Ok(note)
 }
 
 // Makes a call, and appends what it did and its result.
 fn explain_call<H: HashState>(
     alloc: Global,
-    setting: &Setting,
+    context: &ListingContext,
     store: &mut WatchedStore,
     number: u64,
     call: Call<MiniCompiler, MapFiles>,
@@ -69,40 +69,40 @@ fn explain_call<H: HashState>(
 ) -> Result<(), Failed>
     ensures { OnOk result ((zone : ℤ) (compiler : CCompiler MiniCompilerValue) (front : List ScriptCallValue) (asked : ScriptCallValue)
         (start : State) → IsRunCompiler H.hash zone compiler → IsReady compiler asked call →
-        let w = world_of H.hash mini_compiler (plain_zone setting.now.zone) activated (lists_of setting.now.basedirs.items) in
+        let w = world_of H.hash mini_compiler (plain_zone context.now.zone) activated (lists_of context.now.basedirs.items) in
         AreNoted H.hash zone w front start store.old listing.old.items
         → AreNoted H.hash zone w (front ++ asked ∷ []) start store.new listing.new.items) }
 {
     let mut calls = Vec::new(alloc);
     calls.push(call)?;
     let config = PreprocessorCacheModeConfig::activated();
-    let answers = run_calls::<H, MiniCompiler, MapFiles, WatchedStore>(
+    let call_results = run_calls::<H, MiniCompiler, MapFiles, WatchedStore>(
         alloc,
         store,
-        &setting.zone,
+        &context.zone,
         config,
-        &setting.basedirs,
+        &context.basedirs,
         &mut calls,
     )?;
     // `calls` holds the one call that was pushed.
     let Some(mut made) = calls.pop() else {
         return Err(Failed);
     };
-    let note = note_of::<H>(alloc, setting, store, number, &mut made)?;
+    let note = note_of::<H>(alloc, context, store, number, &mut made)?;
     listing.extend_from_slice(&note)?;
-    add_result_lines(alloc, listing, &answers)?;
+    add_result_lines(alloc, listing, &call_results)?;
     Ok(())
 }
 
 // Makes the calls of a script in their order, and returns what each did.
 fn explain_calls<H: HashState>(alloc: Global, script: Script) -> Result<Vec<u8>, Failed>
-    ensures { IfOk result (λ listing. IsListingOf H.hash (lines_of script) listing.items) }
+    ensures { IfOk result (λ listing. IsScriptListing H.hash (lines_of script) listing.items) }
 {
     let options = script.options(alloc)?;
     let mut store = WatchedStore::new(alloc, store_of(alloc, options.forget_at, options.fail_at));
     let compiler = compiler_of::<H>(alloc, options.zone_offset)?;
     let zone = zone_at(options.zone_offset)?;
-    let setting = Setting {
+    let context = ListingContext {
         zone,
         basedirs: options.basedirs,
     };
@@ -111,7 +111,7 @@ fn explain_calls<H: HashState>(alloc: Global, script: Script) -> Result<Vec<u8>,
     let mut number: u64 = 0;
     for call in calls {
         number = number.saturating_add(1);
-        explain_call::<H>(alloc, &setting, &mut store, number, call, &mut listing)?;
+        explain_call::<H>(alloc, &context, &mut store, number, call, &mut listing)?;
     }
     Ok(listing)
 }
@@ -125,7 +125,7 @@ fn explain_calls<H: HashState>(alloc: Global, script: Script) -> Result<Vec<u8>,
 /// The errors are those of [`Script::parse`]: a wrong line, or lack of memory.
 pub fn script_listing<H: HashState>(alloc: Global, text: &[u8]) -> Result<Vec<u8>, ScriptError>
     ensures listed { IfOk result (λ listing.
-        (wrong_line text.now ≡ None) × IsListingOf H.hash (commands_of text.now) listing.items) }
+        (wrong_line text.now ≡ None) × IsScriptListing H.hash (commands_of text.now) listing.items) }
     ensures errors { IfErr result (IsScriptError text.now) }
 {
     let script = Script::parse(alloc, text)?;

@@ -1,7 +1,7 @@
 //! The calls of a script as a list, and failures among them.
 use crate::broken_streams::{self, Broken};
 use crate::failures::{self, Cause};
-use crate::lists::{Answer, List, write_answer};
+use crate::lists::{CallResult, List, write_call_result};
 use crate::places::begin_line;
 use crate::streams::Streams;
 use cck_cases::CaseError;
@@ -10,15 +10,15 @@ use std::alloc::Global;
 #[derive(Clone, Copy)]
 pub(crate) enum ListCall {
     PlainKeys,
-    Answers,
+    Results,
     Checked,
     FailEach,
 }
 
 pub(crate) const CALLS: [(&str, ListCall); 4] = [
     ("plain_keys", ListCall::PlainKeys),
-    ("answers", ListCall::Answers),
-    ("checked_answers", ListCall::Checked),
+    ("results", ListCall::Results),
+    ("checked_results", ListCall::Checked),
     ("fail_each", ListCall::FailEach),
 ];
 
@@ -54,7 +54,7 @@ pub(crate) fn write(
     }
     match call {
         ListCall::PlainKeys => write_plain_keys(&list, out),
-        ListCall::Answers => write_answers(&list, out, given.store_fail_after),
+        ListCall::Results => write_results(&list, out, given.store_fail_after),
         ListCall::Checked => failures::write_checked(&list, out),
         ListCall::FailEach => {
             let (cause, is_once) = cause_of(rest).ok_or(CaseError::Line)?;
@@ -67,19 +67,19 @@ pub(crate) fn write(
 fn write_plain_keys(list: &List, out: &mut Vec<u8>) -> Result<(), CaseError> {
     for alone in list.each_alone()? {
         begin_line(out)?;
-        write_answer(list.alloc, out, &alone.answer)?;
+        write_call_result(list.alloc, out, &alone.call_result)?;
     }
     Ok(())
 }
 
 // Makes all calls at once, on one store, of whose gets and puts all from this one on fail.
-fn write_answers(list: &List, out: &mut Vec<u8>, fail_after: u64) -> Result<(), CaseError> {
+fn write_results(list: &List, out: &mut Vec<u8>, fail_after: u64) -> Result<(), CaseError> {
     let mut store = list.store()?;
     store.fail_after(fail_after);
-    let answers: Vec<Answer> = list.make_all(&mut store, &mut list.calls()?)?;
-    for answer in &answers {
+    let call_results: Vec<CallResult> = list.make_all(&mut store, &mut list.calls()?)?;
+    for call_result in &call_results {
         begin_line(out)?;
-        write_answer(list.alloc, out, answer)?;
+        write_call_result(list.alloc, out, call_result)?;
     }
     Ok(())
 }

@@ -1,5 +1,7 @@
 //! Each failure of one cause in turn, over the calls of a script.
-use crate::lists::{Alone, Answer, List, Request, hold, is_held_alike, keys_of, write_answer};
+use crate::lists::{
+    Alone, CallResult, List, Request, hold, is_held_alike, keys_of, write_call_result,
+};
 use c_cache_keys::{HashResult, KeyError, MapStore, PreprocessError};
 use cck_cases::CaseError;
 use cck_util::{Digest, FileError, Sha256State, UtilError};
@@ -68,14 +70,14 @@ impl Failure {
     }
 
     // Whether a call that met a failure may have this result, where it has that one without.
-    fn allows(&self, plain: &Answer, answer: &Answer) -> bool {
-        let Err(error) = answer else {
-            return same_key(plain, answer);
+    fn allows(&self, plain: &CallResult, call_result: &CallResult) -> bool {
+        let Err(error) = call_result else {
+            return same_key(plain, call_result);
         };
         match self.cause {
-            Cause::Files => is_fault(*error) || same_answer(plain, answer),
-            Cause::Store => *error == KeyError::Store || same_answer(plain, answer),
-            Cause::Forgetting => same_answer(plain, answer),
+            Cause::Files => is_fault(*error) || same_result(plain, call_result),
+            Cause::Store => *error == KeyError::Store || same_result(plain, call_result),
+            Cause::Forgetting => same_result(plain, call_result),
         }
     }
 }
@@ -91,7 +93,7 @@ fn is_fault(error: KeyError) -> bool {
 }
 
 // Whether both results have a key, and the same one.
-fn same_key(one: &Answer, other: &Answer) -> bool {
+fn same_key(one: &CallResult, other: &CallResult) -> bool {
     match (one, other) {
         (Ok(found), Ok(again)) => found.key == again.key,
         _ => false,
@@ -99,7 +101,7 @@ fn same_key(one: &Answer, other: &Answer) -> bool {
 }
 
 // Whether both results are the same.
-fn same_answer(one: &Answer, other: &Answer) -> bool {
+fn same_result(one: &CallResult, other: &CallResult) -> bool {
     match (one, other) {
         (Ok(found), Ok(again)) => is_same(found, again),
         (Err(error), Err(again)) => error == again,
@@ -138,8 +140,8 @@ impl Seen {
         }
     }
 
-    fn note(&mut self, answer: &Answer, is_right: bool) {
-        match answer {
+    fn note(&mut self, call_result: &CallResult, is_right: bool) {
+        match call_result {
             Ok(found) if found.is_locally_preprocessed => one_more(&mut self.misses),
             Ok(_) => one_more(&mut self.hits),
             Err(error) => {
@@ -187,24 +189,24 @@ struct Run<'a> {
 
 impl Run<'_> {
     // Makes the call at a place, and says whether its result and what is held afterwards are right.
-    fn make(&mut self, place: usize, mut call: Request) -> Result<(Answer, bool), CaseError> {
+    fn make(&mut self, place: usize, mut call: Request) -> Result<(CallResult, bool), CaseError> {
         let alloc = self.list.alloc;
         let mut before = disarmed(alloc, self.alone, &self.store)?;
         let store_before = self.store.calls();
         self.failure.arm_files(&mut call, place);
-        let (answer, files) = self.list.make(&mut self.store, call)?;
+        let (call_result, files) = self.list.make(&mut self.store, call)?;
         let counts = Counts {
             files,
             store_before: store_before.saturating_sub(self.store_first),
             store_after: self.store.calls().saturating_sub(self.store_first),
         };
-        write_answer(alloc, &mut self.text, &answer)?;
+        write_call_result(alloc, &mut self.text, &call_result)?;
         self.text.push(b'\n')?;
         if !self.failure.is_met(place, counts) {
             let (expected, _) = self.list.make(&mut before, self.list.call(place)?)?;
-            let is_right = same_answer(&expected, &answer)
+            let is_right = same_result(&expected, &call_result)
                 && hold_alike(self.alone, &before, &self.store);
-            return Ok((answer, is_right));
+            return Ok((call_result, is_right));
         }
         self.has_met = self.has_met
             || self.failure.cause != Cause::Files
@@ -213,9 +215,9 @@ impl Run<'_> {
             return Err(CaseError::Line);
         };
         let made = place.saturating_add(1).min(self.alone.len());
-        let is_right = self.failure.allows(&alone.answer, &answer)
+        let is_right = self.failure.allows(&alone.call_result, &call_result)
             && self.holds_own(&self.alone[..made]);
-        Ok((answer, is_right))
+        Ok((call_result, is_right))
     }
 
     // Whether each pair that is held under the keys of all calls is the own pair of one that was made,
@@ -306,8 +308,8 @@ fn run_under(
     if !run.has_met {
         return Ok(false);
     }
-    for (answer, is_right) in &results {
-        seen.note(answer, *is_right);
+    for (call_result, is_right) in &results {
+        seen.note(call_result, *is_right);
     }
     one_more(&mut seen.runs);
     let store = &run.store;
@@ -361,29 +363,29 @@ pub(crate) fn write(
 pub(crate) fn write_checked(list: &List, out: &mut Vec<u8>) -> Result<(), CaseError> {
     let mut store = list.store()?;
     let mut calls = list.calls()?;
-    let answers = list.make_all(&mut store, &mut calls)?;
-    let first = wrong_answers(list, &list.each_alone()?, &store, &answers)?;
-    let second = wrong_answers(list, &list.each_alone()?, &store, &answers)?;
-    let (count, wrong) = (answers.len(), first.min(second));
+    let call_results = list.make_all(&mut store, &mut calls)?;
+    let first = wrong_results(list, &list.each_alone()?, &store, &call_results)?;
+    let second = wrong_results(list, &list.each_alone()?, &store, &call_results)?;
+    let (count, wrong) = (call_results.len(), first.min(second));
     let text = format!(in list.alloc; "{count} results, {wrong} wrong")?;
     Ok(out.extend_from_slice(text.as_bytes())?)
 }
 
-fn wrong_answers(
+fn wrong_results(
     list: &List,
     each: &[Alone],
     store: &MapStore,
-    answers: &[Answer],
+    call_results: &[CallResult],
 ) -> Result<u64, CaseError> {
     let mut wrong = 0;
     if !holds_own_alone(list, store, each)? {
         one_more(&mut wrong);
     }
-    for (alone, answer) in each.iter().zip(answers.iter()) {
-        let is_right = match answer {
-            Ok(_) => same_key(&alone.answer, answer),
+    for (alone, call_result) in each.iter().zip(call_results.iter()) {
+        let is_right = match call_result {
+            Ok(_) => same_key(&alone.call_result, call_result),
             Err(KeyError::Memory | KeyError::Store) => true,
-            Err(_) => same_answer(&alone.answer, answer),
+            Err(_) => same_result(&alone.call_result, call_result),
         };
         if !is_right {
             one_more(&mut wrong);

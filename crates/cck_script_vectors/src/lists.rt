@@ -13,7 +13,7 @@ use std::alloc::Global;
 pub(crate) type Request = Call<MiniCompiler, MapFiles>;
 
 /// The result of a call.
-pub(crate) type Answer = Result<HashResult, KeyError>;
+pub(crate) type CallResult = Result<HashResult, KeyError>;
 
 /// What the calls of a script are made of and under.
 #[derive(Drop)]
@@ -32,7 +32,7 @@ pub(crate) struct List {
 #[derive(Drop)]
 pub(crate) struct Alone {
     /// Its result, of which the key is its plain key.
-    pub(crate) answer: Answer,
+    pub(crate) call_result: CallResult,
     /// The store after it, which holds its own pair, or nothing.
     pub(crate) store: MapStore,
     /// The keys of what it holds.
@@ -144,9 +144,9 @@ impl List {
         &self,
         store: &mut MapStore,
         calls: &mut [Request],
-    ) -> Result<Vec<Answer>, CaseError> {
+    ) -> Result<Vec<CallResult>, CaseError> {
         let config = PreprocessorCacheModeConfig::activated();
-        let answers = run_calls::<Sha256State, MiniCompiler, MapFiles, MapStore>(
+        let call_results = run_calls::<Sha256State, MiniCompiler, MapFiles, MapStore>(
             self.alloc,
             store,
             &self.zone,
@@ -154,7 +154,7 @@ impl List {
             &self.options.basedirs,
             calls,
         )?;
-        Ok(answers)
+        Ok(call_results)
     }
 
     /// Makes one call on a store, and returns its result and how many calls on files it made.
@@ -162,12 +162,12 @@ impl List {
         &self,
         store: &mut MapStore,
         call: Request,
-    ) -> Result<(Answer, u64), CaseError> {
+    ) -> Result<(CallResult, u64), CaseError> {
         let mut calls = Vec::new(self.alloc);
         calls.push(call)?;
-        let answer = self.make_all(store, &mut calls)?.pop();
-        match (answer, calls.pop()) {
-            (Some(answer), Some(call)) => Ok((answer, call.files.calls())),
+        let call_result = self.make_all(store, &mut calls)?.pop();
+        match (call_result, calls.pop()) {
+            (Some(call_result), Some(call)) => Ok((call_result, call.files.calls())),
             _ => Err(CaseError::Line),
         }
     }
@@ -177,10 +177,10 @@ impl List {
         let mut all = Vec::new(self.alloc);
         for call in self.calls()? {
             let mut store = MapStore::new(self.alloc);
-            let (answer, _) = self.make(&mut store, call)?;
+            let (call_result, _) = self.make(&mut store, call)?;
             let keys = keys_of(self.alloc, &store)?;
             all.push(Alone {
-                answer,
+                call_result,
                 store,
                 keys,
             })?;
@@ -228,12 +228,12 @@ pub(crate) fn is_held_alike(one: &MapStore, other: &MapStore, key: &str) -> bool
 }
 
 /// Writes `hit KEY`, `miss KEY` or `error N`.
-pub(crate) fn write_answer(
+pub(crate) fn write_call_result(
     alloc: Global,
     out: &mut Vec<u8>,
-    answer: &Answer,
+    call_result: &CallResult,
 ) -> Result<(), CaseError> {
-    match answer {
+    match call_result {
         Ok(found) => {
             let word: &[u8] = if found.is_locally_preprocessed {
                 b"miss "

@@ -10,16 +10,16 @@ use Rattle.cck_preprocessor_key.specs.PreprocessorKey.{preprocessor_material}
 use Rattle.cck_store.specs.Store.{Returned}
 use Rattle.cck_store.specs.declared.store.StoreError.TheVariants as store
 use Rattle.c_cache_keys.proofs.Stored.{not_both, not_failed}
-use Rattle.c_cache_keys.specs.Call.{Answer, Call, Damaged, Extra, ExtraFault, Input, InputFault, Marker, Memory, NoText, Refused, Store as StoreFails, TextFault, Why}
+use Rattle.c_cache_keys.specs.Call.{CallResult, Call, Damaged, Extra, ExtraFault, Input, InputFault, Marker, Memory, NoText, ReturnsError, Store as StoreFails, TextFault, Why}
 use Rattle.c_cache_keys.specs.Keys.{extra_texts, input_recorded, is_direct, is_preprocessed, key_material, of_both, preprocessor_key_of, request_parts, uses_cache}
 use Rattle.c_cache_keys.specs.Step.{Asked, Ends, Failed, Gives, Hit, Makes, Miss, Step, Stores, StopsMaking, StopsOpening, asked, gives, made, stopped, stops}
 use Rattle.c_cache_keys.specs.Walk.{input_path}
 use Rattle.c_cache_keys.specs.World.{World}
 use Rattle.c_cache_keys.specs.declared.call.CacheControl.TheVariants.{Default}
-use Rattle.cck_snapshot.specs.RequestedKey.{IsNoted, requested_key}
+use Rattle.cck_snapshot.specs.RequestedKey.{NotesKey, requested_key}
 use Rattle.cck_snapshot.specs.Snapshot.{IsMiss, IsStoredKey}
 
-pub same_why : {a b : Why} → Refused a ≡ Refused b → a ≡ b
+pub same_why : {a b : Why} → ReturnsError a ≡ ReturnsError b → a ≡ b
 same_why e = cc
 
 miss_hit : {key : Bytes} → Miss ≡ Hit key → ⊥
@@ -35,7 +35,7 @@ same_failed : {a b : Why} → Failed a ≡ Failed b → a ≡ b
 same_failed e = cc
 
 -- no error that is a miss comes before the store is asked
-pub not_opening : {V : Type 0} (w : World V) (c : Call V) (F : Type 0) (why : Why) → IsMiss (Refused why) → StopsOpening w c F why → ⊥
+pub not_opening : {V : Type 0} (w : World V) (c : Call V) (F : Type 0) (why : Why) → IsMiss (ReturnsError why) → StopsOpening w c F why → ⊥
 not_opening w c F Memory m h = m
 not_opening w c F Extra m h = m
 not_opening w c F ExtraFault m h = m
@@ -52,24 +52,24 @@ module _ {V : Type 0} (w : World V) (c : Call V) (F : Type 0) (control : c.contr
   puts_nothing key s t (inl p) = p.put
   puts_nothing key s t (inr n) = n.0
 
-  makes_nothing : (s t : Option Bytes) (r : Answer) → Makes w requested_key c F s r t → t ≡ s
+  makes_nothing : (s t : Option Bytes) (r : CallResult) → Makes w requested_key c F s r t → t ≡ s
   makes_nothing s t r (stops why cause is same) = same
   makes_nothing s t r (gives key plain calm is puts) = puts_nothing key s t puts
 
   -- What a call leaves on this store. It was asked under the preprocessor key. Or it was not asked, and there is none, or the call returned
   -- an error before.
-  pub data Noted (r : Answer) (t : Option Bytes) : Type 0 where
+  pub data Noted (r : CallResult) (t : Option Bytes) : Type 0 where
     noted : (k : Bytes) → preprocessor_key_of w c ≡ Some k → t ≡ Some k → Noted r t
-    early : (why : Why) → StopsOpening w c F why → r ≡ Refused why → t ≡ None → Noted r t
+    early : (why : Why) → StopsOpening w c F why → r ≡ ReturnsError why → t ≡ None → Noted r t
     no_key : preprocessor_key_of w c ≡ None → Makes w requested_key c F None r t → t ≡ None → Noted r t
 
-  pub what_is_noted : (r : Answer) (t : Option Bytes) → Step w requested_key c F None r t → Noted r t
+  pub what_is_noted : (r : CallResult) (t : Option Bytes) → Step w requested_key c F None r t → Noted r t
   what_is_noted r t (stopped why cause is same) = early why cause is same
   what_is_noted r t (made o (inl none) makes) = no_key none makes (makes_nothing None t r makes)
   what_is_noted r t (made o (inr recache) makes) = absurd (not_both (sym control ∙ recache))
-  what_is_noted r t (asked o k is-k default a mid asks ends) = go asks.answer a asks.got asks.gives ends
+  what_is_noted r t (asked o k is-k default a mid asks ends) = go asks.from_store a asks.got asks.gives ends
     where
-      go : (answer : Returned) (a : Asked) → IsNoted None k answer mid → Gives w c F answer a → Ends w requested_key c F a mid r t → Noted r t
+      go : (from_store : Returned) (a : Asked) → NotesKey None k from_store mid → Gives w c F from_store a → Ends w requested_key c F a mid r t → Noted r t
       go (Ok None) (Hit key) got given ends = absurd (miss_hit (sym given))
       go (Ok None) (Failed why) got given ends = absurd (failed_miss given)
       go (Ok None) Miss got given ends = noted k is-k (makes_nothing mid t r ends ∙ got)
@@ -78,16 +78,16 @@ module _ {V : Type 0} (w : World V) (c : Call V) (F : Type 0) (control : c.contr
       go (Err store.Memory) (Hit key) got given ends = absurd (failed_hit (sym given))
       go (Err store.Memory) Miss got given ends = absurd (failed_miss (sym given))
       go (Err store.Memory) (Failed why) got given ends =
-          early Memory tt (ends.0 ∙ ap Refused (same_failed given)) (ends.1 ∙ got)
+          early Memory tt (ends.0 ∙ ap ReturnsError (same_failed given)) (ends.1 ∙ got)
 
   -- the noted key
-  pub noted_key : (r : Answer) (k : Bytes) → Noted r (Some k) → preprocessor_key_of w c ≡ Some k
+  pub noted_key : (r : CallResult) (k : Bytes) → Noted r (Some k) → preprocessor_key_of w c ≡ Some k
   noted_key r k (noted other is same) = is ∙ sym same
   noted_key r k (early why cause is none) = absurd (none-some _ (sym none))
   noted_key r k (no_key none makes is) = absurd (none-some _ (sym is))
 
   -- no key was noted, and the call returned a key, or ended as it does where nothing is printed
-  pub none_noted : (r : Answer) (o : Option (String Global)) → IsStoredKey r o → Noted r None → preprocessor_key_of w c ≡ None
+  pub none_noted : (r : CallResult) (o : Option (String Global)) → IsStoredKey r o → Noted r None → preprocessor_key_of w c ≡ None
   none_noted r o m (noted k is same) = absurd (none-some _ same)
   none_noted r None m (early why cause is none) = absurd (not_opening w c F why (subst IsMiss is m) cause)
   none_noted r (Some key) m (early why cause is none) = absurd (not_failed (sym m ∙ is))
@@ -110,7 +110,7 @@ module _ {V : Type 0} (w : World V) (c : Call V) (F : Type 0) (control : c.contr
   no_making Marker needs none other h = absurd (h.0 none)
 
   -- no key was noted, and the call returned an error
-  pub why_not_noted : (why : Why) → is_preprocessed c.request ≡ true → NotTextless why → Noted (Refused why) None → StopsOpening w c F why
+  pub why_not_noted : (why : Why) → is_preprocessed c.request ≡ true → NotTextless why → Noted (ReturnsError why) None → StopsOpening w c F why
   why_not_noted why needs other (noted k is same) = absurd (none-some _ same)
   why_not_noted why needs other (early why' cause is none) = subst (StopsOpening w c F) (sym (same_why is)) cause
   why_not_noted why needs other (no_key none (stops why' cause is same) t) =
@@ -129,7 +129,7 @@ none_needed w c h =
     ap (λ b. option_map (digest_text w.hash) (cond b (of_both (preprocessor_material (request_parts w c.request (input_path c))) (extra_texts w c) (input_recorded w c)) None)) (unused w c h)
 
 -- the same, of a store that was not asked before
-module _ {V : Type 0} (w : World V) (c : Call V) (F : Type 0) (control : c.control ≡ Default) (s t : Option Bytes) (new : s ≡ None) (r : Answer) (step : Step w requested_key c F s r t) where
+module _ {V : Type 0} (w : World V) (c : Call V) (F : Type 0) (control : c.control ≡ Default) (s t : Option Bytes) (new : s ≡ None) (r : CallResult) (step : Step w requested_key c F s r t) where
   from_new : (o : Option Bytes) → o ≡ t → Noted w c F control r o
   from_new o at = subst (Noted w c F control r) (sym at) (what_is_noted w c F control r t (subst (λ v. Step w requested_key c F v r t) new step))
 
@@ -139,5 +139,5 @@ module _ {V : Type 0} (w : World V) (c : Call V) (F : Type 0) (control : c.contr
   pub asked_none : (o : Option (String Global)) → IsStoredKey r o → None ≡ t → preprocessor_key_of w c ≡ None
   asked_none o stored at = none_noted w c F control r o stored (from_new None at)
 
-  pub asked_error : (why : Why) → is_preprocessed c.request ≡ true → r ≡ Refused why → NotTextless w c F control why → None ≡ t → StopsOpening w c F why
+  pub asked_error : (why : Why) → is_preprocessed c.request ≡ true → r ≡ ReturnsError why → NotTextless w c F control why → None ≡ t → StopsOpening w c F why
   asked_error why needs is other at = why_not_noted w c F control why needs other (subst (λ v. Noted w c F control v None) is (from_new None at))

@@ -15,7 +15,7 @@ use Rattle.cck_store.specs.Store.{Returned}
 use Rattle.cck_store.specs.declared.store.StoreError.TheVariants as store
 use Rattle.jiff.specs.Words.{plain_zone}
 use Rattle.c_cache_keys.proofs.Stored.{not_both}
-use Rattle.c_cache_keys.specs.Call.{Answer, Call, Damaged, Extra, ExtraFault, Input, InputFault, Marker, Memory, NoText, Refused, Store as StoreFails, TextFault, Why}
+use Rattle.c_cache_keys.specs.Call.{CallResult, Call, Damaged, Extra, ExtraFault, Input, InputFault, Marker, Memory, NoText, ReturnsError, Store as StoreFails, TextFault, Why}
 use Rattle.c_cache_keys.specs.Keys.{preprocessor_key_of}
 use Rattle.c_cache_keys.specs.Seen.{why_of}
 use Rattle.c_cache_keys.specs.Step.{Asked, Asks, Ends, Failed, Gives, Hit, Miss, ReadsAs, Step, asked, made, stopped}
@@ -27,7 +27,7 @@ use Rattle.cck_snapshot.proofs.Pairs.{find_one, find_own}
 use Rattle.cck_snapshot.specs.External.{no_text}
 use Rattle.cck_snapshot.specs.Requests.{call_for, world_for}
 use Rattle.cck_snapshot.specs.Snapshot.{IsLookUpError, IsLookedUp, IsMiss, IsStoredKey, one_pair}
-use Rattle.cck_snapshot.specs.declared.requests.Request.{Request}
+use Rattle.cck_snapshot.specs.declared.requests.SnapshotRequest.{SnapshotRequest}
 
 same_failed : {a b : Why} → Failed a ≡ Failed b → a ≡ b
 same_failed e = cc
@@ -37,7 +37,7 @@ miss_failed e = cc
 
 module _ {V : Type 0} (w : World V) (c : Call V) (F : Type 0) where
   -- no error of asking a store is a miss
-  not_reading : (bytes : Bytes) (why : Why) → IsMiss (Refused why) → ReadsAs w c F bytes (Failed why) → ⊥
+  not_reading : (bytes : Bytes) (why : Why) → IsMiss (ReturnsError why) → ReadsAs w c F bytes (Failed why) → ⊥
   not_reading bytes Memory m h = m
   not_reading bytes Extra m h = m
   not_reading bytes ExtraFault m h = m
@@ -49,9 +49,9 @@ module _ {V : Type 0} (w : World V) (c : Call V) (F : Type 0) where
   not_reading bytes TextFault m h = h
   not_reading bytes Marker m h = m
 
-  not_given : (answer : Returned) (why : Why) → IsMiss (Refused why) → Gives w c F answer (Failed why) → ⊥
-  not_given (Err store.Fault) why m h = subst (λ v. IsMiss (Refused v)) (same_failed h) m
-  not_given (Err store.Memory) why m h = subst (λ v. IsMiss (Refused v)) (same_failed h) m
+  not_given : (from_store : Returned) (why : Why) → IsMiss (ReturnsError why) → Gives w c F from_store (Failed why) → ⊥
+  not_given (Err store.Fault) why m h = subst (λ v. IsMiss (ReturnsError v)) (same_failed h) m
+  not_given (Err store.Memory) why m h = subst (λ v. IsMiss (ReturnsError v)) (same_failed h) m
   not_given (Ok None) why m h = miss_failed (sym h)
   not_given (Ok (Some bytes)) why m h = not_reading bytes why m h
 
@@ -66,14 +66,14 @@ module _ {V : Type 0} (w : World V) (c : Call V) (F : Type 0) where
       other_is : other ≡ k
       other_is = let e : Some other ≡ Some k = sym is ∙ own in cc
 
-  asked_missed : (k other bytes : Bytes) (answer : Returned) (mid : State) → preprocessor_key_of w c ≡ Some other → IsGot (one_pair k bytes) other answer mid → Gives w c F answer Miss → IsMissOf k bytes
+  asked_missed : (k other bytes : Bytes) (from_store : Returned) (mid : State) → preprocessor_key_of w c ≡ Some other → IsGot (one_pair k bytes) other from_store mid → Gives w c F from_store Miss → IsMissOf k bytes
   asked_missed k other bytes (Err store.Fault) mid is got given = absurd (miss_failed given)
   asked_missed k other bytes (Err store.Memory) mid is got given = absurd (miss_failed given)
   asked_missed k other bytes (Ok None) mid is got given = inl (not_held k other bytes is (sym got.1))
   asked_missed k other bytes (Ok (Some found)) mid is got given =
       inr (subst (λ b. ReadsAs w c F b Miss) (find_one k other bytes found (sym got.1)) given)
 
-  pub missed : (k bytes : Bytes) (t : State) (r : Answer) → c.control ≡ Default → IsMiss r → Step w map_store c F (one_pair k bytes) r t → IsMissOf k bytes
+  pub missed : (k bytes : Bytes) (t : State) (r : CallResult) → c.control ≡ Default → IsMiss r → Step w map_store c F (one_pair k bytes) r t → IsMissOf k bytes
   missed k bytes t r control m (stopped why cause is same) = absurd (not_opening w c F why (subst IsMiss is m) cause)
   missed k bytes t r control m (made o (inl none) makes) = inl (λ own. none-some _ (sym none ∙ own))
   missed k bytes t r control m (made o (inr recache) makes) = absurd (not_both (sym control ∙ recache))
@@ -81,15 +81,15 @@ module _ {V : Type 0} (w : World V) (c : Call V) (F : Type 0) where
     where
       go : (a : Asked) → Asks w map_store c F other (one_pair k bytes) a mid → Ends w map_store c F a mid r t → IsMissOf k bytes
       go (Hit key) asks ends = absurd (false≢true (subst IsMiss ends.0 m))
-      go (Failed why) asks ends = absurd (not_given asks.answer why (subst IsMiss ends.0 m) asks.gives)
-      go Miss asks ends = asked_missed k other bytes asks.answer mid is asks.got asks.gives
+      go (Failed why) asks ends = absurd (not_given asks.from_store why (subst IsMiss ends.0 m) asks.gives)
+      go Miss asks ends = asked_missed k other bytes asks.from_store mid is asks.got asks.gives
 
-module _ (hash : Bytes → Bytes) (files : FileMap) (r : Request) (F : Type 0) (k bytes : Bytes) where
-  abbrev pub Looked : Answer → State → Type 0
+module _ (hash : Bytes → Bytes) (files : FileMap) (r : SnapshotRequest) (F : Type 0) (k bytes : Bytes) where
+  abbrev pub Looked : CallResult → State → Type 0
   Looked a t = Step (world_for hash no_text r) map_store (call_for Default files r) F (one_pair k bytes) a t
 
   -- the result of a look-up
-  pub looked_up : (a : Answer) (t : State) → Looked a t → (o : Option (String Global)) → IsStoredKey a o → IsLookedUp hash files r F k bytes o
+  pub looked_up : (a : CallResult) (t : State) → Looked a t → (o : Option (String Global)) → IsStoredKey a o → IsLookedUp hash files r F k bytes o
   looked_up a t step (Some key) is =
       λ prints. (
         t,
@@ -104,9 +104,9 @@ module _ (hash : Bytes → Bytes) (files : FileMap) (r : Request) (F : Type 0) (
 
   -- memory is lacking before the store is asked
   pub starved : (e : KeyError) → e ≡ error.Memory → IsLookUpError hash files r F k bytes e
-  starved e is = (one_pair k bytes, stopped Memory tt (ap (λ v. Refused (why_of v)) is) refl)
+  starved e is = (one_pair k bytes, stopped Memory tt (ap (λ v. ReturnsError (why_of v)) is) refl)
 
-  module _ (s : State) (is : s ≡ one_pair k bytes) (a : Answer) (t : State) (step : Step (world_for hash no_text r) map_store (call_for Default files r) F s a t) where
+  module _ (s : State) (is : s ≡ one_pair k bytes) (a : CallResult) (t : State) (step : Step (world_for hash no_text r) map_store (call_for Default files r) F s a t) where
     looked_from : Looked a t
     looked_from = subst (λ v. Step (world_for hash no_text r) map_store (call_for Default files r) F v a t) is step
 
@@ -116,5 +116,5 @@ module _ (hash : Bytes → Bytes) (files : FileMap) (r : Request) (F : Type 0) (
     looks (Err e) stored = tt
 
     -- an error
-    pub fails : (e : KeyError) → a ≡ Refused (why_of e) → IsLookUpError hash files r F k bytes e
+    pub fails : (e : KeyError) → a ≡ ReturnsError (why_of e) → IsLookUpError hash files r F k bytes e
     fails e same = (t, subst (λ v. Looked v t) same looked_from)

@@ -12,7 +12,7 @@ use Rattle.cck_entry.specs.Entry.{Entry, EntryText, added}
 use Rattle.cck_entry.specs.Find.{IsLookup, found_in}
 use Rattle.cck_entry.specs.Results.{KeyResult}
 use Rattle.cck_files.specs.FileMap.{FileMap, FileNode, file_at, file_in, folder_at, folder_in, metadata_at, metadata_in}
-use Rattle.cck_include.specs.Gathered.{Digested, all_of, gathered, include_at, include_of_metadata}
+use Rattle.cck_include.specs.Gathered.{Digested, all_of, gathered, gathered_include, include_of_metadata}
 use Rattle.cck_include.specs.Include.{Include}
 use Rattle.cck_include.specs.Matching.{file_matches, matches}
 use Rattle.cck_include.specs.Recorded.{recorded}
@@ -165,8 +165,8 @@ module _ {V : Type 0} (w : World V) (c : Call V) (whole : FileMap) (snapshot : I
       let all' = list_here list all in
       (list, at, all', inl (ap (found_in (matching w d)) one ∙ found_one (matching w d) (key, list) all'))
 
-  gives_here : (F : Type 0) (k other bytes key : Bytes) (answer : Returned) (mid : State) → HasOneResult bytes → IsGot (one_pair k bytes) other answer mid
-      → Gives w c F answer (Hit key) → Gives w d F answer (Hit key)
+  gives_here : (F : Type 0) (k other bytes key : Bytes) (from_store : Returned) (mid : State) → HasOneResult bytes → IsGot (one_pair k bytes) other from_store mid
+      → Gives w c F from_store (Hit key) → Gives w d F from_store (Hit key)
   gives_here F k other bytes key (Err store.Fault) mid one got given = given
   gives_here F k other bytes key (Err store.Memory) mid one got given = given
   gives_here F k other bytes key (Ok None) mid one got given = given
@@ -182,7 +182,7 @@ module _ {V : Type 0} (w : World V) (c : Call V) (whole : FileMap) (snapshot : I
       go : (a : Asked) → Asks w map_store c F other (one_pair k bytes) a mid → Ends w map_store c F a mid (Keyed key false) t → Step w map_store d F (one_pair k bytes) (Keyed key false) t
       go (Hit found) asks ends =
           asked (opened_here o) other (key_here other is) control (Hit found) mid
-          (record { answer = asks.answer; got = asks.got; gives = gives_here F k other bytes found asks.answer mid one asks.got asks.gives }) ends
+          (record { from_store = asks.from_store; got = asks.got; gives = gives_here F k other bytes found asks.from_store mid one asks.got asks.gives }) ends
       go (Failed why) asks ends = absurd (not_failed ends.0)
       go Miss asks ends = absurd (made_fresh w map_store c F mid t key ends)
 
@@ -216,7 +216,7 @@ module _ {V : Type 0} (w : World V) (c : Call V) (whole : FileMap) (snapshot : I
       by (inl folder) = absurd (folder_or_file w d p n (folder_here c.files whole snapshot.part p folder) file)
       by (inr (o, own, old, digest)) = own ∙ ap Ok (same_ok o n (sym (files p o own) ∙ file))
 
-  include_again : (e : Digested) (x : Include) → include_at c.files c.moment e ≡ Some x → include_at whole c.moment e ≡ Some x
+  include_again : (e : Digested) (x : Include) → gathered_include c.files c.moment e ≡ Some x → gathered_include whole c.moment e ≡ Some x
   unfolding metadata_at
   include_again e x is = by (get c.files.nodes (components (e.1))) refl is
     where
@@ -227,7 +227,7 @@ module _ {V : Type 0} (w : World V) (c : Call V) (whole : FileMap) (snapshot : I
 
   gathered_here : (ds : List Digested) (xs : List Include) → gathered c.files c.moment ds ≡ Some xs → gathered whole c.moment ds ≡ Some xs
   unfolding gathered
-  gathered_here ds xs is = all_again (include_at c.files c.moment) (include_at whole c.moment) include_again ds xs is
+  gathered_here ds xs is = all_again (gathered_include c.files c.moment) (gathered_include whole c.moment) include_again ds xs is
 
   module _ (text_same : printed w d ≡ printed w c) where
     plain_here : (key : Bytes) → is_preprocessed c.request ≡ true → plain_key w c ≡ Some key → plain_key w d ≡ Some key
@@ -276,7 +276,7 @@ module _ {V : Type 0} (w : World V) (c : Call V) (whole : FileMap) (snapshot : I
     recording_here F k bytes key control (made o not (stops why cause is same)) = absurd (not_failed is)
     recording_here F k bytes key control (made o not (gives other plain calm is (inl p))) =
         let own = own_here other p.k p.bytes p.own in
-        made (opened_here o) (inr control) (gives other own.is_plain (calm_here F own.includes own.keeps) is (inl (record { k = p.k; bytes = p.bytes; own = own; answer = p.answer; put = p.put })))
+        made (opened_here o) (inr control) (gives other own.is_plain (calm_here F own.includes own.keeps) is (inl (record { k = p.k; bytes = p.bytes; own = own; from_store = p.from_store; put = p.put })))
     recording_here F k bytes key control (made o not (gives other plain calm is (inr n))) = absurd (not_one_pair k bytes n.0)
     recording_here F k bytes key control (asked o other is default a mid asks ends) = absurd (not_both (sym default ∙ control))
 

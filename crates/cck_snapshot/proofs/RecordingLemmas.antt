@@ -8,19 +8,19 @@ use Rattle.cck_key_error.specs.declared.key_error.KeyError.TheVariants as error
 use Rattle.cck_path.specs.Bytes.{Bytes, lists_of}
 use Rattle.cck_path.specs.Variables.{Variable}
 use Rattle.jiff.specs.Words.{plain_zone}
-use Rattle.c_cache_keys.specs.Call.{Answer, Memory, Refused, Request as CallRequest}
+use Rattle.c_cache_keys.specs.Call.{CallResult, Memory, ReturnsError, Request as CallRequest}
 use Rattle.c_cache_keys.specs.Conditions.{call_under, world_under}
 use Rattle.c_cache_keys.specs.Seen.{why_of}
 use Rattle.c_cache_keys.specs.Step.{Step, stopped}
 use Rattle.c_cache_keys.specs.declared.call.CacheControl.TheVariants.{ForceRecache}
 use Rattle.c_cache_keys.specs.declared.hasher.CCompilerHasher.{CCompilerHasher}
-use Rattle.cck_snapshot.proofs.Texts.{recorded_there, refused_there}
+use Rattle.cck_snapshot.proofs.Texts.{recorded_there, error_there}
 use Rattle.cck_snapshot.specs.LastPut.{LastPut, last_put}
-use Rattle.cck_snapshot.specs.Recordings.{HasText, IsRecording, IsRecordingError, key_of, pair_of}
+use Rattle.cck_snapshot.specs.Recordings.{HasText, IsRecording, IsRecordingError, key_of, entry_pair}
 use Rattle.cck_snapshot.specs.Requests.{call_for, given_in}
 use Rattle.cck_snapshot.specs.TextCompiler.{IsTextHasher, WithText, call_with, text_compiler, with_text_of}
 use Rattle.cck_snapshot.specs.declared.recordings.Recording.{Recording}
-use Rattle.cck_snapshot.specs.declared.requests.Request.{Request}
+use Rattle.cck_snapshot.specs.declared.requests.SnapshotRequest.{SnapshotRequest}
 use Rattle.cck_snapshot.specs.declared.text_compiler.TextCompiler.{TextCompiler}
 
 -- the request of a hasher whose parts are copied
@@ -34,12 +34,12 @@ module _ (v : WithText) (cwd : Bytes) (env_vars : List Variable) where
 memory_has_text : HasText Memory
 memory_has_text = (λ e. cc, λ e. cc)
 
-module _ (hash : Bytes → Bytes) (files : FileMap) (r : Request) (F : Type 0) (text : Bytes) where
+module _ (hash : Bytes → Bytes) (files : FileMap) (r : SnapshotRequest) (F : Type 0) (text : Bytes) where
   -- memory is lacking
   pub starved : (e : KeyError) → e ≡ error.Memory → IsRecordingError hash files r F text e
   starved e is = subst (IsRecordingError hash files r F text) (sym is) (memory_has_text, λ prints printed. stopped Memory tt refl refl)
 
-  module _ (hasher : CCompilerHasher TextCompiler) (same : IsTextHasher r.hasher.now text hasher) (s t : LastPut) (new : s ≡ Some None) (a : Answer)
+  module _ (hasher : CCompilerHasher TextCompiler) (same : IsTextHasher r.hasher.now text hasher) (s t : LastPut) (new : s ≡ Some None) (a : CallResult)
       (step : Step (world_under hash text_compiler (given_in ForceRecache r)) last_put (call_under with_text_of files hasher (given_in ForceRecache r)) F s a t) where
     text_step : Step (world_under hash text_compiler (given_in ForceRecache r)) last_put (call_with text (call_for ForceRecache files r)) F (Some None) a t
     text_step =
@@ -48,19 +48,19 @@ module _ (hash : Bytes → Bytes) (files : FileMap) (r : Request) (F : Type 0) (
         (subst (λ v. Step (world_under hash text_compiler (given_in ForceRecache r)) last_put (call_under with_text_of files hasher (given_in ForceRecache r)) F v a t) new step)
 
     -- an error
-    pub refuses : (e : KeyError) → (e ≡ error.Memory) ⊎ ((a ≡ Refused (why_of e)) × HasText (why_of e)) → IsRecordingError hash files r F text e
-    refuses e (inl is) = starved e is
-    refuses e (inr (is, has)) = (
+    pub errs : (e : KeyError) → (e ≡ error.Memory) ⊎ ((a ≡ ReturnsError (why_of e)) × HasText (why_of e)) → IsRecordingError hash files r F text e
+    errs e (inl is) = starved e is
+    errs e (inr (is, has)) = (
       has,
       λ prints printed.
-          refused_there hash (plain_zone r.zone.now) r.config (lists_of r.basedirs.now) prints text (call_for ForceRecache files r) printed F refl (why_of e) (Some None) t
+          error_there hash (plain_zone r.zone.now) r.config (lists_of r.basedirs.now) prints text (call_for ForceRecache files r) printed F refl (why_of e) (Some None) t
           (subst (λ v. Step (world_under hash text_compiler (given_in ForceRecache r)) last_put (call_with text (call_for ForceRecache files r)) F (Some None) v t) is text_step),
     )
 
     -- a key, and what was put
-    pub records : (recording : Recording) → key_of a ≡ Some (string_bytes recording.key) → Some (option_map pair_of recording.put) ≡ t → IsRecording hash files r F text recording
+    pub records : (recording : Recording) → key_of a ≡ Some (string_bytes recording.key) → Some (option_map entry_pair recording.put) ≡ t → IsRecording hash files r F text recording
     records recording keyed put =
         λ prints printed.
         recorded_there hash (plain_zone r.zone.now) r.config (lists_of r.basedirs.now) prints text (call_for ForceRecache files r) printed F refl a (string_bytes recording.key)
-        (option_map pair_of recording.put) keyed
+        (option_map entry_pair recording.put) keyed
         (subst (λ v. Step (world_under hash text_compiler (given_in ForceRecache r)) last_put (call_with text (call_for ForceRecache files r)) F (Some None) a v) (sym put) text_step)

@@ -46,7 +46,7 @@ same_pairs k l a b e = let pair = same_head (k, a) (l, b) [] [] (ap (λ (v : Sta
 
 module _ {V S : Type 0} (w : World V) (st : Store S) (c : Call V) (F : Type 0) where
   -- what a get of one pair returned for a hit is the pair's bytes, under its key
-  got_hit : (k other bytes key : Bytes) (answer : Returned) (mid : State) → IsGot (one_pair k bytes) other answer mid → Gives w c F answer (Hit key)
+  got_hit : (k other bytes key : Bytes) (from_store : Returned) (mid : State) → IsGot (one_pair k bytes) other from_store mid → Gives w c F from_store (Hit key)
       → (other ≡ k) × Gives w c F (Ok (Some bytes)) (Hit key)
   got_hit k other bytes key (Err store.Fault) mid got given = absurd (failed_hit (sym given))
   got_hit k other bytes key (Err store.Memory) mid got given = absurd (failed_hit (sym given))
@@ -61,38 +61,38 @@ module _ {V S : Type 0} (w : World V) (st : Store S) (c : Call V) (F : Type 0) w
     where
       go : (a : Asked) → Asks w map_store c F other (one_pair k bytes) a mid → Ends w map_store c F a mid (Keyed key false) t → Step w st c F s (Keyed key false) u
       go (Hit found) asks ends =
-          let parts = got_hit k other bytes found asks.answer mid asks.got asks.gives in
-          asked o k (subst (λ v. preprocessor_key_of w c ≡ Some v) parts.0 is) control (Hit found) u (record { answer = Ok (Some bytes); got = got; gives = parts.1 }) (ends.0, refl)
+          let parts = got_hit k other bytes found asks.from_store mid asks.got asks.gives in
+          asked o k (subst (λ v. preprocessor_key_of w c ≡ Some v) parts.0 is) control (Hit found) u (record { from_store = Ok (Some bytes); got = got; gives = parts.1 }) (ends.0, refl)
       go (Failed why) asks ends = absurd (not_failed ends.0)
       go Miss asks ends = absurd (made_fresh w map_store c F mid t key ends)
 
   -- a put that left one pair is the put of this pair
-  put_was : (key k bytes : Bytes) (p q : Bytes) (answer : Stored) → IsMapPut empty_state p q answer (one_pair k bytes) → (p ≡ k) × (q ≡ bytes)
+  put_was : (key k bytes : Bytes) (p q : Bytes) (from_store : Stored) → IsMapPut empty_state p q from_store (one_pair k bytes) → (p ≡ k) × (q ≡ bytes)
   put_was key k bytes p q (Ok done) put = let same = same_pairs k p bytes q (put_one empty_state (one_pair k bytes) p q refl put.1) in (sym same.0, sym same.1)
   put_was key k bytes p q (Err store.Fault) put = absurd (false≢true put.0)
   put_was key k bytes p q (Err store.Memory) put = absurd (holds_one k bytes (set_back (call_begun empty_state)) refl put.1)
 
   own_of : (key k bytes : Bytes) → Stores w map_store c F key empty_state (one_pair k bytes) → OwnPair w c key k bytes
   own_of key k bytes (inl p) =
-      let same = put_was key k bytes p.k p.bytes p.answer p.put in
+      let same = put_was key k bytes p.k p.bytes p.from_store p.put in
       subst (λ v. OwnPair w c key v bytes) same.0 (subst (λ v. OwnPair w c key p.k v) same.1 p.own)
   own_of key k bytes (inr n) = absurd (not_one_pair k bytes n.0)
 
   nothing_of : (key : Bytes) → Stores w map_store c F key empty_state empty_state → F ⊎ NothingNew w c
-  nothing_of key (inl p) = absurd (nothing_put p.k p.bytes p.answer p.put)
+  nothing_of key (inl p) = absurd (nothing_put p.k p.bytes p.from_store p.put)
     where
-      nothing_put : (k bytes : Bytes) (answer : Stored) → IsMapPut empty_state k bytes answer empty_state → ⊥
+      nothing_put : (k bytes : Bytes) (from_store : Stored) → IsMapPut empty_state k bytes from_store empty_state → ⊥
       nothing_put k bytes (Ok done) put = let ps : ◌≡◌ {A = List (Bytes × Bytes)} [] ((k, bytes) ∷ []) = ap (λ (v : State). v.pairs) (put_one empty_state empty_state k bytes refl put.1) in cc
       nothing_put k bytes (Err store.Fault) put = false≢true put.0
       nothing_put k bytes (Err store.Memory) put = let no : ◌≡◌ {A = ℕ} 0 1 = ap (λ (v : State). v.armed.calls) put.1 in omega arith
   nothing_of key (inr n) = n.1
 
-  recording_there : (k bytes key : Bytes) (answer : Stored) (s u : S) → c.control ≡ ForceRecache → Step w map_store c F empty_state (Keyed key true) (one_pair k bytes) → st.put s k bytes answer u → Step w st c F s (Keyed key true) u
-  recording_there k bytes key answer s u control (stopped why cause is same) put = absurd (not_failed is)
-  recording_there k bytes key answer s u control (made o not (stops why cause is same)) put = absurd (not_failed is)
-  recording_there k bytes key answer s u control (made o not (gives other plain calm is puts)) put =
-      made o not (gives other plain calm is (inl (record { k = k; bytes = bytes; own = own_of other k bytes puts; answer = answer; put = put })))
-  recording_there k bytes key answer s u control (asked o other is default a mid asks ends) put = absurd (not_both (sym default ∙ control))
+  recording_there : (k bytes key : Bytes) (from_store : Stored) (s u : S) → c.control ≡ ForceRecache → Step w map_store c F empty_state (Keyed key true) (one_pair k bytes) → st.put s k bytes from_store u → Step w st c F s (Keyed key true) u
+  recording_there k bytes key from_store s u control (stopped why cause is same) put = absurd (not_failed is)
+  recording_there k bytes key from_store s u control (made o not (stops why cause is same)) put = absurd (not_failed is)
+  recording_there k bytes key from_store s u control (made o not (gives other plain calm is puts)) put =
+      made o not (gives other plain calm is (inl (record { k = k; bytes = bytes; own = own_of other k bytes puts; from_store = from_store; put = put })))
+  recording_there k bytes key from_store s u control (asked o other is default a mid asks ends) put = absurd (not_both (sym default ∙ control))
 
   nothing_there : (key : Bytes) (s : S) → c.control ≡ ForceRecache → Step w map_store c F empty_state (Keyed key true) empty_state → Step w st c F s (Keyed key true) s
   nothing_there key s control (stopped why cause is same) = absurd (not_failed is)
@@ -105,7 +105,7 @@ module _ {V S : Type 0} (w : World V) (st : Store S) where
   hit_on_any_store d k bytes key t s u step got = hit_there w st d.call (Fault d) k bytes key t s u step got
 
   pub recording_on_any_store : RecordingOnAnyStore w st
-  recording_on_any_store d k bytes key answer s u control step put = recording_there w st d.call (Fault d) k bytes key answer s u control step put
+  recording_on_any_store d k bytes key from_store s u control step put = recording_there w st d.call (Fault d) k bytes key from_store s u control step put
 
   pub nothing_on_any_store : NothingOnAnyStore w st
   nothing_on_any_store d key s control step = nothing_there w st d.call (Fault d) key s control step

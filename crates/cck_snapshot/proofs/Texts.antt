@@ -15,7 +15,7 @@ use Rattle.cck_time.specs.declared.config.PreprocessorCacheModeConfig.{Preproces
 use Rattle.cck_util.specs.Key.{object_key}
 use Rattle.jiff.specs.Types.{TimeZone}
 use Rattle.c_cache_keys.proofs.Stored.{not_both, not_failed}
-use Rattle.c_cache_keys.specs.Call.{Answer, Call, Damaged, Extra, ExtraFault, Input, InputFault, Keyed, Marker, Memory, NoText, Refused, Store as StoreFails, TextFault, Why}
+use Rattle.c_cache_keys.specs.Call.{CallResult, Call, Damaged, Extra, ExtraFault, Input, InputFault, Keyed, Marker, Memory, NoText, ReturnsError, Store as StoreFails, TextFault, Why}
 use Rattle.c_cache_keys.specs.Keys.{extra_texts, input_file, input_recorded, is_preprocessed, key_material, of_both, params, plain_key, preprocessor_key_of, printed, request_parts, text_of, uses_cache}
 use Rattle.c_cache_keys.specs.Step.{AreOwnIncludes, NotErring, NothingNew, Opened, OwnPair, Step, Stores, StopsMaking, StopsOpening, asked, gives, made, stopped, stops}
 use Rattle.c_cache_keys.specs.Walk.{IsGood}
@@ -158,21 +158,21 @@ module _ (hash : Bytes → Bytes) (zone : TimeZone) (config : PreprocessorCacheM
 
       module _ (F : Type 0) where
         -- what was kept of a put is put into a store in memory
-        kept : (k bytes : Bytes) (answer : Stored) (put : Option (Bytes × Bytes)) → IsKept (Some None) k bytes answer (Some put) → put ≡ Some (k, bytes)
+        kept : (k bytes : Bytes) (from_store : Stored) (put : Option (Bytes × Bytes)) → IsKept (Some None) k bytes from_store (Some put) → put ≡ Some (k, bytes)
         kept k bytes (Ok done) put is-kept = same_Some put (Some (k, bytes)) is-kept
         kept k bytes (Err store.Fault) put is-kept = absurd is-kept
         kept k bytes (Err store.Memory) put is-kept = absurd (some_none is-kept)
 
         puts : (key : Bytes) (put : Option (Bytes × Bytes)) → Stores text_world last_put text_call F key (Some None) (Some put)
             → Stores real_world map_store c F key empty_state (state_with put)
-        puts key put (inl p) = subst (λ v. Stores real_world map_store c F key empty_state (state_with v)) (sym (kept p.k p.bytes p.answer put p.put))
-            (inl (record { k = p.k; bytes = p.bytes; own = own_pair key p.k p.bytes p.own; answer = Ok tt; put = (refl, refl) }))
+        puts key put (inl p) = subst (λ v. Stores real_world map_store c F key empty_state (state_with v)) (sym (kept p.k p.bytes p.from_store put p.put))
+            (inl (record { k = p.k; bytes = p.bytes; own = own_pair key p.k p.bytes p.own; from_store = Ok tt; put = (refl, refl) }))
         puts key put (inr n) = subst (λ v. Stores real_world map_store c F key empty_state (state_with v)) (sym (same_Some put None n.0))
             (inr (refl, elim n.1 [ inl fault ↦ inl fault | inr nothing ↦ inr (nothing_new nothing) ]))
 
         module _ (control : c.control ≡ ForceRecache) where
           -- a key
-          pub recorded_there : (r : Answer) (key : Bytes) (put : Option (Bytes × Bytes)) → key_of r ≡ Some key → Step text_world last_put text_call F (Some None) r (Some put)
+          pub recorded_there : (r : CallResult) (key : Bytes) (put : Option (Bytes × Bytes)) → key_of r ≡ Some key → Step text_world last_put text_call F (Some None) r (Some put)
               → Step real_world map_store c F empty_state (Keyed key true) (state_with put)
           recorded_there r key put keyed (stopped why cause is-r same) = absurd (some_none (sym keyed ∙ ap key_of is-r))
           recorded_there r key put keyed (made o not (stops why cause is-r same)) = absurd (some_none (sym keyed ∙ ap key_of is-r))
@@ -183,9 +183,9 @@ module _ (hash : Bytes → Bytes) (zone : TimeZone) (config : PreprocessorCacheM
           recorded_there r key put keyed (asked o k is-k default a mid asks ends) = absurd (not_both (sym default ∙ control))
 
           -- an error
-          pub refused_there : (why : Why) (s t : LastPut) → Step text_world last_put text_call F s (Refused why) t
-              → Step real_world map_store c F empty_state (Refused why) empty_state
-          refused_there why s t (stopped other cause is-r same) = stopped other (stops_opening F other cause) is-r refl
-          refused_there why s t (made o not (stops other cause is-r same)) = made (opened o) (inr control) (stops other (stops_making F other cause) is-r refl)
-          refused_there why s t (made o not (gives key plain calm is-r stores)) = absurd (not_failed (sym is-r))
-          refused_there why s t (asked o k is-k default a mid asks ends) = absurd (not_both (sym default ∙ control))
+          pub error_there : (why : Why) (s t : LastPut) → Step text_world last_put text_call F s (ReturnsError why) t
+              → Step real_world map_store c F empty_state (ReturnsError why) empty_state
+          error_there why s t (stopped other cause is-r same) = stopped other (stops_opening F other cause) is-r refl
+          error_there why s t (made o not (stops other cause is-r same)) = made (opened o) (inr control) (stops other (stops_making F other cause) is-r refl)
+          error_there why s t (made o not (gives key plain calm is-r stores)) = absurd (not_failed (sym is-r))
+          error_there why s t (asked o k is-k default a mid asks ends) = absurd (not_both (sym default ∙ control))

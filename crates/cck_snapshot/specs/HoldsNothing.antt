@@ -16,15 +16,15 @@ module _ {S : Type 0} (got : S → Bytes → Returned → S → Type 0) (put : S
   pub holds_nothing_laws : ((s t : S) (key bytes : Bytes) → got s key (Ok (Some bytes)) t → ⊥) → StoreLaws (holds_nothing got put)
   holds_nothing_laws none = record {
     failures_fit = λ s. lit< tt;
-    got_count = λ s t key answer returned. le_refl _;
-    got_old = λ s t key answer returned k b held. held;
+    got_count = λ s t key from_store returned. le_refl _;
+    got_old = λ s t key from_store returned k b held. held;
     got_some = none;
-    got_calm = λ s t key answer returned calm k b held. held;
+    got_calm = λ s t key from_store returned calm k b held. held;
     got_none = λ s t key returned calm b held. held;
     got_error = λ s t key e returned. failed s t;
-    put_count = λ s t key bytes answer stored. le_refl _;
-    put_old = λ s t key bytes answer stored k b held. absurd held;
-    put_calm = λ s t key bytes answer stored calm k b apart held. held;
-    put_new = λ s t key bytes answer stored calm. absurd (calm (failed s t));
+    put_count = λ s t key bytes from_store stored. le_refl _;
+    put_old = λ s t key bytes from_store stored k b held. absurd held;
+    put_calm = λ s t key bytes from_store stored calm k b apart held. held;
+    put_new = λ s t key bytes from_store stored calm. absurd (calm (failed s t));
     put_error = λ s t key bytes e stored. failed s t;
   }

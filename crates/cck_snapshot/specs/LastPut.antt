@@ -5,7 +5,7 @@ use Rattle.cck_path.specs.Bytes.{Bytes}
 use Rattle.cck_store.specs.Store.{Returned, Store, StoreLaws, Stored}
 use Rattle.cck_store.specs.declared.store.StoreError.TheVariants as store
 use Rattle.cck_snapshot.specs.HoldsNothing.{holds_nothing, holds_nothing_laws}
-use Rattle.cck_snapshot.specs.Recordings.{pair_of}
+use Rattle.cck_snapshot.specs.Recordings.{entry_pair}
 use Rattle.cck_snapshot.specs.declared.recordings.RecordedEntry.{RecordedEntry}
 
 -- a pair or nothing; no value where memory was lacking for it
@@ -13,7 +13,7 @@ abbrev pub LastPut : Type 0
 LastPut = Option (Option (Bytes × Bytes))
 
 abbrev pub put_of : Result (Option RecordedEntry) AllocError → LastPut
-put_of (Ok put) = Some (option_map pair_of put)
+put_of (Ok put) = Some (option_map entry_pair put)
 put_of (Err e) = None
 
 -- a get finds nothing

@@ -25,8 +25,8 @@ module _ {V S : Type 0} (w : World V) (st : Store S) where
   -- a recording of one pair is a recording on each store that this pair is put into
   abbrev pub RecordingOnAnyStore : Type 0
   RecordingOnAnyStore =
-      (d : Done V) (k bytes key : Bytes) (answer : Stored) (s u : S) → d.call.control ≡ ForceRecache
-      → Step w map_store d.call (Fault d) empty_state (Keyed key true) (one_pair k bytes) → st.put s k bytes answer u → Step w st d.call (Fault d) s (Keyed key true) u
+      (d : Done V) (k bytes key : Bytes) (from_store : Stored) (s u : S) → d.call.control ≡ ForceRecache
+      → Step w map_store d.call (Fault d) empty_state (Keyed key true) (one_pair k bytes) → st.put s k bytes from_store u → Step w st d.call (Fault d) s (Keyed key true) u
 
   -- one that records nothing leaves each store
   abbrev pub NothingOnAnyStore : Type 0

@@ -4,7 +4,7 @@ use Rattle.cck_files.specs.FileMap.{FileMap}
 use Rattle.cck_key_error.specs.declared.key_error.KeyError.{KeyError}
 use Rattle.cck_path.specs.Bytes.{Bytes}
 use Rattle.cck_store.specs.MapStore.{State, map_store, empty_state}
-use Rattle.c_cache_keys.specs.Call.{Answer, Keyed, NoText, Refused, TextFault, Why}
+use Rattle.c_cache_keys.specs.Call.{CallResult, Keyed, NoText, ReturnsError, TextFault, Why}
 use Rattle.c_cache_keys.specs.Keys.{printed}
 use Rattle.c_cache_keys.specs.Seen.{why_of}
 use Rattle.c_cache_keys.specs.Step.{Step}
@@ -12,14 +12,14 @@ use Rattle.c_cache_keys.specs.declared.call.CacheControl.TheVariants.{ForceRecac
 use Rattle.cck_snapshot.specs.External.{Prints}
 use Rattle.cck_snapshot.specs.Requests.{call_for, world_for}
 use Rattle.cck_snapshot.specs.Snapshot.{one_pair}
-use Rattle.cck_snapshot.specs.declared.requests.Request.{Request}
+use Rattle.cck_snapshot.specs.declared.requests.SnapshotRequest.{SnapshotRequest}
 use Rattle.cck_snapshot.specs.declared.recordings.Recording.{Recording}
 use Rattle.cck_snapshot.specs.declared.recordings.RecordedEntry.{RecordedEntry}
 
--- the key of an answer, stored or computed
-abbrev pub key_of : Answer → Option Bytes
+-- the key of a result, stored or computed
+abbrev pub key_of : CallResult → Option Bytes
 key_of (Keyed key fresh) = Some key
-key_of (Refused why) = None
+key_of (ReturnsError why) = None
 
 -- the error is not that there is no text
 abbrev pub HasText : Why → Type 0
@@ -30,22 +30,22 @@ abbrev pub state_with : Option (Bytes × Bytes) → State
 state_with None = empty_state
 state_with (Some (k, bytes)) = one_pair k bytes
 
-abbrev pub pair_of : RecordedEntry → Bytes × Bytes
-pair_of entry = (string_bytes entry.preprocessor_key, entry.bytes.items)
+abbrev pub entry_pair : RecordedEntry → Bytes × Bytes
+entry_pair entry = (string_bytes entry.preprocessor_key, entry.bytes.items)
 
-module _ (hash : Bytes → Bytes) (files : FileMap) (r : Request) (F : Type 0) (text : Bytes) where
+module _ (hash : Bytes → Bytes) (files : FileMap) (r : SnapshotRequest) (F : Type 0) (text : Bytes) where
   -- this text is printed for the call
   abbrev pub PrintsText : Prints → Type 0
   PrintsText prints = printed (world_for hash prints r) (call_for ForceRecache files r) ≡ Some text
 
   -- The call, which may not return a stored key, on a store that holds nothing: in each world that prints the text.
-  abbrev pub Records : Answer → State → Type 0
+  abbrev pub Records : CallResult → State → Type 0
   Records a t = (prints : Prints) → PrintsText prints → Step (world_for hash prints r) map_store (call_for ForceRecache files r) F empty_state a t
 
   -- The result of a recording: a computed key, and what is put. F says that there was a fault.
   abbrev pub IsRecording : Recording → Type 0
-  IsRecording recording = Records (Keyed (string_bytes recording.key) true) (state_with (option_map pair_of recording.put))
+  IsRecording recording = Records (Keyed (string_bytes recording.key) true) (state_with (option_map entry_pair recording.put))
 
   -- the error of a recording, which puts nothing
   abbrev pub IsRecordingError : KeyError → Type 0
-  IsRecordingError e = HasText (why_of e) × Records (Refused (why_of e)) empty_state
+  IsRecordingError e = HasText (why_of e) × Records (ReturnsError (why_of e)) empty_state

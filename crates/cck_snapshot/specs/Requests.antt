@@ -8,16 +8,16 @@ use Rattle.c_cache_keys.specs.World.{World}
 use Rattle.c_cache_keys.specs.declared.call.CacheControl.{CacheControl}
 use Rattle.c_cache_keys.specs.declared.call.CacheControl.TheVariants.{Default}
 use Rattle.cck_snapshot.specs.External.{External, Prints, external_compiler, external_of}
-use Rattle.cck_snapshot.specs.declared.requests.Request.{Request}
+use Rattle.cck_snapshot.specs.declared.requests.SnapshotRequest.{SnapshotRequest}
 
 -- the conditions of a request
-abbrev pub given_in : CacheControl → Request → Given
+abbrev pub given_in : CacheControl → SnapshotRequest → Given
 given_in control r = given_by r.cwd.now (variables_of r.vars.now) r.moment (plain_zone r.zone.now) r.config (lists_of r.basedirs.now) control
 
 -- the world of a request, in which a preprocessor prints this
-abbrev pub world_for : (Bytes → Bytes) → Prints → Request → World External
+abbrev pub world_for : (Bytes → Bytes) → Prints → SnapshotRequest → World External
 world_for hash prints r = world_under hash (external_compiler prints) (given_in Default r)
 
 -- the call of a request over files
-abbrev pub call_for : CacheControl → FileMap → Request → Call External
+abbrev pub call_for : CacheControl → FileMap → SnapshotRequest → Call External
 call_for control files r = call_under external_of files r.hasher.now (given_in control r)

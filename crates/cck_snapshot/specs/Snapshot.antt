@@ -5,31 +5,31 @@ use Rattle.cck_files.specs.FileMap.{FileMap}
 use Rattle.cck_key_error.specs.declared.key_error.KeyError.{KeyError}
 use Rattle.cck_path.specs.Bytes.{Bytes}
 use Rattle.cck_store.specs.MapStore.{State, map_store, empty_state}
-use Rattle.c_cache_keys.specs.Call.{Answer, Damaged, Extra, ExtraFault, Input, InputFault, Keyed, Marker, Memory, NoText, Refused, Store as StoreFails, TextFault}
+use Rattle.c_cache_keys.specs.Call.{CallResult, Damaged, Extra, ExtraFault, Input, InputFault, Keyed, Marker, Memory, NoText, ReturnsError, Store as StoreFails, TextFault}
 use Rattle.c_cache_keys.specs.Keys.{preprocessor_key_of}
 use Rattle.c_cache_keys.specs.Seen.{why_of}
 use Rattle.c_cache_keys.specs.Step.{Miss, ReadsAs, Step}
 use Rattle.c_cache_keys.specs.declared.call.CacheControl.TheVariants.{Default}
 use Rattle.cck_snapshot.specs.External.{Prints, no_text}
 use Rattle.cck_snapshot.specs.Requests.{call_for, world_for}
-use Rattle.cck_snapshot.specs.declared.requests.Request.{Request}
+use Rattle.cck_snapshot.specs.declared.requests.SnapshotRequest.{SnapshotRequest}
 
 -- the call returned no stored key, and no error but that there is no text
-abbrev pub IsMiss : Answer → Type 0
+abbrev pub IsMiss : CallResult → Type 0
 IsMiss (Keyed key fresh) = fresh ≡ true
-IsMiss (Refused NoText) = Unit {0}
-IsMiss (Refused TextFault) = Unit {0}
-IsMiss (Refused Memory) = ⊥
-IsMiss (Refused Extra) = ⊥
-IsMiss (Refused ExtraFault) = ⊥
-IsMiss (Refused Input) = ⊥
-IsMiss (Refused InputFault) = ⊥
-IsMiss (Refused StoreFails) = ⊥
-IsMiss (Refused Damaged) = ⊥
-IsMiss (Refused Marker) = ⊥
+IsMiss (ReturnsError NoText) = Unit {0}
+IsMiss (ReturnsError TextFault) = Unit {0}
+IsMiss (ReturnsError Memory) = ⊥
+IsMiss (ReturnsError Extra) = ⊥
+IsMiss (ReturnsError ExtraFault) = ⊥
+IsMiss (ReturnsError Input) = ⊥
+IsMiss (ReturnsError InputFault) = ⊥
+IsMiss (ReturnsError StoreFails) = ⊥
+IsMiss (ReturnsError Damaged) = ⊥
+IsMiss (ReturnsError Marker) = ⊥
 
 -- the stored key that a call returned, if it did
-abbrev pub IsStoredKey : Answer → Option (String Global) → Type 0
+abbrev pub IsStoredKey : CallResult → Option (String Global) → Type 0
 IsStoredKey r (Some key) = r ≡ Keyed (string_bytes key) false
 IsStoredKey r None = IsMiss r
 
@@ -37,7 +37,7 @@ IsStoredKey r None = IsMiss r
 abbrev pub one_pair : Bytes → Bytes → State
 one_pair k bytes = record empty_state { pairs = (k, bytes) ∷ []; armed = record empty_state.armed { calls = 1 } }
 
-module _ (hash : Bytes → Bytes) (files : FileMap) (r : Request) (F : Type 0) where
+module _ (hash : Bytes → Bytes) (files : FileMap) (r : SnapshotRequest) (F : Type 0) where
   -- The result of a look-up, over a store that holds these bytes under this key and nothing else. A key is a step of each world. None is
   -- returned only where the call has another preprocessor key or none, or where the bytes have no key whose included files are all
   -- unchanged. F says that there was a fault.
@@ -50,4 +50,4 @@ module _ (hash : Bytes → Bytes) (files : FileMap) (r : Request) (F : Type 0) w
 
   -- the error of a look-up
   abbrev pub IsLookUpError : Bytes → Bytes → KeyError → Type 0
-  IsLookUpError k bytes e = (t : State) × Step (world_for hash no_text r) map_store (call_for Default files r) F (one_pair k bytes) (Refused (why_of e)) t
+  IsLookUpError k bytes e = (t : State) × Step (world_for hash no_text r) map_store (call_for Default files r) F (one_pair k bytes) (ReturnsError (why_of e)) t

@@ -10,7 +10,7 @@ ghost use Rattle.cck_snapshot.specs.Requests.{call_for, world_for};
 
 use crate::looking::stored_key;
 use crate::requested_key::RequestedKey;
-use crate::requests::Request;
+use crate::requests::SnapshotRequest;
 use c_cache_keys::{CacheControl, KeyError};
 use cck_digest::HashState;
 use cck_files::Files;
@@ -33,7 +33,7 @@ use std::alloc::Global;
 pub fn preprocessor_key<H: HashState, F: Files>(
     alloc: Global,
     snapshot: &mut F,
-    request: &Request<'_>,
+    request: &SnapshotRequest<'_>,
 ) -> Result<Option<String>, KeyError>
     ensures keeps { Keeps F.file_map F.faults F.is_quiet snapshot.old snapshot.new }
     ensures key { IfOk result (λ key. option_map string_bytes key

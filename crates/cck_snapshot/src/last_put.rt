@@ -1,7 +1,7 @@
 //! What a call puts into a store.
 ghost use Rattle.std.specs.Prelude.{◌≡◌, IfOk, None, Some};
 ghost use Rattle.cck_snapshot.specs.LastPut.{put_of};
-ghost use Rattle.cck_snapshot.specs.Recordings.{pair_of};
+ghost use Rattle.cck_snapshot.specs.Recordings.{entry_pair};
 
 use crate::recordings::RecordedEntry;
 use cck_store::{PreprocessorStore, StoreError};
@@ -76,7 +76,7 @@ impl PreprocessorStore for LastPut {
 
 // A copy of an entry with its key.
 fn copy_entry(alloc: Global, key: &str, bytes: &[u8]) -> Result<RecordedEntry, AllocError>
-    ensures { IfOk result (λ entry. pair_of entry ≡ (key.now, bytes.now)) }
+    ensures { IfOk result (λ entry. entry_pair entry ≡ (key.now, bytes.now)) }
 {
     Ok(RecordedEntry {
         preprocessor_key: String::from_str(alloc, key)?,

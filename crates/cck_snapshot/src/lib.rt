@@ -2,7 +2,7 @@
 //!
 //! No contract can say what a disk holds. So a program that keeps a cache for real files reads the
 //! files that a call can see into a *snapshot*, any [`Files`](cck_files::Files), and passes it here.
-//! These calls take values alone: a snapshot, a [`Request`], the bytes of one stored entry.
+//! These calls take values alone: a snapshot, a [`SnapshotRequest`], the bytes of one stored entry.
 //!
 //! - [`preprocessor_key`] is the key under which a store may hold an entry.
 //! - [`look_up`] returns the key of a hit. It can't preprocess.
@@ -25,4 +25,4 @@ pub use compiler::ExternalCompiler;
 pub use key::preprocessor_key;
 pub use looking::look_up;
 pub use recordings::{RecordedEntry, Recording, record_text};
-pub use requests::Request;
+pub use requests::SnapshotRequest;

@@ -1,11 +1,11 @@
 //! Look-ups.
 ghost use Rattle.std.specs.Prelude.{◌≡◌, ◌≢◌, IfErr, IfOk, IsOkUnless};
 ghost use Rattle.cck_files.specs.Calls.{Keeps, Rose};
-ghost use Rattle.c_cache_keys.specs.Call.{NoText, Refused, TextFault};
-ghost use Rattle.c_cache_keys.specs.Seen.{answer_of, why_of};
+ghost use Rattle.c_cache_keys.specs.Call.{NoText, ReturnsError, TextFault};
+ghost use Rattle.c_cache_keys.specs.Seen.{result_of, why_of};
 ghost use Rattle.cck_snapshot.specs.Snapshot.{IsLookUpError, IsLookedUp, IsStoredKey, one_pair};
 
-use crate::requests::Request;
+use crate::requests::SnapshotRequest;
 use c_cache_keys::{CacheControl, HashResult, KeyError, MapStore, PreprocessorStore};
 use cck_digest::HashState;
 use cck_files::Files;
@@ -31,7 +31,7 @@ use std::alloc::Global;
 pub fn look_up<H: HashState, F: Files>(
     alloc: Global,
     snapshot: &mut F,
-    request: &Request<'_>,
+    request: &SnapshotRequest<'_>,
     at: &str,
     entry: &[u8],
 ) -> Result<Option<String>, KeyError>
@@ -74,8 +74,8 @@ fn one_pair(alloc: Global, key: &str, bytes: &[u8]) -> Result<MapStore, KeyError
 
 /// The key that was returned from the store, if one was. That there is no text is no error.
 pub(crate) fn stored_key(found: Result<HashResult, KeyError>) -> Result<Option<String>, KeyError>
-    ensures key { IfOk result (IsStoredKey (answer_of found)) }
-    ensures errors { IfErr result (λ e. (answer_of found ≡ Refused (why_of e)) × (why_of e ≢ NoText) × (why_of e ≢ TextFault)) }
+    ensures key { IfOk result (IsStoredKey (result_of found)) }
+    ensures errors { IfErr result (λ e. (result_of found ≡ ReturnsError (why_of e)) × (why_of e ≢ NoText) × (why_of e ≢ TextFault)) }
 {
     match found {
         Ok(found) => {

@@ -1,12 +1,12 @@
 //! Recordings.
 ghost use Rattle.std.specs.Prelude.{◌≡◌, ◌⊎◌, IfErr, IfOk, Some, string_bytes};
 ghost use Rattle.cck_files.specs.Calls.{Keeps, Rose};
-ghost use Rattle.c_cache_keys.specs.Call.{Refused};
-ghost use Rattle.c_cache_keys.specs.Seen.{answer_of, why_of};
+ghost use Rattle.c_cache_keys.specs.Call.{ReturnsError};
+ghost use Rattle.c_cache_keys.specs.Seen.{result_of, why_of};
 ghost use Rattle.cck_snapshot.specs.Recordings.{HasText, IsRecording, IsRecordingError, key_of};
 
 use crate::last_put::LastPut;
-use crate::requests::Request;
+use crate::requests::SnapshotRequest;
 use crate::text_compiler::{TextCompiler, text_hasher};
 use c_cache_keys::{CacheControl, HashResult, KeyError};
 use cck_digest::HashState;
@@ -53,7 +53,7 @@ pub struct Recording {
 pub fn record_text<H: HashState, F: Files>(
     alloc: Global,
     snapshot: &mut F,
-    request: &Request<'_>,
+    request: &SnapshotRequest<'_>,
     text: &[u8],
 ) -> Result<Recording, KeyError>
     ensures keeps { Keeps F.file_map F.faults F.is_quiet snapshot.old snapshot.new }
@@ -91,8 +91,8 @@ pub fn record_text<H: HashState, F: Files>(
 
 // The key that was computed. There is a text, so where it is missing memory is lacking.
 fn computed_key(found: Result<HashResult, KeyError>) -> Result<String, KeyError>
-    ensures key { IfOk result (λ key. key_of (answer_of found) ≡ Some (string_bytes key)) }
-    ensures errors { IfErr result (λ e. (e ≡ KeyError.Memory) ⊎ ((answer_of found ≡ Refused (why_of e)) × HasText (why_of e))) }
+    ensures key { IfOk result (λ key. key_of (result_of found) ≡ Some (string_bytes key)) }
+    ensures errors { IfErr result (λ e. (e ≡ KeyError.Memory) ⊎ ((result_of found ≡ ReturnsError (why_of e)) × HasText (why_of e))) }
 {
     match found {
         Ok(found) => Ok(found.key),

@@ -7,7 +7,7 @@ use jiff::tz::TimeZone;
 
 /// All that a call over a snapshot takes beside the snapshot.
 #[derive(Drop)]
-pub struct Request<'a> {
+pub struct SnapshotRequest<'a> {
     /// The compilation.
     pub hasher: &'a CCompilerHasher<ExternalCompiler>,
     /// The working directory.

@@ -3,7 +3,6 @@ use c_cache_keys::{ArtifactDescriptor, ColorMode, ParsedArguments};
 use cck_cases::{CaseError, bytes_of, find, words_of};
 use cck_util::Language;
 use std::alloc::Global;
-use std::collections::BTreeMap;
 
 #[derive(Clone, Copy)]
 enum TextWord {
@@ -70,28 +69,7 @@ const FLAG_WORDS: [(&str, FlagWord); 9] = [
 
 /// A command line of C of which nothing is given.
 pub(crate) fn no_arguments(alloc: Global) -> ParsedArguments {
-    ParsedArguments {
-        input: Vec::new(alloc),
-        double_dash_input: false,
-        language: Language::C,
-        compilation_flag: Vec::new(alloc),
-        depfile: None,
-        outputs: BTreeMap::new(alloc),
-        dependency_args: Vec::new(alloc),
-        preprocessor_args: Vec::new(alloc),
-        common_args: Vec::new(alloc),
-        arch_args: Vec::new(alloc),
-        unhashed_args: Vec::new(alloc),
-        extra_dist_files: Vec::new(alloc),
-        extra_hash_files: Vec::new(alloc),
-        uses_external_assembler: false,
-        msvc_show_includes: false,
-        msvc_explicit_language: false,
-        profile_generate: false,
-        color_mode: ColorMode::Auto,
-        suppress_rewrite_includes_only: false,
-        too_hard_for_preprocessor_cache_mode: None,
-    }
+    ParsedArguments::new(alloc, Vec::new(alloc), Language::C)
 }
 
 /// Takes what a line gives of a command line, and returns whether it knows the line's word.

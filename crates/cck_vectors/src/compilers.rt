@@ -14,7 +14,7 @@ pub(crate) enum CompilerCall {
     ParsedFiles,
     ParsedShown,
     Copy,
-    Told,
+    LanguageColorOutput,
     Archs,
     IsMultiarch,
     OutputPretty,
@@ -26,7 +26,7 @@ pub(crate) const CALLS: [(&str, CompilerCall); 9] = [
     ("parsed_files", CompilerCall::ParsedFiles),
     ("parsed_shown", CompilerCall::ParsedShown),
     ("copy", CompilerCall::Copy),
-    ("language_color_output", CompilerCall::Told),
+    ("language_color_output", CompilerCall::LanguageColorOutput),
     ("archs", CompilerCall::Archs),
     ("is_multiarch", CompilerCall::IsMultiarch),
     ("output_pretty", CompilerCall::OutputPretty),
@@ -46,7 +46,7 @@ pub(crate) fn call<'a>(
         CompilerCall::ParsedFiles => parse(request, given, files, true),
         CompilerCall::ParsedShown => parsed_shown(request, given),
         CompilerCall::Copy => copy(request),
-        CompilerCall::Told => told(request),
+        CompilerCall::LanguageColorOutput => language_color_output(request),
         CompilerCall::Archs => archs(alloc, args),
         CompilerCall::IsMultiarch => Ok(Value::Flag(args.is_multiarch())),
         CompilerCall::OutputPretty => Ok(Value::Text(held(args.output_pretty(alloc))?)),
@@ -149,7 +149,7 @@ fn copy<'a>(request: &Request) -> Result<Value<'a>, CaseError> {
 }
 
 // The language, the color mode and the name of the output of the compilation.
-fn told<'a>(request: &Request) -> Result<Value<'a>, CaseError> {
+fn language_color_output<'a>(request: &Request) -> Result<Value<'a>, CaseError> {
     let alloc = request.alloc;
     let name = held(request.hasher.output_pretty(alloc))?;
     let (language, color) = (request.hasher.language(), request.hasher.color_mode());

@@ -67,19 +67,19 @@ pub(crate) fn key_of<S: PreprocessorStore>(
 /// The result of a call for a key, in short.
 pub(crate) fn result_value<'a>(
     alloc: Global,
-    answer: &Result<HashResult, KeyError>,
+    returned: &Result<HashResult, KeyError>,
 ) -> Result<Value<'a>, CaseError> {
     let mut out = Vec::new(alloc);
-    write_result(alloc, &mut out, answer)?;
+    write_result(alloc, &mut out, returned)?;
     Ok(Value::Bytes(out))
 }
 
 /// The key of the toolchain that a call for a key returns.
 pub(crate) fn toolchain_value<'a>(
     alloc: Global,
-    answer: Result<HashResult, KeyError>,
+    returned: Result<HashResult, KeyError>,
 ) -> Result<Value<'a>, CaseError> {
-    match answer {
+    match returned {
         Ok(found) => Ok(Value::Text(found.weak_toolchain_key)),
         Err(error) => error_value(alloc, error),
     }
@@ -88,12 +88,12 @@ pub(crate) fn toolchain_value<'a>(
 /// The result of a call for a key, as `Debug` prints it.
 pub(crate) fn result_shown<'a>(
     alloc: Global,
-    answer: &Result<HashResult, KeyError>,
+    returned: &Result<HashResult, KeyError>,
 ) -> Result<Value<'a>, CaseError> {
-    if matches!(answer, Err(KeyError::Memory)) {
+    if matches!(returned, Err(KeyError::Memory)) {
         return Err(CaseError::Util(UtilError::Memory));
     }
-    Ok(Value::Text(format!(in alloc; "{answer:?}")?))
+    Ok(Value::Text(format!(in alloc; "{returned:?}")?))
 }
 
 /// Whether a stored key may be returned, as `Debug` prints it.

@@ -5,8 +5,8 @@ use cck_util::UtilError;
 use std::alloc::Global;
 
 /// What a call returned whose error is want of memory alone.
-pub(crate) fn held<T: Drop>(answer: Result<T, KeyError>) -> Result<T, CaseError> {
-    match answer {
+pub(crate) fn held<T: Drop>(returned: Result<T, KeyError>) -> Result<T, CaseError> {
+    match returned {
         Ok(value) => Ok(value),
         Err(_) => Err(CaseError::Util(UtilError::Memory)),
     }
@@ -24,9 +24,9 @@ pub(crate) fn error_value<'a>(alloc: Global, error: KeyError) -> Result<Value<'a
 pub(crate) fn write_result(
     alloc: Global,
     out: &mut Vec<u8>,
-    answer: &Result<HashResult, KeyError>,
+    returned: &Result<HashResult, KeyError>,
 ) -> Result<(), CaseError> {
-    match answer {
+    match returned {
         Ok(found) => {
             let how: &[u8] = if found.is_locally_preprocessed {
                 b"fresh "

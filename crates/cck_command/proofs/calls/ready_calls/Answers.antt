@@ -8,7 +8,7 @@ pub loop-command-init : goal.loop-command-init
 loop-command-init c = record {
   earlier = [];
   asked = [];
-  after = c.in_ok-surroundings.ensures.first;
+  after = c.in_ok-surroundings.ensures;
   split = ap (calls_after []) (sym (ap (map line_of) c.into_iter-command-iterator.ensures.into_iter_gives.0 ∙ c.into_commands-command-items.ensures));
   of_asked = rw c.new-calls.ensures.items tt;
 }

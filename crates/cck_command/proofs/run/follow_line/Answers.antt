@@ -13,7 +13,7 @@ use Rattle.cck_command.proofs.run.follow_line.Goals as goal
 pub returns-clause-made : goal.returns-clause-made
 returns-clause-made g c = λ zone earlier of are.
     let hash = g.H.HashState.hash in
-    let world = world_of hash mini_compiler (plain_zone c.args.setting.now.zone) activated (lists_of c.args.setting.now.basedirs.items) in
+    let world = world_of hash mini_compiler (plain_zone c.args.context.now.zone) activated (lists_of c.args.context.now.basedirs.items) in
     elim c.match-call.branch [
       | in-Some+in_ok-after-in-Some w ↦ rw (w.store-is, w.printed-is) (subst (λ o. AreMade hash zone world (option_to_list o) c.args.store.now w.make_call.new.store c.args.printed.now.items w.make_call.new.printed.items)
           (w.in-Some.ensures earlier) (w.in_ok-after-in-Some.ensures.made zone earlier of are))

@@ -14,7 +14,7 @@ loop-command-init g c =
     record {
       earlier = [];
       asked = [];
-      after = c.in_ok-surroundings.ensures.first;
+      after = c.in_ok-surroundings.ensures;
       split = ap (calls_after []) (sym (ap (map line_of) c.into_iter-command-iterator.ensures.into_iter_gives.0 ∙ c.into_commands-command-items.ensures));
       of_asked = rw (start, c.new-printed.ensures.items) (none_made g.H.HashState.hash (zone_of lines) _ (armed_by lines) []);
     }

@@ -15,6 +15,6 @@ use Rattle.cck_command.proofs.run.run_script.Given as goal
 abbrev pub invariant-loop-command : goal.invariant-loop-command
 invariant-loop-command g l =
     let lines = lines_of l.fn.script in
-    let world = world_of g.H.HashState.hash mini_compiler (plain_zone l.setting.zone) activated (lists_of l.setting.basedirs.items) in
+    let world = world_of g.H.HashState.hash mini_compiler (plain_zone l.context.zone) activated (lists_of l.context.basedirs.items) in
     AreFollowed (λ asked. AreMade g.H.HashState.hash (zone_of lines) world asked (armed_by lines) l.store [] l.printed.items) lines
     (map line_of l.command-iterator.rest.items) l.surroundings

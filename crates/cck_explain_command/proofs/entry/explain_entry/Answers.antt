@@ -4,7 +4,7 @@ use Rattle.cck_digest.proofs.StreamLemmas.{after_error}
 use Rattle.cck_explain_command.proofs.BufferLemmas.{if_any}
 use Rattle.cck_explain_command.proofs.WrittenLemmas.{err_of_stream, err_with, ok_of_stream, read_error}
 use Rattle.cck_explain_command.specs.Written.{BeginsOf, WritesOf}
-use Rattle.cck_explain_entry.specs.Bytes.{IsListingOf}
+use Rattle.cck_explain_entry.specs.Bytes.{IsEntryListing}
 use Rattle.cck_explain_command.proofs.entry.explain_entry.Goals as goal
 
 pub returns-in_err-bytes-clause-begun : goal.returns-in_err-bytes-clause-begun
@@ -18,11 +18,11 @@ returns-in_err-bytes-clause-errors g c =
 pub returns-clause-listed : goal.returns-clause-listed
 returns-clause-listed g c =
     ok_of_stream c.write_entry.result (g.R.Read.remaining c.args.reader.now) c.in_ok-bytes.bytes.items c.deref.result.now
-    (λ bytes. WritesOf (IsListingOf bytes) (g.W.Write.contents c.args.writer.now) (g.W.Write.contents c.write_entry.new.writer))
+    (λ bytes. WritesOf (IsEntryListing bytes) (g.W.Write.contents c.args.writer.now) (g.W.Write.contents c.write_entry.new.writer))
     c.in_ok-bytes.ensures.text c.deref.ensures.value c.write_entry.ensures.listed
 
 pub returns-clause-begun : goal.returns-clause-begun
 returns-clause-begun g c =
     err_of_stream c.write_entry.result (g.R.Read.remaining c.args.reader.now) c.in_ok-bytes.bytes.items c.deref.result.now
-    (λ bytes. BeginsOf (IsListingOf bytes) (g.W.Write.contents c.args.writer.now) (g.W.Write.contents c.write_entry.new.writer))
+    (λ bytes. BeginsOf (IsEntryListing bytes) (g.W.Write.contents c.args.writer.now) (g.W.Write.contents c.write_entry.new.writer))
     c.in_ok-bytes.ensures.text c.deref.ensures.value c.write_entry.ensures.begun

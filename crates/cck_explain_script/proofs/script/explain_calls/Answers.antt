@@ -37,9 +37,9 @@ returns g c =
     let noted = all_noted hash (zone_of lines) _ c.in_ok-compiler.compiler (script_calls lines) (armed_by lines) _ _ c.loop-call.call-iterator.rest.items
     (sym (c.loop-call.call-iterator.rest.ok.0) ∙ c.in-None.ensures.steps.0) c.loop-call.invariant in
     record {
-      answers = noted.answers;
+      call_results = noted.call_results;
       ran = ran hash lines _ c.in_ok-zone.ensures.zone.0 _ _ _ g.met.H.HashState.length_hash (c.in_ok-zone.ensures.zone.1 ∙ (search rules)) c.in_ok-zone.ensures.zone.2 c.in_ok-options.ensures.basedirs
-          (record { done = noted.done; answers = noted.answers; calls = noted.calls; run = noted.run; printed_are = refl });
+          (record { done = noted.done; call_results = noted.call_results; calls = noted.calls; run = noted.run; printed_are = refl });
       notes = noted.notes;
       count = noted.count;
       listed = noted.listed;

@@ -1,6 +1,6 @@
 use Rattle.std.proofs.Common.{refl}
 use Rattle.cck_files.specs.Calls.{Rose}
-use Rattle.cck_snapshot.proofs.RecordingLemmas.{records, refuses, starved}
+use Rattle.cck_snapshot.proofs.RecordingLemmas.{records, errs, starved}
 use Rattle.cck_snapshot.proofs.recordings.record_text.Goals as goal
 
 pub returns-in-Err-clause-errors : goal.returns-in-Err-clause-errors
@@ -10,7 +10,7 @@ returns-in-Err-clause-errors g c =
 
 pub returns-in-Err-computed_key-clause-errors : goal.returns-in-Err-computed_key-clause-errors
 returns-in-Err-computed_key-clause-errors g c =
-    refuses g.H.HashState.hash (g.F.Files.file_map c.args.snapshot.now) c.args.request.now
+    errs g.H.HashState.hash (g.F.Files.file_map c.args.snapshot.now) c.args.request.now
     (Rose (g.F.Files.faults c.args.snapshot.now) (g.F.Files.faults c.generate_hash_key-found.new.files)) c.args.text.now
     c.in-Ok.hasher c.in-Ok.ensures.same _ _ c.new-store.ensures _ c.generate_hash_key-found.ensures.step _ c.in-Err-computed_key.ensures.errors
 

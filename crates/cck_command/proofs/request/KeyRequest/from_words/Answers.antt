@@ -13,7 +13,7 @@ three (x ∷ []) a b c h p q r = absurd (omega arith)
 three (x ∷ y ∷ []) a b c h p q r = absurd (omega arith)
 three (x ∷ y ∷ z ∷ xs) a b c h p q r = cc
 
-named : (name : List ℕ) (answer : Result Language UnknownLanguage) (language : Language) → NamesLanguage name answer → result_ok answer ≡ Some language → name ≡ language_name language
+named : (name : List ℕ) (found : Result Language UnknownLanguage) (language : Language) → NamesLanguage name found → result_ok found ≡ Some language → name ≡ language_name language
 named name (Ok other) language names e = let same : other ≡ language = cc in sym names ∙ ap language_name same
 named name (Err error) language names e = cc
 

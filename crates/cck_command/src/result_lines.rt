@@ -1,8 +1,8 @@
 //! The lines that are printed for the results of calls and for wrong scripts.
 ghost use Rattle.std.specs.Prelude.{◌≡◌, ◌++◌, IfOk, OnOk, map, string_bytes};
 ghost use Rattle.std.specs.List.{flat_map};
-ghost use Rattle.c_cache_keys.specs.Call.{Keyed, Refused};
-ghost use Rattle.c_cache_keys.specs.Seen.{answer_of, why_of};
+ghost use Rattle.c_cache_keys.specs.Call.{Keyed, ReturnsError};
+ghost use Rattle.c_cache_keys.specs.Seen.{result_of, why_of};
 ghost use Rattle.cck_command.specs.Run.{result_line, wrong_text};
 
 use crate::failed::Failed;
@@ -16,13 +16,13 @@ use std::alloc::Global;
 pub fn add_result_lines(
     alloc: Global,
     lines: &mut Vec<u8>,
-    answers: &[Result<HashResult, KeyError>],
+    call_results: &[Result<HashResult, KeyError>],
 ) -> Result<(), Failed>
     ensures { OnOk result (lines.new.items
-        ≡ lines.old.items ++ flat_map result_line (map answer_of answers.now)) }
+        ≡ lines.old.items ++ flat_map result_line (map result_of call_results.now)) }
 {
-    for answer in answers {
-        match answer {
+    for call_result in call_results {
+        match call_result {
             Ok(found) => push_key(lines, found)?,
             Err(error) => push_error(alloc, lines, *error)?,
         }
@@ -48,7 +48,7 @@ fn push_key(lines: &mut Vec<u8>, found: &HashResult) -> Result<(), Failed>
 // Appends the line of an error.
 fn push_error(alloc: Global, lines: &mut Vec<u8>, error: KeyError) -> Result<(), Failed>
     ensures { OnOk result
-        (lines.new.items ≡ lines.old.items ++ result_line (Refused (why_of error))) }
+        (lines.new.items ≡ lines.old.items ++ result_line (ReturnsError (why_of error))) }
 {
     let number = error.number();
     let line = format!(in alloc; "error {number}\n")?;
