@@ -403,7 +403,7 @@ def returned_lines(returned, call, conditions):
 
 def call_lines(number, call, conditions, watched):
     """What one call does."""
-    answer = run_calls([call], conditions, watched)[0]
+    result = run_calls([call], conditions, watched)[0]
     calls, watched.calls = watched.calls, []
     yield b"call %d " % number + escaped(call.hasher.arguments.input)
     yield b"preprocessor_key " + (calls[0][1] if calls else b"-")
@@ -414,7 +414,7 @@ def call_lines(number, call, conditions, watched):
             yield from returned_lines(returned, call, conditions)
         else:
             yield b"put failed" if isinstance(returned, Refused) else b"put done"
-    yield program.result_line(answer)[:-1]
+    yield program.result_line(result)[:-1]
 
 
 def script_lines(text):

@@ -6,7 +6,7 @@ import pathlib
 import re
 
 CRATES = pathlib.Path(__file__).resolve().parent.parent / "crates"
-STATEMENT = [("c_cache_keys", "Laws", "IsTransparent"), ("c_cache_keys", "Premises", "Premises")]
+STATEMENT = [("c_cache_keys", "Laws", "Headline")]
 USE = re.compile(r"(?:ghost |pub )?use Rattle\.(\w+)\.specs\.([\w.]+)\.\{(.*)\}")
 START = re.compile(r"( {0,2})(?:(abbrev|unfoldable|opaque) )?(pub )?(?:(record|data) )?([A-Za-z_][\w-]*)")
 

@@ -241,7 +241,7 @@ def verdict_of(text):
 
 
 def run_block(job):
-    """The answers of a block, how often each, and the texts that differ, with both verdicts."""
+    """The results of a block, how often each, and the texts that differ, with both verdicts."""
     program, seed, block = job
     texts = list(TextMaker(random.Random(f"{seed} {block}")).texts())
     data = b"".join(len(text).to_bytes(4, "little") + text for text in texts)
@@ -285,7 +285,7 @@ def main():
     seconds = time.monotonic() - start
     total = sum(counts.values())
     print(f"seed {chosen.seed}, blocks {blocks.start} to {blocks.stop - 1}: {total} texts, {size} bytes")
-    print("answers: " + ", ".join(f"{counts[name]} {name}" for name in sorted(counts)))
+    print("results: " + ", ".join(f"{counts[name]} {name}" for name in sorted(counts)))
     print(f"{total / seconds:.0f} texts a second, {differences} differences")
     return 1 if differences else 0
 

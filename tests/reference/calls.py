@@ -63,8 +63,8 @@ class Call:
 
 
 @dataclasses.dataclass
-class Answer:
-    """`Answer`: a key, whether it was computed, and the key of the toolchain."""
+class CallResult:
+    """`CallResult`: a key, whether it was computed, and the key of the toolchain."""
 
     key: bytes
     is_fresh: bool
@@ -225,21 +225,21 @@ def generate_hash_key(call, conditions, store):
     if asked_under is not None and not call.recache:
         key = stored_key(call, conditions, store, asked_under)
         if key is not None:
-            return Answer(key, False, toolchain_key(call.hasher))
+            return CallResult(key, False, toolchain_key(call.hasher))
     text = text_of(call)
     recorded = [] if asked_under is None else recorded_of(call, conditions, text)
     key = plain_key(call, conditions, extra_hashes, text)
     if recorded:
         put_result(call, store, asked_under, key, recorded)
-    return Answer(key, True, toolchain_key(call.hasher))
+    return CallResult(key, True, toolchain_key(call.hasher))
 
 
 def run_calls(calls, conditions, store):
-    """`Run`: one `Answer` or error for each call, in order, each on the store that the one before left."""
-    answers = []
+    """`Run`: one `CallResult` or error for each call, in order, each on the store that the one before left."""
+    call_results = []
     for call in calls:
         try:
-            answers.append(generate_hash_key(call, conditions, store))
+            call_results.append(generate_hash_key(call, conditions, store))
         except Refused as error:
-            answers.append(error)
-    return answers
+            call_results.append(error)
+    return call_results

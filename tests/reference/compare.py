@@ -7,12 +7,12 @@ import sys
 
 from .cases import escape
 from .scripts import ScriptMaker, damaged_script, key_words
-from .streams import answer_any_words
+from .streams import result_any_words
 
 SECONDS = 60
 
 
-def answers_of(program, words, data):
+def results_of(program, words, data):
     """What a program prints for these words and this input, and its exit status."""
     done = subprocess.run([program, *words], input=data, stdout=subprocess.PIPE, timeout=SECONDS, check=False)
     return done.stdout, done.returncode
@@ -20,12 +20,12 @@ def answers_of(program, words, data):
 
 def expected_of(words, data):
     """What the reference prints for these words and this input, and its exit status."""
-    return answer_any_words(words, lambda: data)
+    return result_any_words(words, lambda: data)
 
 
 def differs(program, words, data):
     """Whether the two print something else, or end with another status."""
-    return answers_of(program, words, data) != expected_of(words, data)
+    return results_of(program, words, data) != expected_of(words, data)
 
 
 def smaller(parts, is_kept):
@@ -60,7 +60,7 @@ def smallest_script(program, script):
 
 def report(program, words, data):
     """Prints what the two print. The input is printed as it is."""
-    ours, theirs = expected_of(words, data), answers_of(program, words, data)
+    ours, theirs = expected_of(words, data), results_of(program, words, data)
     sys.stdout.write("words: " + " ".join(escape(word) for word in words) + "\ninput:\n")
     sys.stdout.flush()
     sys.stdout.buffer.write(data + b"\n")
@@ -69,7 +69,7 @@ def report(program, words, data):
     sys.stdout.write(f"  program   {theirs[1]} {escape(theirs[0])}\n\n")
 
 
-def count_answers(counts, printed):
+def count_results(counts, printed):
     """Counts the lines that were printed by their first word, errors by their number."""
     for line in printed.split(b"\n")[:-1]:
         words = line.split(b" ")
@@ -78,12 +78,12 @@ def count_answers(counts, printed):
 
 
 def compare_scripts(program, scripts):
-    """Compares scripts, given by their names; returns how many differ, and what was answered how often."""
+    """Compares scripts, given by their names; returns how many differ, and what was returned how often."""
     different, counts = 0, collections.Counter()
     for name, script in scripts:
         expected = expected_of([b"run"], script)
-        count_answers(counts, expected[0])
-        if answers_of(program, [b"run"], script) != expected:
+        count_results(counts, expected[0])
+        if results_of(program, [b"run"], script) != expected:
             different += 1
             sys.stdout.write(f"{name}:\n")
             report(program, [b"run"], smallest_script(program, script))
@@ -114,11 +114,11 @@ def compare_keys(program, numbers, seed):
 
 
 def print_counts(kind, numbers, different, counts):
-    """Prints how many were compared, how many differ, and what was answered how often."""
+    """Prints how many were compared, how many differ, and what was returned how often."""
     sys.stdout.write(f"{len(numbers)} {kind}, {different} differences\n")
     if counts:
-        answers = ", ".join(f"{counts[name]} {name}" for name in sorted(counts))
-        sys.stdout.write(f"  answers: {answers}\n")
+        results = ", ".join(f"{counts[name]} {name}" for name in sorted(counts))
+        sys.stdout.write(f"  results: {results}\n")
 
 
 def compare(words):

@@ -3,7 +3,7 @@ import collections
 import copy
 import dataclasses
 
-from .calls import Answer, number_of, run_calls
+from .calls import CallResult, number_of, run_calls
 from .entry import add_result, entry_bytes, read_entry
 from .errors import is_fault
 from .program import result_line, conditions_of, each_call
@@ -59,15 +59,15 @@ class Failure:
         made = range(1, on_files + 1) if self.cause == "files" else on_store
         return any(n == self.n or n > self.n and not self.is_once for n in made)
 
-    def allows(self, plain, answer):
-        """Whether a call that meets the failure may answer this, where it answers `plain` alone."""
-        if isinstance(answer, Answer):
-            return isinstance(plain, Answer) and answer.key == plain.key
-        if self.cause == "files" and answer.name in ("Extra", "Input", "Preprocess") and is_fault(answer):
+    def allows(self, plain, call_result):
+        """Whether a call that meets the failure may return this, where it call_results `plain` alone."""
+        if isinstance(call_result, CallResult):
+            return isinstance(plain, CallResult) and call_result.key == plain.key
+        if self.cause == "files" and call_result.name in ("Extra", "Input", "Preprocess") and is_fault(call_result):
             return True
-        if self.cause == "store" and answer.name == "Store":
+        if self.cause == "store" and call_result.name == "Store":
             return True
-        return result_line(answer) == result_line(plain)
+        return result_line(call_result) == result_line(plain)
 
 
 class Runs:
@@ -96,12 +96,12 @@ class Runs:
         owns.append(dict([self.first] if self.first else []))
         return all(any(own.get(key) == data for own in owns) for key, data in pairs.items())
 
-    def is_as_held(self, place, held, answer, pairs):
-        """Whether the answer of a call and the pairs after it are those that the pairs before it give."""
+    def is_as_held(self, place, held, call_result, pairs):
+        """Whether the call_result of a call and the pairs after it are those that the pairs before it give."""
         store = MapStore()
         store.pairs = held
         expected = self.make(own_calls(self.lines)[place], store)
-        return result_line(expected) == result_line(answer) and store.pairs == pairs
+        return result_line(expected) == result_line(call_result) and store.pairs == pairs
 
     def run(self, failure, store_text):
         """Makes all calls under a failure, and says whether it was met; if not, nothing is counted."""
@@ -114,30 +114,30 @@ class Runs:
         for place, call in enumerate(own_calls(self.lines)):
             held, before = copy.copy(store.pairs), store.armed.calls
             failure.arm_files(call.files, place)
-            answer = self.make(call, store)
-            printed += result_line(answer)
+            call_result = self.make(call, store)
+            printed += result_line(call_result)
             made = range(before + 1 - start, store.armed.calls + 1 - start)
             if failure.is_met(place, call.files.armed.calls, made):
                 has_met = has_met or failure.cause != "files" or place == failure.place
-                is_right = failure.allows(self.alone[place][0], answer)
+                is_right = failure.allows(self.alone[place][0], call_result)
                 is_right = is_right and self.is_own(store.pairs, place)
             else:
-                is_right = self.is_as_held(place, held, answer, store.pairs)
-            results.append((answer, is_right))
+                is_right = self.is_as_held(place, held, call_result, store.pairs)
+            results.append((call_result, is_right))
         if has_met:
             self.count += 1
             self.printed += printed + store_text(store) + b"\n"
-            for answer, is_right in results:
-                self.seen[word_of(answer)] += 1
+            for call_result, is_right in results:
+                self.seen[word_of(call_result)] += 1
                 self.wrong += not is_right
         return has_met
 
 
-def word_of(answer):
+def word_of(call_result):
     """`hits` and `misses` for keys, and the number of an error."""
-    if isinstance(answer, Answer):
-        return "misses" if answer.is_fresh else "hits"
-    return number_of(answer)
+    if isinstance(call_result, CallResult):
+        return "misses" if call_result.is_fresh else "hits"
+    return number_of(call_result)
 
 
 def runs_of(lines, first, cause, is_once, store_text):

@@ -1,6 +1,6 @@
 """The program `cck`: what it prints, and its exit status."""
 from .arguments import Arguments, Output, with_extra_files
-from .calls import Answer, Call, Conditions, Hasher, executable_text, number_of, run_calls
+from .calls import CallResult, Call, Conditions, Hasher, executable_text, number_of, run_calls
 from .errors import Refused
 from .key import Params, language_of, object_key
 from .mini import MiniCompiler
@@ -45,11 +45,11 @@ def arguments_of(words):
     return Arguments(words[0], language, outputs=outputs, common_args=words[1:])
 
 
-def result_line(answer):
+def result_line(call_result):
     """`result_line`: the line that is printed for one call."""
-    if not isinstance(answer, Answer):
-        return b"error %d\n" % number_of(answer)
-    return (b"miss " if answer.is_fresh else b"hit ") + answer.key + b"\n"
+    if not isinstance(call_result, CallResult):
+        return b"error %d\n" % number_of(call_result)
+    return (b"miss " if call_result.is_fresh else b"hit ") + call_result.key + b"\n"
 
 
 def call_of(line, files, variables, compiler, digest):
@@ -91,8 +91,8 @@ def each_call(lines):
 def run_lines(lines):
     """`Ran`: the lines of the results of a script's calls."""
     conditions, store = conditions_of(lines), armed_by(lines)
-    answers = (run_calls([call], conditions, store)[0] for call in each_call(lines))
-    return b"".join(map(result_line, answers))
+    call_results = (run_calls([call], conditions, store)[0] for call in each_call(lines))
+    return b"".join(map(result_line, call_results))
 
 
 def run_script(text):
@@ -104,7 +104,7 @@ def run_script(text):
     return run_lines(lines), 0
 
 
-def answer_words(words, read):
+def result_words(words, read):
     """What is printed for words that are UTF-8, and the status; `read` returns the input's bytes."""
     if words == [b"run"]:
         return run_script(read())

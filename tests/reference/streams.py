@@ -2,20 +2,20 @@
 import os
 import sys
 
-from .program import USAGE, answer_words
+from .program import USAGE, result_words
 from .texts import is_utf8
 
 
-def answer_any_words(words, read):
+def result_any_words(words, read):
     """What is printed for any words, and the exit status; `read` returns the input's bytes."""
     if not all(is_utf8(word) for word in words):
         return USAGE, 2
-    return answer_words(words, read)
+    return result_words(words, read)
 
 
 def main(words):
     """Prints what is printed for the program's words, and returns the exit status."""
-    printed, status = answer_any_words([os.fsencode(word) for word in words], sys.stdin.buffer.read)
+    printed, status = result_any_words([os.fsencode(word) for word in words], sys.stdin.buffer.read)
     sys.stdout.buffer.write(printed)
     sys.stdout.buffer.flush()
     return status

@@ -202,11 +202,11 @@ def hasher_text(hasher):
     return b"\n".join([first] + arguments_lines(hasher.arguments))
 
 
-def answer_text(answer):
+def result_text(result):
     """`fresh` or `stored` and the key, or the error."""
-    if isinstance(answer, Refused):
-        return error_text(answer)
-    return (b"fresh " if answer.is_fresh else b"stored ") + answer.key
+    if isinstance(result, Refused):
+        return error_text(result)
+    return (b"fresh " if result.is_fresh else b"stored ") + result.key
 
 
 def debug_bytes(data):
@@ -306,7 +306,7 @@ def debug_detail(detail):
 
 def call_compile(subject, rest, made):
     """`compile`: `fresh` or `stored` and the key."""
-    return answer_text(subject.compile())
+    return result_text(subject.compile())
 
 
 def call_toolchain(subject, rest, made):
@@ -317,11 +317,11 @@ def call_toolchain(subject, rest, made):
 def call_compile_shown(subject, rest, made):
     """`compile_shown`: the result as `Debug` prints it."""
     try:
-        answer = subject.compile()
+        result = subject.compile()
     except Refused as error:
         return f"Err({error.debug()})".encode()
-    key, toolchain = answer.key.decode(), answer.toolchain_key.decode()
-    fresh = debug_flag(answer.is_fresh)
+    key, toolchain = result.key.decode(), result.toolchain_key.decode()
+    fresh = debug_flag(result.is_fresh)
     fields = f'key: "{key}", weak_toolchain_key: "{toolchain}", is_locally_preprocessed: {fresh}'
     return f"Ok(HashResult {{ {fields} }})".encode()
 
@@ -366,10 +366,10 @@ def call_call_each(subject, rest, made):
 
 def call_run_calls(subject, rest, made):
     """`run_calls`: a line for each call that `add_call` added."""
-    answers = run_calls(subject.list, subject.conditions(), subject.store)
-    lines = [number(len(answers)) + b" results"]
-    for call, answer in zip(subject.list, answers):
-        lines.append(answer_text(answer) + b", preprocessed " + number(call.files.count))
+    results = run_calls(subject.list, subject.conditions(), subject.store)
+    lines = [number(len(results)) + b" results"]
+    for call, result in zip(subject.list, results):
+        lines.append(result_text(result) + b", preprocessed " + number(call.files.count))
     return b"\n".join(lines)
 
 

@@ -10,7 +10,7 @@ from ..files import FILE, FOLDER
 from ..given import World
 from ..mini import MiniCompiler, print_input
 from ..paths import join_path
-from ..program import result_line, answer_words, arguments_of, armed_by, conditions_of
+from ..program import result_line, result_words, arguments_of, armed_by, conditions_of
 from ..script import Surroundings, WrongLine as WrongScript
 from ..script import armed_of, basedirs_of, parse, zone_of
 from ..store import MapStore
@@ -141,7 +141,7 @@ class Run:
     def end(self, words):
         """Writes what there is to write for these words, and returns the status."""
         try:
-            printed, status = answer_words(words, self.read)
+            printed, status = result_words(words, self.read)
             self.print(printed)
         except Failed:
             return self.refuse()
@@ -396,25 +396,25 @@ class Subject(BaseSubject):
         return compiler.prints(world.files, b"/cc", arguments_of(words), self.cwd, [], world.now)
 
     def plain_keys(self, rest, made):
-        """`plain_keys TEXT`: the answer of each call, made alone on an empty store."""
+        """`plain_keys TEXT`: the result of each call, made alone on an empty store."""
         lines = self.said(self.text(rest, made))
         conditions = conditions_of(lines)
-        answers = (run_calls([call], conditions, MapStore())[0] for call in own_calls(lines))
-        return b"".join(map(result_line, answers)).removesuffix(b"\n")
+        results = (run_calls([call], conditions, MapStore())[0] for call in own_calls(lines))
+        return b"".join(map(result_line, results)).removesuffix(b"\n")
 
-    def answers(self, rest, made):
-        """`answers TEXT`: the answers of all calls as a list."""
+    def results(self, rest, made):
+        """`results TEXT`: the results of all calls as a list."""
         lines = self.said(self.text(rest, made))
         store = armed_by(lines)
         if self.other_results:
             key, data = self.first(lines)
             store.pairs[key] = data
         store.fail_after(self.store_fail_after)
-        answers = run_calls(own_calls(lines), conditions_of(lines), store)
-        return b"".join(map(result_line, answers)).removesuffix(b"\n")
+        results = run_calls(own_calls(lines), conditions_of(lines), store)
+        return b"".join(map(result_line, results)).removesuffix(b"\n")
 
-    def checked_answers(self, rest, made):
-        """`checked_answers TEXT`: how many answers there are. With all memory none is wrong."""
+    def checked_results(self, rest, made):
+        """`checked_results TEXT`: how many results there are. With all memory none is wrong."""
         return b"%d results, 0 wrong" % len(own_calls(self.said(self.text(rest, made))))
 
     def fail_each(self, rest, made):
@@ -439,8 +439,8 @@ class Subject(BaseSubject):
 
     CALLS = {
         "plain_keys": plain_keys,
-        "answers": answers,
-        "checked_answers": checked_answers,
+        "results": results,
+        "checked_results": checked_results,
         "fail_each": fail_each,
         "parse": parse,
         "calls": calls,
