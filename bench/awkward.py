@@ -118,11 +118,11 @@ def cost(words, path):
     return best, most, done.stdout
 
 
-def answer_of(printed):
+def result_of(printed):
     """The column for what the last printed line says without keys, which is left out where it is nothing."""
     last = printed.split(b"\n")[-2:-1] or [b""]
-    answer = b" ".join(word for word in last[0].split() if len(word) < 20).decode("ascii", "replace")
-    return f" {answer} |" if answer else ""
+    result = b" ".join(word for word in last[0].split() if len(word) < 20).decode("ascii", "replace")
+    return f" {result} |" if result else ""
 
 
 def row(name, size, measured, beside):
@@ -130,7 +130,7 @@ def row(name, size, measured, beside):
     seconds, memory, printed = measured
     print(
         f"| {name} | {size / MIB:.2f} | {seconds * 1000:.0f} | {seconds / beside:.1f} | {memory / MIB:.1f} "
-        f"| {memory / size:.1f} |{answer_of(printed)}",
+        f"| {memory / size:.1f} |{result_of(printed)}",
         flush=True,
     )
 
@@ -156,7 +156,7 @@ def texts_table(what, words, path, make, columns=()):
 
 def scripts_table(what, words, path):
     """The cost of scripts of many lines, of long lines and of many includes."""
-    head(what, ["answer"])
+    head(what, ["result"])
     cases = [("%d variables" % n, lines_of(n, b"var V%06d 1\n")) for n in COUNTS]
     cases += [("%d files" % n, lines_of(n, b"file /w/f%06d.h 1 1 x\n")) for n in COUNTS]
     cases += [("%d folders" % n, lines_of(n, b"dir /w/d%06d\n")) for n in COUNTS]
@@ -241,7 +241,7 @@ def main(program, markers, entries, folder):
     path = os.path.join(folder, "text")
     texts_table("`cck key abcd c` on the text:", [program, "key", "abcd", "c"], path, raw_text)
     run = [program, "run"]
-    texts_table("`cck run` on a script whose input is the text:", run, path, text_script, ["answer"])
+    texts_table("`cck run` on a script whose input is the text:", run, path, text_script, ["result"])
     scripts_table("`cck run` on other scripts:", run, path)
     entries_table("The readers of entries:", [entries], path)
     marks_table("The marks of the text:", markers, path)

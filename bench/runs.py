@@ -18,8 +18,8 @@ def script(calls, word):
         yield word + b" 6000000000 a.c\n"
 
 
-def answered(run, path):
-    """The first words of the answers to a script that was run."""
+def returned(run, path):
+    """The first words of the results to a script that was run."""
     seconds(run, path)
     with open(path + ".out", "rb") as printed:
         return [line.split()[0] for line in printed]
@@ -36,7 +36,7 @@ def main(program, hashing, folder):
         count = instructions(run, written(folder, "ten", script(10, word))) - instructions(run, none)
         for calls in (100, 1000):
             path = written(folder, "many", script(calls, word))
-            assert answered(run, path) == [b"miss"] + [name] * calls
+            assert returned(run, path) == [b"miss"] + [name] * calls
             rounds = [
                 [seconds(*words) for words in ((run, path), (run, none), ([hashing, str(calls)], texts))]
                 for _ in range(ROUNDS)
