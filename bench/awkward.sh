@@ -3,9 +3,9 @@
 # tables: through `cck key`, `cck run`, the marks of bench/markers and the readers of entries. Memory
 # is the greatest resident set of the process, time its processor time, the lesser of two runs.
 #
-#     bench/awkward.sh [FOLDER]
+#     bench/awkward.sh [DIRECTORY]
 #
-# All is made in FOLDER, by default a new one below /tmp; what is built there is kept. Compare times
+# All is made in DIRECTORY, by default a new one below /tmp; what is built there is kept. Compare times
 # within one run. Needs Python 3 and GNU time as /usr/bin/time.
 set -e
 here=$(cd "$(dirname "$0")" && pwd)

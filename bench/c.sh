@@ -8,9 +8,9 @@
 # other round, and the least time of each counts. Then it prints how many instructions each call takes, by
 # callgrind, on the first 4 MB of the text.
 #
-#     bench/c.sh [FOLDER]
+#     bench/c.sh [DIRECTORY]
 #
-# All is made in FOLDER, by default a new one below /tmp: the text, the library, a copy of the crates
+# All is made in DIRECTORY, by default a new one below /tmp: the text, the library, a copy of the crates
 # and the programs. Compare times within one run.
 set -e
 here=$(cd "$(dirname "$0")" && pwd)

@@ -4,9 +4,9 @@
 # include has changed, and where it comes first. All is set beside hashing the bytes of the 100 headers
 # of 4 KiB once; Digest::file of each and a view of one result with one include are measured too.
 #
-#     bench/entry.sh [FOLDER]
+#     bench/entry.sh [DIRECTORY]
 #
-# All is made in FOLDER, by default a new one below /tmp: a copy of the crates and the program.
+# All is made in DIRECTORY, by default a new one below /tmp: a copy of the crates and the program.
 # Compare times within one run.
 set -e
 here=$(cd "$(dirname "$0")" && pwd)

@@ -3,9 +3,9 @@
 # kit's memchr over the same bytes, and prints a table. The texts are system headers as gcc -E
 # leaves them, and names with many underscores, among them beginnings of the macros.
 #
-#     bench/finder.sh [FOLDER]
+#     bench/finder.sh [DIRECTORY]
 #
-# All is made in FOLDER, by default a new one below /tmp: the texts, a copy of the crates and the
+# All is made in DIRECTORY, by default a new one below /tmp: the texts, a copy of the crates and the
 # program. Compare times within one run.
 set -e
 here=$(cd "$(dirname "$0")" && pwd)

@@ -3,9 +3,9 @@
 # /bin/true, and counts the instructions of each by callgrind, those of the first three on 4 MiB.
 # Prints two tables; the times are processor time.
 #
-#     bench/key.sh [FOLDER]
+#     bench/key.sh [DIRECTORY]
 #
-# All is made in FOLDER, by default a new one below /tmp. Compare times within one run. Needs Python 3,
+# All is made in DIRECTORY, by default a new one below /tmp. Compare times within one run. Needs Python 3,
 # openssl, valgrind and GNU time as /usr/bin/time.
 set -e
 here=$(cd "$(dirname "$0")" && pwd)

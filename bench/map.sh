@@ -3,9 +3,9 @@
 # random order, and compare_paths at paths of 4 KB that differ nowhere, in the last byte or in the
 # second, beside a test whether their bytes are the same, and prints two tables.
 #
-#     bench/map.sh [FOLDER]
+#     bench/map.sh [DIRECTORY]
 #
-# All is made in FOLDER, by default a new one below /tmp: a copy of the crates and the program.
+# All is made in DIRECTORY, by default a new one below /tmp: a copy of the crates and the program.
 # Compare times within one run.
 set -e
 here=$(cd "$(dirname "$0")" && pwd)

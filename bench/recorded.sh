@@ -2,9 +2,9 @@
 # Times recorded_digest of 1000 files of 100 to 4096 bytes, with a search for macros of time and
 # without one, beside hashing the bytes of the same files, and prints a table.
 #
-#     bench/recorded.sh [FOLDER]
+#     bench/recorded.sh [DIRECTORY]
 #
-# All is made in FOLDER, by default a new one below /tmp: a copy of the crates and the program.
+# All is made in DIRECTORY, by default a new one below /tmp: a copy of the crates and the program.
 # Compare times within one run.
 set -e
 here=$(cd "$(dirname "$0")" && pwd)

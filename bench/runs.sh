@@ -3,9 +3,9 @@
 # and 1000, beside hashing the same headers N times by the hash function of the program, and counts
 # the instructions of 10 of each by callgrind. Prints a table.
 #
-#     bench/runs.sh [FOLDER]
+#     bench/runs.sh [DIRECTORY]
 #
-# All is made in FOLDER, by default a new one below /tmp: a copy of the crate and the program that
+# All is made in DIRECTORY, by default a new one below /tmp: a copy of the crate and the program that
 # hashes. Times are processor time: compare them within one run. Needs Python 3, valgrind and GNU time
 # as /usr/bin/time.
 set -e

@@ -5,9 +5,9 @@
 # in the same bytes. All files that they name are in memory, and each is recorded once. It prints a
 # table for each text. Instructions and allocations are those of the first 4 MB.
 #
-#     bench/walk.sh [FOLDER]
+#     bench/walk.sh [DIRECTORY]
 #
-# All is made in FOLDER, by default a new one below /tmp: the texts, a copy of the crates and the
+# All is made in DIRECTORY, by default a new one below /tmp: the texts, a copy of the crates and the
 # program. Compare times within one run.
 set -e
 here=$(cd "$(dirname "$0")" && pwd)

@@ -1,6 +1,6 @@
 #!/bin/sh
-# Proves and builds the static library of crates/cck_c, and writes it to FOLDER/libcck.a together with
-# the kit's malloc, realloc and free for it: archive.sh FOLDER. Callers link this one file.
+# Proves and builds the static library of crates/cck_c, and writes it to DIRECTORY/libcck.a together with
+# the kit's malloc, realloc and free for it: archive.sh DIRECTORY. Callers link this one file.
 set -eu
 folder=$(cd "$1" && pwd)
 top=$(cd "$(dirname "$0")/.." && pwd)

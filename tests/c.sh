@@ -1,6 +1,6 @@
 #!/bin/sh
-# Tests the static library of crates/cck_c from C, C++ and Rust. Run by hand: c.sh, or c.sh FOLDER,
-# where FOLDER has libcck.a; without it the library is proved and built first. It needs gcc, clang,
+# Tests the static library of crates/cck_c from C, C++ and Rust. Run by hand: c.sh, or c.sh DIRECTORY,
+# where DIRECTORY has libcck.a; without it the library is proved and built first. It needs gcc, clang,
 # g++, rustc, valgrind and Python 3.
 #
 # Warnings are errors everywhere. The examples are built and run. tests/c/calls.c makes the calls of

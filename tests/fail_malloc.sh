@@ -1,5 +1,5 @@
 #!/bin/sh
-# Lets each request for memory fail in turn in a program of cases that is built (`rt run` in its folder
+# Lets each request for memory fail in turn in a program of cases that is built (`rt run` in its directory
 # proves and builds it): fail_malloc.sh CRATE FILE [on], where FILE is one of the crate's data/. Once,
 # or with all later requests too where `on` is given. A run has to end with status 2, for want of
 # memory, with no difference printed, or to print what the program prints with all its memory. The last

@@ -1,5 +1,5 @@
 #!/bin/sh
-# Builds and runs the example: build.sh [FOLDER], where FOLDER has libcck.a; without it, the archive is
+# Builds and runs the example: build.sh [DIRECTORY], where DIRECTORY has libcck.a; without it, the archive is
 # proved and built first. It needs rustc, and no crate.
 set -eu
 here=$(cd "$(dirname "$0")" && pwd)

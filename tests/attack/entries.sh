@@ -6,7 +6,7 @@
 #
 # N texts are made, in blocks of 10000, from the block K on, by J processes. A difference is printed
 # with its text, in hexadecimal digits. The program is made in the directory that CCK_ATTACK names, by
-# default a new one below /tmp, and is kept where that folder has it already.
+# default a new one below /tmp, and is kept where that directory has it already.
 set -e
 here=$(cd "$(dirname "$0")" && pwd)
 program=$("$here/program.sh" "${CCK_ATTACK:-$(mktemp -d)}")

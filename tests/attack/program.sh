@@ -1,8 +1,8 @@
 #!/bin/sh
-# Builds the program of tests/attack/entries, proved, and prints its path. It is made in a folder,
-# with a copy of the crates it stands on, and is kept where that folder has it already.
+# Builds the program of tests/attack/entries, proved, and prints its path. It is made in a directory,
+# with a copy of the crates that it uses, and is kept where that directory has it already.
 #
-#     tests/attack/program.sh FOLDER
+#     tests/attack/program.sh DIRECTORY
 set -e
 here=$(cd "$(dirname "$0")" && pwd)
 top=$(cd "$here/../.." && pwd)

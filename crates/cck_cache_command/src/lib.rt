@@ -2,7 +2,7 @@
 //!
 //! Each call works on a *snapshot*: the real files that it looks at are read into memory. Keys,
 //! look-ups and recordings are calls of `cck_snapshot` over them, over the bytes of one entry and over
-//! a text. What is missing from a snapshot can only make a look-up miss or a recording be refused.
+//! a text. What is missing from a snapshot can only make a look-up miss or a compilation be refused.
 #![tactic(auto)]
 
 mod absence;

@@ -24,7 +24,7 @@ const DONE: u8 = 0;
 /// The exit status for wrong words.
 const USAGE: u8 = 2;
 
-/// The exit status of a look-up without an object.
+/// The exit status where there is no key, no object or no recording.
 const MISS: u8 = 3;
 
 // Prints the preprocessor key.
@@ -150,7 +150,7 @@ fn run_record<R: Files + AllocGlobal, W: Write>(
     }
 }
 
-// Does what was asked for, except for `record`.
+// Does what was asked for, except for `record` and `object-key`.
 fn run_task<R: Files + AllocGlobal + Clone + Drop, W: Write, E: Write>(
     rt: &R,
     environment: &Environment<'_>,
@@ -183,7 +183,7 @@ fn run_task<R: Files + AllocGlobal + Clone + Drop, W: Write, E: Write>(
     Ok(DONE)
 }
 
-// Does what was asked for, with the text that `record` reads.
+// Does what was asked for, with the text that `record` and `object-key` read.
 fn run_with_text<R: Files + AllocGlobal + Clone + Drop, I: Read, W: Write, E: Write>(
     rt: &R,
     environment: &Environment<'_>,
@@ -236,7 +236,8 @@ fn explain<W: Write, E: Write>(error: &Error, writer: &mut W, errors: &mut E) ->
 /// Does what these words ask for, of which the first is the program's name. Returns the exit
 /// status.
 ///
-/// The error is of what could not be read or written, or lack of memory.
+/// The error is of what could not be read or written, of a stamp or size that is none, or lack of
+/// memory.
 pub fn run<R: Files + AllocGlobal + Clone + Drop, I: Read, W: Write, E: Write>(
     rt: &R,
     environment: &Environment<'_>,

@@ -1,4 +1,4 @@
-//! The paths at which a preprocessor looked for headers in vain.
+//! The paths at which a preprocessor looked for headers and found none.
 ghost use Rattle.std.specs.Prelude.{◌≡◌, ◌<◌, ◌↔◌, ◌++◌, Contains, IfOk, IsTrue, List, OnOk, [], get_or, length, map, true, ℕ};
 ghost use Rattle.std.specs.Option.{option_map};
 ghost use Rattle.cck_markers.specs.Marks as spec;

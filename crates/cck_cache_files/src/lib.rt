@@ -4,7 +4,7 @@
 //!   they are now: [`add_file`] and [`add_named_files`]. What can't be read, or is in doubt, is left
 //!   out.
 //! - [`PathStates`] says of paths whether there is anything at them, and whether a link on the way
-//!   changed of late.
+//!   changed since a given time.
 //! - [`StoreDirectory`] is the directory of a store.
 //! - [`list_files`] and [`list_counts`] list the files of a store.
 //! - [`compiler_digest`] is the digest of a compiler's programs on this machine, and

@@ -34,7 +34,8 @@ impl Kind {
 }
 
 /// A store directory: `VERSION`, and `entries` and `objects`, in each of which a file is in a
-/// directory that is named by the first two digits of its key.
+/// directory that is named by the first two digits of its key. `counts` and `digests` are there once
+/// they have a file.
 #[derive(Drop)]
 pub struct StoreDirectory {
     directory: String,

@@ -22,7 +22,7 @@ pub enum Refusal {
     AssemblerInclude,
     /// There is something in doubt where a header would be found earlier, or a precompiled header.
     EarlierPath,
-    /// The walk over the text's files refused one.
+    /// The text is refused, for one of its marks or files.
     NamedFile,
     /// The object or the messages have the base directory.
     BaseDirectory,

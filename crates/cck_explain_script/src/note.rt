@@ -123,9 +123,9 @@ fn key_of<'a>(calls: &'a [StoreCall]) -> &'a [u8] {
     }
 }
 
-/// Appends what a call did, from its calls on the store: a line with its number and input, one with
-/// the preprocessor key, or `-` where the store was not called; what the store returned, and for an
-/// entry each result with the includes that do not match; and what was put.
+/// Appends what a call did, from its calls on the store: a line with the preprocessor key, or `-`
+/// where the store was not called; what the store returned, and for an entry each result with the
+/// includes that do not match; and what was put.
 ///
 /// The only error is lack of memory. What was appended is then unspecified.
 pub(crate) fn push_note<H: HashState, F: Files>(

@@ -14,7 +14,6 @@ use std::alloc::Global;
 /// An implementation also says which of its states are *quiet*: no call on them meets a fault or
 /// leaves quiet states. And it says which states a call at a path leads to. By that the contract of
 /// a function over all files can name the paths at which it makes calls.
-/// a function over all files can name the paths at which it makes calls.
 ///
 /// Paths are compared by components. The errors of the calls:
 ///

@@ -54,8 +54,8 @@ fn run(
     })
 }
 
-// Whether this is a beginning of what is printed otherwise, and after it a beginning of the line of a
-// refusal.
+// Whether this is a beginning of what is printed otherwise, and after it a beginning of the line
+// `cck: refused`.
 fn is_cut(written: &[u8], printed: &[u8]) -> bool {
     for (at, _) in written.iter().enumerate() {
         let (front, rest) = written.split_at(at);
@@ -68,7 +68,7 @@ fn is_cut(written: &[u8], printed: &[u8]) -> bool {
 
 /// Lets each call of a kind fail in turn, until a run meets no failure, and writes how many failures
 /// there were, and how many runs were wrong: those that don't end with status 1, or that write another
-/// text than a beginning of what the script prints and after it a beginning of the line of a refusal;
+/// text than a beginning of what the script prints and after it a beginning of the line `cck: refused`;
 /// and the last one, where it isn't as without failures. The last line is the digest of all that was
 /// written.
 pub(crate) fn write(

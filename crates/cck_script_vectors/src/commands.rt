@@ -47,7 +47,7 @@ pub(crate) fn write_times(
     write_moment(alloc, out, changed)
 }
 
-/// Writes what is asked for: a name, a moment and arguments.
+/// Writes what is asked for: a name, a call time and arguments.
 pub(crate) fn write_call(
     alloc: Global,
     out: &mut Vec<u8>,

@@ -359,7 +359,7 @@ pub(crate) fn write(
 /// Makes all calls at once, and writes how many results there were, and how many of them are neither
 /// the plain key of their call nor an error that lack of memory allows, with one more where a pair is
 /// held that is no call's own. Each call is made alone twice, so that one of the two is whole where
-/// one growth of memory is refused.
+/// one request for memory fails.
 pub(crate) fn write_checked(list: &List, out: &mut Vec<u8>) -> Result<(), CaseError> {
     let mut store = list.store()?;
     let mut calls = list.calls()?;

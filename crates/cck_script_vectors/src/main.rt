@@ -14,14 +14,14 @@
 //! | `run TEXT` | `engine` with the word `run`: what is written, and after it the status |
 //! | `program WORD..` | `engine` with these words |
 //! | `refuse` | `refuse` |
-//! | `print_input INPUT` | `print_input`, over files, zone and moment, from the directory `cwd PATH` |
+//! | `print_input INPUT` | `print_input`, over files, zone and call time, from the directory `cwd PATH` |
 //! | `print_error_text INPUT` | what `Display` prints of its error |
 //! | `command_line WORD..` | `MiniCompiler::parse_arguments` |
 //! | `preprocess WORD..` | `MiniCompiler::preprocess`, of this command line |
 //! | `compiler` | what else a `MiniCompiler` says of itself |
 //! | `plain_keys TEXT` | the result of each call of a script, made alone on an empty store |
 //! | `call_results TEXT` | `run_calls`, over all calls of a script as a list |
-//! | `checked_results TEXT` | how many of these results are wrong, where a growth of memory may have been refused |
+//! | `checked_results TEXT` | how many of these results are wrong, where a request for memory may have failed |
 //! | `fail_each CAUSE HOW` | each call of a cause fails in turn (`failures.rt`, `broken_streams.rt`) |
 //!
 //! The causes are `files`, `store`, `forget`, `reads`, `writes` and `flushes`; a call fails `once`, or

@@ -68,8 +68,8 @@ impl Streams {
     /// - `reader STEP PASSING KIND`: a read returns at most STEP bytes, and after PASSING reads all
     ///   others fail,
     /// - `writer STEP PASSING FAILING`: a write takes at most STEP bytes, and after PASSING writes
-    ///   so many fail, and all others pass,
-    /// - `flush FAILING`: the first flushes, so many, fail,
+    ///   FAILING writes fail, and all others pass,
+    /// - `flush FAILING`: the first FAILING flushes fail,
     /// - `written TEXT`: what the writer holds before the run.
     pub(crate) fn give(&mut self, name: &str, rest: &str) -> Result<bool, CaseError> {
         let Some(word) = find(&WORDS, name) else {

@@ -19,8 +19,8 @@ pub struct Cut {
     pub length: usize,
 }
 
-// Returns the cuts of these sites of the text, in ascending order: each site that no earlier cut
-// reaches past the start of.
+// Returns the cuts of these sites of the text, in ascending order: each site whose start
+// is in no earlier cut.
 fn cuts_in<S: Sites>(alloc: Global, text: &[u8], sites: &S) -> Result<Vec<Cut>, AllocError>
     requires { S.text sites.now ≡ text.now }
     ensures { IfOk result (λ cuts. cuts.items ≡ cuts_of (S.site sites.now) (length text.now)) }

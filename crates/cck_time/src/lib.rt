@@ -17,7 +17,7 @@
 //! let zone = TimeZone::fixed(Offset::from_seconds(3600)?);
 //! let moment = Timestamp::new(82_800, 0);
 //! let part = local_time_part(alloc, true, false, None, moment, &zone, &[])?;
-//! // `\0SCCACHE\0date\0`, the year 1970, the month 1 and the day 2
+//! // `\0SCCACHE\0date\0`, the year 1970, the month 1, the day 2, and a byte 0: no `SOURCE_DATE_EPOCH`
 //! ```
 #![tactic(auto)]
 

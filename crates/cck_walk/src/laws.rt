@@ -8,9 +8,9 @@ ghost use Rattle.cck_walk.specs.Walk.{accepted_of};
 use crate::{LineAction, Walk};
 use cck_files::Files;
 
-/// Two walks are equal exactly if both accept with the same paths and digests, byte for byte and in
-/// the same order, or both refuse. Two actions after a line marker are equal exactly if all of
-/// their fields are.
+/// Two walks are equal exactly if both accepted a text with the same paths and digests, byte for
+/// byte and in the same order, or both texts are refused. Two actions after a line marker are equal
+/// exactly if all of their fields are.
 pub fn equality_is_exact()
     ensures walks { (a b : Walk) →
         IsTrue (⟦<Walk as PartialEq>⟧.eq a b) ↔ (accepted_of a ≡ accepted_of b) }
