@@ -68,7 +68,7 @@ def lines_of(count, line):
 
 
 def one_line(count, begin, unit):
-    """A line of so many bytes, and a call of a small input."""
+    """A line of this many bytes, and a call of a small input."""
     return [INPUT + b"int x;\n", begin, unit * (count // len(unit)), b"\n", CALL]
 
 

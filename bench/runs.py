@@ -9,7 +9,7 @@ ROUNDS = 5
 
 
 def script(calls, word):
-    """A script of one call that misses, and of so many more."""
+    """A script of one call that misses, and of this many more."""
     yield b"file /w/a.c 1 1 " + b"".join(b'#include "h%d.h"\\n' % i for i in range(100)) + b"\n"
     for i, text in enumerate(HEADERS):
         yield b"file /w/h%d.h 1 1 " % i + text.replace(b"\n", b"\\n") + b"\n"

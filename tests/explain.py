@@ -430,7 +430,7 @@ SCRIPTS = [
     SCRIPT,
     b"",
     b"# no call\n\nzone 3600\n",
-    # other contents, none, a folder, and the first contents again
+    # other contents, none, a directory, and the first contents again
     b"file /w/a.c 1 1 #include \"h.h\"\\nint x;\\n\nfile /w/h.h 1 1 int y1;\\n\n"
     b"compile 5 a.c\ncompile 6 a.c\nfile /w/h.h 2 2 int y2;\\n\ncompile 7 a.c\n"
     b"gone /w/h.h\ncompile 8 a.c\ndir /w/h.h\ncompile 9 a.c\n"

@@ -1,5 +1,5 @@
-/* Loaded before the C library: refuses requests for memory. FAIL_AT is the number of the request that
-   is refused, counted from 1, and with FAIL_ON all later ones are refused too. FAIL_COUNT names a file
+/* Loaded before the C library: makes requests for memory fail. FAIL_AT is the number of the request that
+   fails, counted from 1, and with FAIL_ON all later ones fail too. FAIL_COUNT names a file
    into which the number of requests is written at the end. A request to grow counts as a request. */
 #define _GNU_SOURCE
 #include <dlfcn.h>

@@ -1,7 +1,7 @@
 /* Makes the calls that standard input asks for, a line each, and prints what each returns and writes.
    tests/c/vectors.py writes the lines. A field is two digits a byte; an item of a list ends in `,`,
    and a variable is a name, `=` and a value. Before its result is printed, a call is repeated with
-   each of its requests for memory refused in turn: the status has to be CCK_MEMORY then, and nothing
+   each of its requests for memory failing in turn: the status has to be CCK_MEMORY then, and nothing
    may be written. Linked with --wrap=malloc and --wrap=realloc. */
 #include "cck.h"
 #include <stdio.h>
@@ -12,14 +12,14 @@ enum { MOST_FIELDS = 16, MARKS_AT_ONCE = 3 };
 
 static const uint8_t nothing[1] = {0};
 
-/* ---- memory that is refused */
+/* ---- requests for memory that fail */
 
 void *__real_malloc(size_t size);
 void *__real_realloc(void *old, size_t size);
 void *__wrap_malloc(size_t size);
 void *__wrap_realloc(void *old, size_t size);
 
-/* The number of requests, the number of the one that is refused, and how many were refused. */
+/* The number of requests, the number of the one that fails, and how many failed. */
 static size_t requests, refused_at, refused;
 
 static int is_refused(void) {
@@ -132,7 +132,7 @@ struct call {
 
 static void fill(void *written, size_t size) { memset(written, 0xa5, size); }
 
-/* Repeats the call with each request for memory refused in turn, until none is, and returns the
+/* Repeats the call with each request for memory failing in turn, until none is, and returns the
    status of the last. */
 static int32_t make(struct call call) {
   uint8_t *before = room(call.size);

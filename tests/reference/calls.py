@@ -185,7 +185,7 @@ def text_of(call):
 
 
 def recorded_of(call, conditions, text):
-    """The files that the text names, with their recorded digests; None where the walk refuses the text."""
+    """The files that the text names, with their recorded digests; None where the text is refused."""
     context = Context(call.files, input_path(call), call.cwd, setting_of(call, conditions))
     return walk(context, text)
 

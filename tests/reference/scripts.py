@@ -328,7 +328,7 @@ class Damages:
         return lines[:at] + [between.join(lines[at : at + 2])] + lines[at + 2 :]
 
     def doubled(self, lines):
-        """A line once more, behind itself or elsewhere, or a part of a line twice."""
+        """A line once more, after itself or elsewhere, or a part of a line twice."""
         at, to = self.place(lines), self.place(lines)
         if self.random.random() < 0.7:
             return lines[:to] + [lines[at]] + lines[to:]

@@ -26,7 +26,7 @@ def unescape(text):
 
 
 def escape_at(text, at):
-    """What the escape stands for whose `\\` is directly before a place, and the place after it."""
+    """What the escape denotes whose `\\` is directly before a place, and the place after it."""
     if text[at : at + 1] == b"x":
         return hex_value(text[at + 1 : at + 3]), at + 3
     return letter_value(text[at : at + 1]), at + 1

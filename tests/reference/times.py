@@ -10,7 +10,7 @@ NANOS = 1000000000
 DAY = 86400
 LEAST_INSTANT = -377705023201 * NANOS
 GREATEST_INSTANT = 253402207200 * NANOS + 999999999
-# The calendar repeats itself after 400 years, which have so many days.
+# The calendar repeats itself after 400 years, which have this many days.
 CYCLE_YEARS = 400
 CYCLE_DAYS = 146097
 

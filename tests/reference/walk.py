@@ -40,7 +40,7 @@ def is_good_time(time, moment):
 
 
 def judgement_at(context, path):
-    """`judgement_at`: `Folder`, or the recorded digest of the regular file, or None, which refuses."""
+    """`judgement_at`: `Folder`, the recorded digest of the regular file, or None, with which the text is refused."""
     try:
         metadata = context.files.metadata(path)
         if metadata.kind == FOLDER:

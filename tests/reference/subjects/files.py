@@ -393,7 +393,7 @@ def call_read_each_prefix(subject, rest, made):
 
 
 def is_damaged(data):
-    """Whether bytes are refused as damaged."""
+    """Whether bytes are damaged: the error is `Deserialization`."""
     try:
         read_entry(data)
     except Refused as error:

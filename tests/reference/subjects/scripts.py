@@ -227,7 +227,7 @@ def run_under(streams, text, cause, failures):
 
 
 def is_cut(written, whole):
-    """Whether a text is a beginning of another one, and after it a beginning of the refusal."""
+    """Whether a text is a beginning of another one, and after it a beginning of the line `cck: refused`."""
     cuts = range(len(written) + 1)
     return any(whole.startswith(written[:at]) and REFUSED.startswith(written[at:]) for at in cuts)
 
