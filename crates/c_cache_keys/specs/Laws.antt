@@ -79,8 +79,8 @@ module _ {V S : Type 0} (w : World V) (st : Store S) where
 
   -- The headline. Its first half: every key that a run from an empty store returns, stored or computed, is the plain key of its call. And
   -- no call returns an error because of what the store returned. Its second half: a stored key that matches is returned, whatever a
-  -- preprocessor prints. The first half has four premises, and a fifth where the option `hash_working_directory` is off. `Premises` has all
-  -- but one: no shared digest, prints again, options off, and one request for that option. The other one, an honest store, is part of what
+  -- preprocessor prints. The first half has three premises, and a fourth where the option `hash_working_directory` is off: `Premises` has
+  -- `CollisionFree`, `DeterministicPreprocessor`, `StrictOptions`, and `KeyDeterminesRequest` for that option. An honest store is part of what
   -- each `PreprocessorStore` keeps to (`got_some`, `got_old` and `put_old` of `StoreLaws`). The second half needs none of them and no empty
   -- store. It needs that the call can hit (`CanHit`).
   abbrev pub Headline : Type 0

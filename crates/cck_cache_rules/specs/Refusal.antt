@@ -16,8 +16,8 @@ refusal_name EarlierPath = codes "refused-earlier-path"
 refusal_name NamedFile = codes "refused-named-file"
 refusal_name BaseDirectory = codes "refused-base-directory"
 
--- The preprocessor key that was found, that of the look-up, whether both are of one day, and whether the input tests for headers. Each of these
--- refuses a compilation only if those before it don't.
+-- The preprocessor key that was found, that of the look-up, whether both are of one day, and whether the input tests for headers. The first of
+-- these that keeps a compilation from being recorded is its cause.
 abbrev pub IsRefusal : Option (List ℕ) → List ℕ → Bool → Bool → Option Refusal → Type 0
 IsRefusal found key one_day tests None = (found ≡ Some key) × (one_day ≡ true) × (tests ≡ false)
 IsRefusal found key one_day tests (Some NoKey) = found ≡ None

@@ -35,8 +35,8 @@ pub record IsOutput (hash : Bytes → Bytes) (words : List Bytes) (input : Optio
 abbrev pub IsSomeOutput : (Bytes → Bytes) → List Bytes → Option Bytes → Bytes → Type 0
 IsSomeOutput hash words input text = (status : Status) × IsOutput hash words input status text
 
--- what a writer holds after input, output or memory failed: what it held, and a prefix of the refused line; or, where the writer failed,
--- a prefix of an output and then a prefix of the refused line
+-- what a writer holds after input, output or memory failed: what it held, and a prefix of the line of a failure; or, where the writer
+-- failed, a prefix of an output and then a prefix of that line
 abbrev pub IsCutShort : (Bytes → Type 0) → Option Bytes → Option Bytes → Type 0
 IsCutShort Output old new =
     AppendsBeginning old new failed_line ⊎ ((text : Bytes) × Output text × (m n : ℕ) × Appends old new (take m text ++ take n failed_line))
