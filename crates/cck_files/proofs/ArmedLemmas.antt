@@ -1,10 +1,10 @@
 -- which of the calls fail, of which some are armed
-use Rattle.std.proofs.Common.{◌≡◌, ◌≢◌, ◌↔◌, ◌⊎◌, inl, inr, ℕ, zero, suc, ◌-◌, ◌≤◌, ◌==◌, ◌||◌, Bool, true, false, refl, subst, arith}
+use Rattle.std.proofs.Common.{◌≡◌, ◌≢◌, ◌↔◌, ◌⊎◌, inl, inr, ℕ, zero, suc, ◌-◌, ◌≤◌, ◌==◌, ◌||◌, true, refl, subst, arith}
 use Rattle.std.specs.Prelude.{if◌then◌else◌}
 use Rattle.std.proofs.Math.Bool.{or-true}
 use Rattle.std.proofs.lemmas.Bool.{eqb-true, ne_eqb}
 use Rattle.std.proofs.lemmas.Bool.Decides.{eqb_tells}
-use Rattle.cck_files.specs.ArmedCalls.{Armed, FailsAsArmed, after_call, after_calls, fails}
+use Rattle.cck_files.specs.ArmedCalls.{FailsAsArmed, after_call, after_calls}
 
 -- what is armed for the call after the next k ones
 abbrev Comes : ℕ → ℕ → ℕ → Type 0

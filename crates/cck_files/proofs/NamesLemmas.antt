@@ -6,6 +6,7 @@ use Rattle.std.proofs.lemmas.List.{map-append, take_all, take_more}
 use Rattle.std.proofs.lemmas.List.Sums.{sum_by-append}
 use Rattle.std.specs.Cmp.Lexicographic.{nat_list_cmp_total, slice_cmp}
 use Rattle.std.specs.FinMap.{FinMap, entries, find, get, get-entries, nat_cmp-IsAntisymmetric, slice_cmp-IsAntisymmetric}
+use Rattle.std.specs.Global.{Box}
 use Rattle.std.specs.List.{AllByRecursion}
 use Rattle.std.specs.Ordering.{eq_by_cmp, is_eq, nat_cmp}
 use Rattle.std.specs.Prelude.{Vec, count_by, vec_items}
@@ -21,7 +22,7 @@ use Rattle.cck_path.proofs.TestLemmas.{tied}
 use Rattle.cck_files.proofs.ChildLemmas.{same_last}
 use Rattle.cck_files.specs.Children.{HasChildNames, is_same_name}
 use Rattle.cck_files.specs.FileMap.{FileNode, IsListing, folder_at, folder_if, folder_in}
-use Rattle.cck_files.specs.FileState.{files_of, node_at}
+use Rattle.cck_files.specs.FileState.{boxed_node, files_of}
 use Rattle.cck_files.specs.declared.map_files.places.Place.{Place}
 
 abbrev pub one_if : Bool → ℕ
@@ -128,12 +129,12 @@ module _ {V : Type 0} where
         by n false other = sums _ _ _ _ (l.each_once n) (other ∙ sym (no_tie n other)) (λ t. absurd (false≢true (sym (no_tie n other) ∙ t)))
 
 -- the names of a directory's children are its listing
-pub listing : (m : FinMap path_cmp Place) (p : Path) (node : FileNode) (names : List (List ℕ)) → get (files_of m).nodes p ≡ Some node → node.kind ≡ Folder → HasChildNames m p names → IsListing (files_of m) p names
+pub listing : (m : FinMap path_cmp (Box Place)) (p : Path) (node : FileNode) (names : List (List ℕ)) → get (files_of m).nodes p ≡ Some node → node.kind ≡ Folder → HasChildNames m p names → IsListing (files_of m) p names
 unfolding folder_at
 listing m p node names at kind children = record {
   folder = ap folder_in at ∙ ap folder_if kind;
   children = record {
     names_only = children.names_only;
-    each_once = λ n. children.each_once n ∙ ap one_if (sym (contains-map_values node_at m (p ++ Name n ∷ [])));
+    each_once = λ n. children.each_once n ∙ ap one_if (sym (contains-map_values boxed_node m (p ++ Name n ∷ [])));
   };
 }

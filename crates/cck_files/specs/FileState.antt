@@ -1,7 +1,8 @@
 -- files in memory, as values of the definitions
-use Rattle.std.specs.Prelude.{◌≡◌, ◌==◌, ℕ, ◌+◌, ◌-◌, ◌^◌, ◌<◌, zero, suc, ℤ, List, Bool, true, false, Option, Some, None, Result, Ok, Err, min, refl, if◌then◌else◌}
+use Rattle.std.specs.Prelude.{◌≡◌, ℕ, ◌+◌, ◌-◌, ◌^◌, ◌<◌, zero, suc, ℤ, List, Bool, true, false, Option, Some, None, Result, Ok, Err, min, refl, if◌then◌else◌}
 use Rattle.std.specs.Coded.{Coded, code_by, coded×, coded_list, coded_option, coded_ℕ, coded_ℤ}
 use Rattle.std.specs.FinMap as finite
+use Rattle.std.specs.Global.{Box}
 use Rattle.cck_digest.specs.declared.error.FileError.{FileError}
 use Rattle.cck_digest.specs.declared.error.FileError.TheVariants.{NotFound, OtherKind, Fault, Memory}
 use Rattle.cck_path.specs.Path.{Path, components, path_cmp}
@@ -78,9 +79,16 @@ node_at place = node_of place.node
 abbrev pub canonical_of : Place → Path
 canonical_of place = components place.canonical.items
 
+-- those of a place in a box
+abbrev pub boxed_node : Box Place → FileNode
+boxed_node place = node_at place.value
+
+abbrev pub boxed_canonical : Box Place → Path
+boxed_canonical place = canonical_of place.value
+
 -- the map of places
-abbrev pub files_of : finite.FinMap path_cmp Place → FileMap
-files_of places = record { nodes = map_values node_at places; canonicals = map_values canonical_of places }
+abbrev pub files_of : finite.FinMap path_cmp (Box Place) → FileMap
+files_of places = record { nodes = map_values boxed_node places; canonicals = map_values boxed_canonical places }
 
 -- ---- how a state is stored
 

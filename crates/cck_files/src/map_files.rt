@@ -34,7 +34,8 @@ use places::Place;
 #[derive(Debug, Drop)]
 pub struct MapFiles {
     alloc: Global,
-    places: PathMap<Place>,
+    // A new path moves entries of the map. With boxes these are small.
+    places: PathMap<Box<Place>>,
     faults: u64,
     armed: ArmedCalls,
 }
@@ -76,7 +77,8 @@ impl MapFiles {
         ensures errors { IsOkUnless result UtilError.Memory }
     {
         let canonical = normalize_path(self.alloc, path)?;
-        self.places.insert(path, Place { node, canonical })?;
+        let place = Box::new(self.alloc, Place { node, canonical })?;
+        self.places.insert(path, place)?;
         Ok(())
     }
 
@@ -166,7 +168,8 @@ impl MapFiles {
             × (finite.get self.now.files.canonicals (components path.now)
             ≡ Some (canonical_of place.now))) }
     {
-        self.places.get(path)
+        let place = self.places.get(path)?;
+        Some(place)
     }
 
     // Counts a call, and returns whether it is a fault.
@@ -187,20 +190,24 @@ impl MapFiles {
 
 impl Place {
     // A copy of the place.
-    fn copy(&self, alloc: Global) -> Result<Place, UtilError>
-        ensures node { IfOk result (λ copy. node_at copy ≡ node_at self.now) }
-        ensures canonical { IfOk result (λ copy. canonical_of copy ≡ canonical_of self.now) }
+    fn copy(&self, alloc: Global) -> Result<Box<Place>, UtilError>
+        ensures node { IfOk result (λ copy. node_at copy.value ≡ node_at self.now) }
+        ensures canonical { IfOk result (λ copy. canonical_of copy.value ≡ canonical_of self.now) }
         ensures errors { IsOkUnless result UtilError.Memory }
     {
-        Ok(Place {
+        let copy = Place {
             node: self.node.copy(alloc)?,
             canonical: self.canonical.to_vec(alloc)?,
-        })
+        };
+        Ok(Box::new(alloc, copy)?)
     }
 }
 
 // A copy of the places.
-fn copy_places(alloc: Global, places: &PathMap<Place>) -> Result<PathMap<Place>, UtilError>
+fn copy_places(
+    alloc: Global,
+    places: &PathMap<Box<Place>>,
+) -> Result<PathMap<Box<Place>>, UtilError>
     ensures same { IfOk result (λ copy. files_of copy ≡ files_of places.now) }
     ensures errors { IsOkUnless result UtilError.Memory }
 {

@@ -1,7 +1,7 @@
 use Rattle.std.proofs.Common.{ap, sym, ◌∙◌}
 use Rattle.std.specs.Option.{option_copied}
 use Rattle.cck_path.specs.Path.{components}
-use Rattle.cck_files.specs.FileState.{files_of, with_place}
+use Rattle.cck_files.specs.FileState.{canonical_of, files_of, node_at, with_place}
 use Rattle.cck_files.proofs.PlacesLemmas.{files_with, has_node, linked_none, linked_some}
 use Rattle.cck_files.proofs.map_files.MapFiles.link.Goals as goal
 
@@ -22,6 +22,7 @@ returns-clause-set c =
       files = (ap files_of c.in_ok-insert.ensures.set
           ∙ files_with m p c.in_ok-copy.copy
           ∙ (λ j. with_place (files_of m) p (c.in_ok-copy.ensures.node j) (c.in_ok-copy.ensures.canonical j))
+          ∙ ap (λ place. with_place (files_of m) p (node_at place) (canonical_of place)) c.deref.ensures
           ∙ linked_some m p (components c.args.target.now) c.in-Some.place.now (ap option_copied (sym c.in-Some.is) ∙ c.get.ensures)) i;
       faults = c.self.inside.faults;
       armed = c.self.inside.armed;
