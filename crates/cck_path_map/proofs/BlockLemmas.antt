@@ -269,6 +269,20 @@ module _ {V : Type 0} where
         },
       )
 
+  -- a path that is higher than all of the last block is for this block
+  pub last_block : (bs : List (Vec (Entry V) Global)) → AreOrderedBlocks bs → (p : Path) (k : ℕ) (b : Vec (Entry V) Global) (e : Entry V) → k + 1 ≡ length bs
+      → IsGapFor p (get_or bs k b).items (length (get_or bs k b).items) → IsBlockFor p bs k
+  last_block bs ordered p k b e is gap =
+      let range : k < length bs = omega (arith, is) in
+      record {
+        in_range = range;
+        not_higher = λ d h.
+            let some = some_at bs k d ordered.none_empty range in
+            let same = subst (λ x. IsGapFor p x.items (length x.items)) (get_or_default bs k b d range) gap in
+            ap (λ q. is_gt (path_cmp q p)) (first_is (get_or bs k d).items e some) ∙ ap is_gt (same.lower_before 0 e (omega arith) some);
+        next_higher = λ d h. absurd (omega (arith, is, h));
+      }
+
   module _ (bs : List (Vec (Entry V) Global)) (ordered : AreOrderedBlocks bs) (p : Path) where
     -- the entries before the block are lower
     lower_part : (k : ℕ) (d : Vec (Entry V) Global) → IsBlockFor p bs k → (i : ℕ) (e : Entry V) → i < start_of bs k → path_cmp (path_of (get_or (entries_of bs) i e)) p ≡ Less

@@ -26,8 +26,14 @@ pub(crate) fn search<V>(
         IsPositionFor (components path.now) blocks.now position.0 (Ok position.1)) }
     ensures missing { IfErr result (HasNoEntry (components path.now) blocks.now) }
 {
-    if blocks.is_empty() {
+    let [.., last_block] = blocks else {
         return Err(None);
+    };
+    // Paths often come in order: after all others.
+    if let [.., last] = last_block.as_slice()
+        && compare_paths(&last.path, path).is_lt()
+    {
+        return Err(Some((blocks.len() - 1, last_block.len())));
     }
     let block = block_for(blocks, path);
     match search_block(&blocks[block], path) {
@@ -69,12 +75,6 @@ fn search_block<V>(entries: &[Entry<V>], path: &[u8]) -> Result<usize, usize>
     ensures place { IfOk result (IsPlaceOf (components path.now) entries.now) }
     ensures gap { IfErr result (IsGapFor (components path.now) entries.now) }
 {
-    // Paths often come in order.
-    if let [.., last] = entries
-        && compare_paths(&last.path, path).is_lt()
-    {
-        return Err(entries.len());
-    }
     entries.binary_search_by(|entry| compare_paths(&entry.path, path))
 }
 
