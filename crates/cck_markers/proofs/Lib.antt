@@ -4,5 +4,6 @@ pub mod EqualityLemmas
 pub mod ItemLemmas
 pub mod LastMark
 pub mod LineLemmas
+pub mod MarkerLemmas
 pub mod OneList
 pub mod SkipLemmas

@@ -1,10 +1,10 @@
 -- bytes that are plain because the words do not occur among them
-use Rattle.std.proofs.Common.{◌≡◌, ◌≢◌, ℕ, zero, suc, ◌+◌, ◌-◌, ◌<◌, ◌≤◌, Bool, true, false, ◌==◌, ◌&&◌, nat_eq, nat_lt, List, [], ◌∷◌, ◌++◌, length, drop, take, get_or, refl, sym, ap, ap₂, inl, inr, add-one, ◌∙◌, arith, length-append}
+use Rattle.std.proofs.Common.{◌≡◌, ◌≢◌, ℕ, zero, suc, ◌+◌, ◌-◌, ◌<◌, ◌≤◌, Bool, true, false, ◌==◌, ◌&&◌, nat_eq, nat_lt, List, [], ◌∷◌, ◌++◌, length, drop, take, get_or, refl, sym, ap, ap₂, inl, inr, subst, add-one, ◌∙◌, arith, length-append}
 use Rattle.std.specs.Prelude.{codes, if◌then◌else◌}
 use Rattle.std.specs.List.{starts_with}
-use Rattle.std.proofs.lemmas.Bool.{cases_lt, eqb-true, false≢true, ltb-true, false_from_ne_true}
+use Rattle.std.proofs.lemmas.Bool.{cases_lt, eq-eqb, eqb-true, ltb-true, false_from_ne_true}
 use Rattle.std.proofs.lemmas.List.{drop-drop, drop_more, length-drop, get_or-drop, get_or_append_left}
-use Rattle.memchr.specs.Find.{Nowhere, OccursAt}
+use Rattle.memchr.specs.Find.{Nowhere, OccursAt, Passes, is_byte}
 use Rattle.cck_markers.specs.Marks.{Mark, Short, Marker, Hidden, Inclusion, Plain, Marks, what, is_marker, is_hidden, is_inclusion, at_end, unnamed, named, malformed, hidden, hidden_to_end, refused, plain}
 use Rattle.cck_markers.specs.Markers.{Unread, Yields}
 use Rattle.cck_markers.specs.Searches.{AreSearched, ArePlain, EndsBeforeMarker, IsMarkerSearch, IsSearchFor, starts_line_at}
@@ -32,15 +32,6 @@ occurs text word rest place some is =
     record {
       fits = omega (arith, some, ap length is, length-drop place text, length-append word rest);
       reads = λ j l. sym (get_or-drop place text j 0) ∙ ap (λ (t : List ℕ). get_or t j 0) is ∙ get_or_append_left word rest 0 j l;
-    }
-
--- a word with which a text begins occurs at its first place
-pub occurs_first : (text word : List ℕ) → starts_with nat_eq text word ≡ true → OccursAt text word (length text - length text)
-occurs_first text word begins =
-    let is = after_word text word begins in
-    record {
-      fits = omega (arith, ap length is, length-append word (drop (length word) text));
-      reads = λ j l. ap (λ (k : ℕ). get_or text k 0) (omega arith) ∙ ap (λ (t : List ℕ). get_or t j 0) is ∙ get_or_append_left word (drop (length word) text) 0 j l;
     }
 
 -- after a line's end, a word occurs together with that line's end
@@ -101,38 +92,42 @@ ends_later text size place ends = (
   ap is_marker (ap (λ (k : ℕ). drop k text) (omega arith) ∙ sym (drop-drop (place + 1) size text)) ∙ ends.1,
 )
 
--- after a line's end that no marker follows, the search for the next one goes on
-pub no_end_before : (text : List ℕ) (from left : ℕ) → from ≤ length text → left ≤ length (drop from text)
-    → Nowhere (OccursAt (drop from text) (10 ∷ 35 ∷ [])) 0 (length (drop from text) - left) → Nowhere (EndsBeforeMarker text) 0 from
-    → Nowhere (EndsBeforeMarker text) 0 (length text - left)
-no_end_before text from left within some nowhere before place low high ends =
+-- `#` follows a line's end that a marker follows
+hash_follows : (text : List ℕ) (place : ℕ) → EndsBeforeMarker text place → (place + 1 < length text) × (get_or text (place + 1) 0 ≡ 35)
+hash_follows text place ends =
+    let hash = marker_starts (drop (place + 1) text) ends.1 in (
+      omega (arith, length-drop (place + 1) text, ap length hash.1),
+      ap (λ (k : ℕ). get_or text k 0) (omega arith) ∙ sym (get_or-drop (place + 1) text 0 0) ∙ ap (λ (t : List ℕ). get_or t 0 0) hash.1,
+    )
+
+-- a byte that was searched for in what is left, and is not there before a place
+pub is_absent : (byte : ℕ) (text : List ℕ) (size passed : ℕ) → Nowhere (Passes (is_byte byte) (take (length text - size) (drop size text))) 0 passed
+    → (k : ℕ) → size ≤ k → k < size + passed → get_or text k 0 ≢ byte
+is_absent byte text size passed nowhere k low high same =
+    subst (λ (rest : List ℕ). Nowhere (Passes (is_byte byte) rest) 0 passed) (slice_from text size) nowhere (k - size) (omega arith) (omega (arith, low))
+    (eq-eqb (get_or (drop size text) (k - size) 0) byte (get_or-drop size text (k - size) 0 ∙ ap (λ (j : ℕ). get_or text j 0) (omega (arith, low)) ∙ same))
+
+-- before the next `#`, no marker follows a line's end
+pub no_end_before : (text : List ℕ) (from bound : ℕ) → Nowhere (EndsBeforeMarker text) 0 from → ((k : ℕ) → from + 1 ≤ k → k < length text → k < bound + 1 → get_or text k 0 ≢ 35)
+    → Nowhere (EndsBeforeMarker text) 0 bound
+no_end_before text from bound before no_hash place low high ends =
     elim (cases_lt place from) [
       | inl below ↦ before place low below ends
-      | inr above ↦ (
-          let hash = marker_starts (drop (place + 1) text) ends.1 in
-          let inside : place < length text = omega (arith, high) in
-          let whole : drop place text ≡ 10 ∷ (35 ∷ hash.0) = drop_more text place 0 inside ∙ ap₂ (λ byte following. byte ∷ following) ends.0 hash.1 in
-          nowhere (place - from) (omega arith) (omega (arith, high, above, length-drop from text))
-          (occurs (drop from text) (10 ∷ 35 ∷ []) hash.0 (place - from) (omega arith) (drop-drop (place - from) from text ∙ ap (λ (k : ℕ). drop k text) (omega (arith, above)) ∙ whole))
-          )
+      | inr above ↦ (let hash = hash_follows text place ends in no_hash (place + 1) (omega (arith, above)) hash.0 (omega (arith, high)) hash.1)
     ]
 
-pub passed_end : (text : List ℕ) (from left : ℕ) → from ≤ length text → left ≤ length (drop from text) → 0 < left
-    → Nowhere (OccursAt (drop from text) (10 ∷ 35 ∷ [])) 0 (length (drop from text) - left) → OccursAt (drop from text) (10 ∷ 35 ∷ []) (length (drop from text) - left)
-    → Nowhere (EndsBeforeMarker text) 0 from → is_marker (drop (length text - left + 1) text) ≡ false
-    → Nowhere (EndsBeforeMarker text) 0 (length text - left + 2)
-passed_end text from left within some more nowhere present before unmarked place low high ends =
-    elim (cases_lt place (length text - left)) [
-      | inl below ↦ no_end_before text from left within some nowhere before place low below ends
-      | inr above ↦ (elim (cases_lt place (length text - left + 1)) [
-        | inl at ↦ (
-            let same : place ≡ length text - left = omega (arith, above, at) in
-            let marked = rw same at ends.1 in
-            absurd (false≢true (sym unmarked ∙ marked)))
-        | inr following ↦ (
-            let same : place ≡ from + (length (drop from text) - left + 1) = omega (arith, above, following, high, length-drop from text, some, within) in
-            let byte : get_or text place 0 ≡ 35 = ap (λ (k : ℕ). get_or text k 0) same ∙ sym (get_or-drop from text (length (drop from text) - left + 1) 0) ∙ present.reads 1 (omega arith) in
-            let apart = sym ends.0 ∙ byte in cc)
+-- nor does one up to the end of the line that has it, if it starts no marker
+pub no_end_after : (text : List ℕ) (from bound : ℕ) → Nowhere (EndsBeforeMarker text) 0 from → (EndsBeforeMarker text from → ⊥) → get_or text (from + 1) 0 ≡ 35
+    → ((k : ℕ) → from + 2 ≤ k → k < bound → get_or text k 0 ≢ 10) → Nowhere (EndsBeforeMarker text) 0 bound
+no_end_after text from bound before not_here hash no_feed place low high ends =
+    elim (cases_lt place (from + 2)) [
+      | inr after ↦ no_feed place after high ends.0
+      | inl near ↦ (elim (cases_lt place from) [
+        | inl below ↦ before place low below ends
+        | inr above ↦ (elim (cases_lt place (from + 1)) [
+          | inl last ↦ not_here (let same : place ≡ from = omega (arith, above, last) in rw same at ends)
+          | inr at ↦ (let same : place ≡ from + 1 = omega (arith, near, at) in let feed = rw same at ends.0 in let apart = sym hash ∙ feed in cc)
+        ])
       ])
     ]
 
@@ -145,11 +140,7 @@ word_known_after text word size left known within = λ place low high at.
     })
 
 marker_after : (search : MarkerSearch) (text : List ℕ) (size : ℕ) → IsMarkerSearch search text → size ≤ length text → IsMarkerSearch search (drop size text)
-marker_after search text size known within =
-    record {
-      word_is = known.word_is;
-      known = λ place low high ends. known.known (size + place) (omega arith) (omega (arith, high, length-drop size text)) (ends_later text size place ends);
-    }
+marker_after search text size known within = λ place low high ends. known (size + place) (omega arith) (omega (arith, high, length-drop size text)) (ends_later text size place ends)
 
 search_after : (word : List ℕ) (search : WordSearch) (text : List ℕ) (size : ℕ) → IsSearchFor word search text → size ≤ length text → IsSearchFor word search (drop size text)
 search_after word search text size known within = record { word_is = known.word_is; known = word_known_after text word size search.left known.known within }

@@ -1,5 +1,5 @@
 -- what the searches for words know of what is left of a text
-use Rattle.std.specs.Prelude.{◌≡◌, ℕ, ◌+◌, ◌-◌, ◌<◌, zero, suc, Bool, true, false, ◌==◌, List, ◌∷◌, [], length, drop, get_or, codes}
+use Rattle.std.specs.Prelude.{◌≡◌, ℕ, ◌+◌, ◌-◌, ◌<◌, zero, suc, Bool, true, false, ◌==◌, List, ◌∷◌, length, drop, get_or, codes}
 use Rattle.memchr.specs.Find.{Nowhere, OccursAt}
 use Rattle.cck_markers.specs.Marks.{Plain, is_marker, what}
 use Rattle.cck_markers.specs.declared.search.MarkerSearch.{MarkerSearch}
@@ -19,10 +19,9 @@ pub record IsSearchFor (word : List ℕ) (search : WordSearch) (text : List ℕ)
 abbrev pub EndsBeforeMarker : List ℕ → ℕ → Type 0
 EndsBeforeMarker text place = (get_or text place 0 ≡ 10) × (is_marker (drop (place + 1) text) ≡ true)
 
--- a search is for a line's end and `#`, and no marker follows a line's end before the place that it keeps
-pub record IsMarkerSearch (search : MarkerSearch) (text : List ℕ) : Type 0 where
-  pub word_is : search.finder ≡ 10 ∷ 35 ∷ []
-  pub known : Nowhere (EndsBeforeMarker text) 0 (length text - search.left)
+-- no marker follows a line's end before the place that a search keeps
+abbrev pub IsMarkerSearch : MarkerSearch → List ℕ → Type 0
+IsMarkerSearch search text = Nowhere (EndsBeforeMarker text) 0 (length text - search.left)
 
 -- a line's end before a marker, a line's end and ten underscores, and `.incbin`
 pub record AreSearched (searches : Searches) (text : List ℕ) : Type 0 where

@@ -31,19 +31,20 @@ pub struct Item<'a> {
     pub starts_line: bool,
 }
 
-// Whether a line that starts here is a marker. The first byte is compared by itself, here and
-// below, since it decides for most lines.
-#[tactic(auto, unfolding(crate::specs::Marks::is_marker))]
+// Whether a line that starts here is a marker. The first bytes are compared by themselves, here and
+// below, since they decide for most lines.
 pub(crate) fn is_marker(text: &[u8]) -> bool
-    requires { 0 < length text.now }
     ensures { result ≡ is_marker text.now }
 {
-    if text[0] != b'#' {
+    if text.len() < 3 || text[0] != b'#' {
         return false;
     }
-    text.starts_with(b"# ") && text.len() > 2 && text[2].is_ascii_digit()
-        || text.starts_with(b"#pragma GCC pch_preprocess")
-        || text.starts_with(b"#line ")
+    match text[1] {
+        b' ' => text[2].is_ascii_digit(),
+        b'p' => text.starts_with(b"#pragma GCC pch_preprocess"),
+        b'l' => text.starts_with(b"#line "),
+        _ => false,
+    }
 }
 
 // Whether a line that starts here is skipped.

@@ -1,15 +1,13 @@
 //! How many bytes from a place on are plain, found by searches for words.
 ghost use Rattle.std.specs.Prelude.{◌≡◌, ◌≤◌, ◌<◌, ◌-◌, ◌^◌, ◌∷◌, ℕ, List, [], length};
-ghost use Rattle.memchr.specs.Find.{Nowhere, OccursAt};
+ghost use Rattle.memchr.specs.Find.{IsFirstByte, Nowhere, OccursAt, is_byte};
 ghost use Rattle.cck_markers.specs.Markers.{Yields};
 ghost use Rattle.cck_markers.specs.Searches.{AreSearched, ArePlain, EndsBeforeMarker, IsKnown};
 ghost use Rattle.cck_markers.specs.Searches.{IsMarkerSearch, IsSearchFor};
 
 use crate::item::{LEAST_LEFT, is_marker, may_be_marked};
+use memchr::memchr;
 use memchr::memmem::Finder;
-
-// A line's end and the first byte of each marker.
-const MARKER: &[u8] = b"\n#";
 
 // A line's end and the beginning of a line that is skipped.
 const HIDDEN: &[u8] = b"\n__________";
@@ -53,16 +51,13 @@ impl WordSearch {
     }
 }
 
-// Returns the number of bytes from the word's first place to the end, or 0 if it has none.
+// Returns the number of bytes from the word's first place to the end, or 0 if it has none. Inlined
+// into its caller, it would keep that from being inlined, which runs at each marker.
+#[inline(never)]
 fn bytes_left(finder: &Finder<'_>, rest: &[u8]) -> usize
     ensures within { result ≤ length rest.now }
     ensures nowhere { IsKnown result finder.now rest.now }
-    ensures present { 0 < result → OccursAt rest.now finder.now (length rest.now - result) }
 {
-    // A word at the start, as in a text of short lines, is found without a search.
-    if rest.starts_with(finder.needle()) {
-        return rest.len();
-    }
     match finder.find(rest) {
         Some(place) => rest.len() - place,
         None => 0,
@@ -72,19 +67,15 @@ fn bytes_left(finder: &Finder<'_>, rest: &[u8]) -> usize
 // A search for a line's end that a marker follows. `left` is as in a `WordSearch`.
 #[derive(Debug, Drop)]
 struct MarkerSearch {
-    finder: Finder<'static>,
     left: usize,
 }
 
 impl MarkerSearch {
     // A search that has not run yet.
     fn new() -> MarkerSearch
-        ensures { result ≡ record { finder = 10 ∷ 35 ∷ []; left = 2 ^ 64 - 1 } }
+        ensures { result ≡ record { left = 2 ^ 64 - 1 } }
     {
-        MarkerSearch {
-            finder: Finder::new(MARKER),
-            left: usize::MAX,
-        }
+        MarkerSearch { left: usize::MAX }
     }
 
     // Returns the first place of such a line's end in the rest of a text, or the end.
@@ -97,33 +88,46 @@ impl MarkerSearch {
         if self.left <= rest.len() {
             return rest.len() - self.left;
         }
-        let found = marker_left(&self.finder, rest);
+        let found = marker_left(rest);
         self.left = found;
         rest.len() - found
     }
 }
 
 // Returns the number of bytes from the first line's end that a marker follows to the text's end, or
-// 0 if there is none. A line that begins with `#` and is no marker costs a few comparisons, also
-// where a text has many.
-fn marker_left(finder: &Finder<'_>, text: &[u8]) -> usize
-    requires { finder.now ≡ 10 ∷ 35 ∷ [] }
+// 0 if there is none. Most texts have `#` only where a line starts, so a search for it finds markers
+// alone. After another `#` the search goes on at that line's end, so a line costs two searches for a
+// byte at most.
+fn marker_left(text: &[u8]) -> usize
     ensures within { result ≤ length text.now }
     ensures nowhere { Nowhere (EndsBeforeMarker text.now) 0 (length text.now - result) }
 {
     let mut from = 0;
     while from < text.len() {
-        let left = bytes_left(finder, &text[from..]);
-        if left == 0 {
+        let Some(passed) = first_byte(b'#', &text[from + 1..]) else {
             return 0;
+        };
+        let place = from + passed;
+        if text[place] == b'\n' && is_marker(&text[place + 1..]) {
+            return text.len() - place;
         }
-        let place = text.len() - left;
-        if is_marker(&text[place + 1..]) {
-            return left;
-        }
-        from = place + 2;
+        let Some(rest) = first_byte(b'\n', &text[place + 2..]) else {
+            return 0;
+        };
+        from = place + 2 + rest;
     }
     0
+}
+
+// Returns the first place of a byte, or `None`. In a text of short lines that is often the place 0,
+// which is found without a search.
+fn first_byte(byte: u8, text: &[u8]) -> Option<usize>
+    ensures { IsFirstByte (is_byte byte) text.now result }
+{
+    if !text.is_empty() && text[0] == byte {
+        return Some(0);
+    }
+    memchr(byte, text)
 }
 
 /// The searches for all that isn't a plain byte.
