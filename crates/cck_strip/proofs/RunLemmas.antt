@@ -1,16 +1,17 @@
 -- Nodes that a walk passes one after the other.
-use Rattle.std.proofs.Common.{◌≡◌, ◌≢◌, inl, inr, ℕ, zero, suc, ◌+◌, ◌-◌, ◌<◌, ◌≤◌, List, ◌∷◌, Bool, true, false, ◌&&◌, Option, Some, map, nat_eq, length, get_or, set, take, drop, add-one, refl, sym, ap, subst, ◌∙◌, arith}
+use Rattle.std.proofs.Common.{◌≡◌, ◌≢◌, inl, inr, ℕ, zero, suc, ◌+◌, ◌-◌, ◌<◌, ◌≤◌, List, ◌∷◌, Bool, true, false, ◌&&◌, Option, Some, map, length-take, nat_eq, length, get_or, set, take, drop, add-one, refl, sym, ap, subst, ◌∙◌, arith}
 use Rattle.std.specs.List.{starts_with}
 use Rattle.std.proofs.Math.ListN.{get_or-map}
 use Rattle.std.proofs.Math.Seq.{drop-cons}
 use Rattle.std.proofs.lemmas.Bool.{cases_eq, cases_lt}
 use Rattle.std.proofs.lemmas.Bool.Decides.{nat_tests}
-use Rattle.std.proofs.lemmas.List.{drop_all, get_or-set_other, get_or-set_same, get_or_default, length-map, take_rest}
+use Rattle.std.proofs.lemmas.List.{drop_all, get_or-take, get_or-set_other, get_or-set_same, get_or_default, length-map, take_rest}
 use Rattle.cck_strip.specs.Text.{longest_prefix}
 use Rattle.cck_strip.specs.declared.node.Node.{Node}
 use Rattle.cck_strip.specs.declared.node.NodeId.{NodeId}
-use Rattle.cck_strip.specs.Trie.{At, HasRuns, IsForward, IsRun, IsStraight, IsTrie}
-use Rattle.cck_strip.proofs.WalkLemmas.{Pending, Pending-end, Pending-match, Pending-none, Pending-pass, Pending-some}
+use Rattle.cck_strip.specs.Trie.{At, HasRun, HasRuns, IsForward, IsRun, IsStraight, IsTrie}
+use Rattle.cck_strip.proofs.WalkLemmas.{Pending, Pending-end, Pending-match, Pending-none, Pending-pass, Pending-some, Pending-start, begins}
+use Rattle.cck_strip.proofs.LinkLemmas.{inner}
 
 -- a run lies in the vector
 IsRun-within : (n : ℕ) (nodes : List Node) (i : ℕ) → IsRun n nodes i → i ≤ length nodes → i + n ≤ length nodes
@@ -23,6 +24,15 @@ IsRun-within (suc n) nodes i (node, at, straight, rest) h =
 -- the node that is read at a place
 pub At-get : (nodes : List Node) (i : ℕ) (default : Node) → i < length nodes → At nodes i (get_or nodes i default)
 At-get nodes i default h = record { within = h; is = get_or_default nodes i (get_or nodes i default) default h }
+
+-- and a node follows it
+IsRun-below : (n : ℕ) (nodes : List Node) (i : ℕ) → IsForward nodes → IsRun n nodes i → i < length nodes → i + n < length nodes
+IsRun-below zero nodes i f run h = omega arith
+IsRun-below (suc n) nodes i f (node, at, straight, rest) h =
+    let below = (f.below i node straight.id at straight.below).within in
+    let next = straight.next_is in
+    let others = IsRun-below n nodes (i + 1) f rest (omega arith) in
+    omega arith
 
 -- the byte of a node
 byte_at : (nodes : List Node) (i : ℕ) (node : Node) → At nodes i node → get_or (map (λ node. node.byte) nodes) i 0 ≡ node.byte
@@ -68,7 +78,7 @@ IsRun-longer nodes node i later n run at straight rest next e =
     subst (λ m. IsRun m nodes i) longer (node, at, straight, subst (IsRun n nodes) next rest)
 
 -- the run whose length is kept for a node
-IsRun-kept : (nodes : List Node) (bytes runs : List ℕ) (i n : ℕ) → HasRuns nodes bytes runs → i < length nodes → n ≡ get_or runs i n → IsRun n nodes i
+pub IsRun-kept : (nodes : List Node) (bytes runs : List ℕ) (i n : ℕ) → HasRuns nodes bytes runs → i < length nodes → n ≡ get_or runs i n → IsRun n nodes i
 IsRun-kept nodes bytes runs i n h within e =
     subst (λ m. IsRun m nodes i) (sym (e ∙ get_or_default runs i n 0 (omega (arith, h.size)))) (h.each i within)
 
@@ -77,6 +87,14 @@ pub run_ends : (nodes : List Node) (bytes runs : List ℕ) (i n : ℕ) → HasRu
 run_ends nodes bytes runs i n h within e =
     let ends = IsRun-within n nodes i (IsRun-kept nodes bytes runs i n h within e) (omega arith) in
     omega (arith, ap length h.bytes_are, length-map nodes (λ (node : Node). node.byte))
+
+-- the node after a run
+pub run_below : (nodes : List Node) (bytes runs : List ℕ) (i n : ℕ) → IsForward nodes → HasRuns nodes bytes runs → i < length nodes → n ≡ get_or runs i n → i + n < length nodes
+run_below nodes bytes runs i n f h within e = IsRun-below n nodes i f (IsRun-kept nodes bytes runs i n h within e) within
+
+-- the name of a node that is there
+pub named_within : (nodes : List Node) (n : ℕ) → n < length nodes → (id : NodeId) → ◌≡◌ {A = Option NodeId} (Some (record { 0 = n })) (Some id) → id.0 < length nodes
+named_within nodes n h id e = let is = ap (λ x. x.0) (inner (record { 0 = n }) id e) in omega arith
 
 -- a walk along a run
 Pending-run : (nodes : List Node) (text : List ℕ) (best n : ℕ) (at : NodeId) (depth : ℕ) → IsForward nodes → IsRun n nodes (at.0)
@@ -132,6 +150,39 @@ Pending-run nodes text best (suc n) at depth f (node, there, straight, rest) p b
 
     short : length text ≤ depth → starts_with nat_eq (drop depth text) (take (suc n) (drop (at.0) bytes)) ≡ false
     short past = ap (starts_with nat_eq (drop depth text)) expected ∙ ap (λ x. starts_with nat_eq x (node.byte ∷ take n (drop (straight.id.0) bytes))) (drop_all depth text past)
+
+-- the node with which a walk begins
+abbrev root : NodeId
+root = record { 0 = 0 }
+
+-- a walk that begins after a run with which the text begins
+pub Pending-after : (nodes : List Node) (text : List ℕ) (n : ℕ) → IsForward nodes → IsRun n nodes 0 → HasRun n nodes text → Pending nodes text (Some (record { 0 = n })) n 0
+Pending-after nodes text n f run h =
+    Pending-run nodes text 0 n root 0 f run (Pending-start nodes text root refl f) true h (record { 0 = n }) n (omega arith) (omega arith)
+
+-- and the node after it
+pub after_run : (nodes : List Node) (n : ℕ) → IsForward nodes → IsRun n nodes 0 → (id : NodeId) → ◌≡◌ {A = Option NodeId} (Some (record { 0 = n })) (Some id) → id.0 < length nodes
+after_run nodes n f run = named_within nodes n (let below = IsRun-below n nodes 0 f run (f.some) in omega arith)
+
+-- no word is found in a text, if none is where it begins with the first run
+pub none_after : (nodes : List Node) (text : List ℕ) (n : ℕ) (words : List (List ℕ)) → IsForward nodes → IsRun n nodes 0 → IsTrie nodes words
+    → (b : Bool) → starts_with nat_eq text (take n (map (λ node. node.byte) nodes)) ≡ b → (b ≡ true → 0 ≡ longest_prefix words text) → 0 ≡ longest_prefix words text
+none_after nodes text n words f run t true e h = h refl
+none_after nodes text n words f run t false e h = Pending-run nodes text 0 n root 0 f run (Pending-start nodes text root refl f) false e words t
+
+-- bytes with which a text begins are in the text
+begun : (text bytes : List ℕ) (k : ℕ) → k < length bytes → starts_with nat_eq text bytes ≡ true → (k < length text) × (get_or text k 0 ≡ get_or bytes k 0)
+begun text bytes k h e =
+    let is = begins text bytes e in
+    (omega (arith, ap length is, length-take (length bytes) text), sym (ap (λ x. get_or x k 0) is ∙ get_or-take (length bytes) text k 0 h))
+
+-- a text that ends before the last of some bytes, or has another one there, does not begin with them
+pub begins_not : (text bytes : List ℕ) (k : ℕ) → k < length bytes → ((k < length text) × (get_or text k 0 ≡ get_or bytes k 0) → ⊥) → false ≡ starts_with nat_eq text bytes
+begins_not text bytes k h other = go (starts_with nat_eq text bytes) refl
+  where
+    go : (b : Bool) → starts_with nat_eq text bytes ≡ b → false ≡ b
+    go true e = absurd (other (begun text bytes k h e))
+    go false e = refl
 
 -- what is known of a walk after a run, whose bytes were compared with the text
 pub Pending-compared : (nodes : List Node) (bytes own runs text : List ℕ) (next : Option NodeId) (at : NodeId) (depth best n m : ℕ) (b now : Bool)

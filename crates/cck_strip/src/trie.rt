@@ -1,8 +1,9 @@
 //! Base directories in a trie, a byte in each node.
-ghost use Rattle.std.specs.Prelude.{◌≡◌, ◌++◌, ◌∷◌, [], ◌≤◌, ◌<◌, ◌↔◌, ℕ, List, Some, OnOk, IfOk, IsOkUnless, IsTrue, map, drop, length};
+ghost use Rattle.std.specs.Prelude.{◌≡◌, ◌++◌, ◌∷◌, [], ◌≤◌, ◌<◌, ◌↔◌, ℕ, List, Some, OnOk, IfOk, IsOkUnless, IsTrue, map, drop, length, nat_eq};
+ghost use Rattle.std.specs.List.{starts_with};
 ghost use Rattle.std.proofs.Common.{get_or};
 ghost use Rattle.cck_strip.specs.Text.{longest_prefix};
-ghost use Rattle.cck_strip.specs.Trie.{At, Found, Grows, IsForward, IsRun, IsStraight, IsTrie, leaf_of};
+ghost use Rattle.cck_strip.specs.Trie.{At, Found, Grows, HasRun, IsForward, IsRun, IsStraight, IsTrie, leaf_of};
 ghost use Rattle.cck_strip.specs.declared.node.Node.{Node};
 
 use crate::node::{Node, NodeId};
@@ -137,6 +138,20 @@ fn node_bytes(alloc: Global, nodes: &[Node]) -> Result<Vec<u8>, AllocError>
     Ok(bytes)
 }
 
+// Whether the text begins with these bytes. The last one is compared first: paths of a text begin alike
+// more often than they end alike.
+#[inline(always)]
+fn begins_with(text: &[u8], bytes: &[u8]) -> bool
+    requires { 0 < length bytes.now }
+    ensures { result ≡ starts_with nat_eq text.now bytes.now }
+{
+    let last = bytes.len() - 1;
+    if last >= text.len() || text[last] != bytes[last] {
+        return false;
+    }
+    text.starts_with(bytes)
+}
+
 /// Base directories in a trie: a search at a place of a text continues only while one of them may
 /// match there, however many there are.
 ///
@@ -196,21 +211,37 @@ impl BasedirTrie {
             return 0;
         }
         let rest = &text[at..];
+        // All base directories begin with the first run. A search of the text has mostly found it at
+        // this place, so it is compared only if one of them may follow.
+        let shared = self.runs[0];
+        let longest = self.longest_after(rest, shared);
+        if longest > 0 && rest.starts_with(&self.bytes[..shared]) {
+            return longest;
+        }
+        0
+    }
+
+    // The length of the longest base directory with which the text begins, if it begins with the
+    // first run, which is not compared.
+    fn longest_after(&self, text: &[u8], shared: usize) -> usize
+        requires { IsRun shared self.now 0 }
+        ensures { (words : List (List ℕ)) → IsTrie self.now words → HasRun shared self.now text.now → result ≡ longest_prefix words text.now }
+    {
         let mut longest = 0;
-        let mut depth = 0;
-        let mut next = Some(NodeId(0));
-        while depth < rest.len() {
+        let mut depth = shared;
+        let mut next = Some(NodeId(shared));
+        while depth < text.len() {
             let current = match next {
                 Some(id) => id,
                 None => return longest,
             };
             let node = self.nodes[current.0];
             let run = self.runs[current.0];
-            next = if node.byte != rest[depth] {
+            next = if node.byte != text[depth] {
                 node.beside
             } else if run > 1 {
                 let bytes = &self.bytes[current.0..current.0 + run];
-                if !rest[depth..].starts_with(bytes) {
+                if !begins_with(&text[depth..], bytes) {
                     return longest;
                 }
                 depth += run;
