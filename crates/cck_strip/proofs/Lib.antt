@@ -7,6 +7,7 @@ pub mod CutListLemmas
 pub mod Examples
 pub mod InsertLemmas
 pub mod LinkLemmas
+pub mod MarkLemmas
 pub mod PieceLemmas
 pub mod PositionLemmas
 pub mod RunLemmas

@@ -1,32 +1,19 @@
 -- A search of a text for the places at which base directories may begin.
-use Rattle.std.proofs.Common.{◌≡◌, inl, inr, ℕ, ◌+◌, ◌-◌, ◌<◌, ◌≤◌, List, [], ◌∷◌, ◌++◌, Bool, true, false, Option, None, Some, cond, nat_eq, length, get_or, drop, max, filter, length-append, length-drop, length-take, take, refl, sym, ap, subst, ◌∙◌, arith, set}
+use Rattle.std.proofs.Common.{◌≡◌, inl, inr, ℕ, ◌<◌, ◌≤◌, List, [], ◌∷◌, ◌++◌, Bool, true, false, cond, nat_eq, length, get_or, drop, max, filter, length-append, length-drop, refl, sym, ap, subst, ◌∙◌, arith, set}
 use Rattle.std.specs.Prelude.{Contains}
 use Rattle.std.specs.List.{starts_with}
 use Rattle.std.proofs.Math.Seq.{take-append_seam}
 use Rattle.std.proofs.lemmas.Bool.{cases_eq, false≢true}
 use Rattle.std.proofs.lemmas.Bool.Decides.{Decides-eqb}
-use Rattle.std.proofs.lemmas.List.{get_or-drop, get_or-take, get_or-set_same, get_or-set_other}
+use Rattle.std.proofs.lemmas.List.{get_or-set_same, get_or-set_other}
 use Rattle.std.proofs.lemmas.List.Elements.{Contains-append_right, Contains-push_cases}
 use Rattle.std.proofs.lemmas.Slice.Eq.{starts_is}
-use Rattle.memchr.specs.Find.{FindsNeedle, OccursAt}
+use Rattle.memchr.specs.Find.{OccursAt}
 use Rattle.memchr.proofs.lemmas.MatchLemmas.{OccursAt-from_part}
 use Rattle.cck_strip.specs.Basedirs.{longest}
 use Rattle.cck_strip.specs.Beginnings.{AllBegin, AllEmpty, FirstsMarked}
-use Rattle.cck_strip.specs.Cuts.{IsNextPlace}
 use Rattle.cck_strip.specs.SiteLemmas.{text_site-within}
 use Rattle.cck_strip.specs.Text.{is_boundary, longest_prefix, text_site}
-
--- where a word occurs, a search of the rest of the text finds it
-occurs_in_rest : (text word : List ℕ) (from k : ℕ) → from ≤ k → OccursAt text word k → OccursAt (drop from text) word (k - from)
-occurs_in_rest text word from k h o =
-    let fits = o.fits in record {
-      fits = omega (arith, length-drop from text);
-      reads = λ j lt. get_or-drop from text (k - from + j) 0 ∙ (ap (λ i. get_or text i 0) (omega arith) ∙ o.reads j lt);
-    }
-
--- a search for an equal word, with an equal result
-pub FindsNeedle-same : (hay own needle word : List ℕ) (r now : Option ℕ) → hay ≡ own → needle ≡ word → r ≡ now → FindsNeedle hay needle 0 r → FindsNeedle own word 0 now
-FindsNeedle-same hay own needle word r now h n e f = rw (← h, ← n, ← e) f
 
 pub no_word : (word : List ℕ) → Contains [] word → ⊥
 no_word word (k, lt, e) = omega arith
@@ -156,52 +143,6 @@ text_site-beyond words text k h = none_is _ (λ p. let end = text_site-within wo
 pub text_site-beginning : (words : List (List ℕ)) (text bytes : List ℕ) (k : ℕ) → AllBegin words bytes → (OccursAt text bytes k → ⊥) → text_site words text k ≡ 0
 text_site-beginning words text bytes k h none =
     none_is _ (λ p. let b = site-begins words text k p in none (OccursAt-beginning text (b.word) bytes k (b.here) (h (b.word) (b.among) (b.some))))
-
--- where a word occurs in a window of the text, a search of the window finds it
-occurs_in_window : (text word : List ℕ) (from n k : ℕ) → from ≤ k → k - from + length word ≤ n → OccursAt text word k → OccursAt (take n (drop from text)) word (k - from)
-occurs_in_window text word from n k h inside o =
-    let rest = occurs_in_rest text word from k h o in
-    let fits = rest.fits in record {
-      fits = omega (arith, length-take n (drop from text));
-      reads = λ j lt. get_or-take n (drop from text) (k - from + j) 0 (omega arith) ∙ rest.reads j lt;
-    }
-
--- a search of a window found these bytes
-pub IsNextPlace-found : (words : List (List ℕ)) (text bytes : List ℕ) (from n d : ℕ) → AllBegin words bytes → 0 < length bytes
-    → FindsNeedle (take n (drop from text)) bytes 0 (Some d) → IsNextPlace (text_site words text) (length text) from (from + d)
-IsNextPlace-found words text bytes from n d h some (first, at) =
-    let fits = at.fits in record {
-      from_on = omega arith;
-      within = omega (arith, length-take n (drop from text), length-drop from text);
-      none_before = λ k low high.
-          text_site-beginning words text bytes k h (λ o.
-          first.before (k - from) (omega arith) (omega arith) (occurs_in_window text bytes from n k low (omega (arith, length-take n (drop from text))) o));
-    }
-
--- a search of a window found none: the bytes may begin at the place from which on they would end after the window
-pub IsNextPlace-window : (words : List (List ℕ)) (text bytes : List ℕ) (from n d : ℕ) → AllBegin words bytes
-    → length (take n (drop from text)) < length (drop from text) → d ≡ length (take n (drop from text)) - length bytes
-    → FindsNeedle (take n (drop from text)) bytes 0 None → IsNextPlace (text_site words text) (length text) from (from + d)
-IsNextPlace-window words text bytes from n d h less e none =
-    let size = length-take n (drop from text) in record {
-      from_on = omega arith;
-      within = omega (arith, length-drop from text);
-      none_before = λ k low high.
-          text_site-beginning words text bytes k h (λ o.
-          none (k - from) (omega arith) (omega arith) (occurs_in_window text bytes from n k low (omega arith) o));
-    }
-
--- a search of all that is left found none
-pub text_site-sought : (words : List (List ℕ)) (text bytes : List ℕ) (from n : ℕ) → AllBegin words bytes
-    → length (drop from text) ≤ length (take n (drop from text))
-    → FindsNeedle (take n (drop from text)) bytes 0 None → (k : ℕ) → from ≤ k → text_site words text k ≡ 0
-text_site-sought words text bytes from n h whole none k low =
-    text_site-beginning words text bytes k h (λ o.
-    let size = length-take n (drop from text) in
-    let fits = (occurs_in_rest text bytes from k low o).fits in
-    let rest = occurs_in_window text bytes from n k low (omega arith) o in
-    let inside = rest.fits in
-    none (k - from) (omega arith) (omega arith) rest)
 
 -- at a boundary alone there is a site
 pub text_site-inside : (words : List (List ℕ)) (text : List ℕ) (k : ℕ) → is_boundary text k ≡ false → text_site words text k ≡ 0

@@ -8,4 +8,4 @@ use Rattle.cck_strip.specs.declared.search.TextSearch.TheVariants.{FirstBytes, B
 abbrev pub Finds : TextSearch → List (List ℕ) → Type 0
 Finds (FirstBytes search) words = FirstsMarked words search.is_first
 Finds (Byte search) words = AllBegin words (search.byte ∷ [])
-Finds (Word search) words = (0 < length search.finder) × AllBegin words search.finder
+Finds (Word search) words = (0 < length search.word.now) × AllBegin words search.word.now

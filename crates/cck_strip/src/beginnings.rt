@@ -47,8 +47,7 @@ pub fn common_beginning<'a>(basedirs: &'a [Vec<u8>]) -> Option<&'a [u8]>
     for basedir in basedirs {
         if !basedir.is_empty() {
             common = match common {
-                // A search confirms this number of bytes by one comparison, however often they
-                // occur in a text.
+                // A search reads this number of bytes past the places that it looks at.
                 None => Some(&basedir[..basedir.len().min(32)]),
                 Some(bytes) => Some(&bytes[..shared_len(bytes, basedir)]),
             };

@@ -30,6 +30,7 @@ mod cut_list;
 mod cuts;
 mod hashing;
 mod into;
+mod lanes;
 pub mod laws;
 mod node;
 mod search;

@@ -5,7 +5,6 @@ ghost use Rattle.cck_strip.specs.Search.{Finds};
 
 use crate::beginnings::{common_beginning, first_bytes};
 use crate::text::{ByteSearch, FirstByteSearch, WordSearch};
-use memchr::memmem::Finder;
 
 /// A search of a text for what base directories begin with. Who calls it matches on it once, so that
 /// each loop over a text has one search.
@@ -33,6 +32,5 @@ pub(crate) fn text_search<'a>(basedirs: &'a [Vec<u8>]) -> Option<TextSearch<'a>>
     if word.len() == 1 {
         return Some(TextSearch::Byte(ByteSearch { byte: word[0] }));
     }
-    let finder = Finder::new(word);
-    Some(TextSearch::Word(WordSearch { finder }))
+    Some(TextSearch::Word(WordSearch { word }))
 }

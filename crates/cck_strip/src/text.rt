@@ -7,11 +7,11 @@ ghost use Rattle.cck_strip.specs.Text.{is_boundary, is_separator, longest_prefix
 ghost use Rattle.cck_strip.specs.Trie.{IsTrie};
 
 use crate::cuts::{Search, Sites, cut_out};
+use crate::lanes::{lowest, word_marks};
 use crate::search::{TextSearch, text_search};
 use crate::trie::BasedirTrie;
 use cck_digest::UtilError;
 use memchr::memchr_iter;
-use memchr::memmem::Finder;
 use std::alloc::Global;
 use std::borrow::CowSlice;
 
@@ -83,23 +83,33 @@ const SEARCH_WINDOW: usize = 32768;
 // The search of a text for a word with which all base directories begin.
 #[derive(Drop)]
 pub(crate) struct WordSearch<'a> {
-    pub(crate) finder: Finder<'a>,
+    pub(crate) word: &'a [u8],
 }
 
 impl<'a, 'b> Search<TextSites<'b>> for WordSearch<'a> {
-    ghost finds = { λ s t. (0 < length s.finder) × AllBegin (map (λ b. b.items) t.basedirs.now) s.finder };
+    ghost finds = { λ s t. (0 < length s.word.now) × AllBegin (map (λ b. b.items) t.basedirs.now) s.word.now };
 
     fn next_place(&self, sites: &TextSites<'b>, from: usize) -> Option<usize> {
-        let rest = &sites.text[from..];
-        let window = &rest[..rest.len().min(SEARCH_WINDOW)];
-        match self.finder.find(window) {
-            Some(distance) => Some(from + distance),
-            // The word may begin at a later place of the window, and end after it.
-            None if window.len() < rest.len() => {
-                Some(from + window.len().saturating_sub(self.finder.needle().len()))
+        let text = sites.text;
+        let end = from + (text.len() - from).min(SEARCH_WINDOW);
+        let mut at = from;
+        while end - at >= 64 + self.word.len() {
+            let marks = word_marks(text, at, self.word);
+            if marks == 0 {
+                at += 64;
+            } else {
+                let place = at + lowest(marks);
+                if is_boundary(text, place) {
+                    return Some(place);
+                }
+                at = place + 1;
             }
-            None => None,
         }
+        // A site may start at each of the last places, of which there are fewer than 96.
+        if at < text.len() {
+            return Some(at);
+        }
+        None
     }
 }
 

@@ -1,4 +1,4 @@
-use Rattle.std.proofs.Common.{◌≡◌, ◌-◌, ◌<◌, length, arith, sym}
+use Rattle.std.proofs.Common.{◌-◌, length, arith}
 use Rattle.cck_strip.proofs.RunLemmas.{begins_not}
 use Rattle.cck_strip.proofs.trie.begins_with.Goals as goal
 use Rattle.cck_strip.proofs.trie.begins_with.Goals.{then-last-text-via-then-last-text, then-last-text-via-else-last-text+then-text-last}

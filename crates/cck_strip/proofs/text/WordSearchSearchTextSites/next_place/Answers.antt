@@ -1,20 +1,53 @@
-use Rattle.std.proofs.Common.{refl}
-use Rattle.std.proofs.lemmas.List.{take_rest}
-use Rattle.cck_strip.proofs.SoughtLemmas.{FindsNeedle-same, IsNextPlace-found, IsNextPlace-window, text_site-sought}
+use Rattle.std.proofs.Common.{◌∙◌, ap, sym, arith}
+use Rattle.std.proofs.lemmas.Nat.Bits.{bit_at-zero}
+use Rattle.std.specs.Int.{bit_at}
+use Rattle.cck_strip.proofs.MarkLemmas.{passed_all, passed_marks, passed_place}
 use Rattle.cck_strip.proofs.text.WordSearchSearchTextSites.next_place.Goals as goal
 
-pub returns-in-Some : goal.returns-in-Some
-returns-in-Some c =
-    IsNextPlace-found _ _ _ _ c.min.result _ c.requires.finds.1 c.requires.finds.0
-    (FindsNeedle-same _ _ _ _ _ _ (rw take_rest refl) refl c.in-Some.is c.find.ensures)
+pub loop-at-preserved-then-marks-eq0 : goal.loop-at-preserved-then-marks-eq0
+loop-at-preserved-then-marks-eq0 c =
+    let room = c.loop-at-test.true in
+    let now = c.loop-at.invariant in
+    let low = now.from_on in
+    let high = now.within in
+    record {
+      from_on = omega arith;
+      within = omega arith;
+      passed = passed_marks _ _ _ _ _ _ 64 c.requires.finds.1 c.word_marks-marks.ensures (omega arith)
+          (λ k h. ap (λ m. bit_at m k) c.if-marks-eq0.true ∙ bit_at-zero k) now.passed;
+    }
 
-pub returns-in-None : goal.returns-in-None
-returns-in-None c =
-    IsNextPlace-window _ _ _ _ c.min.result _ c.requires.finds.1 (rw take_rest at c.if-window-rest.true)
-    (rw (take_rest, c.needle.ensures) at c.saturating_sub.ensures)
-    (FindsNeedle-same _ _ _ _ _ _ (rw take_rest refl) refl c.in-None.is c.find.ensures)
+pub returns-then-is_boundary : goal.returns-then-is_boundary
+returns-then-is_boundary c =
+    let room = c.loop-at-test.true in
+    let bound = c.lowest.ensures.bound in
+    let now = c.loop-at.invariant in
+    let low = now.from_on in
+    let high = now.within in
+    record {
+      from_on = omega arith;
+      within = omega arith;
+      none_before = passed_marks _ _ _ _ _ _ _ c.requires.finds.1 c.word_marks-marks.ensures (omega arith) c.lowest.ensures.below now.passed;
+    }
 
-pub returns-in-None-2 : goal.returns-in-None-2
-returns-in-None-2 c =
-    text_site-sought _ _ _ _ c.min.result c.requires.finds.1 (rw take_rest at c.if-window-rest.false)
-    (FindsNeedle-same _ _ _ _ _ _ (rw take_rest refl) refl c.in-None.is c.find.ensures)
+pub loop-at-preserved : goal.loop-at-preserved
+loop-at-preserved c =
+    let room = c.loop-at-test.true in
+    let bound = c.lowest.ensures.bound in
+    let now = c.loop-at.invariant in
+    let low = now.from_on in
+    let high = now.within in
+    record {
+      from_on = omega arith;
+      within = omega arith;
+      passed = passed_place _ _ _ _ (sym c.is_boundary.ensures ∙ c.if-is_boundary.false)
+          (passed_marks _ _ _ _ _ _ _ c.requires.finds.1 c.word_marks-marks.ensures (omega arith) c.lowest.ensures.below now.passed);
+    }
+
+pub returns : goal.returns
+returns c = passed_all _ _ _ _ (let end = c.if-at-text.false in omega arith) c.loop-at.invariant.passed
+
+pub returns-then-at-text : goal.returns-then-at-text
+returns-then-at-text c =
+    let now = c.loop-at.invariant in
+    record { from_on = now.from_on; within = c.if-at-text.true; none_before = now.passed }

@@ -1,4 +1,4 @@
-use Rattle.std.proofs.Common.{◌∙◌, ◌+◌, ◌<◌, ◌≤◌, false, true, length, ap, refl, rules, sym, arith}
+use Rattle.std.proofs.Common.{◌+◌, ◌<◌, ◌≤◌, false, true, length, ap, refl, rules, sym, arith}
 use Rattle.cck_strip.specs.Trie.{At}
 use Rattle.cck_strip.proofs.RunLemmas.{Pending-after, Pending-compared, after_run, named_within, run_below, run_ends}
 use Rattle.cck_strip.proofs.WalkLemmas.{Pending-end, Pending-match, Pending-none, Pending-pass, Pending-some}

@@ -1,4 +1,4 @@
-use Rattle.std.proofs.Common.{◌≡◌, ◌∙◌, ℕ, List, ◌-◌, ◌+◌, ◌≤◌, [], inl, length, nat_eq, take, drop, ap, refl, sym, arith, length-take}
+use Rattle.std.proofs.Common.{◌∙◌, ℕ, List, ◌-◌, [], inl, length, nat_eq, take, drop, ap, refl, sym, arith, length-take}
 use Rattle.std.specs.List.{starts_with}
 use Rattle.std.proofs.lemmas.Bool.{false≢true}
 use Rattle.std.proofs.lemmas.List.{drop_all, take_rest}
