@@ -9,7 +9,7 @@ use Rattle.std.proofs.lemmas.List.Elements.{All-cons, All-head, All-map}
 use Rattle.std.proofs.lemmas.List.Folds.{drop_split}
 use Rattle.std.proofs.lemmas.List.Kept.{AllPairs-cons}
 use Rattle.cck_strip.specs.Cuts.{Covers, Cuts, IsNextPlace, LieWithin, Remains, cuts_below, stripped}
-use Rattle.cck_strip.specs.Pieces.{IsPassed, IsPiece, stripped_from}
+use Rattle.cck_strip.specs.Pieces.{IsNextPiece, IsPassed, stripped_from}
 use Rattle.cck_strip.proofs.CutLemmas.{CutsFrom, cuts_below-are_cuts, from_start, unique}
 use Rattle.cck_strip.proofs.WithoutLemmas.{stretches, stripped-any, without-stretches}
 
@@ -186,9 +186,9 @@ pub IsPassed-later : (site : ℕ → ℕ) (n copied middle from : ℕ) → IsPas
 IsPassed-later site n copied middle from p low high = record { from_on = high; within = p.within; none = λ k le lt. p.none k (omega arith) lt }
 
 -- the piece before a site
-pub IsPiece-site : (site : ℕ → ℕ) (text : List ℕ) (is_first : Bool) (copied place : ℕ) → LieWithin site (length text)
-    → IsPassed site (length text) copied place → 0 < site place → IsPiece site text (slice_range text copied place) is_first copied (place + site place)
-IsPiece-site site text is_first copied place within p here =
+pub IsNextPiece-site : (site : ℕ → ℕ) (text : List ℕ) (is_first : Bool) (copied place : ℕ) → LieWithin site (length text)
+    → IsPassed site (length text) copied place → 0 < site place → IsNextPiece site text (slice_range text copied place) is_first copied (place + site place)
+IsNextPiece-site site text is_first copied place within p here =
     let from_on = p.from_on in
     let end = length-slice_range text copied place p.from_on p.within in
     let later = cuts_from site text (place + site place) in
@@ -203,10 +203,10 @@ IsPiece-site site text is_first copied place within p here =
     }
 
 -- a piece before a place without a site
-pub IsPiece-part : (site : ℕ → ℕ) (text : List ℕ) (is_first : Bool) (copied place : ℕ) → LieWithin site (length text)
+pub IsNextPiece-part : (site : ℕ → ℕ) (text : List ℕ) (is_first : Bool) (copied place : ℕ) → LieWithin site (length text)
     → IsPassed site (length text) copied place → site place ≡ 0 → copied < place → is_first ≡ false
-    → IsPiece site text (slice_range text copied place) is_first copied place
-IsPiece-part site text is_first copied place within p none some later =
+    → IsNextPiece site text (slice_range text copied place) is_first copied place
+IsNextPiece-part site text is_first copied place within p none some later =
     let from_on = p.from_on in
     let end = length-slice_range text copied place p.from_on p.within in
     let cuts = cuts_from site text place in
@@ -222,10 +222,10 @@ IsPiece-part site text is_first copied place within p none some later =
     }
 
 -- the last piece
-pub IsPiece-last : (site : ℕ → ℕ) (text : List ℕ) (is_first : Bool) (copied from : ℕ) → LieWithin site (length text)
+pub IsNextPiece-last : (site : ℕ → ℕ) (text : List ℕ) (is_first : Bool) (copied from : ℕ) → LieWithin site (length text)
     → IsPassed site (length text) copied from → ((k : ℕ) → from ≤ k → site k ≡ 0) → copied ≢ length text → is_first ≡ false
-    → IsPiece site text (drop copied text) is_first copied (length text)
-IsPiece-last site text is_first copied from within p none some later =
+    → IsNextPiece site text (drop copied text) is_first copied (length text)
+IsNextPiece-last site text is_first copied from within p none some later =
     let from_on = p.from_on in
     let fits = p.within in
     let all : IsPassed site (length text) copied (length text) = record {
@@ -236,8 +236,8 @@ IsPiece-last site text is_first copied from within p none some later =
         | inr ge ↦ none k ge
       ];
     } in
-    subst (λ piece. IsPiece site text piece is_first copied (length text)) (take_rest text copied)
-    (IsPiece-part site text is_first copied (length text) within all (none (length text) (omega arith)) (omega arith) later)
+    subst (λ piece. IsNextPiece site text piece is_first copied (length text)) (take_rest text copied)
+    (IsNextPiece-part site text is_first copied (length text) within all (none (length text) (omega arith)) (omega arith) later)
 
 -- without a site from `copied` on
 pub none_from : (site : ℕ → ℕ) (n copied from : ℕ) → IsPassed site n copied from → ((k : ℕ) → from ≤ k → site k ≡ 0) → (k : ℕ) → copied ≤ k → site k ≡ 0

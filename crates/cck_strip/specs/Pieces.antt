@@ -14,7 +14,7 @@ pub record IsPassed (site : ℕ → ℕ) (n copied from : ℕ) : Type 0 where
 
 -- this piece is next from the place `copied` on, and after it and the site where it ends the place `next` follows. The
 -- first piece ends at a site.
-pub record IsPiece (site : ℕ → ℕ) (text piece : List ℕ) (is_first : Bool) (copied next : ℕ) : Type 0 where
+pub record IsNextPiece (site : ℕ → ℕ) (text piece : List ℕ) (is_first : Bool) (copied next : ℕ) : Type 0 where
   pub is : piece ++ stripped_from site text next ≡ stripped_from site text copied
   pub next_is : next ≡ copied + length piece + site (copied + length piece)
   pub further : copied < next

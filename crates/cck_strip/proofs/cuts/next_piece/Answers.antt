@@ -2,7 +2,7 @@ use Rattle.std.proofs.Common.{◌≡◌, ◌∙◌, ◌||◌, ◌≤◌, ℕ, Li
 use Rattle.std.proofs.lemmas.List.{take_rest}
 use Rattle.cck_strip.specs.Pieces.{IsEnd, IsPassed}
 use Rattle.cck_strip.proofs.CommonLemmas.{when_none, when_some}
-use Rattle.cck_strip.proofs.PieceLemmas.{IsNextPlace-same, IsPassed-more, IsPassed-place, IsPiece-last, IsPiece-part, IsPiece-site, none_from, within_same}
+use Rattle.cck_strip.proofs.PieceLemmas.{IsNextPlace-same, IsPassed-more, IsPassed-place, IsNextPiece-last, IsNextPiece-part, IsNextPiece-site, none_from, within_same}
 use Rattle.cck_strip.proofs.cuts.next_piece.Goals as goal
 use Rattle.cck_strip.proofs.cuts.next_piece.Goals.{then-not-is_cut-via-then-not-is_cut, then-not-is_cut-via-else-not-is_cut+then-copied-text}
 
@@ -22,7 +22,7 @@ returns-then-length-gt0-clause-outcome g c =
     let within = within_same _ _ _ c.requires.text_is (g.met.S.Sites.within c.args.sites.now) in
     let next = IsNextPlace-same _ _ _ _ _ c.requires.text_is (when_some _ _ _ _ c.in-Some.is c.next_place.ensures) in
     let place = IsPassed-place _ _ _ _ _ c.loop-place.invariant.passed next in
-    rw value (IsPiece-site _ _ _ _ _ within place (rw (← value) c.if-length-gt0.true))
+    rw value (IsNextPiece-site _ _ _ _ _ within place (rw (← value) c.if-length-gt0.true))
 
 pub returns-then-place-copied-ge-COPIED_STRETCH-clause-outcome : goal.returns-then-place-copied-ge-COPIED_STRETCH-clause-outcome
 returns-then-place-copied-ge-COPIED_STRETCH-clause-outcome g c =
@@ -31,7 +31,7 @@ returns-then-place-copied-ge-COPIED_STRETCH-clause-outcome g c =
     let next = IsNextPlace-same _ _ _ _ _ c.requires.text_is (when_some _ _ _ _ c.in-Some.is c.next_place.ensures) in
     let place = IsPassed-place _ _ _ _ _ c.loop-place.invariant.passed next in
     let later : c.args.progress.now.is_cut ≡ true = c.if-is_cut.true in
-    IsPiece-part _ _ _ _ _ within place (sym value ∙ omega arith) (omega arith) (ap not later)
+    IsNextPiece-part _ _ _ _ _ within place (sym value ∙ omega arith) (omega arith) (ap not later)
 
 -- what is left where no piece is: nothing was cut, or the text ends
 no_piece : (site : ℕ → ℕ) (text : List ℕ) (was_cut is_cut : Bool) (copied from : ℕ) → IsPassed site (length text) copied from → ((k : ℕ) → from ≤ k → site k ≡ 0)
@@ -63,4 +63,4 @@ pub returns-clause-outcome : goal.returns-clause-outcome
 returns-clause-outcome g c =
     let within = within_same _ _ _ c.requires.text_is (g.met.S.Sites.within c.args.sites.now) in
     let later : c.args.progress.now.is_cut ≡ true = c.if-not-is_cut.false in
-    rw take_rest (IsPiece-last _ _ _ _ _ within c.loop-place.invariant.passed (when_none _ _ _ c.in_default.is c.next_place.ensures) c.if-copied-text.false (ap not later))
+    rw take_rest (IsNextPiece-last _ _ _ _ _ within c.loop-place.invariant.passed (when_none _ _ _ c.in_default.is c.next_place.ensures) c.if-copied-text.false (ap not later))
