@@ -14,7 +14,7 @@ use Rattle.cck_cache_entry.proofs.NameLemmas.{system_named}
 use Rattle.cck_cache_entry.specs.Absent.{AreAbsentNames, AreAdded, IsBefore, IsBeside, IsEarlier, IsForName, IsListed, IsInDirectory, path_in, precompiled}
 use Rattle.cck_cache_entry.specs.Reading.{ReadsBack}
 use Rattle.cck_cache_entry.specs.Sets.{Adds, IsSetOf, has_key}
-use Rattle.cck_cache_entry.proofs.SetLemmas.{Below, adds_as, adds_both, adds_nothing, has_key, key_at}
+use Rattle.cck_cache_entry.proofs.SetLemmas.{Below, adds_as, adds_both, adds_nothing, has_key_at, key_at}
 
 -- the rest of a name in a directory
 pub within_read : (name directory middle : List ℕ) (r : Option (Bor (List ℕ))) → name ≡ directory ++ middle → MatchOption r ((rest : List ℕ) → middle ≢ (47 ∷ []) ++ rest) (λ x. middle ≡ (47 ∷ []) ++ x.now)
@@ -61,7 +61,7 @@ in_places names keys rest n old new is =
     adds_as (Below (InPlace names (map (λ k. k.items) keys.keys) rest) n) (λ q. (directory : List ℕ) × IsTrue (has_key keys directory) × IsBeside names (directory ++ rest) q) old new to from
   where
     to : (q : List ℕ) → Below (InPlace names (map (λ k. k.items) keys.keys) rest) n q → (directory : List ℕ) × IsTrue (has_key keys directory) × IsBeside names (directory ++ rest) q
-    to q (k, lt, beside) = (get_or (map (λ k. k.items) keys.keys) k [], has_key keys.keys k (omega (arith, is)), beside)
+    to q (k, lt, beside) = (get_or (map (λ k. k.items) keys.keys) k [], has_key_at keys.keys k (omega (arith, is)), beside)
 
     from : (q : List ℕ) → (directory : List ℕ) × IsTrue (has_key keys directory) × IsBeside names (directory ++ rest) q → Below (InPlace names (map (λ k. k.items) keys.keys) rest) n q
     from q (directory, known, beside) =
@@ -142,7 +142,7 @@ for_names places names directories keys n old new is =
     adds_as (Below (AtName places names directories (map (λ k. k.items) keys.keys)) n) (λ q. (name : List ℕ) × IsTrue (has_key keys name) × IsForName places names directories name q) old new to from
   where
     to : (q : List ℕ) → Below (AtName places names directories (map (λ k. k.items) keys.keys)) n q → (name : List ℕ) × IsTrue (has_key keys name) × IsForName places names directories name q
-    to q (k, lt, path) = (get_or (map (λ k. k.items) keys.keys) k [], has_key keys.keys k (omega (arith, is)), path)
+    to q (k, lt, path) = (get_or (map (λ k. k.items) keys.keys) k [], has_key_at keys.keys k (omega (arith, is)), path)
 
     from : (q : List ℕ) → (name : List ℕ) × IsTrue (has_key keys name) × IsForName places names directories name q → Below (AtName places names directories (map (λ k. k.items) keys.keys)) n q
     from q (name, known, path) =

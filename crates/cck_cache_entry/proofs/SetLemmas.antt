@@ -65,10 +65,10 @@ key_at (k ∷ ks) q h =
       | inr later ↦ (let more = key_at ks q later in (suc more.0, omega (arith, more.1), more.2))
     ]
 
-pub has_key : (ks : List (Vec ℕ)) (i : ℕ) → i < length ks → IsTrue (list_any (λ k. bytes_eq (get_or (map (λ k. k.items) ks) i []) k.items) ks)
-has_key [] i within = absurd (omega arith)
-has_key (k ∷ ks) zero within = or_left _ _ ((bytes_eq-Decides k.items k.items).1 refl)
-has_key (k ∷ ks) (suc i) within = or_right _ _ (has_key ks i (omega arith))
+pub has_key_at : (ks : List (Vec ℕ)) (i : ℕ) → i < length ks → IsTrue (list_any (λ k. bytes_eq (get_or (map (λ k. k.items) ks) i []) k.items) ks)
+has_key_at [] i within = absurd (omega arith)
+has_key_at (k ∷ ks) zero within = or_left _ _ ((bytes_eq-Decides k.items k.items).1 refl)
+has_key_at (k ∷ ks) (suc i) within = or_right _ _ (has_key_at ks i (omega arith))
 
 -- ---- what is added
 

@@ -5,7 +5,7 @@ use Rattle.std.proofs.lemmas.Map.Iter.{iter_end}
 use Rattle.cck_cache_entry.specs.Absent.{IsForName, IsListed}
 use Rattle.cck_cache_entry.specs.Sets.{Adds, has_key}
 use Rattle.cck_cache_entry.proofs.AbsentLemmas.{AtName, all_listed, for_names, listed_more}
-use Rattle.cck_cache_entry.proofs.SetLemmas.{contains-has, adds_more, adds_none_below, has_key, set_turn}
+use Rattle.cck_cache_entry.proofs.SetLemmas.{contains-has, adds_more, adds_none_below, has_key_at, set_turn}
 use Rattle.cck_cache_entry.proofs.absent.add_names.Goals as goal
 use Rattle.cck_cache_entry.proofs.absent.add_names.Goals.{else-not-is_found-via-then-not-is_found+else-contains, else-not-is_found-via-else-not-is_found}
 
@@ -62,6 +62,6 @@ returns-then-contains c =
     let system : has_key named.systems c.as_slice.result.now ≡ true = sym (contains-has named.systems c.as_slice.result.now) ∙ sym c.if-contains.ensures in (
       name,
       ap (has_key named.systems) (c.deref.ensures.value ∙ sym c.as_slice.ensures.value) ∙ system,
-      ap (has_key named.names) is ∙ has_key named.names.keys (length c.loop-name.yielded) turn.0,
+      ap (has_key named.names) is ∙ has_key_at named.names.keys (length c.loop-name.yielded) turn.0,
       λ listed. false_true (sym c.if-not-is_found.true ∙ c.in_ok-is_found.ensures.found.1 listed),
     )

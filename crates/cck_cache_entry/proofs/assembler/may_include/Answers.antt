@@ -22,6 +22,6 @@ loop-byte-preserved c =
     ap (is_found place before byte) (sym grown ∙ sym c.deref.ensures.value) ∙ sym c.if-is_found.ensures
     in
     let first : includes_from place before string (drop i text) ≡ includes_from place before string (byte ∷ drop (i + 1) text) = at_drop_more (includes_from place before string) text i 0 c.loop-byte-test.true in
-    ap (λ s. includes_from c.after-place.result byte s (drop (i + 1) text)) grown
-    ∙ (ap (λ p. includes_from p byte (joined_string place string byte) (drop (i + 1) text)) c.after-place.ensures
+    ap (λ s. includes_from c.place_after-place.result byte s (drop (i + 1) text)) grown
+    ∙ (ap (λ p. includes_from p byte (joined_string place string byte) (drop (i + 1) text)) c.place_after-place.ensures
     ∙ (sym (first ∙ passed place before byte string (drop (i + 1) text) none) ∙ c.loop-byte.invariant))
