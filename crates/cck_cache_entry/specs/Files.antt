@@ -23,21 +23,23 @@ pub record ObjectFields : Type 0 where
   pub key : List ℕ
   pub object : List ℕ
   pub messages : List ℕ
+  pub dependencies : List ℕ
 
 abbrev pub object_fields : ObjectFile → ObjectFields
 object_fields file = record {
   key = file.key.items;
   object = file.object.items;
   messages = file.messages.items;
+  dependencies = file.dependencies.items;
 }
 
 -- the parts of an entry file: the preprocessor key, the entry and each absent path
 abbrev pub entry_parts : EntryFields → List (List ℕ)
 entry_parts file = file.preprocessor_key ∷ file.entry ∷ file.absent_paths
 
--- the parts of an object file: the key, the object and the messages
+-- the parts of an object file: the key, the object, the messages and the contents of the dependency file
 abbrev pub object_parts : ObjectFields → List (List ℕ)
-object_parts file = file.key ∷ file.object ∷ file.messages ∷ []
+object_parts file = file.key ∷ file.object ∷ file.messages ∷ file.dependencies ∷ []
 
 -- an entry file
 abbrev pub entry_file : (List ℕ → List ℕ) → EntryFields → List ℕ
@@ -45,4 +47,4 @@ entry_file hash file = stored_file hash (codes "cck entry 1\n") (entry_parts fil
 
 -- an object file of the store
 abbrev pub object_file : (List ℕ → List ℕ) → ObjectFields → List ℕ
-object_file hash file = stored_file hash (codes "cck object 1\n") (object_parts file)
+object_file hash file = stored_file hash (codes "cck object 2\n") (object_parts file)

@@ -9,7 +9,7 @@ use cck_digest::{HashState, UtilError};
 use std::alloc::Global;
 
 /// How an object file of the store begins.
-const KIND: &[u8] = b"cck object 1\n";
+const KIND: &[u8] = b"cck object 2\n";
 
 /// What an object file of the store holds.
 #[derive(Debug, Drop, PartialEq, Eq)]
@@ -20,14 +20,17 @@ pub struct ObjectFile {
     pub object: Vec<u8>,
     /// What the compiler printed on standard error.
     pub messages: Vec<u8>,
+    /// The contents of the dependency file. Empty if the compiler wrote none.
+    pub dependencies: Vec<u8>,
 }
 
-// What these parts say. `None` where there are not three.
+// What these parts say. `None` where there are not four.
 fn file_of(parts: Vec<Vec<u8>>) -> Option<ObjectFile>
     ensures { ReadsBack object_parts (byte_lists parts) (option_map object_fields result) }
 {
     let mut parts = parts.into_iter();
-    let (Some(key), Some(object), Some(messages), None) = (
+    let (Some(key), Some(object), Some(messages), Some(dependencies), None) = (
+        parts.next(),
         parts.next(),
         parts.next(),
         parts.next(),
@@ -39,6 +42,7 @@ fn file_of(parts: Vec<Vec<u8>>) -> Option<ObjectFile>
         key,
         object,
         messages,
+        dependencies,
     })
 }
 
@@ -50,7 +54,7 @@ impl ObjectFile {
         ensures file { IfOk result (λ bytes. bytes.items ≡ object_file H.hash (object_fields self.now)) }
         ensures errors { IsOkUnless result UtilError.Memory }
     {
-        let parts: [&[u8]; 3] = [&self.key, &self.object, &self.messages];
+        let parts: [&[u8]; 4] = [&self.key, &self.object, &self.messages, &self.dependencies];
         write_stored::<H>(alloc, KIND, &parts)
     }
 

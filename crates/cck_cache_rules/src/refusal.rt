@@ -24,7 +24,7 @@ pub enum Refusal {
     EarlierPath,
     /// The text is refused, for one of its marks or files.
     NamedFile,
-    /// The object or the messages have the base directory.
+    /// The object, the messages or the dependencies have the base directory.
     BaseDirectory,
 }
 
