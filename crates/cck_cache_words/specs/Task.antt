@@ -6,33 +6,53 @@ use Rattle.clap.specs.Matches.{first_value}
 use Rattle.clap.specs.declared.parser.matches.Found.{Found}
 use Rattle.cck_cache_words.specs.Stamp.{IsStamp}
 use Rattle.cck_cache_words.specs.declared.task.Made.{Made}
+use Rattle.cck_cache_words.specs.declared.task.Outputs.{Outputs}
 use Rattle.cck_cache_words.specs.declared.task.Packed.{Packed}
+
+-- where the parts of an object file are written: a path for the object, and one for the dependency file, if one is given
+pub record OutputWords : Type 0 where
+  pub object : List ℕ
+  pub dependencies : Option (List ℕ)
+
+abbrev pub output_words : Outputs → OutputWords
+output_words outputs = record { object = outputs.object.now; dependencies = option_map (λ d. d.now) outputs.dependencies }
+
+pub record IsOutputs (found : Found) (words : OutputWords) : Type 0 where
+  pub object : first_value found (codes "out") ≡ Some words.object
+  pub dependencies : first_value found (codes "dependencies") ≡ words.dependencies
 
 -- the words of `unpack` beside its store
 pub record PackedWords : Type 0 where
   pub key : List ℕ
   pub path : List ℕ
-  pub out : List ℕ
+  pub outputs : OutputWords
 
 abbrev pub packed_words : Packed → PackedWords
-packed_words packed = record { key = packed.key.now; path = packed.path.now; out = packed.out.now }
+packed_words packed = record { key = packed.key.now; path = packed.path.now; outputs = output_words packed.outputs }
 
 pub record IsPacked (found : Found) (words : PackedWords) : Type 0 where
   pub key : first_value found (codes "key") ≡ Some words.key
   pub path : first_value found (codes "object") ≡ Some words.path
-  pub out : first_value found (codes "out") ≡ Some words.out
+  pub outputs : IsOutputs found words.outputs
 
--- what a compiler made: both paths, or none
+-- what a compiler made: the paths of the object and of the messages, and that of the dependency file, if one is given
 pub record MadeWords : Type 0 where
   pub object : List ℕ
   pub messages : List ℕ
+  pub dependencies : Option (List ℕ)
 
 abbrev pub made_words : Made → MadeWords
-made_words made = record { object = made.object.now; messages = made.messages.now }
+made_words made = record { object = made.object.now; messages = made.messages.now; dependencies = option_map (λ d. d.now) made.dependencies }
+
+-- the path of the dependency file, of which there is none where the compiler made nothing
+abbrev pub made_dependencies : Option MadeWords → Option (List ℕ)
+made_dependencies None = None
+made_dependencies (Some made) = made.dependencies
 
 pub record IsMade (found : Found) (made : Option MadeWords) : Type 0 where
   pub object : first_value found (codes "object") ≡ option_map (λ m. m.object) made
   pub messages : first_value found (codes "messages") ≡ option_map (λ m. m.messages) made
+  pub dependencies : first_value found (codes "dependencies") ≡ made_dependencies made
 
 -- the time in the words of `record`
 pub record IsSince (found : Found) (seconds : ℤ) (nanoseconds : ℕ) : Type 0 where

@@ -55,6 +55,11 @@ fn with_request<'a>(alloc: Global, command: Command<'a>) -> Result<Command<'a>, 
     )
 }
 
+// The option for the dependency file.
+fn dependencies_arg<'a>(alloc: Global, help: &'a str) -> Arg<'a> {
+    extra_arg(alloc, "dependencies", "FILE", help)
+}
+
 // The word STORE.
 fn store_arg<'a>(alloc: Global) -> Arg<'a> {
     Arg::new(alloc, "STORE")
@@ -84,6 +89,7 @@ fn unpack_command<'a>(alloc: Global) -> Result<Command<'a>, Error> {
             .arg(option_arg(alloc, "key", "KEY", "The key of the object"))?
             .arg(option_arg(alloc, "object", "FILE", "The object file"))?
             .arg(option_arg(alloc, "out", "FILE", "Where the object is written"))?
+            .arg(dependencies_arg(alloc, "Where the dependency file is written"))?
             .arg(store_arg(alloc))?,
     )
 }
@@ -93,6 +99,7 @@ fn look_command<'a>(alloc: Global) -> Result<Command<'a>, Error> {
     let command = Command::new(alloc, "look")
         .about("Writes the object from the store")
         .arg(option_arg(alloc, "out", "FILE", "Where the object is written"))?
+        .arg(dependencies_arg(alloc, "Where the dependency file is written"))?
         .arg(extra_arg(
             alloc,
             "entry",
@@ -132,6 +139,7 @@ fn record_command<'a>(alloc: Global) -> Result<Command<'a>, Error> {
             "FILE",
             "What the compilation printed on standard error",
         ))?
+        .arg(dependencies_arg(alloc, "The dependency file that the compilation wrote"))?
         .arg(extra_arg(
             alloc,
             "entry-out",

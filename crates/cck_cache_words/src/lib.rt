@@ -11,4 +11,4 @@ mod task;
 
 pub use request::Request;
 pub use stamp::stamp_of;
-pub use task::{Compilation, Look, Made, Packed, Task, task_of};
+pub use task::{Compilation, Look, Made, Outputs, Packed, Task, task_of};

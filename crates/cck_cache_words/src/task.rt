@@ -2,7 +2,7 @@
 ghost use Rattle.std.specs.Prelude.{MatchOption, ℕ, ℤ, Option};
 ghost use Rattle.std.specs.Option.{option_map};
 ghost use Rattle.clap.specs.Matches.{found_of};
-ghost use Rattle.cck_cache_words.specs.Task.{IsMade, IsPacked, IsSince, IsSize, MadeWords, PackedWords, made_words, packed_words};
+ghost use Rattle.cck_cache_words.specs.Task.{IsMade, IsOutputs, IsPacked, IsSince, IsSize, MadeWords, OutputWords, PackedWords, made_words, output_words, packed_words};
 
 use crate::command_line::program;
 use crate::request::{Request, request_of};
@@ -11,6 +11,16 @@ use cck_path::Timestamp;
 use clap::{ArgMatches, Error};
 use std::alloc::{AllocError, Global};
 
+/// Where the parts of an object file are written.
+#[derive(Drop)]
+pub struct Outputs<'a> {
+    /// The path to which the object is written.
+    pub object: &'a str,
+    /// The path to which the contents of the dependency file are written, if the compilation writes
+    /// one.
+    pub dependencies: Option<&'a str>,
+}
+
 /// What the words of `look` ask for.
 #[derive(Drop)]
 pub struct Look<'a> {
@@ -18,8 +28,8 @@ pub struct Look<'a> {
     pub store: &'a str,
     /// The path of an entry file that is read in place of the store's.
     pub entry: Option<&'a str>,
-    /// The path to which the object is written.
-    pub out: &'a str,
+    /// Where the parts of the object file are written.
+    pub outputs: Outputs<'a>,
     /// The request.
     pub request: Request<'a>,
 }
@@ -48,6 +58,8 @@ pub struct Made<'a> {
     pub object: &'a str,
     /// The path of what the compiler printed when the object was made.
     pub messages: &'a str,
+    /// The path of the dependency file, if the compiler wrote one.
+    pub dependencies: Option<&'a str>,
 }
 
 /// An object file that is not in the store.
@@ -57,8 +69,8 @@ pub struct Packed<'a> {
     pub key: &'a str,
     /// The path of the object file.
     pub path: &'a str,
-    /// The path to which the object is written.
-    pub out: &'a str,
+    /// Where its parts are written.
+    pub outputs: Outputs<'a>,
 }
 
 /// What the words ask for.
@@ -107,12 +119,23 @@ pub enum Task<'a> {
     },
 }
 
+// Where the parts of an object file are written, in the words of `look` and of `unpack`.
+fn outputs_of<'a>(matches: &ArgMatches<'a>) -> Option<Outputs<'a>>
+    ensures { MatchOption result ((words : OutputWords) → IsOutputs (found_of matches.now) words → ⊥)
+        (λ outputs. IsOutputs (found_of matches.now) (output_words outputs)) }
+{
+    Some(Outputs {
+        object: matches.get_str("out")?,
+        dependencies: matches.get_str("dependencies"),
+    })
+}
+
 // The task in the words of `look`.
 fn look_task<'a>(matches: &ArgMatches<'a>, request: Request<'a>) -> Option<Task<'a>> {
     Some(Task::Look(Look {
         store: matches.get_str("STORE")?,
         entry: matches.get_str("entry"),
-        out: matches.get_str("out")?,
+        outputs: outputs_of(matches)?,
         request,
     }))
 }
@@ -125,19 +148,27 @@ fn packed_of<'a>(matches: &ArgMatches<'a>) -> Option<Packed<'a>>
     Some(Packed {
         key: matches.get_str("key")?,
         path: matches.get_str("object")?,
-        out: matches.get_str("out")?,
+        outputs: outputs_of(matches)?,
     })
 }
 
-// What the compiler made, in the words of `record`: both paths, or none of them. `None` where there
-// is one of them alone.
+// What the compiler made, in the words of `record`: the paths of the object and of the messages, and
+// with them that of the dependency file if it is given; or no path. `None` for all other words.
 fn made_of<'a>(matches: &ArgMatches<'a>) -> Option<Option<Made<'a>>>
     ensures { MatchOption result ((words : Option MadeWords) → IsMade (found_of matches.now) words → ⊥)
         (λ made. IsMade (found_of matches.now) (option_map made_words made)) }
 {
-    match (matches.get_str("object"), matches.get_str("messages")) {
-        (Some(object), Some(messages)) => Some(Some(Made { object, messages })),
-        (None, None) => Some(None),
+    match (
+        matches.get_str("object"),
+        matches.get_str("messages"),
+        matches.get_str("dependencies"),
+    ) {
+        (Some(object), Some(messages), dependencies) => Some(Some(Made {
+            object,
+            messages,
+            dependencies,
+        })),
+        (None, None, None) => Some(None),
         _ => None,
     }
 }
@@ -220,7 +251,8 @@ fn store_task<'a>(name: &str, matches: &ArgMatches<'a>) -> Option<Task<'a>> {
 }
 
 /// Reads what these words ask for. The first is the program's name. `None` is returned where a
-/// stamp is no time, a size no number, or one of object and messages is missing.
+/// stamp is no time, a size no number, one of object and messages is missing, or dependencies come
+/// without an object.
 ///
 /// The error is clap's: for wrong words, for `--help` and for `--version`, with the text to be
 /// printed, or for lack of memory.
