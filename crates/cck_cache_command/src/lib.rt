@@ -9,6 +9,7 @@ mod absence;
 mod environment;
 mod input;
 mod look;
+mod outputs;
 mod program;
 mod prune;
 mod record;

@@ -2,12 +2,13 @@
 use crate::absence::first_present;
 use crate::environment::Environment;
 use crate::input::input_snapshot;
+use crate::outputs::has_outputs;
 use crate::request::{hasher_of, snapshot_request};
 use anyhow::Result;
 use cck_cache_entry::{EntryFile, ObjectFile};
 use cck_cache_files::{Kind, StoreDirectory, add_file};
 use cck_cache_rules::{entry_in, object_in};
-use cck_cache_words::Request;
+use cck_cache_words::{Look, Outputs};
 use cck_entry::PreprocessorCacheEntry;
 use cck_files::MapFiles;
 use cck_path::Timestamp;
@@ -28,7 +29,7 @@ pub enum Found {
         preprocessor_key: String,
         /// The key of the object.
         key: String,
-        /// What the compiler printed when the object was made.
+        /// What the compiler made.
         object: ObjectFile,
     },
     /// No object.
@@ -141,10 +142,12 @@ fn miss<R: Files + AllocGlobal>(
     })
 }
 
-// What the store has of a key that a result of the entry of a preprocessor key names.
+// What the store has of a key that a result of the entry of a preprocessor key names. An object file
+// without what is to be written counts as absent, so that it is recorded again.
 fn kept_object<R: Files + AllocGlobal>(
     rt: &R,
     store: &StoreDirectory,
+    outputs: &Outputs<'_>,
     preprocessor_key: String,
     key: String,
 ) -> Result<Found> {
@@ -152,11 +155,12 @@ fn kept_object<R: Files + AllocGlobal>(
         return miss(rt, store, preprocessor_key, Some(key), None);
     };
     match object_in::<Sha256State>(rt.alloc(), key.as_str(), &bytes)? {
-        Some(object) => Ok(Found::Hit {
+        Some(object) if has_outputs(&object, outputs) => Ok(Found::Hit {
             preprocessor_key,
             key,
             object,
         }),
+        Some(_) => miss(rt, store, preprocessor_key, Some(key), None),
         None => {
             let path = store.path_of(rt, Kind::Object, key.as_str())?;
             miss(rt, store, preprocessor_key, Some(key), Some(path))
@@ -164,16 +168,15 @@ fn kept_object<R: Files + AllocGlobal>(
     }
 }
 
-/// Looks for the object of a request. The entry file is that at `entry`, if a path is given, and else
-/// the store's.
+/// Looks for the object of a request.
 pub fn look<R: Files + AllocGlobal>(
     rt: &R,
     environment: &Environment<'_>,
     store: &StoreDirectory,
-    entry: Option<&str>,
-    request: &Request<'_>,
+    wanted: &Look<'_>,
 ) -> Result<Found> {
     let alloc = rt.alloc();
+    let (request, entry) = (&wanted.request, wanted.entry);
     let hasher = hasher_of(rt, environment, request)?;
     let mut files = input_snapshot(rt, request)?.files;
     let asked = snapshot_request(
@@ -198,7 +201,7 @@ pub fn look<R: Files + AllocGlobal>(
         Kept::Entry(file) => file,
     };
     match matching_key(rt, &asked, &mut files, key.as_str(), &file)? {
-        Some(object) => kept_object(rt, store, key, object),
+        Some(object) => kept_object(rt, store, &wanted.outputs, key, object),
         None => miss(rt, store, key, None, None),
     }
 }

@@ -2,6 +2,7 @@
 use crate::environment::Environment;
 use crate::input::input_snapshot;
 use crate::look::{Found, NO_KEY, look};
+use crate::outputs::write_outputs;
 use crate::prune::prune;
 use crate::record::{Outcome, object_key, record};
 use crate::request::{hasher_of, snapshot_request};
@@ -56,7 +57,8 @@ fn run_key<R: Files + AllocGlobal, W: Write>(
     }
 }
 
-// Looks for an object, and writes it. The compiler's messages go to `errors`.
+// Looks for an object, and writes it, with the dependency file if there is a path for it. The compiler's
+// messages go to `errors`.
 fn run_look<R: Files + AllocGlobal, W: Write, E: Write>(
     rt: &R,
     environment: &Environment<'_>,
@@ -65,14 +67,13 @@ fn run_look<R: Files + AllocGlobal, W: Write, E: Write>(
     writer: &mut W,
     errors: &mut E,
 ) -> Result<u8> {
-    match look(rt, environment, store, asked.entry, &asked.request)? {
+    match look(rt, environment, store, asked)? {
         Found::Hit {
             preprocessor_key,
             key,
             object,
         } => {
-            store.replace(rt, asked.out, &object.object)?;
-            errors.write_all(&object.messages)?;
+            write_outputs(rt, store, &asked.outputs, &object, errors)?;
             // Neither a time nor a count decides whether this is a hit.
             let _ = store.touch(rt, Kind::Object, key.as_str(), environment.now);
             let _ = store.touch(rt, Kind::Entry, preprocessor_key.as_str(), environment.now);
@@ -106,7 +107,8 @@ fn run_look<R: Files + AllocGlobal, W: Write, E: Write>(
     }
 }
 
-// Writes the object of an object file. The compiler's messages go to `errors`.
+// Writes the object of an object file, with the dependency file if there is a path for it. The
+// compiler's messages go to `errors`.
 fn run_unpack<R: Files + AllocGlobal, W: Write, E: Write>(
     rt: &R,
     store: &StoreDirectory,

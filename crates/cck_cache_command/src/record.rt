@@ -148,6 +148,14 @@ fn write_files<R: Files + AllocGlobal>(
     Ok(())
 }
 
+// The contents of the file at this path, if one is given, and else nothing.
+fn read_some<R: Files + AllocGlobal>(rt: &R, path: Option<&str>) -> io::Result<Vec<u8>> {
+    match path {
+        Some(path) => fs::read(rt, path),
+        None => Ok(Vec::new(rt.alloc())),
+    }
+}
+
 // The object file of what the compiler made.
 fn object_of<R: Files + AllocGlobal>(
     rt: &R,
@@ -159,15 +167,20 @@ fn object_of<R: Files + AllocGlobal>(
             key: key.as_bytes().to_vec(rt.alloc())?,
             object: fs::read(rt, made.object)?,
             messages: fs::read(rt, made.messages)?,
+            dependencies: read_some(rt, made.dependencies)?,
         })),
         None => Ok(None),
     }
 }
 
-// Whether one of these base directories is in the object or in the messages.
+// Whether one of these base directories is in the object, in the messages or in the dependencies.
 fn object_shows_base(bases: &[Vec<u8>], object: Option<&ObjectFile>) -> bool {
     match object {
-        Some(object) => shows_base(bases, &object.object) || shows_base(bases, &object.messages),
+        Some(object) => {
+            shows_base(bases, &object.object)
+                || shows_base(bases, &object.messages)
+                || shows_base(bases, &object.dependencies)
+        }
         None => false,
     }
 }

@@ -1,4 +1,5 @@
 //! Takes an object from an object file.
+use crate::outputs::{has_outputs, write_outputs};
 use anyhow::Result;
 use cck_cache_files::StoreDirectory;
 use cck_cache_rules::object_in;
@@ -8,8 +9,9 @@ use std::fs;
 use std::io::Write;
 use std::rt::Files;
 
-/// Writes the object that an object file has, and the compiler's messages. `false` where the file is
-/// none of this key: then nothing is written.
+/// Writes the object that an object file has, the dependency file, if there is a path for it, and the
+/// compiler's messages. `false` where the file is none of this key, or has no dependencies for such a
+/// path: then nothing is written.
 pub fn unpack<R: Files + AllocGlobal, E: Write>(
     rt: &R,
     store: &StoreDirectory,
@@ -20,7 +22,9 @@ pub fn unpack<R: Files + AllocGlobal, E: Write>(
     let Some(object) = object_in::<Sha256State>(rt.alloc(), packed.key, &bytes)? else {
         return Ok(false);
     };
-    store.replace(rt, packed.out, &object.object)?;
-    errors.write_all(&object.messages)?;
+    if !has_outputs(&object, &packed.outputs) {
+        return Ok(false);
+    }
+    write_outputs(rt, store, &packed.outputs, &object, errors)?;
     Ok(true)
 }
