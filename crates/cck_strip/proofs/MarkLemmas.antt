@@ -4,7 +4,7 @@ use Rattle.std.specs.Int.{bit_at}
 use Rattle.std.proofs.lemmas.Bool.{cases_lt}
 use Rattle.memchr.specs.Find.{OccursAt}
 use Rattle.cck_strip.specs.Beginnings.{AllBegin}
-use Rattle.cck_strip.specs.Lanes.{Marks}
+use Rattle.cck_strip.specs.Lanes.{MarksWord}
 use Rattle.cck_strip.specs.Text.{is_boundary, text_site}
 use Rattle.cck_strip.proofs.SoughtLemmas.{text_site-beginning, text_site-beyond, text_site-inside}
 
@@ -13,7 +13,7 @@ abbrev pub NoneUpTo : (ℕ → ℕ) → ℕ → ℕ → Type 0
 NoneUpTo site from at = (k : ℕ) → from ≤ k → k < at → site k ≡ 0
 
 -- the first n marks are not set
-pub passed_marks : (words : List (List ℕ)) (text bytes : List ℕ) (from at marks n : ℕ) → AllBegin words bytes → Marks text bytes at marks
+pub passed_marks : (words : List (List ℕ)) (text bytes : List ℕ) (from at marks n : ℕ) → AllBegin words bytes → MarksWord text bytes at marks
     → n ≤ 64 → ((k : ℕ) → k < n → bit_at marks k ≡ 0) → NoneUpTo (text_site words text) from at → NoneUpTo (text_site words text) from (at + n)
 passed_marks words text bytes from at marks n h marked small clear passed k low high = elim (cases_lt k at) [
   | inl before ↦ passed k low before

@@ -1,7 +1,7 @@
 //! Places of a word among 64 places of a text, a bit for each.
 ghost use Rattle.std.specs.Prelude.{◌≡◌, ◌≢◌, ℕ, ◌+◌, ◌<◌, ◌≤◌, length, slice_index};
 ghost use Rattle.std.specs.Int.{bit_at};
-ghost use Rattle.cck_strip.specs.Lanes.{Marks};
+ghost use Rattle.cck_strip.specs.Lanes.{MarksWord};
 
 use std::simd::prelude::*;
 
@@ -29,7 +29,7 @@ fn both_equal(firsts: u8x64, first: u8, lasts: u8x64, last: u8) -> u64
 pub fn word_marks(text: &[u8], at: usize, word: &[u8]) -> u64
     requires some { 0 < length word.now }
     requires room { at + 64 + length word.now ≤ length text.now }
-    ensures { Marks text.now word.now at result }
+    ensures { MarksWord text.now word.now at result }
 {
     let last = word.len() - 1;
     both_equal(load(text, at), word[0], load(text, at + last), word[last])
