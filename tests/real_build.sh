@@ -1,33 +1,41 @@
 #!/bin/sh
-# Builds zlib and lua by `cckcc gcc` and by gcc alone, and compares every object byte for byte: with
-# an empty store, with all hits, after the time of one header changed, and after its contents
-# changed. Run by hand; needs gcc, make and Debian's package archive. Its last line is 'all passed'.
+# Builds zlib and lua by `cckcc gcc` and by gcc alone, and compares every object and every dependency file
+# byte for byte: with an empty store, with all hits, after the time of one header changed, and after its
+# contents changed. Run by hand; needs gcc, make and Debian's package archive. Its last line is 'all passed'.
 set -eu
 top=$(cd "$(dirname "$0")/.." && pwd)
 . "$top/tests/real/common.sh"
 [ -n "${CCK_SOURCES-}" ] || download
 flags='-O2 -g -Wall -DLUA_COMPAT_5_3 -DLUA_USE_POSIX'
+# The options for dependency files, in which make replaces $*, and how many are made for an object.
+dependencies=
+written=0
 jobs=${JOBS:-4}
 
 # Compiles every C file of the working directory by the compiler $1.
 build() {
     make -s -f "$top/tests/real/objects.mk" clean
     : >"$CCK_LOG"
-    make -s -j "$jobs" -f "$top/tests/real/objects.mk" CC="$1" CFLAGS="$flags" 2>"$room/stderr"
+    make -s -j "$jobs" -f "$top/tests/real/objects.mk" CC="$1" CFLAGS="$flags $dependencies" 2>"$room/stderr"
 }
 
-# Compares the objects of the working directory with those in $1, for the step $2.
+# The objects and the dependency files of the working directory.
+made() { find . -maxdepth 1 -name '*.[od]'; }
+
+# Compares the objects and the dependency files of the working directory with those in $1, for the step $2.
 compare() {
-    for object in *.o; do
-        cmp -s "$object" "$1/$object" || fault "$name: $2: $object differs"
+    for file in $(made); do
+        cmp -s "$file" "$1/$file" || fault "$name: $2: $file differs"
     done
+    [ "$(made | wc -l)" = "$(ls "$1"/*.[od] | wc -l)" ] || fault "$name: $2: other files"
 }
 
-# Keeps the plain compiler's objects and messages in $1.
+# Keeps the plain compiler's objects, dependency files and messages in $1.
 plain() {
     build gcc
     mkdir -p "$1"
-    cp ./*.o "$1"
+    cp $(made) "$1"
+    [ "$(ls "$1"/*.d 2>/dev/null | wc -l)" = $(($(ls ./*.c | wc -l) * written)) ] || fault "$name: no dependency files"
     sort "$room/stderr" >"$1/messages"
 }
 
@@ -69,6 +77,21 @@ unpack lua5.4 lua
 name=zlib
 unpack zlib zlib
 (cd "$room/zlib" && try zutil.h && [ $faults -eq 0 ]) || faults=$((faults + 1))
+
+# Unpacks the package $2 for the builds of the name $1 in an empty store, with these options for dependency
+# files, and tries it in its directory $3, whose header $4 is changed.
+try_dependencies() {
+    name=$1 package=$2 place=$3 header=$4 written=1
+    shift 4
+    dependencies=$*
+    rm -rf "$CCK_STORE" "${room:?}/$package"
+    unpack "$package" "$package"
+    (cd "$room/$package/$place" && try "$header" && [ $faults -eq 0 ]) || faults=$((faults + 1))
+    dependencies= written=0
+}
+try_dependencies 'lua with -MD' lua5.4 src lopcodes.h -MD -MP -MF '$*.d'
+try_dependencies 'lua with -MMD' lua5.4 src lopcodes.h -MMD
+try_dependencies 'zlib with -MMD' zlib . zutil.h -MMD -MQ '$*.lo' -MT '$*.d' '-MF$*.d'
 
 # Builds zlib in the directory $1 by its own configure and make, by the compiler $2.
 configured() {

@@ -1,6 +1,6 @@
 #!/bin/sh
 # Recordings that are killed, damaged stores, files that change between two steps, two builds at
-# once and a full device: no look-up gives a wrong object. And what `prune` removes. Run by hand; needs
+# once and a full device: no look-up gives a wrong object or a wrong dependency file. And what `prune` removes. Run by hand; needs
 # gcc and Python 3. KILLS and DAMAGES are the numbers of tries, SEED is the seed. Its last line is
 # 'all passed'.
 set -u

@@ -1,7 +1,7 @@
 #!/bin/sh
-# Each way in which a compiler cache may give a wrong object, as a case: what the wrapper did, and
-# whether its object is the plain compiler's. Where ccache is installed, the same with it. Run by
-# hand; needs gcc. Its last line is 'all passed'.
+# Each way in which a compiler cache may give a wrong object or a wrong dependency file, as a case: what
+# the wrapper did, and whether its object and its dependency file are the plain compiler's. Where ccache is
+# installed, the same with it. Run by hand; needs gcc. Its last line is 'all passed'.
 set -u
 top=$(cd "$(dirname "$0")/.." && pwd)
 . "$top/tests/real/common.sh"
@@ -15,23 +15,40 @@ if command -v ccache >/dev/null; then with_ccache=1; fi
 # Waits until a file that is written now is older than a look-up after this.
 settle() { sleep 0.05; }
 
+# compile NAME COMPILER.. ARG..: compiles to the object NAME.o, and moves the dependency file x.d, if there is
+# one, to NAME.d. Both are in the room.
+compile() {
+    made=$room/$1
+    shift
+    rm -f "$made.o" "$made.d" "$room/x.d"
+    "$@" -o "$made.o"
+    [ ! -e "$room/x.d" ] || mv "$room/x.d" "$made.d"
+}
+
+# Whether the files $1.o and $1.d in the room are those of the plain compiler, or are missing as there:
+# `same` or `differs`.
+compared() {
+    for suffix in o d; do
+        [ -e "$room/plain.$suffix" ] || [ -e "$room/$1.$suffix" ] || continue
+        cmp -s "$room/$1.$suffix" "$room/plain.$suffix" || { echo differs; return; }
+    done
+    echo same
+}
+
 # check LABEL WANTED VERDICT ARG..: compiles by gcc, by the wrapper and by ccache. The wrapper must
 # do WANTED, a pattern of the log's last line. VERDICT is `same`, or `differs` for what escapes.
 check() {
     label=$1 wanted=$2 verdict=$3
     shift 3
     : >"$CCK_LOG"
-    gcc "$@" -o "$room/plain.o"
-    rm -f "$room/cached.o" "$room/ccached.o"
-    cckcc gcc "$@" -o "$room/cached.o"
+    compile plain gcc "$@"
+    compile cached cckcc gcc "$@"
     did=$(sed -n '$s/^cckcc: //p' "$CCK_LOG" | cut -c 1-40)
-    object=same
-    cmp -s "$room/cached.o" "$room/plain.o" || object=differs
+    object=$(compared cached)
     other=
     if [ -n "$with_ccache" ]; then
-        ccache gcc "$@" -o "$room/ccached.o" 2>/dev/null
-        other='; ccache: same'
-        cmp -s "$room/ccached.o" "$room/plain.o" || other='; ccache: differs'
+        compile ccached ccache gcc "$@" 2>/dev/null
+        other="; ccache: $(compared ccached)"
     fi
     case $did in
     hit*) short=hit ;;
@@ -43,7 +60,29 @@ check() {
     $wanted) ;;
     *) fault "$label: did '$did' and not '$wanted'" ;;
     esac
-    [ "$object" = "$verdict" ] || fault "$label: the object $object"
+    [ "$object" = "$verdict" ] || fault "$label: the object or the dependency file: $object"
+}
+
+# check_files LABEL ARG..: the files that gcc makes with these arguments in an empty directory, and those of
+# the wrapper, when it misses and when it hits.
+check_files() {
+    label=$1
+    shift
+    for step in plain miss hit; do
+        rm -rf "$room/made" "${room:?}/$step"
+        mkdir -p "$room/made/a.b" "$room/made/.deps"
+        : >"$CCK_LOG"
+        case $step in
+        plain) (cd "$room/made" && gcc "$@") ;;
+        *)
+            (cd "$room/made" && cckcc gcc "$@")
+            grep -q "^cckcc: $step " "$CCK_LOG" || fault "$label: no $step"
+            ;;
+        esac
+        mv "$room/made" "$room/$step"
+        diff -r "$room/plain" "$room/$step" >/dev/null || fault "$label: a $step makes other files"
+    done
+    echo "$label: $(cd "$room/hit" && find . -type f | sort | tr '\n' ' ')"
 }
 
 # The search path.
@@ -85,6 +124,81 @@ check 'the same again' 'hit *' same -c g.c -Ib
 echo 'int more = 1;' >s/g.h
 settle
 check 'a new header where the second include looks first' 'miss *' same -c g.c -Ib
+
+# Dependency files.
+depends="-MD -MP -MT x.o -MF $room/x.d"
+mkdir -p d1 d2
+echo 'int d = 1;' >d2/d.h
+echo '#include "d.h"' >depends.c
+settle
+check 'a dependency file' 'miss *' same -c depends.c -Id1 -Id2 $depends
+check 'the same again' 'hit *' same -c depends.c -Id1 -Id2 $depends
+cp d2/d.h d1/d.h
+settle
+check 'the same header earlier in the search path' 'miss *' same -c depends.c -Id1 -Id2 $depends
+check 'the same again' 'hit *' same -c depends.c -Id1 -Id2 $depends
+rm d1/d.h
+check 'it is removed, and the other takes its place' 'miss *' same -c depends.c -Id1 -Id2 $depends
+check 'the same again' 'hit *' same -c depends.c -Id1 -Id2 $depends
+echo '#include "more.h"' >>d2/d.h
+: >d2/more.h
+settle
+check 'the header includes an empty one' 'miss *' same -c depends.c -Id1 -Id2 $depends
+check 'the same again' 'hit *' same -c depends.c -Id1 -Id2 $depends
+mv d2/more.h d1/more.h
+check 'the empty one is in another directory' 'miss *' same -c depends.c -Id1 -Id2 $depends
+check 'the same again' 'hit *' same -c depends.c -Id1 -Id2 $depends
+check 'without system headers' 'miss *' same -c depends.c -Id1 -Id2 -MMD -MQ 'a$b' -MT x.o "-MF$room/x.d"
+check 'the same again' 'hit *' same -c depends.c -Id1 -Id2 -MMD -MQ 'a$b' -MT x.o "-MF$room/x.d"
+check 'an imacros file' 'miss *' same -c depends.c -Id1 -Id2 -imacros b/h.h $depends
+check 'no dependency file' 'miss *' same -c depends.c -Id1 -Id2
+check 'a dependency file again' 'hit *' same -c depends.c -Id1 -Id2 $depends
+for file in "$CCK_STORE"/objects/*/*; do printf x | dd of="$file" bs=1 seek=300 conv=notrunc 2>/dev/null; done
+check 'a damaged object with its dependencies' 'miss *' same -c depends.c -Id1 -Id2 $depends
+check 'the same again' 'hit *' same -c depends.c -Id1 -Id2 $depends
+check 'a dependency file that is a device' 'passed on (output)*' same -c depends.c -Id1 -Id2 -MD -MF /dev/null
+ln -s "$room/linked.d" linked.d
+check 'a dependency file that is a link' 'passed on (output)*' same -c depends.c -Id1 -Id2 -MD -MF linked.d
+check '-MM' 'passed on (dependencies)*' same -c depends.c -Id1 -Id2 -MM
+check '-MG' 'passed on (dependencies)*' same -c depends.c -Id1 -Id2 -MG -MM
+check 'a long option for dependencies' 'passed on (dependencies)*' same -c depends.c -Id1 -Id2 \
+    --write-dependencies -MT x.o -MF "$room/x.d"
+echo 'int marked;' >marked.h
+printf '#include "marked.h"\nint w;\n' >marked.c
+cp marked.c marked.first
+settle
+check 'a header' 'miss *' same -c marked.c $depends
+printf '# 1 "marked.h" 1\nint marked;\n# 2 "marked.c" 2\nint w;\n' >marked.c
+settle
+check 'its text and its line markers in the input' 'miss *' same -c marked.c $depends
+mv marked.first marked.c
+settle
+check 'the first input again: escapes' 'hit *' differs -c marked.c $depends
+rm -f "$room/plain.d" "$room/cached.d" "$room/ccached.d"
+work=$room/work
+check_files 'a point in the directory' -MD -I"$work/d2" -I"$work/d1" -c "$work/depends.c" -o a.b/foo
+check_files 'two points' -MD -I"$work/d2" -I"$work/d1" -c "$work/depends.c" -o foo.bar.o
+check_files 'a point at the start' -MD -I"$work/d2" -I"$work/d1" -c "$work/depends.c" -oa.b/.foo
+check_files 'no point' -MD -I"$work/d2" -I"$work/d1" -c "$work/depends.c" -o foo
+check_files 'no output' -MMD -I"$work/d2" -I"$work/d1" -c "$work/depends.c"
+cp depends.c depends.two.c
+settle
+check_files 'no output, two points' -MD -I"$work/d2" -I"$work/d1" -c "$work/depends.two.c"
+check_files 'special characters' -MD -MP -I"$work/d2" -I"$work/d1" -c "$work/depends.c" -o 'a b$#:.o'
+check_files 'the last one counts' -MD -MMD -MFone -MF two -I"$work/d2" -I"$work/d1" -c "$work/depends.c" -o foo.o
+check_files 'as automake' -MT foo.o -MD -MP -MF .deps/foo.Tpo -I"$work/d2" -I"$work/d1" -c -o foo.o "$work/depends.c"
+check_files 'as CMake' -I"$work/d2" -I"$work/d1" -MD -MT a.b/foo.c.o -MF a.b/foo.c.o.d -o a.b/foo.c.o -c "$work/depends.c"
+check_files 'a directory with the name of an option' -MD -I"$work/d2" -I -MF -I"$work/d1" -c "$work/depends.c" -o foo.o
+
+# A header that is not read, since one with its size, its time and its contents was read.
+printf '#pragma once\nstatic int n = 1;\n' >d1/once.h
+cp -p d1/once.h d2/once.h
+printf '#include "d1/once.h"\n#include "d2/once.h"\nint f(void) { return n; }\n' >once.c
+settle
+check 'two equal headers of one time with #pragma once' 'miss *' same -c once.c
+printf '#pragma once\nint g(void) { return 2; }\n' >d2/once.h
+settle
+check 'the second one changed: escapes' 'hit *' differs -c once.c
 
 # Tests for the existence of a header.
 printf '#if __has_include("opt.h")\nint v = 2;\n#else\nint v = 1;\n#endif\n' >y.c
@@ -177,7 +291,6 @@ echo '#line 1 "gram.y"' >gen.c
 echo 'int e;' >>gen.c
 settle
 check '#line of no file' 'refused-named-file *' same -c gen.c
-check '-MD' 'passed on (dependencies)*' same -c x.c -Ib -MD -MF "$room/x.d"
 check '-march=native' 'passed on (native)*' same -c x.c -Ib -march=native
 check '-Wp,' 'passed on (preprocessor-option)*' same -c x.c -Ib -Wp,-DX
 check '-Wa,' 'passed on (assembler-option)*' same -c x.c -Ib -Wa,--noexecstack

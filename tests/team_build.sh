@@ -1,6 +1,6 @@
 #!/bin/sh
-# Builds lua in three directories by one store on a Redis server, and compares every object byte for byte
-# with the plain compiler's of its directory: a store that one checkout fills and the others use, two
+# Builds lua in three directories by one store on a Redis server, and compares every object and every
+# dependency file byte for byte with the plain compiler's of its directory: a store that one checkout fills and the others use, two
 # builds at once, a server that is killed, that comes back empty, that evicts, that is full, that is slow
 # or cuts its replies, a user that may only read, and values that are damaged by hand. Nothing may fail, and no
 # object may be wrong. Run by hand; needs gcc, make, Python 3, Debian's redis-server and redis-tools, and
@@ -40,6 +40,17 @@ built 'the third one again' three "$all" 0
 echo "the server has $(count_of object) objects and $(count_of entry) entries"
 [ "$(count_of object)" = "$all" ] || fault 'checkouts do not share objects'
 [ "$(count_of entry)" = $((3 * all)) ] || fault 'a checkout has no entries'
+
+# Dependency files.
+empty
+depends=1
+for checkout in one two; do plain $checkout; done
+built 'dependency files, an empty store' one 0 "$all"
+built 'dependency files, another checkout' two "$all" 0
+built 'dependency files, the same again' two "$all" 0
+built 'dependency files, another machine' one "$all" 0 home=elsewhere2
+depends=
+for checkout in one two; do plain $checkout; done
 
 # Debug information has the directory if no option maps it, so nothing can be shared.
 empty
@@ -107,6 +118,9 @@ shared yes 'a header beside the checkouts' -g $map -DC -I../../common -c x.c
 shared no 'the same by its absolute path' -g -DC -IUP/common -c x.c
 shared no 'a sanitizer' -fsanitize=undefined -g $map -c x.c
 shared no 'compressed debug information' -g -gz $map -c x.c
+shared yes 'a dependency file' -g $map -DH -I../include -c x.c -MD -MP -MT x.o -MF x.d
+shared no 'a dependency file by its absolute path' -g $map -c x.c -MD -MT x.o -MF BASE/src/x.d
+shared no 'a target by its absolute path' -g $map -c x.c -MD -MQ BASE/src/x.o -MF x.d
 shared no 'another directory of the checkout' -g $map -DD=1 -c x.c second=other
 
 # A directory before the server.

@@ -1,4 +1,4 @@
-"""Builds with random edits between them: each object is the plain compiler's. Run by
+"""Builds with random edits between them: each object and each dependency file is the plain compiler's. Run by
 tests/real_edits.sh, in the directory of the sources, with the wrapper in PATH."""
 import collections
 import glob
@@ -21,7 +21,7 @@ headers = sorted(glob.glob("*.h"))
 original = {name: open(name, "rb").read() for name in sources + headers}
 flags = list(FLAGS)
 edits = collections.Counter()
-made = 0
+made = dependencies = 0
 
 
 def write(name, contents):
@@ -129,8 +129,9 @@ def unlink():
 
 
 def change_flags():
-    """Another macro or optimization on the command line."""
+    """Another macro or optimization on the command line, or dependency files."""
     flags[:] = FLAGS + chance.choice([[], [], ["-DCCK_FLAG=%d" % chance.randrange(3)], ["-O0"]])
+    flags.extend(chance.choice([[], ["-MD", "-MP"], ["-MMD"]]))
 
 
 EDITS = [append, append, define, replace, restore, restore, touch, keep_times, put_earlier,
@@ -138,11 +139,11 @@ EDITS = [append, append, define, replace, restore, restore, touch, keep_times, p
 
 
 def make(compiler):
-    """Builds all objects by this compiler, and returns them by their names."""
+    """Builds all objects by this compiler, and returns them and the dependency files by their names."""
     words = ["make", "-s", "-k", "-f", MAKEFILE, "-j", JOBS, "CC=" + compiler, "CFLAGS=" + " ".join(flags)]
     subprocess.run(["make", "-s", "-f", MAKEFILE, "clean"], check=True)
     done = subprocess.run(words, capture_output=True, check=False)
-    return {name: read(name) for name in glob.glob("*.o")}, sorted(done.stderr.split(b"\n"))
+    return {name: read(name) for name in glob.glob("*.[od]")}, sorted(done.stderr.split(b"\n"))
 
 
 def without_make(lines):
@@ -158,7 +159,8 @@ for build in range(BUILDS):
         edit()
     cached, said = make("cckcc gcc")
     plain, expected = make("gcc")
-    made += len(plain)
+    made += sum(name.endswith(".o") for name in plain)
+    dependencies += sum(name.endswith(".d") for name in plain)
     names = [name for name in sorted(set(cached) | set(plain)) if cached.get(name) != plain.get(name)]
     if without_make(said) != without_make(expected):
         names.append("the messages")
@@ -167,7 +169,7 @@ for build in range(BUILDS):
     differing += len(names)
 with open(LOG, encoding="utf-8", errors="replace") as file:
     words = collections.Counter(" ".join(line.split()[1:3]).split(" ")[0] for line in file)
-print(f"{BUILDS} builds, {made} objects, {sum(edits.values())} edits: {dict(sorted(edits.items()))}")
+print(f"{BUILDS} builds, {made} objects, {dependencies} dependency files, {sum(edits.values())} edits: {dict(sorted(edits.items()))}")
 print("the log:", dict(sorted(words.items())))
 if differing:
     print(f"{differing} failed")

@@ -1,5 +1,5 @@
 """Recordings that are killed, stores that are damaged, files that change between two steps, two
-builds at once and a full device: never a wrong object. And what `prune` removes. Run by tests/real_faults.sh, in an empty
+builds at once and a full device: never a wrong object or a wrong dependency file. And what `prune` removes. Run by tests/real_faults.sh, in an empty
 directory, with the program's path in CCK_PROGRAM and the wrapper in PATH."""
 import os
 import random
@@ -47,12 +47,24 @@ def contents(name):
         return file.read()
 
 
+def words_of(source):
+    """The words of a compilation that writes a dependency file, without those that name what it writes."""
+    return ["-c", source, "-MD", "-MT", "o.o"]
+
+
+def made(name):
+    """The contents of an object and of the dependency file beside it, if they are there."""
+    return [contents(path) if os.path.exists(path) else None for path in (name + ".o", name + ".d")]
+
+
 def look(source, store=STORE):
-    """The words that a look-up prints, and the object that it writes."""
-    if os.path.exists("got.o"):
-        os.unlink("got.o")
-    words = text_of([PROGRAM, "look", store, "--out", "got.o", *REQUEST, source, "--", "-c", source]).split()
-    return words, contents("got.o") if os.path.exists("got.o") else None
+    """The words that a look-up prints, and the object and the dependency file that it writes."""
+    for name in ("got.o", "got.d"):
+        if os.path.exists(name):
+            os.unlink(name)
+    words = text_of([PROGRAM, "look", store, "--out", "got.o", "--dependencies", "got.d", *REQUEST, source, "--",
+                     *words_of(source)]).split()
+    return words, made("got")
 
 
 def preprocess(source):
@@ -61,16 +73,18 @@ def preprocess(source):
                        env={**os.environ, "LC_ALL": "C"})
 
 
-def compile_(source, out="o.o"):
+def compile_(source, name="o"):
+    """Compiles to an object and a dependency file of this name."""
     with open("messages", "wb") as messages:
-        subprocess.run(["gcc", "-c", source, "-o", out], stderr=messages, check=False)
+        subprocess.run(["gcc", *words_of(source), "-MF", name + ".d", "-o", name + ".o"], stderr=messages, check=False)
 
 
 def start_record(source, missed, store=STORE):
     """Begins to record what was compiled after this look-up."""
     return subprocess.Popen(
         [PROGRAM, "record", store, "--since", missed[2], "--key", missed[1], "--object", "o.o",
-         "--search", "search", "--messages", "messages", *REQUEST, source, "--", "-c", source],
+         "--dependencies", "o.d", "--search", "search", "--messages", "messages", *REQUEST, source, "--",
+         *words_of(source)],
         stdin=open("text", "rb"), stdout=subprocess.PIPE, stderr=subprocess.DEVNULL, text=True)
 
 
@@ -80,11 +94,11 @@ def record(source, missed, store=STORE):
 
 
 def is_right(source, found, got):
-    """Whether a look-up missed, or wrote the plain compiler's object."""
+    """Whether a look-up missed, or wrote the plain compiler's object and dependency file."""
     if not found or found[0] != "hit":
         return True
-    compile_(source, "plain.o")
-    return got == contents("plain.o")
+    compile_(source, "plain")
+    return got == made("plain")
 
 
 def killed(times):
@@ -163,8 +177,8 @@ def damaged(times):
         record(source, missed)
     plain = {}
     for source in sources:
-        compile_(source, "plain.o")
-        plain[source] = contents("plain.o")
+        compile_(source, "plain")
+        plain[source] = made("plain")
     kept = {path: contents(path) for path in stored()}
     for _ in range(times):
         damage(chance.choice(sorted(kept)), sorted(kept))
@@ -252,14 +266,13 @@ def at_once(number):
     environment = {**os.environ, "CCK_STORE": STORE}
     wrong = 0
     for _ in range(2):
-        running = [subprocess.Popen(["cckcc", "gcc", "-c", f"{name}.c", "-o", f"{name}.{build}.o"], env=environment)
+        running = [subprocess.Popen(["cckcc", "gcc", *words_of(f"{name}.c"), "-o", f"{name}.{build}.o"], env=environment)
                    for name in names for build in (1, 2)]
         for process in running:
             process.wait()
         for name in names:
-            compile_(f"{name}.c", "plain.o")
-            plain = contents("plain.o")
-            wrong += sum(contents(f"{name}.{build}.o") != plain for build in (1, 2))
+            compile_(f"{name}.c", "plain")
+            wrong += sum(made(f"{name}.{build}") != made("plain") for build in (1, 2))
     print(f"two builds at once: {4 * number} objects, {wrong} wrong")
     if wrong:
         faults.append("two builds at once")

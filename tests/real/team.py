@@ -109,10 +109,24 @@ def damaged(way, data, others):
     elif way == "another's":
         data = bytearray(chance.choice(others))
     elif way == "version":
-        data = bytearray(bytes(data).replace(b" 1\n", b" 2\n", 1))
+        end = data.index(b"\n")
+        data[end - 1:end] = b"1" if data[end - 1:end] == b"2" else b"2"
     else:
         data = bytearray(b"hello")
     return bytes(data)
+
+
+def words_of(name):
+    """The words of a compilation that writes a dependency file beside the object."""
+    return ["-c", name + ".c", "-MD", "-MT", name]
+
+
+def contents(path):
+    """The contents of a file, if it is there."""
+    if not os.path.exists(path):
+        return None
+    with open(path, "rb") as file:
+        return file.read()
 
 
 WAYS = ["flip", "flip", "flip", "cut", "cut", "front", "grow", "line feed", "zeros", "another's", "version",
@@ -131,23 +145,22 @@ def damage(port, directory):
     for number, name in enumerate(names):
         with open(name + ".c", "w", encoding="ascii") as file:
             file.write(f"#include <stddef.h>\nint {name} = {number};\n")
-        subprocess.run(["gcc", "-c", name + ".c", "-o", "plain.o"], check=True)
-        with open("plain.o", "rb") as file:
-            plain[name] = file.read()
+        subprocess.run(["gcc", *words_of(name), "-MF", "plain.d", "-o", "plain.o"], check=True)
+        plain[name] = contents("plain.o"), contents("plain.d")
     time.sleep(0.1)
     server = Server(port)
     server.ask(b"FLUSHALL")
 
     def compile_(name):
-        """Whether the wrapper succeeded, whether its object is right, and what it did."""
+        """Whether the wrapper succeeded, whether its object and its dependency file are right, and what it did."""
         with open("log", "w", encoding="ascii"):
             pass
-        if os.path.exists("got.o"):
-            os.unlink("got.o")
-        status = subprocess.run(["cckcc", "gcc", "-c", name + ".c", "-o", "got.o"], env=environment, check=False,
+        for path in ("got.o", "got.d"):
+            if os.path.exists(path):
+                os.unlink(path)
+        status = subprocess.run(["cckcc", "gcc", *words_of(name), "-o", "got.o"], env=environment, check=False,
                                 stderr=subprocess.PIPE)
-        with open("got.o", "rb") as file:
-            right = file.read() == plain[name]
+        right = (contents("got.o"), contents("got.d")) == plain[name]
         with open("log", encoding="utf-8", errors="replace") as file:
             log = file.read()
         return status.returncode == 0 and not status.stderr, right, log

@@ -4,6 +4,7 @@ database=3
 user=
 admin=
 mapped=1
+depends=
 
 # Waits until the command succeeds, for 10 seconds.
 wait_until() {
@@ -70,7 +71,7 @@ empty() {
 }
 
 # The number of values of this kind.
-count_of() { ask_server --scan --pattern "cck:1:$1:*" | wc -l; }
+count_of() { ask_server --scan --pattern "cck:2:$1:*" | wc -l; }
 
 # A number that the server says of itself.
 info() { ask_server INFO | tr -d '\r' | sed -n "s/^$1://p"; }
@@ -88,17 +89,20 @@ flags_of() {
     echo "-O2 -g -Wall -DLUA_COMPAT_5_3 -DLUA_USE_POSIX${mapped:+ -ffile-prefix-map=$room/$1=.}"
 }
 
-# Compiles the C files of the checkout $1 by the compiler $2.
+# Compiles the C files of the checkout $1 by the compiler $2, with dependency files if $depends is set.
 compile() {
     make -s -C "$room/$1/src" -f "$top/tests/real/objects.mk" clean
-    make -s -C "$room/$1/src" -f "$top/tests/real/objects.mk" -j "${JOBS:-4}" CC="$2" CFLAGS="$(flags_of "$1")"
+    make -s -C "$room/$1/src" -f "$top/tests/real/objects.mk" -j "${JOBS:-4}" CC="$2" \
+        CFLAGS="$(flags_of "$1")${depends:+ -MD -MP -MF \$*.d}"
 }
 
-# Keeps the plain compiler's objects of a checkout.
+# Keeps the plain compiler's objects and dependency files of a checkout.
 plain() {
     compile "$1" gcc 2>/dev/null
+    rm -rf "$room/plain_$1"
     mkdir -p "$room/plain_$1"
     cp "$room/$1"/src/*.o "$room/plain_$1"
+    [ -z "$depends" ] || cp "$room/$1"/src/*.d "$room/plain_$1"
 }
 
 # Builds the checkout $1 by the wrapper and the server. Each checkout is on a machine of its own.
@@ -107,13 +111,13 @@ build() {
         HOME=$room/${home:-home_$1} compile "$1" 'cckcc gcc'
 }
 
-# Compares the objects of the checkout $2 with the plain compiler's, after the step $1, and says what the log
-# has.
+# Compares the objects and the dependency files of the checkout $2 with the plain compiler's, after the step $1,
+# and says what the log has.
 compared() {
     number=0
-    for object in "$room/plain_$2"/*.o; do
-        number=$((number + 1))
-        cmp -s "$object" "$room/$2/src/${object##*/}" || fault "$1: ${object##*/} differs"
+    for file in "$room/plain_$2"/*.[od]; do
+        [ "${file%.d}" != "$file" ] || number=$((number + 1))
+        cmp -s "$file" "$room/$2/src/${file##*/}" || fault "$1: ${file##*/} differs"
     done
     hits=$(grep -c '^cckcc: hit' "$room/log_$2" || :)
     misses=$(grep -c '^cckcc: look: miss' "$room/log_$2" || :)
@@ -141,7 +145,7 @@ built() {
 }
 
 # Compiles in the directory $2 of the checkout $1 by gcc and by the wrapper with these arguments, for the step
-# $label, and compares the objects and the messages.
+# $label, and compares the objects, the dependency files x.d, if there are any, and the messages.
 compile_in() {
     checkout=$1 directory=$2
     shift 2
@@ -155,11 +159,15 @@ compile_in() {
     : >"$room/log_in"
     (
         cd "$room/up/$checkout/$directory"
+        rm -f x.d "$room/plain.d" "$room/got.d"
         gcc "$@" -o "$room/plain.o" 2>"$room/plain_messages"
+        [ ! -e x.d ] || mv x.d "$room/plain.d"
         CCK_STORE=redis://127.0.0.1:$port/$database CCK_BASEDIR=$room/up/$checkout CCK_LOG=$room/log_in \
             HOME=$room/home_in cckcc gcc "$@" -o "$room/got.o" 2>"$room/got_messages"
+        [ ! -e x.d ] || mv x.d "$room/got.d"
     ) || fault "$label: a compilation failed"
     cmp -s "$room/plain.o" "$room/got.o" || fault "$label: the object differs"
+    [ ! -e "$room/plain.d" ] || cmp -s "$room/plain.d" "$room/got.d" || fault "$label: the dependency file differs"
     cmp -s "$room/plain_messages" "$room/got_messages" || fault "$label: other messages"
 }
 
