@@ -37,7 +37,7 @@ measure() {
 }
 
 print_table() {
-    echo 'base directories    milliseconds  / copy  / search  instructions a byte   (best of 11)'
+    echo 'base directories    milliseconds  / copy  / search  instructions a byte   (least of 66)'
     awk '
         FNR == NR { if ($1 == "nothing") none = $4; else counts[$1] = ($4 - none) / $2; next }
         { time[$1] = $2; size[$1] = $3; rest[$1] = $4; names[++count] = $1 }

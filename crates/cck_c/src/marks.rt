@@ -17,7 +17,7 @@ const MALFORMED: u8 = 2;
 /// A mark of a text.
 #[repr(C)]
 #[derive(Clone, Copy)]
-pub struct Mark<'a> {
+pub struct CMark<'a> {
     /// Its name, a slice of the text. It is empty for another kind than [`NAME`].
     pub name: &'a [u8],
     /// What it is.
@@ -40,7 +40,7 @@ pub struct UnreadText<'a> {
 ///
 /// The text is replaced by its rest after these marks, for the next call.
 #[unsafe(no_mangle)]
-pub extern "C" fn cck_marks<'a>(unread: &mut UnreadText<'a>, marks: &mut [Mark<'a>]) -> usize
+pub extern "C" fn cck_marks<'a>(unread: &mut UnreadText<'a>, marks: &mut [CMark<'a>]) -> usize
     ensures within { result ≤ length marks.old }
     ensures read { Yields (unread_in unread.old) (map mark_in (take result marks.new)) (unread_in unread.new) }
     ensures all { result < length marks.old → MarksLeft (unread_in unread.new) [] }
@@ -64,21 +64,21 @@ pub extern "C" fn cck_marks<'a>(unread: &mut UnreadText<'a>, marks: &mut [Mark<'
 }
 
 // Returns the mark as it is passed to a caller.
-fn passed(mark: cck_markers::Mark<'_>) -> Mark<'_>
+fn passed(mark: cck_markers::Mark<'_>) -> CMark<'_>
     ensures { mark_in result ≡ mark_of mark.entry }
 {
     match mark {
-        cck_markers::Mark::Name { name, is_system } => Mark {
+        cck_markers::Mark::Name { name, is_system } => CMark {
             name,
             kind: NAME,
             is_system: u8::from(is_system),
         },
-        cck_markers::Mark::Refusal => Mark {
+        cck_markers::Mark::Refusal => CMark {
             name: &[],
             kind: REFUSAL,
             is_system: 0,
         },
-        cck_markers::Mark::Malformed => Mark {
+        cck_markers::Mark::Malformed => CMark {
             name: &[],
             kind: MALFORMED,
             is_system: 0,

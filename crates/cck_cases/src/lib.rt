@@ -33,7 +33,7 @@ pub use case_error::CaseError;
 pub use failing::{FailReader, FailWriter, Failures};
 pub use given::Given;
 pub use program::run_files;
-pub use subject::{Line, Subject};
+pub use subject::{CaseLine, Subject};
 pub use table::find;
 pub use text::{byte_of, bytes_of, moment_of, number, optional_moment_of, variables_of, words_of};
 pub use value::{Value, write_cut, write_moment, write_numbers};

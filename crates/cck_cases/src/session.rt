@@ -2,7 +2,7 @@
 use crate::case_error::CaseError;
 use crate::made::Made;
 use crate::report::Report;
-use crate::subject::{Line, Subject};
+use crate::subject::{CaseLine, Subject};
 use crate::text::bytes_of;
 use crate::value::write_error;
 use std::alloc::Global;
@@ -85,7 +85,7 @@ impl<S: Subject + Drop> Session<S> {
             &mut self.subject,
             self.alloc,
             name,
-            Line {
+            CaseLine {
                 rest,
                 bytes: &bytes,
             },
@@ -132,7 +132,7 @@ fn write_result<S: Subject>(
     subject: &mut S,
     alloc: Global,
     name: &str,
-    line: Line<'_>,
+    line: CaseLine<'_>,
     out: &mut Vec<u8>,
 ) -> Result<(), CaseError> {
     match subject.call(name, line) {

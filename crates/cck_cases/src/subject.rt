@@ -5,7 +5,7 @@ use std::alloc::Global;
 
 /// The line of a call.
 #[derive(Clone, Copy)]
-pub struct Line<'a> {
+pub struct CaseLine<'a> {
     /// The text after the name of the call.
     pub rest: &'a str,
     /// The bytes that the lines before made, and after them those of `rest`.
@@ -28,5 +28,5 @@ pub trait Subject {
     fn is_raw(name: &str) -> bool;
 
     /// Makes the call of this name. The error is [`CaseError::Line`] if there is none.
-    fn call<'a>(&'a mut self, name: &str, line: Line<'a>) -> Result<Value<'a>, CaseError>;
+    fn call<'a>(&'a mut self, name: &str, line: CaseLine<'a>) -> Result<Value<'a>, CaseError>;
 }

@@ -1,6 +1,6 @@
 pub mod Buffer
 pub mod Key
-pub mod KeyRequest
+pub mod ExplainKeyRequest
 pub mod Listing
 pub mod Part
 pub mod Run

@@ -11,17 +11,17 @@ use Rattle.cck_script.specs.Script.{commands_of, wrong_line}
 use Rattle.clap.specs.declared.error.kind.ErrorKind.{ErrorKind}
 use Rattle.clap.specs.declared.error.kind.ErrorKind.TheVariants.{DisplayHelp, DisplayVersion, OutOfMemory}
 use Rattle.cck_explain_command.specs.Key.{key_listing}
-use Rattle.cck_explain_command.specs.KeyRequest.{params_for}
+use Rattle.cck_explain_command.specs.ExplainKeyRequest.{params_for}
 use Rattle.cck_explain_command.specs.Written.{BeginsOf, WritesOf}
-use Rattle.cck_explain_command.specs.declared.request.Request.{Request}
-use Rattle.cck_explain_command.specs.declared.request.Request.TheVariants.{Key, Entry, Markers, Script}
+use Rattle.cck_explain_command.specs.declared.request.ExplainRequest.{ExplainRequest}
+use Rattle.cck_explain_command.specs.declared.request.ExplainRequest.TheVariants.{Key, Entry, Markers, Script}
 
 -- the listing of a script that has no wrong line
 abbrev pub ListsScript : (Bytes → Bytes) → Bytes → Bytes → Type 0
 ListsScript hash text listing = (wrong_line text ≡ None) × script.IsScriptListing hash (commands_of text) listing
 
 -- the listing that is asked for, of this input
-abbrev pub Lists : (Bytes → Bytes) → Request → Bytes → Bytes → Type 0
+abbrev pub Lists : (Bytes → Bytes) → ExplainRequest → Bytes → Bytes → Type 0
 Lists hash (Key request) input listing = listing ≡ key_listing hash request.is_full (params_for request input)
 Lists hash Entry input listing = entry.IsEntryListing input listing
 Lists hash (Markers request) input listing = AreMarkerLines request.input.now request.cwd.now input listing
@@ -36,7 +36,7 @@ abbrev pub HasErrorLine : Option Bytes → Option Bytes → Type 0
 HasErrorLine old new = (why : Bytes) × AppendsBeginning old new (error_line why)
 
 -- what is written for a request, with this status: all of the listing, or a prefix of it
-abbrev pub HasOutcome : (Bytes → Bytes) → Request → Option Bytes → Status → Option Bytes → Option Bytes → Type 0
+abbrev pub HasOutcome : (Bytes → Bytes) → ExplainRequest → Option Bytes → Status → Option Bytes → Option Bytes → Type 0
 HasOutcome hash request input Done old new = IfSome input (λ bytes. WritesOf (Lists hash request bytes) old new)
 HasOutcome hash request input Refused old new = IfSome input (λ bytes. BeginsOf (Lists hash request bytes) old new)
 HasOutcome hash request input Usage old new = ⊥

@@ -4,14 +4,14 @@ ghost use Rattle.std.specs.Io.KnownBytes.{Appends};
 ghost use Rattle.cck_command.specs.Printing.{AppendsBeginning};
 ghost use Rattle.cck_explain_command.specs.Key.{all_cut_lines, arguments_cut_lines, listed_key_line, key_listing};
 ghost use Rattle.cck_path.specs.Bytes.{lists_of};
-ghost use Rattle.cck_explain_command.specs.KeyRequest.{params_for};
+ghost use Rattle.cck_explain_command.specs.ExplainKeyRequest.{params_for};
 ghost use Rattle.cck_explain_command.specs.Listing.{listed_parts, part_lines};
 ghost use Rattle.cck_util.specs.Key.{object_key};
 
 use crate::error::ExplainError;
 use crate::line::put_parts;
 use crate::part::{Part, material_parts};
-use crate::request::KeyRequest;
+use crate::request::ExplainKeyRequest;
 use cck_command::print;
 use cck_explain_cuts::{push_argument_cuts, push_text_cuts};
 use cck_util::{HashKeyParams, HashState, read_all};
@@ -31,7 +31,7 @@ fn push_key(line: &mut Vec<u8>, key: &str) -> Result<(), ExplainError>
 // Returns the key of this request and text. The only error is [`ExplainError::Memory`].
 fn key_of<H: HashState>(
     alloc: Global,
-    request: &KeyRequest<'_>,
+    request: &ExplainKeyRequest<'_>,
     text: &[u8],
 ) -> Result<String, ExplainError>
     ensures { IfOk result (λ key. string_bytes key ≡ object_key H.hash (params_for request.now text.now)) }
@@ -64,7 +64,11 @@ fn push_arguments_cuts(
 }
 
 // Returns a line for each base directory that is cut out of the arguments and the text.
-fn cuts_of(alloc: Global, request: &KeyRequest<'_>, text: &[u8]) -> Result<Vec<u8>, ExplainError>
+fn cuts_of(
+    alloc: Global,
+    request: &ExplainKeyRequest<'_>,
+    text: &[u8],
+) -> Result<Vec<u8>, ExplainError>
     ensures { IfOk result (λ lines. lines.items
         ≡ all_cut_lines (lists_of request.now.basedirs.items) (lists_of request.now.arguments.items) text.now) }
 {
@@ -111,7 +115,7 @@ fn write_listing<W: Write>(
 /// prefix of the listing is then written, which may be empty or all of it.
 pub fn explain_key<H: HashState, R: Read, W: Write>(
     alloc: Global,
-    request: &KeyRequest<'_>,
+    request: &ExplainKeyRequest<'_>,
     reader: &mut R,
     writer: &mut W,
 ) -> Result<(), ExplainError>

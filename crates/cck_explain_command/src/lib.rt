@@ -19,6 +19,6 @@ pub use error::ExplainError;
 pub use key::explain_key;
 pub use markers::explain_markers;
 pub use program::{report, run};
-pub use request::{KeyRequest, MarkersRequest, Request};
+pub use request::{ExplainKeyRequest, ExplainRequest, MarkersRequest};
 pub use script::explain_script;
 pub use words::{language_names, request_of};

@@ -5,10 +5,10 @@ ghost use Rattle.cck_path.specs.Bytes.{lists_of};
 ghost use Rattle.cck_strip.specs.Argument.{stripped_argument};
 ghost use Rattle.cck_util.specs.Key.{key_parts};
 ghost use Rattle.cck_explain_command.specs.Key.{frame_parts, length_part, list_parts, material_parts, part};
-ghost use Rattle.cck_explain_command.specs.KeyRequest.{params_for};
+ghost use Rattle.cck_explain_command.specs.ExplainKeyRequest.{params_for};
 
 use crate::error::ExplainError;
-use crate::request::KeyRequest;
+use crate::request::ExplainKeyRequest;
 use cck_util::{CACHE_VERSION, strip_basedirs, strip_basedirs_from_arg};
 use std::alloc::Global;
 use std::borrow::CowSlice;
@@ -118,7 +118,7 @@ fn push_arguments<'a>(
 /// The only error is [`ExplainError::Memory`].
 pub fn material_parts<'a>(
     alloc: Global,
-    request: &'a KeyRequest<'_>,
+    request: &'a ExplainKeyRequest<'_>,
     text: &'a [u8],
 ) -> Result<Vec<Part<'a>>, ExplainError>
     ensures { IfOk result (λ parts. parts.items ≡ material_parts (key_parts (params_for request.now text.now))) }

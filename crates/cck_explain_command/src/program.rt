@@ -9,7 +9,7 @@ use crate::entry::explain_entry;
 use crate::error::ExplainError;
 use crate::key::explain_key;
 use crate::markers::explain_markers;
-use crate::request::Request;
+use crate::request::ExplainRequest;
 use crate::script::explain_script;
 use cck_command::{Failed, Status, print};
 use cck_explain_entry::Fault;
@@ -119,7 +119,7 @@ fn report_wrong_line<E: Write>(alloc: Global, errors: &mut E, number: u64) -> St
 // Writes the listing that is asked for.
 fn explain<H: HashState, R: Read, W: Write>(
     alloc: Global,
-    request: &Request<'_>,
+    request: &ExplainRequest<'_>,
     reader: &mut R,
     writer: &mut W,
 ) -> Result<(), ExplainError>
@@ -129,17 +129,17 @@ fn explain<H: HashState, R: Read, W: Write>(
         BeginsOf (Lists H.hash request.now bytes) (W.contents writer.old) (W.contents writer.new))) }
 {
     match request {
-        Request::Key(request) => explain_key::<H, R, W>(alloc, request, reader, writer),
-        Request::Entry => explain_entry(alloc, reader, writer),
-        Request::Markers(request) => explain_markers(alloc, *request, reader, writer),
-        Request::Script => explain_script::<H, R, W>(alloc, reader, writer),
+        ExplainRequest::Key(request) => explain_key::<H, R, W>(alloc, request, reader, writer),
+        ExplainRequest::Entry => explain_entry(alloc, reader, writer),
+        ExplainRequest::Markers(request) => explain_markers(alloc, *request, reader, writer),
+        ExplainRequest::Script => explain_script::<H, R, W>(alloc, reader, writer),
     }
 }
 
 // Writes the listing that is asked for, or which error it was.
 fn list<H: HashState, R: Read, W: Write, E: Write>(
     alloc: Global,
-    request: &Request<'_>,
+    request: &ExplainRequest<'_>,
     reader: &mut R,
     writer: &mut W,
     errors: &mut E,
@@ -167,7 +167,7 @@ fn list<H: HashState, R: Read, W: Write, E: Write>(
 /// - With [`Status::Refused`] there was one try to write a line to `errors` that says why.
 pub fn run<H: HashState, R: Read, W: Write, E: Write>(
     alloc: Global,
-    asked: &Result<Option<Request<'_>>, Error>,
+    asked: &Result<Option<ExplainRequest<'_>>, Error>,
     reader: &mut R,
     writer: &mut W,
     errors: &mut E,

@@ -3,7 +3,7 @@ use cck_util::Language;
 
 /// The key that is explained, but for the text that is read.
 #[derive(Drop)]
-pub struct KeyRequest<'a> {
+pub struct ExplainKeyRequest<'a> {
     /// The compiler's digest.
     pub compiler_digest: &'a str,
     /// The language.
@@ -27,9 +27,9 @@ pub struct MarkersRequest<'a> {
 
 /// What is explained.
 #[derive(Drop)]
-pub enum Request<'a> {
+pub enum ExplainRequest<'a> {
     /// A key.
-    Key(KeyRequest<'a>),
+    Key(ExplainKeyRequest<'a>),
     /// An entry of the store.
     Entry,
     /// The line markers of a text.

@@ -1,5 +1,5 @@
 //! The words of the command line.
-use crate::request::{KeyRequest, MarkersRequest, Request};
+use crate::request::{ExplainKeyRequest, ExplainRequest, MarkersRequest};
 use cck_util::Language;
 use clap::{Arg, ArgAction, ArgMatches, Command, Error};
 use std::alloc::{AllocError, Global};
@@ -96,7 +96,10 @@ fn values_of(alloc: Global, matches: &ArgMatches<'_>, id: &str) -> Result<Vec<Ve
 }
 
 // The request for a key, or `None` for a language that has no such name.
-fn key_request<'a>(alloc: Global, key: &ArgMatches<'a>) -> Result<Option<KeyRequest<'a>>, Error> {
+fn key_request<'a>(
+    alloc: Global,
+    key: &ArgMatches<'a>,
+) -> Result<Option<ExplainKeyRequest<'a>>, Error> {
     let (Some(compiler_digest), Some(name)) = (key.get_str("DIGEST"), key.get_str("LANGUAGE"))
     else {
         return Ok(None);
@@ -104,7 +107,7 @@ fn key_request<'a>(alloc: Global, key: &ArgMatches<'a>) -> Result<Option<KeyRequ
     let Ok(language) = name.parse::<Language>() else {
         return Ok(None);
     };
-    Ok(Some(KeyRequest {
+    Ok(Some(ExplainKeyRequest {
         compiler_digest,
         language,
         arguments: values_of(alloc, key, "ARG")?,
@@ -139,19 +142,19 @@ pub fn request_of<'a>(
     alloc: Global,
     languages: &'a [&'a str],
     words: &'a [String],
-) -> Result<Option<Request<'a>>, Error> {
+) -> Result<Option<ExplainRequest<'a>>, Error> {
     let matches = program(alloc, languages)?.try_get_matches_from(words)?;
     let Some((name, of_command)) = matches.subcommand() else {
         return Ok(None);
     };
     if name == "key" {
-        return Ok(key_request(alloc, of_command)?.map(Request::Key));
+        return Ok(key_request(alloc, of_command)?.map(ExplainRequest::Key));
     }
     if name == "entry" {
-        return Ok(Some(Request::Entry));
+        return Ok(Some(ExplainRequest::Entry));
     }
     if name == "script" {
-        return Ok(Some(Request::Script));
+        return Ok(Some(ExplainRequest::Script));
     }
-    Ok(markers_request(of_command).map(Request::Markers))
+    Ok(markers_request(of_command).map(ExplainRequest::Markers))
 }

@@ -1,7 +1,7 @@
 //! The calls of this program.
 use crate::wanted::Wanted;
 use crate::{digests, entries, errors, files, keys, path_map, times};
-use cck_cases::{CaseError, Given, Line, Subject, Value, World, find};
+use cck_cases::{CaseError, CaseLine, Given, Subject, Value, World, find};
 use cck_entry::PreprocessorCacheEntry;
 use cck_path_map::PathMap;
 use cck_util::MapFiles;
@@ -63,7 +63,7 @@ impl Subject for Cases {
         RAW_CALLS.contains(&name)
     }
 
-    fn call<'a>(&'a mut self, name: &str, line: Line<'a>) -> Result<Value<'a>, CaseError> {
+    fn call<'a>(&'a mut self, name: &str, line: CaseLine<'a>) -> Result<Value<'a>, CaseError> {
         if let Some(call) = find(&path_map::CALLS, name) {
             return path_map::call(call, self, line.bytes);
         }

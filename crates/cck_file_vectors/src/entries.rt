@@ -1,7 +1,7 @@
 //! Entries, their bytes, what is added to them, and the look-up.
 use crate::cases::Cases;
 use crate::shown::{write_counts, write_entry, write_includes};
-use cck_cases::{CaseError, FailWriter, Line, Value, number, words_of};
+use cck_cases::{CaseError, CaseLine, FailWriter, Value, number, words_of};
 use cck_entry::{
     EntryView, Error, JudgeContext, KnownFiles, PreprocessorCacheEntry, gather, includes_match,
 };
@@ -44,7 +44,7 @@ pub(crate) const CALLS: [(&str, EntryCall); 13] = [
 pub(crate) fn call<'a>(
     call: EntryCall,
     cases: &'a mut Cases,
-    line: Line<'a>,
+    line: CaseLine<'a>,
 ) -> Result<Value<'a>, CaseError> {
     match call {
         EntryCall::Read => read(cases, line.bytes),

@@ -10,7 +10,7 @@ use Rattle.cck_markers.specs.Markers.{Unread, Yields}
 use Rattle.cck_markers.specs.Searches.{AreSearched, ArePlain, EndsBeforeMarker, IsMarkerSearch, IsSearchFor, starts_line_at}
 use Rattle.cck_markers.specs.declared.search.MarkerSearch.{MarkerSearch}
 use Rattle.cck_markers.specs.declared.search.Searches.{Searches}
-use Rattle.cck_markers.specs.declared.search.WordSearch.{WordSearch}
+use Rattle.cck_markers.specs.declared.search.WordFinder.{WordFinder}
 use Rattle.cck_markers.proofs.Cuts.{slice_from}
 use Rattle.cck_markers.proofs.EachText.{any_true, after_word, marker_starts}
 use Rattle.cck_markers.proofs.ItemLemmas.{gives_both, gives_nothing}
@@ -142,7 +142,7 @@ word_known_after text word size left known within = λ place low high at.
 marker_after : (search : MarkerSearch) (text : List ℕ) (size : ℕ) → IsMarkerSearch search text → size ≤ length text → IsMarkerSearch search (drop size text)
 marker_after search text size known within = λ place low high ends. known (size + place) (omega arith) (omega (arith, high, length-drop size text)) (ends_later text size place ends)
 
-search_after : (word : List ℕ) (search : WordSearch) (text : List ℕ) (size : ℕ) → IsSearchFor word search text → size ≤ length text → IsSearchFor word search (drop size text)
+search_after : (word : List ℕ) (search : WordFinder) (text : List ℕ) (size : ℕ) → IsSearchFor word search text → size ≤ length text → IsSearchFor word search (drop size text)
 search_after word search text size known within = record { word_is = known.word_is; known = word_known_after text word size search.left known.known within }
 
 pub known_after : (searches : Searches) (text : List ℕ) (size : ℕ) → AreSearched searches text → size ≤ length text → AreSearched searches (drop size text)

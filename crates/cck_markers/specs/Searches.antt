@@ -4,14 +4,14 @@ use Rattle.memchr.specs.Find.{Nowhere, OccursAt}
 use Rattle.cck_markers.specs.Marks.{Plain, is_marker, what}
 use Rattle.cck_markers.specs.declared.search.MarkerSearch.{MarkerSearch}
 use Rattle.cck_markers.specs.declared.search.Searches.{Searches}
-use Rattle.cck_markers.specs.declared.search.WordSearch.{WordSearch}
+use Rattle.cck_markers.specs.declared.search.WordFinder.{WordFinder}
 
 -- the word does not occur before the place from which n bytes are left
 abbrev pub IsKnown : ℕ → List ℕ → List ℕ → Type 0
 IsKnown left word text = Nowhere (OccursAt text word) 0 (length text - left)
 
 -- a search is for this word, and the word does not occur before the place that it keeps
-pub record IsSearchFor (word : List ℕ) (search : WordSearch) (text : List ℕ) : Type 0 where
+pub record IsSearchFor (word : List ℕ) (search : WordFinder) (text : List ℕ) : Type 0 where
   pub word_is : search.finder ≡ word
   pub known : IsKnown search.left word text
 

@@ -19,17 +19,17 @@ const INCLUSION: &[u8] = b".incbin";
 // word was found last to the end. It is 0 if there was no such place, and more than a text has
 // before the first search.
 #[derive(Debug, Drop)]
-struct WordSearch {
+struct WordFinder {
     finder: Finder<'static>,
     left: usize,
 }
 
-impl WordSearch {
+impl WordFinder {
     // A search that has not run yet.
-    fn new(word: &'static [u8]) -> WordSearch
+    fn new(word: &'static [u8]) -> WordFinder
         ensures { result ≡ record { finder = word.now; left = 2 ^ 64 - 1 } }
     {
-        WordSearch {
+        WordFinder {
             finder: Finder::new(word),
             left: usize::MAX,
         }
@@ -64,7 +64,7 @@ fn bytes_left(finder: &Finder<'_>, rest: &[u8]) -> usize
     }
 }
 
-// A search for a line's end that a marker follows. `left` is as in a `WordSearch`.
+// A search for a line's end that a marker follows. `left` is as in a `WordFinder`.
 #[derive(Debug, Drop)]
 struct MarkerSearch {
     left: usize,
@@ -134,8 +134,8 @@ fn first_byte(byte: u8, text: &[u8]) -> Option<usize>
 #[derive(Debug, Drop)]
 pub(crate) struct Searches {
     marker: MarkerSearch,
-    hidden: WordSearch,
-    inclusion: WordSearch,
+    hidden: WordFinder,
+    inclusion: WordFinder,
 }
 
 impl Searches {
@@ -145,8 +145,8 @@ impl Searches {
     {
         Searches {
             marker: MarkerSearch::new(),
-            hidden: WordSearch::new(HIDDEN),
-            inclusion: WordSearch::new(INCLUSION),
+            hidden: WordFinder::new(HIDDEN),
+            inclusion: WordFinder::new(INCLUSION),
         }
     }
 

@@ -18,7 +18,7 @@ struct Piece<'a> {
 
 // The text of a macro, and how long its name is.
 #[derive(Clone, Copy)]
-struct Found<'a> {
+struct FoundMacro<'a> {
     text: &'a [u8],
     length: usize,
 }
@@ -76,26 +76,26 @@ fn plain_size(left: &[u8]) -> usize
 
 // The macro at the front.
 #[tactic(auto, unfolding(crate::specs::Printed::macro_at))]
-fn macro_at<'a>(macros: &'a Macros, left: &[u8]) -> Option<Found<'a>>
+fn macro_at<'a>(macros: &'a Macros, left: &[u8]) -> Option<FoundMacro<'a>>
     ensures value { option_map (λ r. (r.text.now, r.length)) result
         ≡ macro_at (macros_seen macros.now) left.now }
     ensures bound { IfSome result (λ r. r.length ≤ length left.now) }
     ensures some { IfSome result (λ r. 0 < r.length) }
 {
     if left.starts_with(b"__DATE__") {
-        return Some(Found {
+        return Some(FoundMacro {
             text: macros.date.as_bytes(),
             length: 8,
         });
     }
     if left.starts_with(b"__TIME__") {
-        return Some(Found {
+        return Some(FoundMacro {
             text: macros.time.as_bytes(),
             length: 8,
         });
     }
     if left.starts_with(b"__TIMESTAMP__") {
-        return Some(Found {
+        return Some(FoundMacro {
             text: macros.timestamp.as_bytes(),
             length: 13,
         });

@@ -1,3 +1,3 @@
 pub mod Laws
 pub mod PreprocessorKey
-pub mod Request
+pub mod PreprocessorKeyRequest

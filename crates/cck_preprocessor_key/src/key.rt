@@ -30,7 +30,7 @@ pub const FORMAT_VERSION: u8 = 2;
 
 // The parts of a request that are hashed for its key, besides those that depend on files.
 #[derive(Drop)]
-struct Request<'a> {
+struct PreprocessorKeyRequest<'a> {
     compiler_digest: &'a str,
     plusplus: bool,
     language: Language,
@@ -44,12 +44,12 @@ struct Request<'a> {
     directory: Option<&'a [u8]>,
 }
 
-impl<'a> Model for Request<'a> {
+impl<'a> Model for PreprocessorKeyRequest<'a> {
     ghost use Rattle.cck_preprocessor_key.specs.PreprocessorKey.{RequestParts};
 
     ghost Value = { RequestParts };
 
-    ghost use Rattle.cck_preprocessor_key.specs.Request.{parts_of};
+    ghost use Rattle.cck_preprocessor_key.specs.PreprocessorKeyRequest.{parts_of};
 
     ghost view = { parts_of };
 }
@@ -67,7 +67,7 @@ fn hashed_directory(config: PreprocessorCacheModeConfig, cwd: &[u8]) -> Option<&
 
 // Returns a digest that was fed the versions, the compiler and how it is run.
 #[tactic(auto, unfolding(crate::specs::PreprocessorKey::compiler_material))]
-fn compiler_material<H: HashState>(request: &Request<'_>) -> Digest<H>
+fn compiler_material<H: HashState>(request: &PreprocessorKeyRequest<'_>) -> Digest<H>
     ensures { H.holds result (compiler_material request.now) }
 {
     let mut digest = Digest::<H>::new();
@@ -84,7 +84,7 @@ fn compiler_material<H: HashState>(request: &Request<'_>) -> Digest<H>
 #[tactic(auto, unfolding(crate::specs::PreprocessorKey::preprocessor_material))]
 fn key_text<H: HashState>(
     alloc: Global,
-    request: &Request<'_>,
+    request: &PreprocessorKeyRequest<'_>,
     extra_hashes: &[String],
     recorded: &str,
 ) -> Result<String, UtilError>
@@ -175,7 +175,7 @@ pub fn preprocessor_cache_entry_hash_key<H: HashState, F: Files>(
     let Some(recorded) = recorded else {
         return Ok(None);
     };
-    let request = Request {
+    let request = PreprocessorKeyRequest {
         compiler_digest,
         plusplus,
         language,

@@ -21,7 +21,7 @@ pub(crate) struct Taken<'a> {
 
 /// The first part of a text, and what is after the separator that ends it.
 #[derive(Clone, Copy)]
-pub(crate) struct Part<'a> {
+pub(crate) struct SplitText<'a> {
     /// The part.
     pub(crate) front: &'a [u8],
     /// What is after the separator, if there is one.
@@ -30,15 +30,15 @@ pub(crate) struct Part<'a> {
 
 /// Returns what is before the first separator of a text, and what is after it.
 #[tactic(auto, unfolding(crate::specs::Words::cut))]
-pub(crate) fn cut(separator: u8, text: &[u8]) -> Part<'_>
+pub(crate) fn cut(separator: u8, text: &[u8]) -> SplitText<'_>
     ensures { (result.front.now, option_map (λ r. r.now) result.rest) ≡ cut separator text.now }
 {
     match find(separator, text) {
-        None => Part {
+        None => SplitText {
             front: text,
             rest: None,
         },
-        Some(end) => Part {
+        Some(end) => SplitText {
             front: &text[..end],
             rest: Some(&text[end + 1..]),
         },

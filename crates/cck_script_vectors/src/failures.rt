@@ -115,7 +115,7 @@ fn is_same(one: &HashResult, other: &HashResult) -> bool {
 
 /// What was seen over all runs.
 #[derive(Drop)]
-struct Seen {
+struct FailureCounts {
     runs: u64,
     hits: u64,
     misses: u64,
@@ -128,9 +128,9 @@ fn one_more(count: &mut u64) {
     *count = count.saturating_add(1);
 }
 
-impl Seen {
-    fn new() -> Seen {
-        Seen {
+impl FailureCounts {
+    fn new() -> FailureCounts {
+        FailureCounts {
             runs: 0,
             hits: 0,
             misses: 0,
@@ -286,7 +286,7 @@ fn run_under(
     list: &List,
     alone: &[Alone],
     failure: Failure,
-    seen: &mut Seen,
+    seen: &mut FailureCounts,
 ) -> Result<bool, CaseError> {
     let alloc = list.alloc;
     let mut store = list.first_store()?;
@@ -339,7 +339,7 @@ pub(crate) fn write(
     } else {
         1
     };
-    let mut seen = Seen::new();
+    let mut seen = FailureCounts::new();
     for place in 0..places {
         for n in 1..u64::MAX {
             let failure = Failure {

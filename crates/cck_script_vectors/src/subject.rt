@@ -2,7 +2,7 @@
 use crate::failing_calls::{self, ListGiven};
 use crate::streams::Streams;
 use crate::{compiler, engine, mini, scripts};
-use cck_cases::{CaseError, Line, Subject, Value, World, bytes_of, find, number};
+use cck_cases::{CaseError, CaseLine, Subject, Value, World, bytes_of, find, number};
 use cck_util::{Digest, Sha256State};
 use std::alloc::Global;
 
@@ -108,7 +108,7 @@ impl Subject for Scripts {
         )
     }
 
-    fn call<'a>(&'a mut self, name: &str, line: Line<'a>) -> Result<Value<'a>, CaseError> {
+    fn call<'a>(&'a mut self, name: &str, line: CaseLine<'a>) -> Result<Value<'a>, CaseError> {
         self.result.clear();
         self.write(name, line)?;
         if self.is_digested {
@@ -121,7 +121,7 @@ impl Subject for Scripts {
 }
 
 impl Scripts {
-    fn write(&mut self, name: &str, line: Line<'_>) -> Result<(), CaseError> {
+    fn write(&mut self, name: &str, line: CaseLine<'_>) -> Result<(), CaseError> {
         self.text.clear();
         self.text.extend_from_slice(&self.lines)?;
         self.text.extend_from_slice(line.bytes)?;

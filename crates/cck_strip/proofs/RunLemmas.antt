@@ -7,14 +7,14 @@ use Rattle.std.proofs.lemmas.Bool.{cases_eq, cases_lt}
 use Rattle.std.proofs.lemmas.Bool.Decides.{nat_tests}
 use Rattle.std.proofs.lemmas.List.{drop_all, get_or-take, get_or-set_other, get_or-set_same, get_or_default, length-map, take_rest}
 use Rattle.cck_strip.specs.Text.{longest_prefix}
-use Rattle.cck_strip.specs.declared.node.Node.{Node}
+use Rattle.cck_strip.specs.declared.node.TrieNode.{TrieNode}
 use Rattle.cck_strip.specs.declared.node.NodeId.{NodeId}
 use Rattle.cck_strip.specs.Trie.{At, HasRun, HasRuns, IsForward, IsRun, IsStraight, IsTrie}
 use Rattle.cck_strip.proofs.WalkLemmas.{Pending, Pending-end, Pending-match, Pending-none, Pending-pass, Pending-some, Pending-start, begins}
 use Rattle.cck_strip.proofs.LinkLemmas.{inner}
 
 -- a run lies in the vector
-IsRun-within : (n : ℕ) (nodes : List Node) (i : ℕ) → IsRun n nodes i → i ≤ length nodes → i + n ≤ length nodes
+IsRun-within : (n : ℕ) (nodes : List TrieNode) (i : ℕ) → IsRun n nodes i → i ≤ length nodes → i + n ≤ length nodes
 IsRun-within zero nodes i run h = omega arith
 IsRun-within (suc n) nodes i (node, at, straight, rest) h =
     let within = at.within in
@@ -22,11 +22,11 @@ IsRun-within (suc n) nodes i (node, at, straight, rest) h =
     omega arith
 
 -- the node that is read at a place
-pub At-get : (nodes : List Node) (i : ℕ) (default : Node) → i < length nodes → At nodes i (get_or nodes i default)
+pub At-get : (nodes : List TrieNode) (i : ℕ) (default : TrieNode) → i < length nodes → At nodes i (get_or nodes i default)
 At-get nodes i default h = record { within = h; is = get_or_default nodes i (get_or nodes i default) default h }
 
 -- and a node follows it
-IsRun-below : (n : ℕ) (nodes : List Node) (i : ℕ) → IsForward nodes → IsRun n nodes i → i < length nodes → i + n < length nodes
+IsRun-below : (n : ℕ) (nodes : List TrieNode) (i : ℕ) → IsForward nodes → IsRun n nodes i → i < length nodes → i + n < length nodes
 IsRun-below zero nodes i f run h = omega arith
 IsRun-below (suc n) nodes i f (node, at, straight, rest) h =
     let below = (f.below i node straight.id at straight.below).within in
@@ -35,31 +35,31 @@ IsRun-below (suc n) nodes i f (node, at, straight, rest) h =
     omega arith
 
 -- the byte of a node
-byte_at : (nodes : List Node) (i : ℕ) (node : Node) → At nodes i node → get_or (map (λ node. node.byte) nodes) i 0 ≡ node.byte
+byte_at : (nodes : List TrieNode) (i : ℕ) (node : TrieNode) → At nodes i node → get_or (map (λ node. node.byte) nodes) i 0 ≡ node.byte
 byte_at nodes i node at =
     let within = at.within in
     get_or_default (map byte_of nodes) i 0 node.byte (omega (arith, length-map nodes byte_of))
     ∙ (get_or-map byte_of nodes i node ∙ ap byte_of at.is)
   where
-    byte_of : Node → ℕ
+    byte_of : TrieNode → ℕ
     byte_of node = node.byte
 
 same_id : (a b : NodeId) → a.0 ≡ b.0 → a ≡ b
 same_id a b e = λ i. record { 0 = e i }
 
 -- what is known of a walk after n nodes of a run, by whether the text goes on with their bytes
-abbrev pub Walked : List Node → List ℕ → NodeId → ℕ → ℕ → ℕ → Bool → Type 0
+abbrev pub Walked : List TrieNode → List ℕ → NodeId → ℕ → ℕ → ℕ → Bool → Type 0
 Walked nodes text at n depth best true = (end : NodeId) (later : ℕ) → end.0 ≡ at.0 + n → later ≡ depth + n → Pending nodes text (Some end) later best
 Walked nodes text at n depth best false = (words : List (List ℕ)) → IsTrie nodes words → best ≡ longest_prefix words text
 
 -- one node more
-Walked-more : (nodes : List Node) (text : List ℕ) (at id : NodeId) (n depth best : ℕ) (b : Bool) → id.0 ≡ at.0 + 1
+Walked-more : (nodes : List TrieNode) (text : List ℕ) (at id : NodeId) (n depth best : ℕ) (b : Bool) → id.0 ≡ at.0 + 1
     → Walked nodes text id n (depth + 1) best b → Walked nodes text at (suc n) depth best b
 Walked-more nodes text at id n depth best true next w = λ end later e d. w end later (omega arith) (omega arith)
 Walked-more nodes text at id n depth best false next w = w
 
 -- the text does not go on with these bytes
-ended : (nodes : List Node) (text : List ℕ) (at : NodeId) (n depth best : ℕ) (b : Bool) → b ≡ false
+ended : (nodes : List TrieNode) (text : List ℕ) (at : NodeId) (n depth best : ℕ) (b : Bool) → b ≡ false
     → ((words : List (List ℕ)) → IsTrie nodes words → best ≡ longest_prefix words text) → Walked nodes text at n depth best b
 ended nodes text at n depth best true e w = absurd cc
 ended nodes text at n depth best false e w = w
@@ -71,33 +71,33 @@ unequal : (a b : ℕ) → a ≢ b → nat_eq a b ≡ false
 unequal a b e = grind (arith, nat_tests)
 
 -- one straight node more before a run
-pub IsRun-longer : (nodes : List Node) (node : Node) (i later n run : ℕ) → At nodes i node → IsStraight node (i + 1) → IsRun n nodes later
+pub IsRun-longer : (nodes : List TrieNode) (node : TrieNode) (i later n run : ℕ) → At nodes i node → IsStraight node (i + 1) → IsRun n nodes later
     → later ≡ i + 1 → run ≡ n + 1 → IsRun run nodes i
 IsRun-longer nodes node i later n run at straight rest next e =
     let longer : suc n ≡ run = omega arith in
     subst (λ m. IsRun m nodes i) longer (node, at, straight, subst (IsRun n nodes) next rest)
 
 -- the run whose length is kept for a node
-pub IsRun-kept : (nodes : List Node) (bytes runs : List ℕ) (i n : ℕ) → HasRuns nodes bytes runs → i < length nodes → n ≡ get_or runs i n → IsRun n nodes i
+pub IsRun-kept : (nodes : List TrieNode) (bytes runs : List ℕ) (i n : ℕ) → HasRuns nodes bytes runs → i < length nodes → n ≡ get_or runs i n → IsRun n nodes i
 IsRun-kept nodes bytes runs i n h within e =
     subst (λ m. IsRun m nodes i) (sym (e ∙ get_or_default runs i n 0 (omega (arith, h.size)))) (h.each i within)
 
 -- where a run ends
-pub run_ends : (nodes : List Node) (bytes runs : List ℕ) (i n : ℕ) → HasRuns nodes bytes runs → i < length nodes → n ≡ get_or runs i n → i + n ≤ length bytes
+pub run_ends : (nodes : List TrieNode) (bytes runs : List ℕ) (i n : ℕ) → HasRuns nodes bytes runs → i < length nodes → n ≡ get_or runs i n → i + n ≤ length bytes
 run_ends nodes bytes runs i n h within e =
     let ends = IsRun-within n nodes i (IsRun-kept nodes bytes runs i n h within e) (omega arith) in
-    omega (arith, ap length h.bytes_are, length-map nodes (λ (node : Node). node.byte))
+    omega (arith, ap length h.bytes_are, length-map nodes (λ (node : TrieNode). node.byte))
 
 -- the node after a run
-pub run_below : (nodes : List Node) (bytes runs : List ℕ) (i n : ℕ) → IsForward nodes → HasRuns nodes bytes runs → i < length nodes → n ≡ get_or runs i n → i + n < length nodes
+pub run_below : (nodes : List TrieNode) (bytes runs : List ℕ) (i n : ℕ) → IsForward nodes → HasRuns nodes bytes runs → i < length nodes → n ≡ get_or runs i n → i + n < length nodes
 run_below nodes bytes runs i n f h within e = IsRun-below n nodes i f (IsRun-kept nodes bytes runs i n h within e) within
 
 -- the name of a node that is there
-pub named_within : (nodes : List Node) (n : ℕ) → n < length nodes → (id : NodeId) → ◌≡◌ {A = Option NodeId} (Some (record { 0 = n })) (Some id) → id.0 < length nodes
+pub named_within : (nodes : List TrieNode) (n : ℕ) → n < length nodes → (id : NodeId) → ◌≡◌ {A = Option NodeId} (Some (record { 0 = n })) (Some id) → id.0 < length nodes
 named_within nodes n h id e = let is = ap (λ x. x.0) (inner (record { 0 = n }) id e) in omega arith
 
 -- a walk along a run
-Pending-run : (nodes : List Node) (text : List ℕ) (best n : ℕ) (at : NodeId) (depth : ℕ) → IsForward nodes → IsRun n nodes (at.0)
+Pending-run : (nodes : List TrieNode) (text : List ℕ) (best n : ℕ) (at : NodeId) (depth : ℕ) → IsForward nodes → IsRun n nodes (at.0)
     → Pending nodes text (Some at) depth best
     → (b : Bool) → starts_with nat_eq (drop depth text) (take n (drop (at.0) (map (λ node. node.byte) nodes))) ≡ b
     → Walked nodes text at n depth best b
@@ -131,7 +131,7 @@ Pending-run nodes text best (suc n) at depth f (node, there, straight, rest) p b
     -- the bytes of the run, the first of which is the node's
     expected : take (suc n) (drop (at.0) bytes) ≡ node.byte ∷ take n (drop (straight.id.0) bytes)
     expected =
-        ap (take (suc n)) (drop-cons bytes (at.0) 0 (let within = there.within in omega (arith, length-map nodes (λ (x : Node). x.byte))))
+        ap (take (suc n)) (drop-cons bytes (at.0) 0 (let within = there.within in omega (arith, length-map nodes (λ (x : TrieNode). x.byte))))
         ∙ (ap (λ x. x ∷ take n (drop (suc (at.0)) bytes)) (byte_at nodes (at.0) node there)
         ∙ ap (λ k. node.byte ∷ take n (drop k bytes)) next)
 
@@ -156,16 +156,16 @@ abbrev root : NodeId
 root = record { 0 = 0 }
 
 -- a walk that begins after a run with which the text begins
-pub Pending-after : (nodes : List Node) (text : List ℕ) (n : ℕ) → IsForward nodes → IsRun n nodes 0 → HasRun n nodes text → Pending nodes text (Some (record { 0 = n })) n 0
+pub Pending-after : (nodes : List TrieNode) (text : List ℕ) (n : ℕ) → IsForward nodes → IsRun n nodes 0 → HasRun n nodes text → Pending nodes text (Some (record { 0 = n })) n 0
 Pending-after nodes text n f run h =
     Pending-run nodes text 0 n root 0 f run (Pending-start nodes text root refl f) true h (record { 0 = n }) n (omega arith) (omega arith)
 
 -- and the node after it
-pub after_run : (nodes : List Node) (n : ℕ) → IsForward nodes → IsRun n nodes 0 → (id : NodeId) → ◌≡◌ {A = Option NodeId} (Some (record { 0 = n })) (Some id) → id.0 < length nodes
+pub after_run : (nodes : List TrieNode) (n : ℕ) → IsForward nodes → IsRun n nodes 0 → (id : NodeId) → ◌≡◌ {A = Option NodeId} (Some (record { 0 = n })) (Some id) → id.0 < length nodes
 after_run nodes n f run = named_within nodes n (let below = IsRun-below n nodes 0 f run (f.some) in omega arith)
 
 -- no word is found in a text, if none is where it begins with the first run
-pub none_after : (nodes : List Node) (text : List ℕ) (n : ℕ) (words : List (List ℕ)) → IsForward nodes → IsRun n nodes 0 → IsTrie nodes words
+pub none_after : (nodes : List TrieNode) (text : List ℕ) (n : ℕ) (words : List (List ℕ)) → IsForward nodes → IsRun n nodes 0 → IsTrie nodes words
     → (b : Bool) → starts_with nat_eq text (take n (map (λ node. node.byte) nodes)) ≡ b → (b ≡ true → 0 ≡ longest_prefix words text) → 0 ≡ longest_prefix words text
 none_after nodes text n words f run t true e h = h refl
 none_after nodes text n words f run t false e h = Pending-run nodes text 0 n root 0 f run (Pending-start nodes text root refl f) false e words t
@@ -185,7 +185,7 @@ begins_not text bytes k h other = go (starts_with nat_eq text bytes) refl
     go false e = refl
 
 -- what is known of a walk after a run, whose bytes were compared with the text
-pub Pending-compared : (nodes : List Node) (bytes own runs text : List ℕ) (next : Option NodeId) (at : NodeId) (depth best n m : ℕ) (b now : Bool)
+pub Pending-compared : (nodes : List TrieNode) (bytes own runs text : List ℕ) (next : Option NodeId) (at : NodeId) (depth best n m : ℕ) (b now : Bool)
     → IsForward nodes → HasRuns nodes bytes runs → Pending nodes text next depth best → next ≡ Some at → n ≡ get_or runs (at.0) n → own ≡ bytes → m ≡ n
     → b ≡ starts_with nat_eq (take (length text - depth) (drop depth text)) (take m (drop (at.0) own)) → b ≡ now → Walked nodes text at n depth best now
 Pending-compared nodes bytes own runs text next at depth best n m b now f h p is kept e same present claim =
@@ -193,11 +193,11 @@ Pending-compared nodes bytes own runs text next at depth best n m b now f h p is
     (sym (sym claim ∙ (present ∙ rw (take_rest text depth, e, h.bytes_are, same) refl)))
 
 -- the runs from a place on, each of the length that is kept for it
-abbrev pub RunsFrom : List Node → List ℕ → ℕ → Type 0
+abbrev pub RunsFrom : List TrieNode → List ℕ → ℕ → Type 0
 RunsFrom nodes runs at = (i : ℕ) → at ≤ i → i < length nodes → IsRun (get_or runs i 0) nodes i
 
 -- one place more
-pub RunsFrom-set : (nodes : List Node) (runs : List ℕ) (at run : ℕ) → at < length runs → IsRun run nodes at → RunsFrom nodes runs (at + 1) → RunsFrom nodes (set runs at run) at
+pub RunsFrom-set : (nodes : List TrieNode) (runs : List ℕ) (at run : ℕ) → at < length runs → IsRun run nodes at → RunsFrom nodes runs (at + 1) → RunsFrom nodes (set runs at run) at
 RunsFrom-set nodes runs at run h here each i low high = elim (cases_eq i at) [
   | inl e ↦ subst (λ k. IsRun (get_or (set runs at run) k 0) nodes k) (sym e) (subst (λ n. IsRun n nodes at) (sym (get_or-set_same runs at run 0 h)) here)
   | inr ne ↦ subst (λ n. IsRun n nodes i) (sym (get_or-set_other runs at i run 0 ne)) (each i (omega arith) high)

@@ -6,7 +6,7 @@ pub struct NodeId(pub usize);
 
 /// One byte of words, after the bytes that lead to it.
 #[derive(Clone, Copy, Drop)]
-pub struct Node {
+pub struct TrieNode {
     /// The byte.
     pub byte: u8,
     /// Whether a word ends with this byte.

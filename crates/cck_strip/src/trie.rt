@@ -4,20 +4,20 @@ ghost use Rattle.std.specs.List.{starts_with};
 ghost use Rattle.std.proofs.Common.{get_or};
 ghost use Rattle.cck_strip.specs.Text.{longest_prefix};
 ghost use Rattle.cck_strip.specs.Trie.{At, Found, Grows, HasRun, IsForward, IsRun, IsStraight, IsTrie, leaf_of};
-ghost use Rattle.cck_strip.specs.declared.node.Node.{Node};
+ghost use Rattle.cck_strip.specs.declared.node.TrieNode.{TrieNode};
 
-use crate::node::{Node, NodeId};
+use crate::node::{NodeId, TrieNode};
 use cck_digest::UtilError;
 use std::alloc::{AllocError, Global};
 use std::marker::Model;
 
 // Adds a node for this byte, which ends nothing and has no node below or beside it.
-fn push_leaf(nodes: &mut Vec<Node>, byte: u8) -> Result<NodeId, AllocError>
+fn push_leaf(nodes: &mut Vec<TrieNode>, byte: u8) -> Result<NodeId, AllocError>
     ensures pushed { OnOk result (nodes.new.items ≡ nodes.old.items ++ leaf_of byte ∷ []) }
     ensures last { IfOk result (λ id. id.0 ≡ length nodes.old.items) }
 {
     let id = NodeId(nodes.len());
-    nodes.push(Node {
+    nodes.push(TrieNode {
         byte,
         ends: false,
         below: None,
@@ -27,7 +27,7 @@ fn push_leaf(nodes: &mut Vec<Node>, byte: u8) -> Result<NodeId, AllocError>
 }
 
 // The node for this byte among the node `from` and those beside it. It is added where there is none.
-fn node_beside(nodes: &mut Vec<Node>, from: NodeId, byte: u8) -> Result<NodeId, AllocError>
+fn node_beside(nodes: &mut Vec<TrieNode>, from: NodeId, byte: u8) -> Result<NodeId, AllocError>
     requires forward { IsForward nodes.old.items }
     requires within { from.0 < length nodes.old.items }
     ensures forward_still { OnOk result (IsForward nodes.new.items) }
@@ -45,7 +45,7 @@ fn node_beside(nodes: &mut Vec<Node>, from: NodeId, byte: u8) -> Result<NodeId, 
             Some(id) => at = id,
             None => {
                 let id = push_leaf(nodes, byte)?;
-                nodes[at.0] = Node {
+                nodes[at.0] = TrieNode {
                     beside: Some(id),
                     ..node
                 };
@@ -56,20 +56,20 @@ fn node_beside(nodes: &mut Vec<Node>, from: NodeId, byte: u8) -> Result<NodeId, 
 }
 
 // The first node below this one. It is added, for this byte, where there is none.
-fn node_below(nodes: &mut Vec<Node>, at: NodeId, byte: u8) -> Result<NodeId, AllocError>
+fn node_below(nodes: &mut Vec<TrieNode>, at: NodeId, byte: u8) -> Result<NodeId, AllocError>
     requires forward { IsForward nodes.old.items }
     requires within { at.0 < length nodes.old.items }
     ensures forward_still { OnOk result (IsForward nodes.new.items) }
     ensures grows { OnOk result (Grows nodes.old.items nodes.new.items) }
     ensures same { OnOk result ((words : List (List ℕ)) → IsTrie nodes.old.items words → IsTrie nodes.new.items words) }
-    ensures found { IfOk result (λ id. (node : Node) × At nodes.new.items (at.0) node × (node.below ≡ Some id)) }
+    ensures found { IfOk result (λ id. (node : TrieNode) × At nodes.new.items (at.0) node × (node.below ≡ Some id)) }
 {
     let node = nodes[at.0];
     if let Some(id) = node.below {
         return Ok(id);
     }
     let id = push_leaf(nodes, byte)?;
-    nodes[at.0] = Node {
+    nodes[at.0] = TrieNode {
         below: Some(id),
         ..node
     };
@@ -77,7 +77,7 @@ fn node_below(nodes: &mut Vec<Node>, at: NodeId, byte: u8) -> Result<NodeId, All
 }
 
 // Adds a word to the nodes.
-fn insert(nodes: &mut Vec<Node>, word: &[u8]) -> Result<(), AllocError>
+fn insert(nodes: &mut Vec<TrieNode>, word: &[u8]) -> Result<(), AllocError>
     requires forward { IsForward nodes.old.items }
     requires some { 0 < length word.now }
     ensures forward_still { OnOk result (IsForward nodes.new.items) }
@@ -89,12 +89,12 @@ fn insert(nodes: &mut Vec<Node>, word: &[u8]) -> Result<(), AllocError>
         at = node_beside(nodes, first, *byte)?;
     }
     let node = nodes[at.0];
-    nodes[at.0] = Node { ends: true, ..node };
+    nodes[at.0] = TrieNode { ends: true, ..node };
     Ok(())
 }
 
 // Whether this node ends nothing, has no node beside it, and has the node at this place below it.
-fn is_straight(node: &Node, next: usize) -> bool
+fn is_straight(node: &TrieNode, next: usize) -> bool
     ensures { IsTrue result ↔ IsStraight node.now next }
 {
     if node.ends || node.beside.is_some() {
@@ -108,7 +108,7 @@ fn is_straight(node: &Node, next: usize) -> bool
 
 // For each node how many nodes from it on, one after the other in the vector, end nothing, have no
 // node beside them, and have the next one below them.
-fn run_lengths(alloc: Global, nodes: &[Node]) -> Result<Vec<usize>, AllocError>
+fn run_lengths(alloc: Global, nodes: &[TrieNode]) -> Result<Vec<usize>, AllocError>
     ensures size { IfOk result (λ runs. length runs.items ≡ length nodes.now) }
     ensures each { IfOk result (λ runs. (i : ℕ) → i < length nodes.now → IsRun (get_or runs.items i 0) nodes.now i) }
 {
@@ -128,7 +128,7 @@ fn run_lengths(alloc: Global, nodes: &[Node]) -> Result<Vec<usize>, AllocError>
 }
 
 // The bytes of the nodes, in their order.
-fn node_bytes(alloc: Global, nodes: &[Node]) -> Result<Vec<u8>, AllocError>
+fn node_bytes(alloc: Global, nodes: &[TrieNode]) -> Result<Vec<u8>, AllocError>
     ensures value { IfOk result (λ bytes. bytes.items ≡ map (λ node. node.byte) nodes.now) }
 {
     let mut bytes = Vec::new(alloc);
@@ -159,7 +159,7 @@ fn begins_with(text: &[u8], bytes: &[u8]) -> bool
 /// are one word of the trie, and empty ones none.
 #[derive(Drop)]
 pub struct BasedirTrie {
-    nodes: Vec<Node>,
+    nodes: Vec<TrieNode>,
     // Nodes that a search passes only one after the other are a run, whose bytes it compares at once:
     // for each node its byte, and how many nodes from it on are a run.
     bytes: Vec<u8>,
@@ -168,10 +168,10 @@ pub struct BasedirTrie {
 
 impl Model for BasedirTrie {
     ghost use Rattle.std.specs.Prelude.{List};
-    ghost use Rattle.cck_strip.specs.declared.node.Node.{Node};
+    ghost use Rattle.cck_strip.specs.declared.node.TrieNode.{TrieNode};
     ghost use Rattle.cck_strip.specs.Trie.{HasRuns, IsForward};
 
-    ghost Value = { List Node };
+    ghost Value = { List TrieNode };
 
     ghost view = { λ a. a.nodes.items };
 

@@ -1,6 +1,6 @@
 //! Prefixes, escapes, lengths, durations and variables.
 use crate::streams::Streams;
-use cck_cases::{CaseError, Given, Line, Value, number};
+use cck_cases::{CaseError, CaseLine, Given, Value, number};
 use cck_util::{
     OsStrExt, ascii_unescape_default, first_value, fmt_duration_as_secs, write_length_prefixed,
 };
@@ -33,7 +33,7 @@ pub(crate) fn call<'a>(
     call: TextCall,
     given: &'a Given,
     streams: Streams,
-    line: Line<'a>,
+    line: CaseLine<'a>,
 ) -> Result<Value<'a>, CaseError> {
     let (alloc, base) = (given.alloc, &given.base);
     match call {

@@ -1,7 +1,7 @@
 //! The calls of this program.
 use crate::streams::Streams;
 use crate::{digests, errors, finder, keys, paths, readers, strip, texts, times};
-use cck_cases::{CaseError, Given, Line, Subject, Value, find, words_of};
+use cck_cases::{CaseError, CaseLine, Given, Subject, Value, find, words_of};
 use std::alloc::Global;
 
 /// What lines give to calls on bytes.
@@ -43,7 +43,7 @@ impl Subject for Values {
         name == "unescape"
     }
 
-    fn call<'a>(&'a mut self, name: &str, line: Line<'a>) -> Result<Value<'a>, CaseError> {
+    fn call<'a>(&'a mut self, name: &str, line: CaseLine<'a>) -> Result<Value<'a>, CaseError> {
         let (given, bytes) = (&self.given, line.bytes);
         if let Some(call) = find(&strip::CALLS, name) {
             return strip::call(call, given, bytes);

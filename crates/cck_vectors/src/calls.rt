@@ -3,12 +3,12 @@ use crate::compilers::{self, CompilerCall};
 use crate::errors;
 use crate::fixed_compiler::PREPROCESSED;
 use crate::keys::{self, KeyCall};
-use crate::lists::{self, KeyRequest};
+use crate::lists::{self, FixedCall};
 use crate::noting_files::NotingFiles;
 use crate::request::Request;
 use crate::stores::{self, Stores};
 use c_cache_keys::{HashResult, KeyError};
-use cck_cases::{CaseError, Given, Line, Subject, Value, World, bytes_of, find, number};
+use cck_cases::{CaseError, CaseLine, Given, Subject, Value, World, bytes_of, find, number};
 use cck_util::MapFiles;
 use std::alloc::Global;
 use std::mem;
@@ -22,7 +22,7 @@ pub(crate) struct Calls {
     stores: Stores,
     // What counts calls on one path. Its files are the given ones while a call is made.
     noting: NotingFiles,
-    list: Vec<KeyRequest>,
+    list: Vec<FixedCall>,
     // Whether what is given at first was given.
     is_prepared: bool,
 }
@@ -186,7 +186,7 @@ impl Subject for Calls {
         true
     }
 
-    fn call<'a>(&'a mut self, name: &str, line: Line<'a>) -> Result<Value<'a>, CaseError> {
+    fn call<'a>(&'a mut self, name: &str, line: CaseLine<'a>) -> Result<Value<'a>, CaseError> {
         self.prepare()?;
         if let Some(call) = find(&keys::CALLS, name) {
             return self.key_call(call, line.rest);

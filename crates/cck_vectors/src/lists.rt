@@ -11,14 +11,14 @@ use cck_util::Sha256State;
 use std::alloc::Global;
 
 /// A call for a key.
-pub(crate) type KeyRequest = Call<FixedCompiler, NotingFiles>;
+pub(crate) type FixedCall = Call<FixedCompiler, NotingFiles>;
 
 /// The call for the key of the compilation that is given, over a copy of the files.
 pub(crate) fn call_of(
     request: &Request,
     given: &Given,
     world: &World,
-) -> Result<KeyRequest, CaseError> {
+) -> Result<FixedCall, CaseError> {
     let alloc = request.alloc;
     Ok(Call {
         hasher: held(request.hasher.copy(alloc))?,
@@ -44,7 +44,7 @@ pub(crate) fn run<'a, S: PreprocessorStore>(
     given: &Given,
     world: &World,
     store: &mut S,
-    calls: &mut [KeyRequest],
+    calls: &mut [FixedCall],
 ) -> Result<Value<'a>, CaseError> {
     let alloc = given.alloc;
     let zone = zone_of(world)?;
@@ -62,7 +62,7 @@ pub(crate) fn run<'a, S: PreprocessorStore>(
 fn results_value<'a>(
     alloc: Global,
     results: &[Result<HashResult, KeyError>],
-    calls: &[KeyRequest],
+    calls: &[FixedCall],
 ) -> Result<Value<'a>, CaseError> {
     let count = results.len();
     let mut out = Vec::new(alloc);

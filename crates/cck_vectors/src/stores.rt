@@ -1,6 +1,6 @@
 //! Stores.
 use c_cache_keys::{EmptyStore, MapStore, PreprocessorStore, StoreError};
-use cck_cases::{CaseError, Line, Value, find, number};
+use cck_cases::{CaseError, CaseLine, Value, find, number};
 use cck_util::UtilError;
 use std::alloc::Global;
 
@@ -84,7 +84,7 @@ impl Stores {
     pub(crate) fn call<'a>(
         &'a mut self,
         call: StoreCall,
-        line: Line<'a>,
+        line: CaseLine<'a>,
     ) -> Result<Value<'a>, CaseError> {
         let (alloc, key) = (self.alloc, line.rest);
         match call {

@@ -2,7 +2,7 @@
 use crate::texts::Texts;
 use crate::walks::Walks;
 use crate::{markers, walks};
-use cck_cases::{CaseError, Line, Subject, Value, find};
+use cck_cases::{CaseError, CaseLine, Subject, Value, find};
 use std::alloc::Global;
 
 /// What lines give to calls on line markers and to walks.
@@ -35,7 +35,7 @@ impl Subject for WalkCases {
         name == "line"
     }
 
-    fn call<'a>(&'a mut self, name: &str, line: Line<'a>) -> Result<Value<'a>, CaseError> {
+    fn call<'a>(&'a mut self, name: &str, line: CaseLine<'a>) -> Result<Value<'a>, CaseError> {
         if let Some(call) = find(&markers::CALLS, name) {
             return markers::call(call, self.alloc, &self.texts.made, line.bytes);
         }

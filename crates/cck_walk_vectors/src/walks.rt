@@ -1,5 +1,5 @@
 //! Walks over texts and over single line markers.
-use cck_cases::{CaseError, Given, Line, Value, World, bytes_of, find, number, write_numbers};
+use cck_cases::{CaseError, CaseLine, Given, Value, World, bytes_of, find, number, write_numbers};
 use cck_digest::{Digest, FileError, Sha256State, UtilError};
 use cck_files::{Files, MapFiles};
 use cck_walk::{
@@ -59,7 +59,7 @@ pub(crate) fn call<'a>(
     call: WalkCall,
     walks: &'a mut Walks,
     texts: &[Vec<u8>],
-    line: Line<'a>,
+    line: CaseLine<'a>,
 ) -> Result<Value<'a>, CaseError> {
     match call {
         WalkCall::Walk => walks.walk(line.bytes),

@@ -1,7 +1,7 @@
 use Rattle.std.proofs.Common.{◌≡◌, ◌∙◌, ap}
 use Rattle.cck_path.specs.Bytes.{lists_of}
 use Rattle.cck_util.specs.Key.{Params, object_key, plain_params}
-use Rattle.cck_explain_command.specs.KeyRequest.{params_for}
+use Rattle.cck_explain_command.specs.ExplainKeyRequest.{params_for}
 use Rattle.cck_explain_command.proofs.key.key_of.Goals as goal
 
 pub returns : goal.returns

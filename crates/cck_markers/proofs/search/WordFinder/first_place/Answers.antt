@@ -1,6 +1,6 @@
 use Rattle.std.proofs.Common.{subst, List, ℕ}
 use Rattle.cck_markers.specs.Searches.{IsKnown}
-use Rattle.cck_markers.proofs.search.WordSearch.first_place.Goals as goal
+use Rattle.cck_markers.proofs.search.WordFinder.first_place.Goals as goal
 
 pub returns-clause-known : goal.returns-clause-known
 returns-clause-known c = λ word before. record {
