@@ -2,8 +2,15 @@
 # above it, and $folder, in which all is made. What counts needs valgrind.
 
 # Proves and builds the program of bench/$1, over a copy of the crates $2 of this repository. $3 are
-# the libraries that it uses. Its path is $program afterwards.
+# the libraries that it uses. Its path is $program afterwards. What was built in $folder from the same
+# files is kept.
 build_program() {
+    program="$folder/work/crates/$1_bench/out/$1_bench"
+    sources=$(cd "$top" && git ls-files -co --exclude-standard $(printf 'crates/%s ' $2) "bench/$1" HANDLES |
+        sort | while IFS= read -r file; do [ ! -f "$file" ] || sha256sum "$file"; done | sha256sum)
+    if [ -x "$program" ] && [ "$(cat "$folder/built")" = "$sources" ]; then
+        return
+    fi
     mkdir -p "$folder"
     rm -rf "$folder/work"
     mkdir -p "$folder/work/crates/$1_bench/src"
@@ -18,7 +25,7 @@ build_program() {
         tail -20 "$folder/build.log" >&2
         exit 1
     fi
-    program="$folder/work/crates/$1_bench/out/$1_bench"
+    echo "$sources" > "$folder/built"
 }
 
 # Prints how many instructions these words take, by callgrind.
