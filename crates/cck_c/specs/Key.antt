@@ -8,8 +8,8 @@ use Rattle.cck_util.specs.Language.{language_name}
 use Rattle.cck_util.specs.declared.language.Language.{Language}
 use Rattle.cck_c.specs.Bytes.{AreUtf8, passed_variables, texts_of}
 use Rattle.cck_c.specs.declared.bytes.Bytes.{Bytes}
-use Rattle.cck_c.specs.declared.key.KeyError.{KeyError}
-use Rattle.cck_c.specs.declared.key.KeyError.TheVariants.{Memory, NoLanguage, NoText}
+use Rattle.cck_c.specs.declared.key.ParamsError.{ParamsError}
+use Rattle.cck_c.specs.declared.key.ParamsError.TheVariants.{Memory, NoLanguage, NoText}
 use Rattle.cck_c.specs.declared.key.KeyParams.{KeyParams}
 
 -- the digest of the assembler, if one is passed
@@ -56,14 +56,14 @@ abbrev pub HasKey : KeyParams → Type 0
 HasKey p = (language : Language) × (language_name language ≡ p.language.now) × DigestsAreUtf8 p
 
 -- the result for these parts
-abbrev pub MakesKey : KeyParams → Result (String Global) KeyError → Type 0
+abbrev pub MakesKey : KeyParams → Result (String Global) ParamsError → Type 0
 MakesKey p (Ok key) = IsKey p (string_bytes key)
 MakesKey p (Err Memory) = HasKey p
 MakesKey p (Err NoLanguage) = NamesNone p.language.now
 MakesKey p (Err NoText) = LacksADigest p
 
 -- copies of these texts as strings
-abbrev pub CopiesStrings : List Bytes → Result (Vec (String Global)) KeyError → Type 0
+abbrev pub CopiesStrings : List Bytes → Result (Vec (String Global)) ParamsError → Type 0
 CopiesStrings all (Ok strings) = (map string_bytes strings.items ≡ texts_of all) × AreUtf8 all
 CopiesStrings all (Err Memory) = AreUtf8 all
 CopiesStrings all (Err NoLanguage) = ⊥

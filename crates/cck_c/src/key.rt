@@ -32,7 +32,7 @@ pub struct KeyParams<'a> {
 
 /// Why there is no key.
 #[derive(Debug, Clone, Copy, PartialEq, Eq)]
-pub(crate) enum KeyError {
+pub(crate) enum ParamsError {
     /// Memory is lacking.
     Memory,
     /// No language has this name.
@@ -60,24 +60,24 @@ pub extern "C" fn cck_object_key(alloc: Global, params: &KeyParams<'_>, key: &mu
             key.copy_from_slice(text.as_bytes());
             status::DONE
         }
-        Err(KeyError::Memory) => status::MEMORY,
-        Err(KeyError::NoLanguage) => status::LANGUAGE,
-        Err(KeyError::NoText) => status::DIGEST,
+        Err(ParamsError::Memory) => status::MEMORY,
+        Err(ParamsError::NoLanguage) => status::LANGUAGE,
+        Err(ParamsError::NoText) => status::DIGEST,
     }
 }
 
 // Returns the key.
-fn key_of(alloc: Global, params: &KeyParams<'_>) -> Result<String, KeyError>
+fn key_of(alloc: Global, params: &KeyParams<'_>) -> Result<String, ParamsError>
     ensures { MakesKey params.now result }
 {
     let Some(language) = language_named(params.language) else {
-        return Err(KeyError::NoLanguage);
+        return Err(ParamsError::NoLanguage);
     };
     let Ok(digest) = std::str::from_utf8(params.compiler_digest) else {
-        return Err(KeyError::NoText);
+        return Err(ParamsError::NoText);
     };
     let Ok(assembler) = assembler_digest(params) else {
-        return Err(KeyError::NoText);
+        return Err(ParamsError::NoText);
     };
     let extra_hashes = match copy_strings(alloc, params.extra_hashes) {
         Ok(strings) => strings,
@@ -85,7 +85,7 @@ fn key_of(alloc: Global, params: &KeyParams<'_>) -> Result<String, KeyError>
     };
     match compute(alloc, params, language, digest, &extra_hashes, assembler) {
         Ok(key) => Ok(key),
-        Err(_) => Err(KeyError::Memory),
+        Err(_) => Err(ParamsError::Memory),
     }
 }
 
@@ -130,7 +130,7 @@ fn language_named(name: &[u8]) -> Option<Language>
 }
 
 // Returns the digest of the assembler, if one is passed.
-fn assembler_digest<'a>(params: &KeyParams<'a>) -> Result<Option<&'a str>, KeyError>
+fn assembler_digest<'a>(params: &KeyParams<'a>) -> Result<Option<&'a str>, ParamsError>
     ensures { MatchResult result
         (λ digest. (option_map (λ d. d.now) digest ≡ assembler_of params.now) × IfSome (assembler_of params.now) IsUtf8)
         (λ _. IfSome (assembler_of params.now) IsUtf8 → ⊥) }
@@ -140,7 +140,7 @@ fn assembler_digest<'a>(params: &KeyParams<'a>) -> Result<Option<&'a str>, KeyEr
     }
     match std::str::from_utf8(params.assembler_digest) {
         Ok(digest) => Ok(Some(digest)),
-        Err(_) => Err(KeyError::NoText),
+        Err(_) => Err(ParamsError::NoText),
     }
 }
 
@@ -157,23 +157,23 @@ fn are_utf8(all: &[Bytes<'_>]) -> bool
 }
 
 // Copies the texts as strings, if each is UTF-8.
-fn copy_strings(alloc: Global, all: &[Bytes<'_>]) -> Result<Vec<String>, KeyError>
+fn copy_strings(alloc: Global, all: &[Bytes<'_>]) -> Result<Vec<String>, ParamsError>
     ensures { CopiesStrings all.now result }
 {
     // So that it is not taken for a lack of memory if a text is not.
     if !are_utf8(all) {
-        return Err(KeyError::NoText);
+        return Err(ParamsError::NoText);
     }
     let mut strings = Vec::new(alloc);
     for one in all {
         let Ok(text) = std::str::from_utf8(one.bytes) else {
-            return Err(KeyError::NoText);
+            return Err(ParamsError::NoText);
         };
         let Ok(string) = String::from_str(alloc, text) else {
-            return Err(KeyError::Memory);
+            return Err(ParamsError::Memory);
         };
         let Ok(()) = strings.push(string) else {
-            return Err(KeyError::Memory);
+            return Err(ParamsError::Memory);
         };
     }
     Ok(strings)

@@ -1,13 +1,13 @@
 //! Directives of the assembler in the strings of a preprocessed text.
 ghost use Rattle.std.specs.Prelude.{◌≡◌, IfOk, OnOk};
 ghost use Rattle.cck_cache_entry.specs.Assembler.{place_after, ends_in_directive, is_found, joined_string, joins, may_include};
-ghost use Rattle.cck_cache_entry.specs.declared.assembler.Place.TheVariants as place;
+ghost use Rattle.cck_cache_entry.specs.declared.assembler.SourcePlace.TheVariants as place;
 
 use std::alloc::{AllocError, Global};
 
 /// Where a scan of a text is.
 #[derive(Debug, Clone, Copy, PartialEq, Eq)]
-enum Place {
+enum SourcePlace {
     /// In no literal.
     Code,
     /// In a string literal.
@@ -23,53 +23,53 @@ enum Place {
 }
 
 // The place after a byte in code, from the byte before it.
-fn after_code(before: u8, byte: u8) -> Place
+fn after_code(before: u8, byte: u8) -> SourcePlace
     ensures { result ≡ place_after place.Code before byte }
 {
     match byte {
-        b'#' if before == b'\n' => Place::Directive,
-        b'"' => Place::String,
-        b'\'' => Place::Character,
-        _ => Place::Code,
+        b'#' if before == b'\n' => SourcePlace::Directive,
+        b'"' => SourcePlace::String,
+        b'\'' => SourcePlace::Character,
+        _ => SourcePlace::Code,
     }
 }
 
 // The place after a byte in a string literal.
-fn after_string(byte: u8) -> Place
+fn after_string(byte: u8) -> SourcePlace
     ensures { result ≡ place_after place.String 0 byte }
 {
     match byte {
-        b'"' => Place::Code,
-        b'\\' => Place::StringEscape,
-        b'\n' => Place::Code,
-        _ => Place::String,
+        b'"' => SourcePlace::Code,
+        b'\\' => SourcePlace::StringEscape,
+        b'\n' => SourcePlace::Code,
+        _ => SourcePlace::String,
     }
 }
 
 // The place after a byte in a character constant.
-fn after_character(byte: u8) -> Place
+fn after_character(byte: u8) -> SourcePlace
     ensures { result ≡ place_after place.Character 0 byte }
 {
     match byte {
-        b'\'' => Place::Code,
-        b'\\' => Place::CharacterEscape,
-        b'\n' => Place::Code,
-        _ => Place::Character,
+        b'\'' => SourcePlace::Code,
+        b'\\' => SourcePlace::CharacterEscape,
+        b'\n' => SourcePlace::Code,
+        _ => SourcePlace::Character,
     }
 }
 
 // The place after a byte, from the byte before it.
-fn place_after(place: Place, before: u8, byte: u8) -> Place
+fn place_after(place: SourcePlace, before: u8, byte: u8) -> SourcePlace
     ensures { result ≡ place_after place before byte }
 {
     match place {
-        Place::Code => after_code(before, byte),
-        Place::Directive if byte == b'\n' => Place::Code,
-        Place::Directive => Place::Directive,
-        Place::String => after_string(byte),
-        Place::StringEscape => Place::String,
-        Place::Character => after_character(byte),
-        Place::CharacterEscape => Place::Character,
+        SourcePlace::Code => after_code(before, byte),
+        SourcePlace::Directive if byte == b'\n' => SourcePlace::Code,
+        SourcePlace::Directive => SourcePlace::Directive,
+        SourcePlace::String => after_string(byte),
+        SourcePlace::StringEscape => SourcePlace::String,
+        SourcePlace::Character => after_character(byte),
+        SourcePlace::CharacterEscape => SourcePlace::Character,
     }
 }
 
@@ -93,25 +93,27 @@ fn ends_in_directive(string: &[u8]) -> bool
 }
 
 // Adds what a byte adds to the contents of the literals that belong together.
-fn grow(string: &mut Vec<u8>, place: Place, byte: u8) -> Result<(), AllocError>
+fn grow(string: &mut Vec<u8>, place: SourcePlace, byte: u8) -> Result<(), AllocError>
     ensures { OnOk result (string.new.items ≡ joined_string place string.old.items byte) }
 {
     match place {
-        Place::Code if !joins(byte) => string.clear(),
-        Place::String if byte != b'"' && byte != b'\\' => string.push(byte.to_ascii_lowercase())?,
-        Place::StringEscape => string.push(b'\\')?,
+        SourcePlace::Code if !joins(byte) => string.clear(),
+        SourcePlace::String if byte != b'"' && byte != b'\\' => string.push(
+            byte.to_ascii_lowercase(),
+        )?,
+        SourcePlace::StringEscape => string.push(b'\\')?,
         _ => {}
     }
     Ok(())
 }
 
 // Whether this byte begins a raw string, or ends a directive of these contents.
-fn is_found(place: Place, before: u8, byte: u8, string: &[u8]) -> bool
+fn is_found(place: SourcePlace, before: u8, byte: u8, string: &[u8]) -> bool
     ensures { result ≡ is_found place before byte string.now }
 {
     match place {
-        Place::Code => byte == b'"' && before == b'R',
-        Place::String => byte != b'"' && byte != b'\\' && ends_in_directive(string),
+        SourcePlace::Code => byte == b'"' && before == b'R',
+        SourcePlace::String => byte != b'"' && byte != b'\\' && ends_in_directive(string),
         _ => false,
     }
 }
@@ -125,7 +127,7 @@ pub fn may_include(alloc: Global, text: &[u8]) -> Result<bool, AllocError>
     ensures { IfOk result (λ found. found ≡ may_include text.now) }
 {
     let mut string = Vec::new(alloc);
-    let mut place = Place::Code;
+    let mut place = SourcePlace::Code;
     let mut before = b'\n';
     for byte in text {
         let byte = *byte;

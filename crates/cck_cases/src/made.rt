@@ -27,16 +27,16 @@ const WORDS: [(&str, Word); 7] = [
 
 /// The bytes that lines made, and those that they saved under a name.
 #[derive(Drop)]
-pub(crate) struct Made {
+pub(crate) struct MadeBytes {
     alloc: Global,
     bytes: Vec<u8>,
     saved: Vec<(String, Vec<u8>)>,
 }
 
-impl Made {
+impl MadeBytes {
     /// Returns the state in which no bytes are made or saved.
-    pub(crate) fn new(alloc: Global) -> Made {
-        Made {
+    pub(crate) fn new(alloc: Global) -> MadeBytes {
+        MadeBytes {
             alloc,
             bytes: Vec::new(alloc),
             saved: Vec::new(alloc),

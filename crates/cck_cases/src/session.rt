@@ -1,6 +1,6 @@
 //! The lines of a vector file, in their order.
 use crate::case_error::CaseError;
-use crate::made::Made;
+use crate::made::MadeBytes;
 use crate::report::Report;
 use crate::subject::{CaseLine, Subject};
 use crate::text::bytes_of;
@@ -19,7 +19,7 @@ struct Returned {
 struct Session<S: Drop> {
     alloc: Global,
     subject: S,
-    made: Made,
+    made: MadeBytes,
     last: Option<Returned>,
 }
 
@@ -32,7 +32,7 @@ pub(crate) fn run_lines<S: Subject + Drop>(
     let mut session = Session {
         alloc,
         subject: S::new(alloc),
-        made: Made::new(alloc),
+        made: MadeBytes::new(alloc),
         last: None,
     };
     let mut number: usize = 0;

@@ -13,4 +13,4 @@ mod watched_store;
 
 pub use difference::{Difference, difference_of};
 pub use script::script_listing;
-pub use watched_store::{StoreCall, WatchedStore};
+pub use watched_store::{WatchedCall, WatchedStore};

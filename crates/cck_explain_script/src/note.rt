@@ -3,7 +3,7 @@ ghost use Rattle.std.specs.Prelude.{OnOk};
 ghost use Rattle.cck_files.specs.Calls.{Keeps};
 
 use crate::difference::difference_of;
-use crate::watched_store::StoreCall;
+use crate::watched_store::WatchedCall;
 use cck_digest::HashState;
 use cck_entry::PreprocessorCacheEntry;
 use cck_explain_text::push_quoted;
@@ -115,10 +115,10 @@ fn push_returned<H: HashState, F: Files>(
 }
 
 // The key of the first of these calls.
-fn key_of<'a>(calls: &'a [StoreCall]) -> &'a [u8] {
+fn key_of<'a>(calls: &'a [WatchedCall]) -> &'a [u8] {
     match calls.first() {
-        Some(StoreCall::Get { key, .. }) => key.as_bytes(),
-        Some(StoreCall::Put { key, .. }) => key.as_bytes(),
+        Some(WatchedCall::Get { key, .. }) => key.as_bytes(),
+        Some(WatchedCall::Put { key, .. }) => key.as_bytes(),
         None => b"-",
     }
 }
@@ -131,7 +131,7 @@ fn key_of<'a>(calls: &'a [StoreCall]) -> &'a [u8] {
 pub(crate) fn push_note<H: HashState, F: Files>(
     alloc: Global,
     lines: &mut Vec<u8>,
-    calls: &[StoreCall],
+    calls: &[WatchedCall],
     files: &mut F,
     context: &JudgeContext<'_>,
 ) -> Result<(), AllocError> {
@@ -139,11 +139,11 @@ pub(crate) fn push_note<H: HashState, F: Files>(
     let mut is_asked = false;
     for call in calls {
         match call {
-            StoreCall::Get { returned, .. } => {
+            WatchedCall::Get { returned, .. } => {
                 is_asked = true;
                 push_returned::<H, F>(alloc, lines, returned, files, context)?;
             }
-            StoreCall::Put { returned, .. } => {
+            WatchedCall::Put { returned, .. } => {
                 if !is_asked {
                     push_line(lines, &[b"store not asked"])?;
                 }

@@ -8,7 +8,7 @@ use std::mem;
 
 /// A get or a put of a store, and its result.
 #[derive(Debug, Drop)]
-pub enum StoreCall {
+pub enum WatchedCall {
     /// A get under this key, and the bytes that it returned, if there were any.
     Get {
         /// The key.
@@ -30,7 +30,7 @@ pub enum StoreCall {
 #[derive(Drop)]
 pub struct WatchedStore {
     store: MapStore,
-    calls: Vec<StoreCall>,
+    calls: Vec<WatchedCall>,
     // Whether memory was lacking for one of the calls.
     is_short: bool,
 }
@@ -60,7 +60,7 @@ impl WatchedStore {
     /// Takes the calls since they were last taken, in their order, and returns them.
     ///
     /// The error says that memory was lacking for one of them.
-    pub fn take_calls(&mut self, alloc: Global) -> Result<Vec<StoreCall>, AllocError>
+    pub fn take_calls(&mut self, alloc: Global) -> Result<Vec<WatchedCall>, AllocError>
         ensures { self.new ≡ self.old }
     {
         if self.is_short {
@@ -84,7 +84,7 @@ impl WatchedStore {
             Err(error) => Err(*error),
         };
         let key = String::from_str(alloc, key)?;
-        self.calls.push(StoreCall::Get { key, returned })?;
+        self.calls.push(WatchedCall::Get { key, returned })?;
         Ok(())
     }
 
@@ -98,7 +98,7 @@ impl WatchedStore {
         ensures { self.new ≡ self.old }
     {
         let key = String::from_str(alloc, key)?;
-        self.calls.push(StoreCall::Put { key, returned })?;
+        self.calls.push(WatchedCall::Put { key, returned })?;
         Ok(())
     }
 }

@@ -7,7 +7,7 @@ use memchr::memchr;
 
 /// A line without its LF, the LF if there is one, and the text after it.
 #[derive(Clone, Copy)]
-pub(crate) struct Line<'a> {
+pub(crate) struct CutLine<'a> {
     /// The line without its LF.
     pub(crate) front: &'a [u8],
     /// The LF, or nothing.
@@ -17,19 +17,19 @@ pub(crate) struct Line<'a> {
 }
 
 /// The first line of a text that has one.
-pub(crate) fn cut_line(text: &[u8]) -> Line<'_>
+pub(crate) fn cut_line(text: &[u8]) -> CutLine<'_>
     requires { 0 < length text.now }
     ensures line { lines_in text.now
         ≡ (result.front.now, result.ending.now) ∷ lines_in result.rest.now }
     ensures less { length result.rest.now < length text.now }
 {
     match find_lf(text) {
-        None => Line {
+        None => CutLine {
             front: text,
             ending: &[],
             rest: &[],
         },
-        Some(end) => Line {
+        Some(end) => CutLine {
             front: &text[..end],
             ending: &text[end..end + 1],
             rest: &text[end + 1..],

@@ -9,7 +9,7 @@ ghost use Rattle.cck_mini.specs.Seen.{macros_seen};
 use crate::error::PrintError;
 use crate::expand::expand;
 use crate::file::read_file;
-use crate::line::{Line, cut_line, include_name, is_empty_or_ends_in_lf};
+use crate::line::{CutLine, cut_line, include_name, is_empty_or_ends_in_lf};
 use crate::macros::{Macros, macros_for};
 use cck_files::Files;
 use cck_path::{Timestamp, join_path};
@@ -103,7 +103,7 @@ fn print_line<F: Files>(
     out: &mut Vec<u8>,
     job: &Job<'_>,
     macros: &Macros,
-    line: Line<'_>,
+    line: CutLine<'_>,
     number: u64,
 ) -> Result<(), PrintError>
     ensures keeps { Keeps F.file_map F.faults F.is_quiet files.old files.new }

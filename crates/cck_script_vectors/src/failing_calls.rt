@@ -1,6 +1,6 @@
 //! The calls of a script as a list, and failures among them.
 use crate::broken_streams::{self, Broken};
-use crate::failures::{self, Cause};
+use crate::failures::{self, FailureCause};
 use crate::lists::{CallResult, List, write_call_result};
 use crate::places::begin_line;
 use crate::streams::Streams;
@@ -85,12 +85,12 @@ fn write_results(list: &List, out: &mut Vec<u8>, fail_after: u64) -> Result<(), 
 }
 
 // `CAUSE once` and `CAUSE on`: a cause, and whether one call alone fails.
-fn cause_of(rest: &str) -> Option<(Cause, bool)> {
+fn cause_of(rest: &str) -> Option<(FailureCause, bool)> {
     let (cause, how) = rest.split_once(' ')?;
     let cause = match cause {
-        "files" => Cause::Files,
-        "store" => Cause::Store,
-        "forget" => Cause::Forgetting,
+        "files" => FailureCause::Files,
+        "store" => FailureCause::Store,
+        "forget" => FailureCause::Forgetting,
         _ => return None,
     };
     Some((cause, is_once(how)?))

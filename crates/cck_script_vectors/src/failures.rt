@@ -1,6 +1,6 @@
 //! Each failure of one cause in turn, over the calls of a script.
 use crate::lists::{
-    Alone, CallResult, List, Request, hold, is_held_alike, keys_of, write_call_result,
+    Alone, CallResult, List, MiniCall, hold, is_held_alike, keys_of, write_call_result,
 };
 use c_cache_keys::{HashResult, KeyError, MapStore, PreprocessError};
 use cck_cases::CaseError;
@@ -9,7 +9,7 @@ use std::alloc::Global;
 
 /// What fails: calls on files, or gets and puts, of which each may forget too.
 #[derive(Debug, Clone, Copy, PartialEq, Eq)]
-pub(crate) enum Cause {
+pub(crate) enum FailureCause {
     Files,
     Store,
     Forgetting,
@@ -19,7 +19,7 @@ pub(crate) enum Cause {
 /// with all later ones.
 #[derive(Debug, Clone, Copy)]
 struct Failure {
-    cause: Cause,
+    cause: FailureCause,
     is_once: bool,
     place: usize,
     n: u64,
@@ -35,8 +35,8 @@ struct Counts {
 
 impl Failure {
     // Arms the calls on files of the call at a place.
-    fn arm_files(&self, call: &mut Request, place: usize) {
-        if self.cause != Cause::Files {
+    fn arm_files(&self, call: &mut MiniCall, place: usize) {
+        if self.cause != FailureCause::Files {
             return;
         }
         if place == self.place && self.is_once {
@@ -51,10 +51,10 @@ impl Failure {
     // Arms the gets and puts.
     fn arm_store(&self, store: &mut MapStore) {
         match (self.cause, self.is_once) {
-            (Cause::Files, _) => {}
-            (Cause::Store, true) => store.fail_at(self.n),
-            (Cause::Store, false) => store.fail_after(self.n),
-            (Cause::Forgetting, _) => store.forget_at(self.n),
+            (FailureCause::Files, _) => {}
+            (FailureCause::Store, true) => store.fail_at(self.n),
+            (FailureCause::Store, false) => store.fail_after(self.n),
+            (FailureCause::Forgetting, _) => store.forget_at(self.n),
         }
     }
 
@@ -62,8 +62,8 @@ impl Failure {
     fn is_met(&self, place: usize, counts: Counts) -> bool {
         let (n, is_later) = (self.n, !self.is_once);
         match self.cause {
-            Cause::Files if place == self.place => n <= counts.files,
-            Cause::Files => is_later && place > self.place && counts.files > 0,
+            FailureCause::Files if place == self.place => n <= counts.files,
+            FailureCause::Files => is_later && place > self.place && counts.files > 0,
             _ if n > counts.store_after => false,
             _ => n > counts.store_before || (is_later && counts.store_after > counts.store_before),
         }
@@ -75,9 +75,9 @@ impl Failure {
             return same_key(plain, call_result);
         };
         match self.cause {
-            Cause::Files => is_fault(*error) || same_result(plain, call_result),
-            Cause::Store => *error == KeyError::Store || same_result(plain, call_result),
-            Cause::Forgetting => same_result(plain, call_result),
+            FailureCause::Files => is_fault(*error) || same_result(plain, call_result),
+            FailureCause::Store => *error == KeyError::Store || same_result(plain, call_result),
+            FailureCause::Forgetting => same_result(plain, call_result),
         }
     }
 }
@@ -189,7 +189,7 @@ struct Run<'a> {
 
 impl Run<'_> {
     // Makes the call at a place, and says whether its result and what is held afterwards are right.
-    fn make(&mut self, place: usize, mut call: Request) -> Result<(CallResult, bool), CaseError> {
+    fn make(&mut self, place: usize, mut call: MiniCall) -> Result<(CallResult, bool), CaseError> {
         let alloc = self.list.alloc;
         let mut before = disarmed(alloc, self.alone, &self.store)?;
         let store_before = self.store.calls();
@@ -209,7 +209,7 @@ impl Run<'_> {
             return Ok((call_result, is_right));
         }
         self.has_met = self.has_met
-            || self.failure.cause != Cause::Files
+            || self.failure.cause != FailureCause::Files
             || place == self.failure.place;
         let Some(alone) = self.alone.get(place) else {
             return Err(CaseError::Line);
@@ -330,11 +330,11 @@ fn run_under(
 pub(crate) fn write(
     list: &List,
     out: &mut Vec<u8>,
-    cause: Cause,
+    cause: FailureCause,
     is_once: bool,
 ) -> Result<(), CaseError> {
     let alone = list.each_alone()?;
-    let places = if cause == Cause::Files {
+    let places = if cause == FailureCause::Files {
         alone.len()
     } else {
         1

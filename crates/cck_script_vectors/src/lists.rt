@@ -10,7 +10,7 @@ use jiff::tz::TimeZone;
 use std::alloc::Global;
 
 /// A call of a script.
-pub(crate) type Request = Call<MiniCompiler, MapFiles>;
+pub(crate) type MiniCall = Call<MiniCompiler, MapFiles>;
 
 /// The result of a call.
 pub(crate) type CallResult = Result<HashResult, KeyError>;
@@ -22,7 +22,7 @@ pub(crate) struct List {
     pub(crate) alloc: Global,
     options: RunOptions,
     // The calls, in the order of their lines.
-    calls: Vec<Request>,
+    calls: Vec<MiniCall>,
     // What is held before the first call: bytes under a key.
     first: Option<(String, Vec<u8>)>,
     zone: TimeZone<'static>,
@@ -114,7 +114,7 @@ impl List {
     }
 
     /// The calls once more, in the order of their lines.
-    pub(crate) fn calls(&self) -> Result<Vec<Request>, CaseError> {
+    pub(crate) fn calls(&self) -> Result<Vec<MiniCall>, CaseError> {
         let mut copies = Vec::new(self.alloc);
         for call in &self.calls {
             copies.push(self.copy(call)?)?;
@@ -123,11 +123,11 @@ impl List {
     }
 
     /// The call of this place once more.
-    pub(crate) fn call(&self, place: usize) -> Result<Request, CaseError> {
+    pub(crate) fn call(&self, place: usize) -> Result<MiniCall, CaseError> {
         self.copy(self.calls.get(place).ok_or(CaseError::Line)?)
     }
 
-    fn copy(&self, call: &Request) -> Result<Request, CaseError> {
+    fn copy(&self, call: &MiniCall) -> Result<MiniCall, CaseError> {
         let hasher = call.hasher.copy(self.alloc);
         Ok(Call {
             hasher: hasher.map_err(|_| CaseError::Util(UtilError::Memory))?,
@@ -143,7 +143,7 @@ impl List {
     pub(crate) fn make_all(
         &self,
         store: &mut MapStore,
-        calls: &mut [Request],
+        calls: &mut [MiniCall],
     ) -> Result<Vec<CallResult>, CaseError> {
         let config = PreprocessorCacheModeConfig::activated();
         let call_results = run_calls::<Sha256State, MiniCompiler, MapFiles, MapStore>(
@@ -161,7 +161,7 @@ impl List {
     pub(crate) fn make(
         &self,
         store: &mut MapStore,
-        call: Request,
+        call: MiniCall,
     ) -> Result<(CallResult, u64), CaseError> {
         let mut calls = Vec::new(self.alloc);
         calls.push(call)?;

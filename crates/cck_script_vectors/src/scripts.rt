@@ -7,7 +7,7 @@ use cck_util::UtilError;
 use std::alloc::{AllocError, Global};
 
 #[derive(Clone, Copy)]
-pub(crate) enum ScriptCall {
+pub(crate) enum ScriptTextCall {
     Parse,
     Calls,
     Options,
@@ -15,17 +15,17 @@ pub(crate) enum ScriptCall {
     ErrorText,
 }
 
-pub(crate) const CALLS: [(&str, ScriptCall); 5] = [
-    ("parse", ScriptCall::Parse),
-    ("calls", ScriptCall::Calls),
-    ("options", ScriptCall::Options),
-    ("surroundings", ScriptCall::Surroundings),
-    ("script_error_text", ScriptCall::ErrorText),
+pub(crate) const CALLS: [(&str, ScriptTextCall); 5] = [
+    ("parse", ScriptTextCall::Parse),
+    ("calls", ScriptTextCall::Calls),
+    ("options", ScriptTextCall::Options),
+    ("surroundings", ScriptTextCall::Surroundings),
+    ("script_error_text", ScriptTextCall::ErrorText),
 ];
 
 /// Makes a call on the script of this text, and writes its result.
 pub(crate) fn write(
-    call: ScriptCall,
+    call: ScriptTextCall,
     alloc: Global,
     out: &mut Vec<u8>,
     text: &[u8],
@@ -39,28 +39,30 @@ pub(crate) fn write(
 }
 
 fn write_of_script(
-    call: ScriptCall,
+    call: ScriptTextCall,
     alloc: Global,
     out: &mut Vec<u8>,
     script: Script,
     rest: &str,
 ) -> Result<(), CaseError> {
     match call {
-        ScriptCall::Parse | ScriptCall::ErrorText => Ok(write_commands(alloc, out, &script)?),
-        ScriptCall::Calls => Ok(write_calls(alloc, out, &script)?),
-        ScriptCall::Options => Ok(write_options(alloc, out, &script.options(alloc)?)?),
-        ScriptCall::Surroundings => write_at_call(alloc, out, script, rest),
+        ScriptTextCall::Parse | ScriptTextCall::ErrorText => Ok(write_commands(
+            alloc, out, &script,
+        )?),
+        ScriptTextCall::Calls => Ok(write_calls(alloc, out, &script)?),
+        ScriptTextCall::Options => Ok(write_options(alloc, out, &script.options(alloc)?)?),
+        ScriptTextCall::Surroundings => write_at_call(alloc, out, script, rest),
     }
 }
 
 fn write_error(
-    call: ScriptCall,
+    call: ScriptTextCall,
     alloc: Global,
     out: &mut Vec<u8>,
     error: ScriptError,
 ) -> Result<(), AllocError> {
     let text = match call {
-        ScriptCall::ErrorText => format!(in alloc; "{error}")?,
+        ScriptTextCall::ErrorText => format!(in alloc; "{error}")?,
         _ => format!(in alloc; "error {error:?}")?,
     };
     out.extend_from_slice(text.as_bytes())

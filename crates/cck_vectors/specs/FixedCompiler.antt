@@ -13,8 +13,8 @@ use Rattle.cck_path.specs.Text.{join_path}
 use Rattle.cck_path.specs.Timestamp.{Moment}
 use Rattle.cck_path.specs.Variables.{Variable}
 use Rattle.cck_vectors.specs.declared.fixed_compiler.FixedCompiler.{FixedCompiler}
-use Rattle.cck_vectors.specs.declared.fixed_compiler.Reading.{Reading}
-use Rattle.cck_vectors.specs.declared.fixed_compiler.Reading.TheVariants as reading
+use Rattle.cck_vectors.specs.declared.fixed_compiler.FixedReading.{FixedReading}
+use Rattle.cck_vectors.specs.declared.fixed_compiler.FixedReading.TheVariants as reading
 
 -- what was given, without where it lies in memory
 pub record Fixed : Type 0 where
@@ -26,7 +26,7 @@ pub record Fixed : Type 0 where
   pub parsed : Parsed
 
 -- what each command line is parsed as
-abbrev pub parsed_as : Reading → Arguments → Option Bytes → Parsed
+abbrev pub parsed_as : FixedReading → Arguments → Option Bytes → Parsed
 parsed_as reading.Compilation arguments detail = compilation arguments
 parsed_as reading.CannotCache arguments detail = cannot_cache (codes "-E") detail
 parsed_as reading.NotCompilation arguments detail = no_compilation

@@ -5,7 +5,7 @@ use crate::fixed_compiler::PREPROCESSED;
 use crate::keys::{self, KeyCall};
 use crate::lists::{self, FixedCall};
 use crate::noting_files::NotingFiles;
-use crate::request::Request;
+use crate::request::GivenRequest;
 use crate::stores::{self, Stores};
 use c_cache_keys::{HashResult, KeyError};
 use cck_cases::{CaseError, CaseLine, Given, Subject, Value, World, bytes_of, find, number};
@@ -18,7 +18,7 @@ use std::mem;
 pub(crate) struct Calls {
     given: Given,
     world: World,
-    request: Request,
+    request: GivenRequest,
     stores: Stores,
     // What counts calls on one path. Its files are the given ones while a call is made.
     noting: NotingFiles,
@@ -146,7 +146,7 @@ impl Subject for Calls {
         Calls {
             given: Given::new(alloc),
             world: World::new(alloc),
-            request: Request::new(alloc),
+            request: GivenRequest::new(alloc),
             stores: Stores::new(alloc),
             noting: NotingFiles {
                 files: MapFiles::new(alloc),
@@ -163,7 +163,7 @@ impl Subject for Calls {
         let alloc = self.given.alloc;
         self.given.begin();
         self.world.begin();
-        self.request = Request::new(alloc);
+        self.request = GivenRequest::new(alloc);
         self.stores = Stores::new(alloc);
         self.noting.count = 0;
         self.noting.is_bytewise = false;

@@ -1,6 +1,6 @@
 //! Compilers with their executables, and parsed command lines.
 use crate::fixed_compiler::FixedCompiler;
-use crate::request::Request;
+use crate::request::GivenRequest;
 use crate::shown::{error_value, held, write_arguments, write_word, write_words};
 use c_cache_keys::{CCompiler, CCompilerHasher, CCompilerImpl, CompilerArguments, ParsedArguments};
 use cck_cases::{CaseError, Given, Value};
@@ -34,7 +34,7 @@ pub(crate) const CALLS: [(&str, CompilerCall); 9] = [
 
 pub(crate) fn call<'a>(
     call: CompilerCall,
-    request: &mut Request,
+    request: &mut GivenRequest,
     given: &Given,
     files: &mut MapFiles,
 ) -> Result<Value<'a>, CaseError> {
@@ -54,7 +54,7 @@ pub(crate) fn call<'a>(
 }
 
 // The family of the compiler and the hex digest of its executable.
-fn new_compiler<'a>(request: &Request, files: &mut MapFiles) -> Result<Value<'a>, CaseError> {
+fn new_compiler<'a>(request: &GivenRequest, files: &mut MapFiles) -> Result<Value<'a>, CaseError> {
     let alloc = request.alloc;
     let compiler = held(request.hasher.compiler.copy(alloc))?;
     let executable = request.hasher.executable.to_vec(alloc)?;
@@ -65,7 +65,7 @@ fn new_compiler<'a>(request: &Request, files: &mut MapFiles) -> Result<Value<'a>
 }
 
 // The compiler that parses each command line into the arguments that are given.
-fn compiler_of(request: &mut Request) -> Result<CCompiler<FixedCompiler>, CaseError> {
+fn compiler_of(request: &mut GivenRequest) -> Result<CCompiler<FixedCompiler>, CaseError> {
     let alloc = request.alloc;
     request.hasher.compiler.parsed = held(request.hasher.parsed_args.copy(alloc))?;
     let executable = request.hasher.executable.to_vec(alloc)?;
@@ -80,7 +80,7 @@ fn compiler_of(request: &mut Request) -> Result<CCompiler<FixedCompiler>, CaseEr
 
 // What the command line is parsed as: all that it says, or the extra files alone.
 fn parse<'a>(
-    request: &mut Request,
+    request: &mut GivenRequest,
     given: &Given,
     files: &mut MapFiles,
     files_alone: bool,
@@ -132,7 +132,7 @@ fn write_hasher(
 }
 
 // What the compiler itself says of the command line, as `Debug` prints it.
-fn parsed_shown<'a>(request: &mut Request, given: &Given) -> Result<Value<'a>, CaseError> {
+fn parsed_shown<'a>(request: &mut GivenRequest, given: &Given) -> Result<Value<'a>, CaseError> {
     let alloc = request.alloc;
     let compiler = compiler_of(request)?;
     let parsed = compiler
@@ -143,13 +143,13 @@ fn parsed_shown<'a>(request: &mut Request, given: &Given) -> Result<Value<'a>, C
 }
 
 // All that a copy of the compilation says.
-fn copy<'a>(request: &Request) -> Result<Value<'a>, CaseError> {
+fn copy<'a>(request: &GivenRequest) -> Result<Value<'a>, CaseError> {
     let copy = held(request.hasher.copy(request.alloc))?;
     parsed_value(request.alloc, &copy, false)
 }
 
 // The language, the color mode and the name of the output of the compilation.
-fn language_color_output<'a>(request: &Request) -> Result<Value<'a>, CaseError> {
+fn language_color_output<'a>(request: &GivenRequest) -> Result<Value<'a>, CaseError> {
     let alloc = request.alloc;
     let name = held(request.hasher.output_pretty(alloc))?;
     let (language, color) = (request.hasher.language(), request.hasher.color_mode());

@@ -15,7 +15,7 @@ pub(crate) const PREPROCESSED: &[u8] = b"/preprocessed";
 
 /// What a [`FixedCompiler`] parses each command line into.
 #[derive(Copy, Clone)]
-pub(crate) enum Reading {
+pub(crate) enum FixedReading {
     /// A compilation of its parsed arguments.
     Compilation,
     /// A compilation that can't be cached, because of `-E` and its detail.
@@ -42,7 +42,7 @@ pub(crate) struct FixedCompiler {
     /// The hex digest of the assembler, if there is one.
     pub(crate) assembler: Option<String>,
     /// What each command line is parsed into.
-    pub(crate) reading: Reading,
+    pub(crate) reading: FixedReading,
     /// The arguments of a compilation.
     pub(crate) parsed: ParsedArguments,
     /// The detail where the result can't be cached.
@@ -88,11 +88,11 @@ impl CCompilerImpl for FixedCompiler {
         _: &[(Vec<u8>, Vec<u8>)],
     ) -> Result<CompilerArguments<ParsedArguments>, KeyError> {
         match self.reading {
-            Reading::Compilation => Ok(CompilerArguments::Ok(self.parsed.copy(alloc)?)),
-            Reading::CannotCache => {
+            FixedReading::Compilation => Ok(CompilerArguments::Ok(self.parsed.copy(alloc)?)),
+            FixedReading::CannotCache => {
                 Ok(CompilerArguments::CannotCache("-E", copy_text(&self.detail)?))
             }
-            Reading::NotCompilation => Ok(CompilerArguments::NotCompilation),
+            FixedReading::NotCompilation => Ok(CompilerArguments::NotCompilation),
         }
     }
 

@@ -1,6 +1,6 @@
 //! Calls for keys.
 use crate::noting_files::NotingFiles;
-use crate::request::Request;
+use crate::request::GivenRequest;
 use crate::shown::{error_value, write_result};
 use c_cache_keys::{CCompilerImpl, HashResult, KeyError, PreprocessError, PreprocessorStore};
 use cck_cases::{CaseError, Given, Value, World};
@@ -39,7 +39,7 @@ pub(crate) fn zone_of(world: &World) -> Result<TimeZone<'static>, CaseError> {
 
 /// Calls for the key of the compilation that is given.
 pub(crate) fn key_of<S: PreprocessorStore>(
-    request: &Request,
+    request: &GivenRequest,
     given: &Given,
     world: &World,
     files: &mut NotingFiles,
@@ -97,14 +97,14 @@ pub(crate) fn result_shown<'a>(
 }
 
 /// Whether a stored key may be returned, as `Debug` prints it.
-pub(crate) fn control_shown<'a>(request: &Request) -> Result<Value<'a>, CaseError> {
+pub(crate) fn control_shown<'a>(request: &GivenRequest) -> Result<Value<'a>, CaseError> {
     let control = request.control;
     Ok(Value::Text(format!(in request.alloc; "{control:?}")?))
 }
 
 /// The text that the compiler prints.
 pub(crate) fn preprocessed_text<'a>(
-    request: &Request,
+    request: &GivenRequest,
     given: &Given,
     world: &World,
     files: &mut NotingFiles,

@@ -2,7 +2,7 @@
 use crate::fixed_compiler::{FixedCompiler, PREPROCESSED};
 use crate::keys::zone_of;
 use crate::noting_files::NotingFiles;
-use crate::request::Request;
+use crate::request::GivenRequest;
 use crate::shown::{held, write_result};
 use c_cache_keys::{Call, HashResult, KeyError, PreprocessorStore, run_calls};
 use cck_cases::{CaseError, Given, Value, World};
@@ -15,7 +15,7 @@ pub(crate) type FixedCall = Call<FixedCompiler, NotingFiles>;
 
 /// The call for the key of the compilation that is given, over a copy of the files.
 pub(crate) fn call_of(
-    request: &Request,
+    request: &GivenRequest,
     given: &Given,
     world: &World,
 ) -> Result<FixedCall, CaseError> {

@@ -1,6 +1,6 @@
 //! What lines give of the compilation that a key is asked for.
 use crate::arguments;
-use crate::fixed_compiler::{FixedCompiler, Reading};
+use crate::fixed_compiler::{FixedCompiler, FixedReading};
 use c_cache_keys::{CCompilerHasher, CCompilerKind, CacheControl};
 use cck_cases::{CaseError, bytes_of, find};
 use cck_util::Language;
@@ -63,7 +63,7 @@ const KINDS: [(&str, CCompilerKind); 10] = [
 
 /// What lines give of the compilation that a key is asked for.
 #[derive(Drop)]
-pub(crate) struct Request {
+pub(crate) struct GivenRequest {
     /// The allocator of all that is given.
     pub(crate) alloc: Global,
     /// The compilation. At first `/usr/bin/cc` with the digest `abcd`, a GCC that prints nothing,
@@ -83,7 +83,7 @@ fn no_compilation(alloc: Global) -> CCompilerHasher<FixedCompiler> {
             plusplus: false,
             version: None,
             assembler: None,
-            reading: Reading::Compilation,
+            reading: FixedReading::Compilation,
             parsed: arguments::no_arguments(alloc),
             detail: None,
         },
@@ -93,10 +93,10 @@ fn no_compilation(alloc: Global) -> CCompilerHasher<FixedCompiler> {
     }
 }
 
-impl Request {
+impl GivenRequest {
     /// Nothing is given, the texts that are given at first neither.
-    pub(crate) fn new(alloc: Global) -> Request {
-        Request {
+    pub(crate) fn new(alloc: Global) -> GivenRequest {
+        GivenRequest {
             alloc,
             hasher: no_compilation(alloc),
             cwd: Vec::new(alloc),
@@ -135,12 +135,12 @@ impl Request {
             Word::Plusplus => compiler.plusplus = true,
             Word::Version => compiler.version = Some(String::from_str(alloc, rest)?),
             Word::Assembler => compiler.assembler = Some(String::from_str(alloc, rest)?),
-            Word::CannotCache => compiler.reading = Reading::CannotCache,
+            Word::CannotCache => compiler.reading = FixedReading::CannotCache,
             Word::CannotCacheFor => {
-                compiler.reading = Reading::CannotCache;
+                compiler.reading = FixedReading::CannotCache;
                 compiler.detail = Some(String::from_str(alloc, rest)?);
             }
-            Word::NotCompilation => compiler.reading = Reading::NotCompilation,
+            Word::NotCompilation => compiler.reading = FixedReading::NotCompilation,
         }
         Ok(())
     }

@@ -1,11 +1,11 @@
 use Rattle.std.proofs.Common.{◌≡◌, ◌+◌, ℕ, true, false, cond, List, ◌∷◌, drop, get_or, sym, ap, ◌∙◌}
 use Rattle.std.proofs.lemmas.List.{at_drop_more}
 use Rattle.cck_cache_entry.specs.Assembler.{place_after, includes_from, is_found, joined_string}
-use Rattle.cck_cache_entry.specs.declared.assembler.Place.{Place}
+use Rattle.cck_cache_entry.specs.declared.assembler.SourcePlace.{SourcePlace}
 use Rattle.cck_cache_entry.proofs.assembler.may_include.Goals as goal
 
 -- a byte at which nothing is found
-passed : (place : Place) (before byte : ℕ) (string text : List ℕ) → is_found place before byte (joined_string place string byte) ≡ false
+passed : (place : SourcePlace) (before byte : ℕ) (string text : List ℕ) → is_found place before byte (joined_string place string byte) ≡ false
     → includes_from place before string (byte ∷ text) ≡ includes_from (place_after place before byte) byte (joined_string place string byte) text
 passed place before byte string text none = ap (λ b. cond b true (includes_from (place_after place before byte) byte (joined_string place string byte) text)) none
 
