@@ -188,6 +188,8 @@ check_files 'special characters' -MD -MP -I"$work/d2" -I"$work/d1" -c "$work/dep
 check_files 'the last one counts' -MD -MMD -MFone -MF two -I"$work/d2" -I"$work/d1" -c "$work/depends.c" -o foo.o
 check_files 'as automake' -MT foo.o -MD -MP -MF .deps/foo.Tpo -I"$work/d2" -I"$work/d1" -c -o foo.o "$work/depends.c"
 check_files 'as CMake' -I"$work/d2" -I"$work/d1" -MD -MT a.b/foo.c.o -MF a.b/foo.c.o.d -o a.b/foo.c.o -c "$work/depends.c"
+check_files 'by the preprocessor' -Wp,-MMD,.deps/.foo.d -MP -I"$work/d2" -I"$work/d1" -c -o a.b/foo.o "$work/depends.c"
+check_files 'by the preprocessor, a target' -Wp,-MD,foo.d -MT x/foo -I"$work/d2" -I"$work/d1" -c -o a.b/foo.o "$work/depends.c"
 check_files 'a directory with the name of an option' -MD -I"$work/d2" -I -MF -I"$work/d1" -c "$work/depends.c" -o foo.o
 
 # A header that is not read, since one with its size, its time and its contents was read.
@@ -293,6 +295,8 @@ settle
 check '#line of no file' 'refused-named-file *' same -c gen.c
 check '-march=native' 'passed on (native)*' same -c x.c -Ib -march=native
 check '-Wp,' 'passed on (preprocessor-option)*' same -c x.c -Ib -Wp,-DX
+check '-Wp,-MD, and -MF' 'passed on (dependencies)*' same -c x.c -Ib -Wp,-MD,x.d -MF y.d
+check '-Wp,-MD, with another option' 'passed on (preprocessor-option)*' same -c x.c -Ib -Wp,-MD,x.d,-DX
 check '-Wa,' 'passed on (assembler-option)*' same -c x.c -Ib -Wa,--noexecstack
 echo '-Ib' >options
 check '@file' 'passed on (response-file)*' same -c x.c @options
