@@ -39,7 +39,8 @@ def width(kind):
 
 
 def snake(name):
-    """A type's name as C has it."""
+    """A type's name as C has it. The crate has a C before a name that a crate below has: `CMark`."""
+    name = re.sub(r"^C(?=[A-Z])", "", name)
     return "cck" + re.sub(r"[A-Z]", lambda letter: "_" + letter[0].lower(), name)
 
 
