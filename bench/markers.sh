@@ -4,9 +4,9 @@
 # marker at every other line, and four of short lines: line feeds alone, lines of `#`, lines of `_`,
 # and lines of `# 1 2 3 4`.
 #
-#     bench/markers.sh [FOLDER]
+#     bench/markers.sh [DIRECTORY]
 #
-# All is made in FOLDER, by default a new one below /tmp: the texts, a copy of the crate and the
+# All is made in DIRECTORY, by default a new one below /tmp: the texts, a copy of the crate and the
 # program. Compare times within one run.
 set -e
 here=$(cd "$(dirname "$0")" && pwd)

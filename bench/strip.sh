@@ -7,9 +7,9 @@
 # strip_basedirs_from_arg on 100 arguments with 1000 base directories. Where valgrind is there, the
 # instructions of each on 4 MB of the text are counted in runs of their own.
 #
-#     bench/strip.sh [FOLDER]
+#     bench/strip.sh [DIRECTORY]
 #
-# All is made in FOLDER, by default a new one below /tmp: the texts, a copy of the crates and the
+# All is made in DIRECTORY, by default a new one below /tmp: the texts, a copy of the crates and the
 # program. Compare times within one run.
 set -e
 here=$(cd "$(dirname "$0")" && pwd)

@@ -8,8 +8,9 @@
 
 `join` computes the key of the listed parts. `keys` lists keys with base directories, whole and
 shortened, by the reference, and compares the program's listings with them. `scripts` runs scripts by the
-reference, on a store that keeps what is asked of it, and compares the listings. `markers` computes the listing of a text's line markers
-by `tests/reference/markers.py`, each place by the line feeds before it, and compares. `entries` runs a
+reference, on a store that keeps what is asked of it, and compares the listings. `markers` computes the
+listing of a text's line markers by `tests/reference/markers.py`, each place by the line feeds before it,
+and compares. `entries` runs a
 script by the reference, gives each entry of its store to the program and compares the listing with
 the entry; then it does the same for each prefix of these bytes, for each with one byte changed, and
 for wrong fields, and compares the status and the offset with those of a reader of its own.

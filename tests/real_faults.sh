@@ -1,8 +1,8 @@
 #!/bin/sh
-# Recordings that are killed, damaged stores, files that change between two steps, two builds at
-# once and a full device: no look-up gives a wrong object or a wrong dependency file. And what `prune` removes. Run by hand; needs
-# gcc and Python 3. KILLS and DAMAGES are the numbers of tries, SEED is the seed. Its last line is
-# 'all passed'.
+# Kills recordings, damages stores, changes files between two steps, makes two builds at once and fills a
+# device: no look-up may give a wrong object or a wrong dependency file. It also tests what `prune`
+# removes. Run by hand; needs gcc and Python 3. KILLS and DAMAGES are the numbers of tries, SEED is the
+# seed. Its last line is 'all passed'.
 set -u
 top=$(cd "$(dirname "$0")/.." && pwd)
 . "$top/tests/real/common.sh"

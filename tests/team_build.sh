@@ -1,9 +1,9 @@
 #!/bin/sh
 # Builds lua in three directories by one store on a Redis server, and compares every object and every
-# dependency file byte for byte with the plain compiler's of its directory: a store that one checkout fills and the others use, two
-# builds at once, a server that is killed, that comes back empty, that evicts, that is full, that is slow
-# or cuts its replies, a user that may only read, and values that are damaged by hand. Nothing may fail, and no
-# object may be wrong. Run by hand; needs gcc, make, Python 3, Debian's redis-server and redis-tools, and
+# dependency file byte for byte with the plain compiler's of its directory. One checkout fills the store and
+# the others use it, and two builds run at once. The server is killed, comes back empty, evicts, is full, is
+# slow and cuts its replies; a user may only read; values are damaged. Nothing may fail, and no object may be
+# wrong. Run by hand; needs gcc, make, Python 3, Debian's redis-server and redis-tools, and
 # Debian's package archive. The server runs on a port of loopback, and is stopped at the end. DAMAGES is
 # the number of damaged values, 1000 by default. The last line is 'all passed'.
 set -eu

@@ -1,5 +1,5 @@
-"""Builds with random edits between them: each object and each dependency file is the plain compiler's. Run by
-tests/real_edits.sh, in the directory of the sources, with the wrapper in PATH."""
+"""Builds with random edits between them: each object and each dependency file is the plain compiler's.
+Run by tests/real_edits.sh, in the directory of the sources, with the wrapper in PATH."""
 import collections
 import glob
 import os

@@ -1,6 +1,7 @@
-"""Recordings that are killed, stores that are damaged, files that change between two steps, two
-builds at once and a full device: never a wrong object or a wrong dependency file. And what `prune` removes. Run by tests/real_faults.sh, in an empty
-directory, with the program's path in CCK_PROGRAM and the wrapper in PATH."""
+"""Kills recordings, damages stores, changes files between two steps, makes two builds at once and fills a
+device: never a wrong object or a wrong dependency file. It also tests what `prune` removes. Run by
+tests/real_faults.sh, in an empty directory, with the program's path in CCK_PROGRAM and the wrapper in
+PATH."""
 import os
 import random
 import shutil

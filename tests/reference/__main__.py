@@ -2,7 +2,7 @@
 import importlib
 import sys
 
-USAGE = """usage: python3 -m reference COMMAND, in the folder tests
+USAGE = """usage: python3 -m reference COMMAND, in the directory tests
   key DIGEST LANGUAGE [ARG..]  prints what `cck key` prints
   run                          prints what `cck run` prints for the script on standard input
   check [FILE..]               compares each expected result of the vector files with its own

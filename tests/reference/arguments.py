@@ -1,4 +1,4 @@
-"""Parsed command lines, and the further files that variables and HIP add to them."""
+"""Parsed command lines, and the extra files that variables and HIP add to them."""
 import dataclasses
 
 from .errors import Refused, is_fault
@@ -126,7 +126,7 @@ def libraries(files, folder):
 
 
 def extra_files(arguments, files, variables):
-    """`extra_files`: the further files that the variables name, and for HIP the device libraries."""
+    """`extra_files`: the extra files that the variables name, and for HIP the device libraries."""
     named = named_files(variables)
     if not is_hip(arguments):
         return named
@@ -134,6 +134,6 @@ def extra_files(arguments, files, variables):
 
 
 def with_extra_files(arguments, files, variables):
-    """`with_extra_files`: the arguments with further files after those that they have."""
+    """`with_extra_files`: the arguments with extra files after those that they have."""
     further = arguments.extra_hash_files + extra_files(arguments, files, variables)
     return dataclasses.replace(arguments, extra_hash_files=further)

@@ -11,7 +11,7 @@ ENTRY_FORMAT = b"\x02"
 
 @dataclasses.dataclass
 class RequestParts:
-    """`RequestParts`: what a request says for this key, and the digests of its further files.
+    """`RequestParts`: what a request says for this key, and the digests of its extra files.
 
     The variables are all, and the directory is that of the call.
     """
