@@ -1,4 +1,10 @@
 //! The program `cck_explain`: why two compilations did not share a key.
+//!
+//! - [`request_of`] reads the words of the command line by `clap`, with the names of languages that
+//!   [`language_names`] returns.
+//! - [`run`] does what an [`ExplainRequest`] asks for, by [`explain_key`], [`explain_entry`],
+//!   [`explain_markers`] or [`explain_script`]. [`report`] writes why it failed.
+//! - [`laws`] states that the listed parts, one after the other, are the key material.
 #![tactic(auto)]
 
 mod buffer;
