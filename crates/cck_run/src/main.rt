@@ -2,8 +2,8 @@
 //!
 //! `cck key DIGEST LANGUAGE [ARG..]` reads a preprocessed text from standard input and prints the
 //! key of the object that a compiler with this digest makes of it. `cck run` reads a script of
-//! calls from standard input, makes them in their order over files and a store in memory, and
-//! prints one line for each, with its key or its error. All that is printed, errors too, goes to
+//! calls from standard input and makes them in their order, over files and a store in memory. For
+//! each it prints one line, with its key or its error. All that is printed, errors too, goes to
 //! standard output. `main` only passes the words and the standard streams to [`engine`], which is
 //! what the theorems are about.
 #![tactic(auto)]
