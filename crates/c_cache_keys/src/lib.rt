@@ -1,10 +1,10 @@
 //! The keys of compilations, after sccache's `src/compiler/c.rs`.
 //!
-//! The *plain key* of a compilation is the hex digest of the compiler, its arguments, some
-//! variables and the preprocessed text. To save preprocessing, a store may hold entries. An entry
-//! is held under a *preprocessor key*, which needs no preprocessed text, and has plain keys with
-//! the files that each was computed from. Such a key is returned from the store if all its files
-//! are unchanged.
+//! The *plain key* of a compilation is the hex digest of the key material of the compiler, its
+//! arguments, some variables and the preprocessed text. To save preprocessing, a store may hold
+//! entries. An entry is held under a *preprocessor key*, which needs no preprocessed text. It has
+//! plain keys, each with the files that it was computed from. Such a key is returned from the store
+//! if all its files are unchanged.
 //!
 //! [`CCompiler`] is a compiler with its executable. It parses a command line into a
 //! [`CCompilerHasher`], whose [`generate_hash_key`](CCompilerHasher::generate_hash_key) is one call

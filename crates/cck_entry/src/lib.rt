@@ -19,12 +19,13 @@
 //!   [`ResultRef::includes`] yields the [`Includes`] of one.
 //! - [`laws`] has what is proved of the definitions alone.
 //!
+//! [`includes_match`] says whether all includes of a result are unchanged, and [`include_matches`]
+//! whether one is, an [`IncludeRef`]. [`KnownFiles`] keeps what they found of each file, and
+//! [`JudgeContext`] is what files are judged by.
+//!
 //! The types that these calls take and return are exported again: hash functions and errors of
-//! `cck_digest`, files of `cck_files`, their metadata and times of `cck_path`, [`Language`] of
-//! `cck_util`, and of `cck_include` [`KnownFiles`], which [`includes_match`] and
-//! [`include_matches`] keep metadata and digests in, the latter of an [`IncludeRef`], and
-//! [`JudgeContext`], which both judge files by. Zones are
-//! those of `jiff`.
+//! `cck_digest`, files of `cck_files`, metadata and times of `cck_path`, and [`Language`] of
+//! `cck_util`. Zones are those of `jiff`.
 //!
 //! An entry is written in one way only. Numbers have their lowest byte first:
 //!

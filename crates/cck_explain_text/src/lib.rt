@@ -1,4 +1,7 @@
 //! The text of a listing: escaped bytes, and checksums of bytes that are too long for a line.
+//!
+//! [`push_escaped`] and [`push_quoted`] append escaped bytes. [`checksum`] is the 64-bit FNV-1a of
+//! bytes.
 #![tactic(auto)]
 
 mod checksums;

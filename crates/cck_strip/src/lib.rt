@@ -1,8 +1,8 @@
 //! Base directories cut out of preprocessed text and out of arguments, after sccache's
 //! `src/util.rs`.
 //!
-//! Two checkouts of one project can share a cache only if their directories are cut out of all that
-//! is hashed for a key, and a cache is sound only if nothing else is.
+//! Two checkouts of one project share keys only if their directories are cut out of all that is
+//! hashed for a key. A cache is sound only if nothing else is cut.
 //!
 //! - [`strip_basedirs`] cuts preprocessed text, [`strip_basedirs_from_arg`] an argument of a
 //!   compiler.
