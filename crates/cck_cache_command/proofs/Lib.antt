@@ -1,0 +1,4 @@
+pub mod InputLemmas
+pub mod LookLemmas
+pub mod RecordLemmas
+pub mod RequestLemmas

@@ -1,4 +1,7 @@
 //! The paths that must stay absent for a recorded key.
+ghost use Rattle.std.specs.Prelude.{IfOk, IfSome, Contains, map};
+ghost use Rattle.cck_cache_command.specs.Absence.{IsAbsence};
+
 use anyhow::Result;
 use cck_cache_entry::{SearchList, absent_names};
 use cck_cache_files::{PathState, PathStates, is_absent};
@@ -51,7 +54,9 @@ pub fn absence_of<R: Files + AllocGlobal>(
     directory: &str,
     text: &[u8],
     printed: &[u8],
-) -> Result<Absence> {
+) -> Result<Absence>
+    ensures { IfOk result (IsAbsence text.now printed.now) }
+{
     let alloc = rt.alloc();
     let Some(search) = SearchList::read(alloc, printed)? else {
         return Ok(Absence::Refused(Refusal::NoSearchList));
@@ -78,7 +83,9 @@ pub fn absence_of<R: Files + AllocGlobal>(
 }
 
 /// The first of these paths at which there is something.
-pub fn first_present<'a, R: Files>(rt: &R, paths: &'a [Vec<u8>]) -> Option<&'a [u8]> {
+pub fn first_present<'a, R: Files>(rt: &R, paths: &'a [Vec<u8>]) -> Option<&'a [u8]>
+    ensures { IfSome result (λ path. Contains (map (λ p. p.items) paths.now) path.now) }
+{
     for path in paths {
         if !is_absent(rt, path) {
             return Some(path);

@@ -1,4 +1,7 @@
 //! What a process is given beside its words.
+ghost use Rattle.std.specs.Prelude.{◌≡◌};
+ghost use Rattle.cck_time.specs.Config.{activated};
+
 use anyhow::{Result, bail};
 use cck_path::Timestamp;
 use cck_time::PreprocessorCacheModeConfig;
@@ -44,7 +47,9 @@ pub struct Environment<'a> {
 
 impl Environment<'_> {
     /// The options of the preprocessor cache, which are upstream's with the cache on.
-    pub fn config(&self) -> PreprocessorCacheModeConfig {
+    pub fn config(&self) -> PreprocessorCacheModeConfig
+        ensures { result ≡ activated }
+    {
         PreprocessorCacheModeConfig::activated()
     }
 }

@@ -1,4 +1,7 @@
 //! The input of a request.
+ghost use Rattle.std.specs.Prelude.{IfOk};
+ghost use Rattle.cck_cache_command.specs.Input.{IsCalm, IsInput};
+
 use anyhow::Result;
 use cck_cache_files::add_file;
 use cck_cache_words::Request;
@@ -19,7 +22,11 @@ pub struct InputSnapshot {
 pub fn input_snapshot<R: Files + AllocGlobal>(
     rt: &R,
     request: &Request<'_>,
-) -> Result<InputSnapshot> {
+) -> Result<InputSnapshot>
+    ensures input { IfOk result (λ snapshot.
+        IsInput request.now snapshot.files.files snapshot.tests_headers) }
+    ensures calm { IfOk result (λ snapshot. IsCalm snapshot.files) }
+{
     let alloc = rt.alloc();
     let mut files = MapFiles::new(alloc);
     let path = join_path(

@@ -1,4 +1,10 @@
 //! Looks for an object in the store.
+ghost use Rattle.std.specs.Prelude.{IfOk, IfSome, OnOk};
+ghost use Rattle.cck_cache_command.specs.Input.{IsCalm};
+ghost use Rattle.cck_cache_command.specs.Look.{IsFound, IsFoundFor, IsIncluded, IsKept, IsKeyEntry, IsMatch, IsMiss, IsOneOf};
+ghost use Rattle.cck_cache_files.specs.Snapshot.{ArePut};
+ghost use Rattle.cck_include.specs.Include.{includes_in};
+
 use crate::absence::first_present;
 use crate::environment::Environment;
 use crate::input::input_snapshot;
@@ -9,8 +15,10 @@ use cck_cache_entry::{EntryFile, ObjectFile};
 use cck_cache_files::{Kind, StoreDirectory, add_file};
 use cck_cache_rules::{entry_in, object_in};
 use cck_cache_words::{Look, Outputs};
+use cck_digest::UtilError;
 use cck_entry::PreprocessorCacheEntry;
 use cck_files::MapFiles;
+use cck_include::IncludeEntry;
 use cck_path::Timestamp;
 use cck_snapshot::{SnapshotRequest, look_up, preprocessor_key};
 use cck_util::Sha256State;
@@ -80,7 +88,9 @@ pub fn read_entry<R: Files + AllocGlobal>(
     store: &StoreDirectory,
     path: Option<&str>,
     key: &str,
-) -> Result<Kept> {
+) -> Result<Kept>
+    ensures { IfOk result (IsKeyEntry key.now) }
+{
     let Some(bytes) = entry_bytes(rt, store, path, key)? else {
         return Ok(Kept::Nothing);
     };
@@ -90,19 +100,36 @@ pub fn read_entry<R: Files + AllocGlobal>(
     })
 }
 
+// Puts the files that a result of an entry included into the snapshot.
+fn add_includes<R: Files + AllocGlobal>(
+    rt: &R,
+    files: &mut MapFiles,
+    includes: &[IncludeEntry],
+) -> Result<(), UtilError>
+    ensures put { OnOk result
+        (ArePut (IsOneOf (includes_in includes.now)) files.old.files files.new.files) }
+    ensures calm { OnOk result (IsCalm files.old → IsCalm files.new) }
+{
+    for include in includes {
+        add_file(rt, files, &include.path)?;
+    }
+    Ok(())
+}
+
 /// Puts the files that an entry names into the snapshot. `false` where the bytes are no entry.
 pub fn add_entry_files<R: Files + AllocGlobal>(
     rt: &R,
     files: &mut MapFiles,
-    entry: &[u8],
-) -> Result<bool> {
-    let Ok(entry) = PreprocessorCacheEntry::read(rt.alloc(), entry) else {
+    bytes: &[u8],
+) -> Result<bool>
+    ensures put { OnOk result (ArePut (IsIncluded bytes.now) files.old.files files.new.files) }
+    ensures calm { OnOk result (IsCalm files.old → IsCalm files.new) }
+{
+    let Ok(entry) = PreprocessorCacheEntry::read(rt.alloc(), bytes) else {
         return Ok(false);
     };
     for (_, includes) in entry.results().iter() {
-        for include in includes {
-            add_file(rt, files, &include.path)?;
-        }
+        add_includes(rt, files, includes)?;
     }
     Ok(true)
 }
@@ -114,7 +141,10 @@ fn matching_key<R: Files + AllocGlobal>(
     files: &mut MapFiles,
     key: &str,
     file: &EntryFile,
-) -> Result<Option<String>> {
+) -> Result<Option<String>>
+    ensures { IfOk result (λ found. IsCalm files.old → IfSome found
+        (IsMatch asked.now files.old.files key.now file.now.entry.items)) }
+{
     if first_present(rt, &file.absent_paths).is_some() {
         return Ok(None);
     }
@@ -132,7 +162,9 @@ fn miss<R: Files + AllocGlobal>(
     key: String,
     object: Option<String>,
     damaged: Option<String>,
-) -> Result<Found> {
+) -> Result<Found>
+    ensures { IfOk result (IsMiss key object) }
+{
     let since = store.stamp(rt)?;
     Ok(Found::Miss {
         key,
@@ -150,7 +182,9 @@ fn kept_object<R: Files + AllocGlobal>(
     outputs: &Outputs<'_>,
     preprocessor_key: String,
     key: String,
-) -> Result<Found> {
+) -> Result<Found>
+    ensures { IfOk result (IsKept outputs.now preprocessor_key key) }
+{
     let Some(bytes) = store.read(rt, Kind::Object, key.as_str())? else {
         return miss(rt, store, preprocessor_key, Some(key), None);
     };
@@ -168,15 +202,58 @@ fn kept_object<R: Files + AllocGlobal>(
     }
 }
 
+// The path of the entry file of a preprocessor key: this one, if one is given, and else the store's.
+fn entry_path<R: AllocGlobal>(
+    rt: &R,
+    store: &StoreDirectory,
+    path: Option<&str>,
+    key: &str,
+) -> io::Result<String> {
+    match path {
+        Some(path) => Ok(String::from_str(rt.alloc(), path)?),
+        None => store.path_of(rt, Kind::Entry, key),
+    }
+}
+
+// Looks for the object of a request that has this preprocessor key over a snapshot of the input.
+fn look_for<R: Files + AllocGlobal>(
+    rt: &R,
+    store: &StoreDirectory,
+    wanted: &Look<'_>,
+    asked: &SnapshotRequest<'_>,
+    files: &mut MapFiles,
+    key: String,
+) -> Result<Found>
+    ensures { IfOk result (λ found. IsCalm files.old →
+        IsFoundFor wanted.now.outputs asked.now files.old.files key found) }
+{
+    let file = match read_entry(rt, store, wanted.entry, key.as_str())? {
+        Kept::Nothing => return miss(rt, store, key, None, None),
+        Kept::Damaged => {
+            let path = entry_path(rt, store, wanted.entry, key.as_str())?;
+            return miss(rt, store, key, None, Some(path));
+        }
+        Kept::Entry(file) => file,
+    };
+    match matching_key(rt, asked, files, key.as_str(), &file)? {
+        Some(object) => kept_object(rt, store, &wanted.outputs, key, object),
+        None => miss(rt, store, key, None, None),
+    }
+}
+
 /// Looks for the object of a request.
+///
+/// No contract can say what a disk holds. So what is found is stated over snapshots that there are: one
+/// that has the input alone, and one that has the files that the entry names too.
 pub fn look<R: Files + AllocGlobal>(
     rt: &R,
     environment: &Environment<'_>,
     store: &StoreDirectory,
     wanted: &Look<'_>,
-) -> Result<Found> {
-    let alloc = rt.alloc();
-    let (request, entry) = (&wanted.request, wanted.entry);
+) -> Result<Found>
+    ensures { IfOk result (IsFound environment.entry.now wanted.now) }
+{
+    let request = &wanted.request;
     let hasher = hasher_of(rt, environment, request)?;
     let mut files = input_snapshot(rt, request)?.files;
     let asked = snapshot_request(
@@ -186,22 +263,8 @@ pub fn look<R: Files + AllocGlobal>(
         environment.now,
         &[],
     );
-    let Some(key) = preprocessor_key::<Sha256State, MapFiles>(alloc, &mut files, &asked)? else {
-        return Ok(Found::NoKey);
-    };
-    let file = match read_entry(rt, store, entry, key.as_str())? {
-        Kept::Nothing => return miss(rt, store, key, None, None),
-        Kept::Damaged => {
-            let path = match entry {
-                Some(path) => String::from_str(alloc, path)?,
-                None => store.path_of(rt, Kind::Entry, key.as_str())?,
-            };
-            return miss(rt, store, key, None, Some(path));
-        }
-        Kept::Entry(file) => file,
-    };
-    match matching_key(rt, &asked, &mut files, key.as_str(), &file)? {
-        Some(object) => kept_object(rt, store, &wanted.outputs, key, object),
-        None => miss(rt, store, key, None, None),
+    match preprocessor_key::<Sha256State, MapFiles>(rt.alloc(), &mut files, &asked)? {
+        Some(key) => look_for(rt, store, wanted, &asked, &mut files, key),
+        None => Ok(Found::NoKey),
     }
 }

@@ -1,4 +1,7 @@
 //! What a hit writes.
+ghost use Rattle.std.specs.Prelude.{◌≡◌};
+ghost use Rattle.cck_cache_command.specs.Outputs.{has_outputs};
+
 use anyhow::Result;
 use cck_cache_entry::ObjectFile;
 use cck_cache_files::StoreDirectory;
@@ -7,7 +10,9 @@ use std::io::Write;
 use std::rt::Files;
 
 /// Whether an object file has what is to be written: some dependencies, if there is a path for them.
-pub fn has_outputs(object: &ObjectFile, outputs: &Outputs<'_>) -> bool {
+pub fn has_outputs(object: &ObjectFile, outputs: &Outputs<'_>) -> bool
+    ensures { result ≡ has_outputs outputs.now object.now }
+{
     outputs.dependencies.is_none() || !object.dependencies.is_empty()
 }
 

@@ -1,4 +1,14 @@
 //! Records a compilation in the store.
+ghost use Rattle.std.specs.Prelude.{◌≡◌, ◌↔◌, IfOk, IfSome, IsTrue, MatchOption, OnOk, Some};
+ghost use Rattle.std.specs.Option.{option_map};
+ghost use Rattle.cck_cache_command.specs.Input.{IsCalm};
+ghost use Rattle.cck_cache_command.specs.Record.{HasNoLocalTime, IsJudged, IsLocalTime, IsObjectKey, IsOneDay, IsOutcome, IsOutcomeOver, IsRefusedByBase, IsSeen, ObjectShowsBase, recorded_fields};
+ghost use Rattle.cck_cache_entry.specs.Files.{entry_fields};
+ghost use Rattle.cck_files.specs.Calls.{Keeps};
+ghost use Rattle.cck_files.specs.FileState.{IsQuiet, fault_count};
+ghost use Rattle.cck_path.specs.Bytes.{lists_of};
+ghost use Rattle.jiff.specs.Words.{plain_zone};
+
 use crate::absence::{Absence, absence_of};
 use crate::environment::Environment;
 use crate::input::{InputSnapshot, input_snapshot};
@@ -13,6 +23,7 @@ use cck_files::MapFiles;
 use cck_path::Timestamp;
 use cck_snapshot::{RecordedEntry, Recording, SnapshotRequest, preprocessor_key, record_text};
 use cck_util::Sha256State;
+use jiff::civil::DateTime;
 use jiff::tz::TimeZone;
 use std::rt::Files;
 use std::{fs, io};
@@ -26,21 +37,46 @@ pub enum Outcome {
     Refused(Refusal),
 }
 
+// The civil time at a time in a zone. `None` where there is none.
+fn local_time(zone: &TimeZone<'_>, time: Timestamp) -> Option<DateTime>
+    ensures { MatchOption result (HasNoLocalTime time.seconds)
+        (IsLocalTime (plain_zone zone.now) time.seconds) }
+{
+    let Ok(instant) = jiff::Timestamp::from_second(time.seconds()) else {
+        return None;
+    };
+    Some(zone.to_datetime(instant))
+}
+
 // Whether two times are of one local day. `false` where that is not known.
-fn is_one_day(zone: &TimeZone<'_>, a: Timestamp, b: Timestamp) -> bool {
-    let (Ok(a), Ok(b)) = (
-        jiff::Timestamp::from_second(a.seconds()),
-        jiff::Timestamp::from_second(b.seconds()),
-    ) else {
+fn is_one_day(zone: &TimeZone<'_>, a: Timestamp, b: Timestamp) -> bool
+    ensures { IsOneDay (plain_zone zone.now) a.seconds b.seconds result }
+{
+    let Some(a) = local_time(zone, a) else {
         return false;
     };
-    zone.to_datetime(a).date() == zone.to_datetime(b).date()
+    let Some(b) = local_time(zone, b) else {
+        return false;
+    };
+    a.date() == b.date()
+}
+
+// The files that were gathered for a text.
+struct Gathered {
+    // The input and the files that the text names.
+    files: MapFiles,
+    // Whether the input may test for the existence of a header.
+    tests_headers: bool,
+    // Whether a name that was left out has the path of one of the files.
+    is_doubtful: bool,
+    // The paths that must stay absent.
+    absent_paths: Vec<Vec<u8>>,
 }
 
 // What a recording looks at.
 enum Seen {
-    // The input and the files that the text names, and the paths that must stay absent.
-    Files(InputSnapshot, Vec<Vec<u8>>),
+    // The files of the text.
+    Files(Gathered),
     // The compilation is not recorded.
     Refused(Refusal),
 }
@@ -51,8 +87,13 @@ fn see<R: Files + AllocGlobal>(
     request: &Request<'_>,
     compilation: &Compilation<'_>,
     text: &[u8],
-) -> Result<Seen> {
-    let mut snapshot = input_snapshot(rt, request)?;
+) -> Result<Seen>
+    ensures { IfOk result (IsSeen request.now text.now) }
+{
+    let InputSnapshot {
+        mut files,
+        tests_headers,
+    } = input_snapshot(rt, request)?;
     let directory = request.directory;
     let mut states = PathStates::new(rt, compilation.since);
     let printed = fs::read(rt, compilation.search)?;
@@ -63,17 +104,16 @@ fn see<R: Files + AllocGlobal>(
         Absence::Refused(refusal) => return Ok(Seen::Refused(refusal)),
         Absence::Paths(paths) => paths,
     };
-    let tests = add_named_files(
-        rt,
-        &mut snapshot.files,
-        &mut states,
-        directory.as_bytes(),
-        text,
-    )?;
-    if tests {
+    let named = add_named_files(rt, &mut files, &mut states, directory.as_bytes(), text)?;
+    if named.tests_headers {
         return Ok(Seen::Refused(Refusal::HeaderTest));
     }
-    Ok(Seen::Files(snapshot, absent_paths))
+    Ok(Seen::Files(Gathered {
+        files,
+        tests_headers,
+        is_doubtful: named.is_doubtful,
+        absent_paths,
+    }))
 }
 
 // What is known of a compilation by its input and its time alone. The borrow checker takes a field that
@@ -83,7 +123,12 @@ fn known_of<'a>(
     key: &'a str,
     is_one_day: bool,
     tests_headers: bool,
-) -> Known<'a> {
+) -> Known<'a>
+    ensures found { option_map (λ k. k.now) result.found ≡ option_map (λ k. k.now) found.entry }
+    ensures key { result.key.now ≡ key.now }
+    ensures is_one_day { result.is_one_day ≡ is_one_day }
+    ensures tests_headers { result.tests_headers ≡ tests_headers }
+{
     Known {
         found,
         key,
@@ -97,14 +142,19 @@ fn refusal_by_input<R: AllocGlobal>(
     rt: &R,
     environment: &Environment<'_>,
     asked: &SnapshotRequest<'_>,
-    snapshot: &mut InputSnapshot,
+    files: &mut MapFiles,
+    tests_headers: bool,
     key: &str,
-) -> Result<Option<Refusal>> {
-    let files = &mut snapshot.files;
+) -> Result<Option<Refusal>>
+    ensures judged { IfOk result
+        (IsJudged environment.entry.now asked.now files.old.files tests_headers key.now) }
+    ensures keeps { OnOk result
+        (Keeps (λ files. files.files) fault_count IsQuiet files.old files.new) }
+{
     let found = preprocessor_key::<Sha256State, MapFiles>(rt.alloc(), files, asked)?;
     let is_one_day = is_one_day(asked.zone, asked.moment, environment.now);
-    let known = known_of(found.as_deref(), key, is_one_day, snapshot.tests_headers);
-    Ok(refusal_of(&known))
+    let found = found.as_deref();
+    Ok(refusal_of(&known_of(found, key, is_one_day, tests_headers)))
 }
 
 // Writes a file of the store, to this path, if one is given, in place of the store's.
@@ -174,13 +224,25 @@ fn object_of<R: Files + AllocGlobal>(
 }
 
 // Whether one of these base directories is in the object, in the messages or in the dependencies.
-fn object_shows_base(bases: &[Vec<u8>], object: Option<&ObjectFile>) -> bool {
+fn made_shows_base(bases: &[Vec<u8>], made: &ObjectFile) -> bool
+    ensures { IsTrue result ↔ ObjectShowsBase (lists_of bases.now) (Some made.now) }
+{
+    if shows_base(bases, &made.object) {
+        return true;
+    }
+    if shows_base(bases, &made.messages) {
+        return true;
+    }
+    shows_base(bases, &made.dependencies)
+}
+
+// The same of an object file, if there is one.
+fn object_shows_base(bases: &[Vec<u8>], object: Option<&ObjectFile>) -> bool
+    ensures { IsTrue result
+        ↔ ObjectShowsBase (lists_of bases.now) (option_map (λ o. o.now) object.entry) }
+{
     match object {
-        Some(object) => {
-            shows_base(bases, &object.object)
-                || shows_base(bases, &object.messages)
-                || shows_base(bases, &object.dependencies)
-        }
+        Some(object) => made_shows_base(bases, object),
         None => false,
     }
 }
@@ -191,7 +253,9 @@ pub fn object_key<R: Files + AllocGlobal>(
     environment: &Environment<'_>,
     request: &Request<'_>,
     text: &[u8],
-) -> Result<String> {
+) -> Result<String>
+    ensures { IfOk result (IsObjectKey environment.entry.now request.now text.now) }
+{
     let alloc = rt.alloc();
     let mut files = input_snapshot(rt, request)?.files;
     let bases = bases_of(alloc, &base_words(request), text)?;
@@ -210,7 +274,9 @@ fn keep<R: Files + AllocGlobal>(
     bases: &[Vec<u8>],
     key: &str,
     file: &EntryFile,
-) -> Result<Option<Refusal>> {
+) -> Result<Option<Refusal>>
+    ensures { IfOk result (λ refusal. IfSome refusal (IsRefusedByBase (lists_of bases.now))) }
+{
     let object = object_of(rt, compilation, key)?;
     if object_shows_base(bases, object.as_ref()) {
         return Ok(Some(Refusal::BaseDirectory));
@@ -219,7 +285,70 @@ fn keep<R: Files + AllocGlobal>(
     Ok(None)
 }
 
+// The entry file of what was recorded.
+fn entry_file_of(entry: RecordedEntry, absent_paths: Vec<Vec<u8>>) -> EntryFile
+    ensures { entry_fields result ≡ recorded_fields entry (lists_of absent_paths.items) }
+{
+    EntryFile {
+        preprocessor_key: entry.preprocessor_key.into_bytes(),
+        entry: entry.bytes,
+        absent_paths,
+    }
+}
+
+// Records a compilation over the files that were gathered for its text.
+fn record_over<R: Files + AllocGlobal>(
+    rt: &R,
+    environment: &Environment<'_>,
+    store: &StoreDirectory,
+    request: &Request<'_>,
+    compilation: &Compilation<'_>,
+    text: &[u8],
+    gathered: Gathered,
+) -> Result<Outcome>
+    ensures { IfOk result (λ outcome. IsCalm gathered.files →
+        IsOutcomeOver environment.entry.now request.now compilation.now text.now gathered outcome) }
+{
+    let Gathered {
+        mut files,
+        tests_headers,
+        is_doubtful,
+        absent_paths,
+    } = gathered;
+    let bases = bases_of(rt.alloc(), &base_words(request), text)?;
+    let hasher = hasher_of(rt, environment, request)?;
+    let (directory, since) = (request.directory, compilation.since);
+    let asked = snapshot_request(environment, &hasher, directory, since, &bases);
+    let key = compilation.key;
+    if let Some(refusal) = refusal_by_input(
+        rt,
+        environment,
+        &asked,
+        &mut files,
+        tests_headers,
+        key,
+    )? {
+        return Ok(Outcome::Refused(refusal));
+    }
+    if is_doubtful {
+        return Ok(Outcome::Refused(Refusal::NamedFile));
+    }
+    let recording = record_text::<Sha256State, MapFiles>(rt.alloc(), &mut files, &asked, text)?;
+    let Recording { key, put } = recording;
+    let Some(entry) = put else {
+        return Ok(Outcome::Refused(Refusal::NamedFile));
+    };
+    let file = entry_file_of(entry, absent_paths);
+    match keep(rt, store, compilation, &bases, key.as_str(), &file)? {
+        Some(refusal) => Ok(Outcome::Refused(refusal)),
+        None => Ok(Outcome::Recorded(key)),
+    }
+}
+
 /// Records a compilation whose preprocessed text is this, after it was compiled.
+///
+/// No contract can say what a disk holds. So what is recorded is stated over files that there are: the
+/// input, and files at the paths of the names of the text.
 pub fn record<R: Files + AllocGlobal>(
     rt: &R,
     environment: &Environment<'_>,
@@ -227,38 +356,13 @@ pub fn record<R: Files + AllocGlobal>(
     request: &Request<'_>,
     compilation: &Compilation<'_>,
     text: &[u8],
-) -> Result<Outcome> {
-    let alloc = rt.alloc();
-    let (mut snapshot, absent_paths) = match see(rt, request, compilation, text)? {
-        Seen::Refused(refusal) => return Ok(Outcome::Refused(refusal)),
-        Seen::Files(snapshot, absent_paths) => (snapshot, absent_paths),
-    };
-    let bases = bases_of(alloc, &base_words(request), text)?;
-    let hasher = hasher_of(rt, environment, request)?;
-    let (directory, since) = (request.directory, compilation.since);
-    let asked = snapshot_request(environment, &hasher, directory, since, &bases);
-    let key = compilation.key;
-    if let Some(refusal) = refusal_by_input(rt, environment, &asked, &mut snapshot, key)? {
-        return Ok(Outcome::Refused(refusal));
-    }
-    let files = &mut snapshot.files;
-    let Recording { key, put } = record_text::<Sha256State, MapFiles>(alloc, files, &asked, text)?;
-    let Some(
-        RecordedEntry {
-            preprocessor_key,
-            bytes,
-        },
-    ) = put
-    else {
-        return Ok(Outcome::Refused(Refusal::NamedFile));
-    };
-    let file = EntryFile {
-        preprocessor_key: preprocessor_key.into_bytes(),
-        entry: bytes,
-        absent_paths,
-    };
-    match keep(rt, store, compilation, &bases, key.as_str(), &file)? {
-        Some(refusal) => Ok(Outcome::Refused(refusal)),
-        None => Ok(Outcome::Recorded(key)),
+) -> Result<Outcome>
+    ensures { IfOk result (IsOutcome environment.entry.now request.now compilation.now text.now) }
+{
+    match see(rt, request, compilation, text)? {
+        Seen::Refused(refusal) => Ok(Outcome::Refused(refusal)),
+        Seen::Files(gathered) => {
+            record_over(rt, environment, store, request, compilation, text, gathered)
+        }
     }
 }

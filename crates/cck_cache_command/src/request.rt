@@ -1,10 +1,18 @@
 //! The compilation of a request.
+ghost use Rattle.std.specs.Prelude.{◌≡◌, ◌++◌, ◌∷◌, [], IfOk, OnOk};
+ghost use Rattle.cck_cache_base.specs.Base.{word_lists};
+ghost use Rattle.cck_cache_command.specs.Request.{AreKeyed, IsHasher, IsRequest, command_line, request_words};
+ghost use Rattle.cck_cache_words.specs.declared.request.Request as words;
+ghost use Rattle.cck_compiler.specs.Seen.{arguments_of};
+ghost use Rattle.cck_path.specs.Bytes.{lists_of};
+
 use crate::environment::Environment;
 use anyhow::Result;
 use c_cache_keys::{CCompilerHasher, CCompilerKind, ParsedArguments};
 use cck_cache_base::{Words, base_of};
 use cck_cache_files::{compiler_digest, open_store, shared_compiler_digest};
 use cck_cache_words::Request;
+use cck_compiler::copy_lists;
 use cck_path::Timestamp;
 use cck_snapshot::{ExternalCompiler, SnapshotRequest};
 use cck_util::Language;
@@ -13,12 +21,30 @@ use std::io;
 use std::rt::Files;
 
 /// The words of a request that its base directory depends on.
-pub fn base_words<'a>(request: &'a Request<'_>) -> Words<'a> {
+pub fn base_words<'a>(request: &'a Request<'_>) -> Words<'a>
+    ensures { word_lists result ≡ request_words request.now }
+{
     Words {
         base: request.base,
         directory: request.directory,
         arguments: &request.arguments,
     }
+}
+
+// Appends an argument: a name and its value.
+fn push_argument(
+    alloc: Global,
+    all: &mut Vec<Vec<u8>>,
+    name: &[u8],
+    value: &[u8],
+) -> Result<(), AllocError>
+    ensures { OnOk result
+        (lists_of all.new.items ≡ lists_of all.old.items ++ (name.now ++ value.now) ∷ []) }
+{
+    let mut argument = name.to_vec(alloc)?;
+    argument.extend_from_slice(value)?;
+    all.push(argument)?;
+    Ok(())
 }
 
 // A copy of the arguments, and after them the working directory and the locale. Debug information
@@ -28,27 +54,23 @@ fn keyed_arguments(
     alloc: Global,
     environment: &Environment<'_>,
     request: &Request<'_>,
-) -> Result<Vec<Vec<u8>>, AllocError> {
-    let mut all = Vec::new(alloc);
-    for argument in &request.arguments {
-        all.push(argument.to_vec(alloc)?)?;
-    }
-    let mut directory = b"directory=".to_vec(alloc)?;
-    directory.extend_from_slice(request.directory.as_bytes())?;
-    all.push(directory)?;
-    let mut locale = b"locale=".to_vec(alloc)?;
-    locale.extend_from_slice(&environment.locale)?;
-    all.push(locale)?;
+) -> Result<Vec<Vec<u8>>, AllocError>
+    ensures { IfOk result (λ all.
+        AreKeyed (request_words request.now) environment.entry.now.locale.items (lists_of all.items)) }
+{
+    let mut all = copy_lists(alloc, &request.arguments)?;
+    push_argument(alloc, &mut all, b"directory=", request.directory.as_bytes())?;
+    push_argument(alloc, &mut all, b"locale=", &environment.locale)?;
     if let Some(base) = base_of(&base_words(request)) {
-        let mut argument = b"base=".to_vec(alloc)?;
-        argument.extend_from_slice(base.as_bytes())?;
-        all.push(argument)?;
+        push_argument(alloc, &mut all, b"base=", base.as_bytes())?;
     }
     Ok(all)
 }
 
 // A parsed command line with this input and these arguments, and nothing else.
-fn parsed(alloc: Global, input: Vec<u8>, common_args: Vec<Vec<u8>>) -> ParsedArguments {
+fn parsed(alloc: Global, input: Vec<u8>, common_args: Vec<Vec<u8>>) -> ParsedArguments
+    ensures { arguments_of result ≡ command_line input.items (lists_of common_args.items) }
+{
     let mut arguments = ParsedArguments::new(alloc, input, Language::C);
     arguments.common_args = common_args;
     arguments
@@ -74,7 +96,9 @@ pub fn hasher_of<R: Files + AllocGlobal>(
     rt: &R,
     environment: &Environment<'_>,
     request: &Request<'_>,
-) -> Result<CCompilerHasher<ExternalCompiler>> {
+) -> Result<CCompilerHasher<ExternalCompiler>>
+    ensures { IfOk result (IsHasher environment.entry.now request.now) }
+{
     let alloc = rt.alloc();
     let input = request.input.as_bytes().to_vec(alloc)?;
     let arguments = keyed_arguments(alloc, environment, request)?;
@@ -99,7 +123,10 @@ pub fn snapshot_request<'a>(
     directory: &'a str,
     moment: Timestamp,
     basedirs: &'a [Vec<u8>],
-) -> SnapshotRequest<'a> {
+) -> SnapshotRequest<'a>
+    ensures { (request : words.Request) → request.directory.now ≡ directory.now → IsHasher environment.entry.now request hasher.now
+        → IsRequest environment.entry.now request moment (lists_of basedirs.now) result }
+{
     SnapshotRequest {
         hasher,
         cwd: directory.as_bytes(),

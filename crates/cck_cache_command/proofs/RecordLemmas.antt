@@ -1,0 +1,93 @@
+-- the files of a text
+use Rattle.std.proofs.Common.{◌≡◌, ◌∙◌, ℕ, ℤ, inl, inr, int_eq, List, Bool, true, false, Option, Some, None, sym, ap, subst}
+use Rattle.std.proofs.lemmas.Bool.{false≢true}
+use Rattle.std.proofs.lemmas.Bool.Decides.{Decides-int_eq}
+use Rattle.std.specs.Global.{Vec}
+use Rattle.cck_cache_base.specs.Base.{WordLists, word_lists}
+use Rattle.cck_cache_base.specs.Text.{AreBases}
+use Rattle.cck_cache_base.specs.declared.base.Words.{Words}
+use Rattle.cck_cache_command.proofs.InputLemmas.{calm_kept, calm_stays, without_fault}
+use Rattle.cck_cache_command.specs.Input.{IsCalm, IsInput, NoFault}
+use Rattle.cck_cache_command.specs.Record.{AreGathered, IsAsked, IsLocalTime, IsOneDay, IsOutcome, IsOutcomeOver, ObjectShowsBase}
+use Rattle.cck_cache_command.specs.Request.{IsRequest, request_words}
+use Rattle.cck_cache_command.specs.declared.environment.Environment.{Environment}
+use Rattle.cck_cache_command.specs.declared.record.Gathered.{Gathered}
+use Rattle.cck_cache_command.specs.declared.record.Outcome.{Outcome}
+use Rattle.cck_cache_command.specs.declared.record.Outcome.TheVariants.{Recorded, Refused}
+use Rattle.cck_cache_entry.specs.Assembler.{may_include}
+use Rattle.cck_cache_entry.specs.declared.object_file.ObjectFile.{ObjectFile}
+use Rattle.cck_cache_files.specs.Snapshot.{ArePut, Grows, IsNamed}
+use Rattle.cck_cache_words.specs.declared.request.Request.{Request}
+use Rattle.cck_cache_words.specs.declared.task.Compilation.{Compilation}
+use Rattle.cck_files.specs.Calls.{Keeps, Rose}
+use Rattle.cck_files.specs.FileMap.{FileMap}
+use Rattle.cck_files.specs.FileState.{FileState, IsQuiet, fault_count}
+use Rattle.cck_markers.proofs.EachText.{has_one_list}
+use Rattle.cck_markers.specs.Marks.{Mark, Marks}
+use Rattle.cck_path.specs.Bytes.{Bytes, lists_of}
+use Rattle.cck_snapshot.specs.Recordings.{IsRecording}
+use Rattle.cck_snapshot.specs.declared.recordings.RecordedEntry.{RecordedEntry}
+use Rattle.cck_snapshot.specs.declared.recordings.Recording.{Recording}
+use Rattle.cck_snapshot.specs.declared.requests.SnapshotRequest.{SnapshotRequest}
+use Rattle.jiff.specs.Types.{Date, DateTime, TimeZone}
+use Rattle.jiff.specs.Words.{epoch_day}
+use Rattle.sha2.specs.Sha256.{sha256}
+
+-- a snapshot grew by the files of a text
+abbrev pub GrewBy : Bytes → Bytes → Bool → FileState → FileState → Type 0
+GrewBy text cwd test before after = (marks : List Mark) → Marks true text marks → Grows (IsNamed marks cwd test) before after
+
+pub gathered : (request : Request) (text cwd : Bytes) (tests test : Bool) (before after : FileState) → IsCalm before → IsInput request before.files tests → GrewBy text cwd test before after → cwd ≡ request.directory.now → test ≡ false → AreGathered request text tests after.files
+gathered request text cwd tests test before after calm is grew same none =
+    let list = has_one_list true text in
+    let grown = grew list.0 list.1 in
+    record {
+      input = before.files;
+      is_input = is;
+      marks = list.0;
+      are_marks = list.1;
+      put = subst (λ (d : Bytes). ArePut (IsNamed list.0 d false) before.files after.files) same (subst (λ (b : Bool). ArePut (IsNamed list.0 cwd b) before.files after.files) none grown.put);
+      kept = grown.kept calm.quiet;
+    }
+
+pub calm_grown : (text cwd : Bytes) (test : Bool) (before after : FileState) → GrewBy text cwd test before after → IsCalm before → IsCalm after
+calm_grown text cwd test before after grew =
+    let list = has_one_list true text in
+    calm_stays before after (grew list.0 list.1).calm
+
+-- a base directory is shown by an object file, so there is one
+pub some_shows : (bases : List Bytes) (o : Option ObjectFile) → ObjectShowsBase bases o → (object : ObjectFile) × ObjectShowsBase bases (Some object)
+some_shows bases None h = absurd h
+some_shows bases (Some object) h = (object, h)
+
+-- two dates are one exactly if their days have one number
+pub one_day : (zone : TimeZone) (a b : ℤ) (x y : DateTime) → IsLocalTime zone a x → IsLocalTime zone b y → (d e : Date) → d ≡ x.date → e ≡ y.date → (r : Bool) → r ≡ int_eq (epoch_day d) (epoch_day e) → IsOneDay zone a b r
+one_day zone a b x y first second d e is_d is_e true is =
+    (x, y, first, second, sym (ap epoch_day is_d) ∙ ((Decides-int_eq (epoch_day d) (epoch_day e)).0 (sym is) ∙ ap epoch_day is_e))
+one_day zone a b x y first second d e is_d is_e false is =
+    inr (inr (x, y, first, second, λ same. false≢true (is ∙ (Decides-int_eq (epoch_day d) (epoch_day e)).1 (ap epoch_day is_d ∙ (same ∙ sym (ap epoch_day is_e))))))
+
+-- the request over a snapshot, with the base directories of the words and the text
+pub asked_of : (environment : Environment) (request : Request) (compilation : Compilation) (text : Bytes) (words : Words) (bases : Vec (Vec ℕ)) (lent : List (Vec ℕ)) (asked : SnapshotRequest) → word_lists words ≡ request_words request
+    → AreBases (word_lists words) text (lists_of bases.items) → lent ≡ bases.items → IsRequest environment request compilation.since (lists_of lent) asked → IsAsked environment request compilation text asked
+asked_of environment request compilation text words bases lent asked same are is request_is = record {
+  bases = lists_of bases.items;
+  are_bases = subst (λ (ws : WordLists). AreBases ws text (lists_of bases.items)) same are;
+  is_request = subst (λ (vs : List (Vec ℕ)). IsRequest environment request compilation.since (lists_of vs) asked) is request_is;
+}
+
+-- a recording over files after calls that kept them
+pub recorded_over : (asked : SnapshotRequest) (text : Bytes) (before mid after : FileState) (recording : Recording) (put : Option RecordedEntry) → IsCalm before → Keeps (λ (s : FileState). s.files) fault_count IsQuiet before mid
+    → Keeps (λ (s : FileState). s.files) fault_count IsQuiet mid after → recording.put ≡ put → IsRecording sha256 mid.files asked (Rose (fault_count mid) (fault_count after)) text recording
+    → IsRecording sha256 before.files asked NoFault text (record { key = recording.key; put = put })
+recorded_over asked text before mid after recording put calm first second is recorded =
+    subst (λ (p : Option RecordedEntry). IsRecording sha256 before.files asked NoFault text (record { key = recording.key; put = p })) is
+    (subst (λ (m : FileMap). IsRecording sha256 m asked NoFault text recording) first.same_map
+    (without_fault (λ (a b : ℕ). IsRecording sha256 mid.files asked (Rose a b) text recording) mid after second (calm_kept before mid first calm) recorded))
+
+-- an outcome over the files that were gathered is the outcome
+pub outcome_all : (environment : Environment) (request : Request) (compilation : Compilation) (text : Bytes) (gathered : Gathered) (outcome : Outcome) → may_include text ≡ false → AreGathered request text gathered.tests_headers gathered.files.files
+    → IsOutcomeOver environment request compilation text gathered outcome → IsOutcome environment request compilation text outcome
+outcome_all environment request compilation text gathered (Recorded key) none are is = (none, (gathered.tests_headers, gathered.files.files, are, is))
+outcome_all environment request compilation text gathered (Refused refusal) none are is =
+    inr (gathered.tests_headers, gathered.is_doubtful, gathered.files.files, are, is)

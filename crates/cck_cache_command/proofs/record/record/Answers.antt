@@ -1,0 +1,17 @@
+use Rattle.std.proofs.lemmas.Result.{IfOk-weaker}
+use Rattle.cck_cache_command.specs.Input.{IsCalm}
+use Rattle.cck_cache_command.specs.Record.{IsOutcome, IsOutcomeOver}
+use Rattle.cck_cache_command.specs.declared.record.Outcome.{Outcome}
+use Rattle.cck_cache_command.proofs.RecordLemmas.{outcome_all}
+use Rattle.cck_cache_command.proofs.record.record.Goals as goal
+
+pub returns-in-Files : goal.returns-in-Files
+returns-in-Files g c =
+    let environment = c.args.environment.now in
+    let request = c.args.request.now in
+    let compilation = c.args.compilation.now in
+    let text = c.args.text.now in
+    let gathered = c.in-Files.gathered in
+    let seen = rw c.in-Files.is at c.in_ok-refusal.ensures in
+    IfOk-weaker c.record_over.result (λ (outcome : Outcome). IsCalm gathered.files → IsOutcomeOver environment request compilation text gathered outcome) (IsOutcome environment request compilation text)
+    (λ outcome is. outcome_all environment request compilation text gathered outcome seen.0 seen.1 (is seen.2)) c.record_over.ensures

@@ -1,0 +1,82 @@
+-- what a look-up finds
+use Rattle.std.specs.Prelude.{◌≡◌, List, Contains, Bool, true, Option, Some, None, Ok, IfSome, String, string_bytes}
+use Rattle.std.specs.FinMap.{entries}
+use Rattle.std.specs.declared.alloc.Global.{Global}
+use Rattle.cck_cache_command.specs.Input.{NoFault}
+use Rattle.cck_cache_command.specs.Outputs.{has_outputs}
+use Rattle.cck_cache_command.specs.Request.{HasKey}
+use Rattle.cck_cache_command.specs.declared.environment.Environment.{Environment}
+use Rattle.cck_cache_command.specs.declared.look.Found.{Found}
+use Rattle.cck_cache_command.specs.declared.look.Found.TheVariants.{Hit, Miss, NoKey}
+use Rattle.cck_cache_command.specs.declared.look.Kept.{Kept}
+use Rattle.cck_cache_command.specs.declared.look.Kept.TheVariants.{Nothing, Damaged, Entry as KeptEntry}
+use Rattle.cck_cache_entry.specs.Files.{EntryFields}
+use Rattle.cck_cache_files.specs.Snapshot.{ArePut}
+use Rattle.cck_cache_words.specs.declared.task.Look.{Look}
+use Rattle.cck_cache_words.specs.declared.task.Outputs.{Outputs}
+use Rattle.cck_entry.specs.Entry.{Entry, Reads}
+use Rattle.cck_entry.specs.Results.{KeyResult}
+use Rattle.cck_files.specs.FileMap.{FileMap}
+use Rattle.cck_include.specs.Include.{Include}
+use Rattle.cck_path.specs.Bytes.{Bytes}
+use Rattle.cck_snapshot.specs.Snapshot.{IsLookedUp}
+use Rattle.cck_snapshot.specs.declared.requests.SnapshotRequest.{SnapshotRequest}
+use Rattle.sha2.specs.Sha256.{sha256}
+
+-- one of these files
+abbrev pub IsOneOf : List Include → Bytes → Bool → Type 0
+IsOneOf includes path tests = (include : Include) × Contains includes include × (include.path ≡ path)
+
+-- a file that a result of the entry of these bytes included
+pub record IsIncluded (bytes : Bytes) (path : Bytes) (tests : Bool) : Type 0 where
+  pub entry : Entry
+  pub is_entry : Reads (Ok entry) bytes
+  pub found : KeyResult
+  pub among : Contains (entries entry) found
+  pub one_of : IsOneOf (found.1) path tests
+
+-- The look-up of this key in an entry of these bytes, over files that have grown by those that the entry names, returned this key of an object.
+pub record IsMatch (asked : SnapshotRequest) (input : FileMap) (key bytes : Bytes) (object : String Global) : Type 0 where
+  pub files : FileMap
+  pub grown : ArePut (IsIncluded bytes) input files
+  pub found : IsLookedUp sha256 files asked NoFault key bytes (Some object)
+
+-- the same of an entry file of this key
+abbrev pub IsMatchOfKey : SnapshotRequest → FileMap → String Global → String Global → Type 0
+IsMatchOfKey asked input key object =
+    (file : EntryFields) × (file.preprocessor_key ≡ string_bytes key) × IsMatch asked input (string_bytes key) file.entry object
+
+-- what a store has of a preprocessor key: an entry is of this key
+abbrev pub IsKeyEntry : Bytes → Kept → Type 0
+IsKeyEntry key Nothing = Unit {0}
+IsKeyEntry key Damaged = Unit {0}
+IsKeyEntry key (KeptEntry file) = file.preprocessor_key.items ≡ key
+
+-- a miss
+abbrev pub IsMiss : String Global → Option (String Global) → Found → Type 0
+IsMiss key object (Hit k o file) = ⊥
+IsMiss key object (Miss k since o damaged) = (k ≡ key) × (o ≡ object)
+IsMiss key object NoKey = ⊥
+
+-- what was found in a store of a key that an entry of a preprocessor key names
+abbrev pub IsKept : Outputs → String Global → String Global → Found → Type 0
+IsKept outputs preprocessor_key key (Hit k o object) =
+    (k ≡ preprocessor_key) × (o ≡ key) × (object.key.items ≡ string_bytes key) × (has_outputs outputs object ≡ true)
+IsKept outputs preprocessor_key key (Miss k since o damaged) = (k ≡ preprocessor_key) × (o ≡ Some key)
+IsKept outputs preprocessor_key key NoKey = ⊥
+
+-- what was found for a preprocessor key over a snapshot of the input
+abbrev pub IsFoundFor : Outputs → SnapshotRequest → FileMap → String Global → Found → Type 0
+IsFoundFor outputs asked input key (Hit k o object) =
+    (k ≡ key) × IsMatchOfKey asked input key o × (object.key.items ≡ string_bytes o) × (has_outputs outputs object ≡ true)
+IsFoundFor outputs asked input key (Miss k since o damaged) = (k ≡ key) × IfSome o (IsMatchOfKey asked input key)
+IsFoundFor outputs asked input key NoKey = ⊥
+
+-- The result of a look-up. A hit has an object file of a key that is looked up in an entry file of the request's preprocessor key.
+abbrev pub IsFound : Environment → Look → Found → Type 0
+IsFound environment wanted (Hit k o object) =
+    (has : HasKey environment wanted.request (Some (string_bytes k))) × IsMatchOfKey has.asked has.input k o × (object.key.items ≡ string_bytes o)
+    × (has_outputs wanted.outputs object ≡ true)
+IsFound environment wanted (Miss k since o damaged) =
+    (has : HasKey environment wanted.request (Some (string_bytes k))) × IfSome o (IsMatchOfKey has.asked has.input k)
+IsFound environment wanted NoKey = HasKey environment wanted.request None

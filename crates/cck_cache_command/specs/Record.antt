@@ -1,0 +1,159 @@
+-- what a recording records
+use Rattle.std.specs.Prelude.{◌≡◌, ◌⊎◌, ℤ, pos, ◌*ℤ◌, ◌+ℤ◌, List, Bool, true, false, Option, Some, None, String, string_bytes}
+use Rattle.std.specs.declared.alloc.Global.{Global}
+use Rattle.cck_cache_base.specs.Shown.{ShowsBase}
+use Rattle.cck_cache_base.specs.Text.{AreBases}
+use Rattle.cck_cache_command.specs.Absence.{IsRefusedByPath}
+use Rattle.cck_cache_command.specs.Input.{IsCalm, IsInput, NoFault}
+use Rattle.cck_cache_command.specs.Request.{IsRequest, key_over, request_words}
+use Rattle.cck_cache_command.specs.declared.environment.Environment.{Environment}
+use Rattle.cck_cache_command.specs.declared.record.Gathered.{Gathered}
+use Rattle.cck_cache_command.specs.declared.record.Outcome.{Outcome}
+use Rattle.cck_cache_command.specs.declared.record.Outcome.TheVariants.{Recorded, Refused}
+use Rattle.cck_cache_command.specs.declared.record.Seen.{Seen}
+use Rattle.cck_cache_command.specs.declared.record.Seen.TheVariants.{Files, Refused as NotSeen}
+use Rattle.cck_cache_entry.specs.Assembler.{may_include}
+use Rattle.cck_cache_entry.specs.Files.{EntryFields}
+use Rattle.cck_cache_entry.specs.declared.object_file.ObjectFile.{ObjectFile}
+use Rattle.cck_cache_files.specs.Snapshot.{ArePut, IsNamed, IsPart}
+use Rattle.cck_cache_rules.specs.Refusal.{IsRefusal}
+use Rattle.cck_cache_rules.specs.declared.refusal.Refusal.{Refusal}
+use Rattle.cck_cache_rules.specs.declared.refusal.Refusal.TheVariants.{NoKey, InputChanged, DayChanged, NoSearchList, UnknownHeader, HeaderTest, AssemblerInclude, EarlierPath, NamedFile, BaseDirectory}
+use Rattle.cck_cache_words.specs.declared.request.Request.{Request}
+use Rattle.cck_cache_words.specs.declared.task.Compilation.{Compilation}
+use Rattle.cck_files.specs.FileMap.{FileMap}
+use Rattle.cck_markers.specs.Marks.{Mark, Marks}
+use Rattle.cck_path.specs.Bytes.{Bytes}
+use Rattle.cck_snapshot.specs.Recordings.{IsRecording}
+use Rattle.cck_snapshot.specs.declared.recordings.RecordedEntry.{RecordedEntry}
+use Rattle.cck_snapshot.specs.declared.requests.SnapshotRequest.{SnapshotRequest}
+use Rattle.jiff.specs.Types.{DateTime, TimeZone}
+use Rattle.jiff.specs.Words.{IsTimestampNanos, civil_nanos, epoch_day, nanos_of_seconds, offset_at, plain_zone}
+use Rattle.sha2.specs.Sha256.{sha256}
+
+-- the key of the object that is compiled from this text: that of a recording over a snapshot that has the input alone
+pub record IsObjectKey (environment : Environment) (request : Request) (text : Bytes) (key : String Global) : Type 0 where
+  pub input : FileMap
+  pub tests : Bool
+  pub is_input : IsInput request input tests
+  pub bases : List Bytes
+  pub are_bases : AreBases (request_words request) text bases
+  pub asked : SnapshotRequest
+  pub is_request : IsRequest environment request environment.now bases asked
+  pub put : Option RecordedEntry
+  pub recorded : IsRecording sha256 input asked NoFault text (record { key = key; put = put })
+
+-- the nanoseconds of so many seconds
+abbrev pub second_nanos : ℤ → ℤ
+second_nanos seconds = seconds *ℤ pos 1_000_000_000
+
+-- there is no civil time so many seconds after the beginning of 1970, or it is this
+abbrev pub HasNoLocalTime : ℤ → Type 0
+HasNoLocalTime seconds = ¬ IsTimestampNanos (second_nanos seconds)
+
+abbrev pub IsLocalTime : TimeZone → ℤ → DateTime → Type 0
+IsLocalTime zone seconds time =
+    IsTimestampNanos (second_nanos seconds) × (civil_nanos time ≡ second_nanos seconds +ℤ nanos_of_seconds (offset_at zone (second_nanos seconds)))
+
+-- both times have one date; or they have two, or one of them has none
+abbrev pub IsOneDay : TimeZone → ℤ → ℤ → Bool → Type 0
+IsOneDay zone a b true = (x y : DateTime) × IsLocalTime zone a x × IsLocalTime zone b y × (epoch_day x.date ≡ epoch_day y.date)
+IsOneDay zone a b false =
+    HasNoLocalTime a ⊎ (HasNoLocalTime b ⊎ ((x y : DateTime) × IsLocalTime zone a x × IsLocalTime zone b y × ¬ (epoch_day x.date ≡ epoch_day y.date)))
+
+-- Files that were gathered for a text: the input, and files at the paths of the names of the text, none of which replaced another. Those that test
+-- for headers are of system headers, but for the input.
+pub record AreGathered (request : Request) (text : Bytes) (tests : Bool) (files : FileMap) : Type 0 where
+  pub input : FileMap
+  pub is_input : IsInput request input tests
+  pub marks : List Mark
+  pub are_marks : Marks true text marks
+  pub put : ArePut (IsNamed marks request.directory.now false) input files
+  pub kept : IsPart input files
+
+-- why a compilation is not recorded by its text and what the compiler printed of its directories
+abbrev pub IsRefusedByText : Bytes → Refusal → Type 0
+IsRefusedByText text AssemblerInclude = may_include text ≡ true
+IsRefusedByText text HeaderTest = Unit {0}
+IsRefusedByText text NoSearchList = (printed : Bytes) × IsRefusedByPath text printed NoSearchList
+IsRefusedByText text UnknownHeader = (printed : Bytes) × IsRefusedByPath text printed UnknownHeader
+IsRefusedByText text EarlierPath = Unit {0}
+IsRefusedByText text NoKey = ⊥
+IsRefusedByText text InputChanged = ⊥
+IsRefusedByText text DayChanged = ⊥
+IsRefusedByText text NamedFile = ⊥
+IsRefusedByText text BaseDirectory = ⊥
+
+abbrev pub IsSeen : Request → Bytes → Seen → Type 0
+IsSeen request text (Files gathered) =
+    (may_include text ≡ false) × AreGathered request text gathered.tests_headers gathered.files.files × IsCalm gathered.files
+IsSeen request text (NotSeen refusal) = IsRefusedByText text refusal
+
+-- why a compilation is not recorded by its input and its time, if it is not
+abbrev pub IsJudged : Environment → SnapshotRequest → FileMap → Bool → Bytes → Option Refusal → Type 0
+IsJudged environment asked files tests key refusal =
+    (one_day : Bool) × IsOneDay (plain_zone asked.zone.now) asked.moment.seconds environment.now.seconds one_day × IsRefusal (key_over asked files) key one_day tests refusal
+
+-- one of the base directories is in a part of the object file, if there is one
+abbrev pub ObjectShowsBase : List Bytes → Option ObjectFile → Type 0
+ObjectShowsBase bases None = ⊥
+ObjectShowsBase bases (Some object) = ShowsBase bases object.object.items ⊎ (ShowsBase bases object.messages.items ⊎ ShowsBase bases object.dependencies.items)
+
+-- a base directory is in something that the compiler made
+abbrev pub IsRefusedByBase : List Bytes → Refusal → Type 0
+IsRefusedByBase bases refusal = (refusal ≡ BaseDirectory) × ((object : ObjectFile) × ObjectShowsBase bases (Some object))
+
+-- the entry file of an entry, with these absent paths
+abbrev pub recorded_fields : RecordedEntry → List Bytes → EntryFields
+recorded_fields entry absent = record { preprocessor_key = string_bytes entry.preprocessor_key; entry = entry.bytes.items; absent_paths = absent }
+
+-- the request of a compilation over a snapshot, at the time at which its look-up ended
+pub record IsAsked (environment : Environment) (request : Request) (compilation : Compilation) (text : Bytes) (asked : SnapshotRequest) : Type 0 where
+  pub bases : List Bytes
+  pub are_bases : AreBases (request_words request) text bases
+  pub is_request : IsRequest environment request compilation.since bases asked
+
+-- the recording over these files has this key and an entry, and neither the input nor the time keeps it from being recorded
+pub record IsRecordedOver (environment : Environment) (request : Request) (compilation : Compilation) (text : Bytes) (tests : Bool) (files : FileMap) (key : String Global) : Type 0 where
+  pub asked : SnapshotRequest
+  pub is_asked : IsAsked environment request compilation text asked
+  pub judged : IsJudged environment asked files tests compilation.key.now None
+  pub entry : RecordedEntry
+  pub recorded : IsRecording sha256 files asked NoFault text (record { key = key; put = Some entry })
+
+-- the input or the time keeps it from being recorded
+pub record IsRefusedByInput (environment : Environment) (request : Request) (compilation : Compilation) (text : Bytes) (tests : Bool) (files : FileMap) (refusal : Refusal) : Type 0 where
+  pub asked : SnapshotRequest
+  pub is_asked : IsAsked environment request compilation text asked
+  pub judged : IsJudged environment asked files tests compilation.key.now (Some refusal)
+
+-- the recording has no entry
+pub record HasNoEntry (environment : Environment) (request : Request) (compilation : Compilation) (text : Bytes) (files : FileMap) : Type 0 where
+  pub asked : SnapshotRequest
+  pub is_asked : IsAsked environment request compilation text asked
+  pub key : String Global
+  pub recorded : IsRecording sha256 files asked NoFault text (record { key = key; put = None })
+
+-- a base directory is in what the compiler made
+abbrev pub ShowsBaseOf : Request → Bytes → Refusal → Type 0
+ShowsBaseOf request text refusal = (bases : List Bytes) × AreBases (request_words request) text bases × IsRefusedByBase bases refusal
+
+-- why a compilation is not recorded over files: its input or its time; or a name in doubt, or a text that has no entry; or a base directory
+abbrev pub IsRefusedOver : Environment → Request → Compilation → Bytes → Bool → Bool → FileMap → Refusal → Type 0
+IsRefusedOver environment request compilation text tests doubtful files refusal =
+    IsRefusedByInput environment request compilation text tests files refusal
+    ⊎ (((refusal ≡ NamedFile) × ((doubtful ≡ true) ⊎ HasNoEntry environment request compilation text files)) ⊎ ShowsBaseOf request text refusal)
+
+abbrev pub IsOutcomeOver : Environment → Request → Compilation → Bytes → Gathered → Outcome → Type 0
+IsOutcomeOver environment request compilation text gathered (Recorded key) =
+    IsRecordedOver environment request compilation text gathered.tests_headers gathered.files.files key
+IsOutcomeOver environment request compilation text gathered (Refused refusal) =
+    IsRefusedOver environment request compilation text gathered.tests_headers gathered.is_doubtful gathered.files.files refusal
+
+-- The outcome of a recording. What is recorded is recorded over files that were gathered for the text.
+abbrev pub IsOutcome : Environment → Request → Compilation → Bytes → Outcome → Type 0
+IsOutcome environment request compilation text (Recorded key) =
+    (may_include text ≡ false) × ((tests : Bool) × (files : FileMap) × AreGathered request text tests files × IsRecordedOver environment request compilation text tests files key)
+IsOutcome environment request compilation text (Refused refusal) =
+    IsRefusedByText text refusal
+    ⊎ ((tests doubtful : Bool) × (files : FileMap) × AreGathered request text tests files × IsRefusedOver environment request compilation text tests doubtful files refusal)

@@ -1,0 +1,82 @@
+-- requests as requests over snapshots
+use Rattle.std.specs.Prelude.{◌≡◌, List, [], ◌∷◌, ◌++◌, Bool, false, Option, Some, None, codes}
+use Rattle.std.specs.Option.{option_map}
+use Rattle.c_cache_keys.specs.Keys.{preprocessor_key_of}
+use Rattle.c_cache_keys.specs.declared.call.CacheControl.TheVariants.{Default}
+use Rattle.c_cache_keys.specs.declared.hasher.CCompilerHasher.{CCompilerHasher}
+use Rattle.cck_cache_base.specs.Base.{BaseOf, WordLists}
+use Rattle.cck_cache_command.specs.Input.{IsInput}
+use Rattle.cck_cache_command.specs.declared.environment.Environment.{Environment}
+use Rattle.cck_cache_words.specs.declared.request.Request.{Request}
+use Rattle.cck_compiler.specs.Arguments.{Arguments, only_input}
+use Rattle.cck_compiler.specs.Seen.{arguments_of}
+use Rattle.cck_compiler.specs.declared.compiler.CCompilerKind.TheVariants.{Gcc}
+use Rattle.cck_files.specs.FileMap.{FileMap}
+use Rattle.cck_path.specs.Bytes.{Bytes, lists_of}
+use Rattle.cck_path.specs.Timestamp.{Moment}
+use Rattle.cck_snapshot.specs.External.{External, external_of, no_text}
+use Rattle.cck_snapshot.specs.Requests.{call_for, world_for}
+use Rattle.cck_snapshot.specs.declared.compiler.ExternalCompiler.{ExternalCompiler}
+use Rattle.cck_snapshot.specs.declared.requests.SnapshotRequest.{SnapshotRequest}
+use Rattle.cck_time.specs.Config.{activated}
+use Rattle.cck_util.specs.declared.language.Language.TheVariants.{C}
+use Rattle.sha2.specs.Sha256.{sha256}
+
+-- the words that the base directory depends on
+abbrev pub request_words : Request → WordLists
+request_words request = record {
+  base = option_map (λ b. b.now) request.base;
+  directory = request.directory.now;
+  arguments = lists_of request.arguments.items;
+}
+
+abbrev pub base_argument : Option Bytes → List Bytes
+base_argument None = []
+base_argument (Some base) = (codes "base=" ++ base) ∷ []
+
+-- the arguments, the working directory, the locale, and the base directory of portable words
+abbrev pub keyed_arguments : WordLists → Bytes → Option Bytes → List Bytes
+keyed_arguments words locale base =
+    words.arguments ++ (codes "directory=" ++ words.directory) ∷ (codes "locale=" ++ locale) ∷ base_argument base
+
+abbrev pub AreKeyed : WordLists → Bytes → List Bytes → Type 0
+AreKeyed words locale arguments = (base : Option Bytes) × BaseOf words base × (arguments ≡ keyed_arguments words locale base)
+
+-- gcc, whose version and assembler are part of the digest of its programs
+abbrev pub gcc : External
+gcc = record { kind = Gcc; plusplus = false; version = None; assembler_digest = None }
+
+-- a command line of C with this input and these arguments
+abbrev pub command_line : Bytes → List Bytes → Arguments
+command_line input arguments = record (only_input input C) { common_args = arguments }
+
+-- The compilation of a request. The digest of its programs is what the system says of them, or that of their contents.
+pub record IsHasher (environment : Environment) (request : Request) (hasher : CCompilerHasher ExternalCompiler) : Type 0 where
+  pub compiler : external_of hasher.compiler ≡ gcc
+  pub executable : hasher.executable.items ≡ []
+  pub arguments : List Bytes
+  pub keyed : AreKeyed (request_words request) environment.locale.items arguments
+  pub parsed : arguments_of hasher.parsed_args ≡ command_line request.input.now arguments
+
+-- the request over a snapshot, at this time and with these base directories
+pub record IsRequest (environment : Environment) (request : Request) (time : Moment) (bases : List Bytes) (asked : SnapshotRequest) : Type 0 where
+  pub hasher : IsHasher environment request asked.hasher.now
+  pub cwd : asked.cwd.now ≡ request.directory.now
+  pub vars : asked.vars.now ≡ environment.variables.items
+  pub moment : asked.moment ≡ time
+  pub zone : asked.zone.now ≡ environment.zone
+  pub config : asked.config ≡ activated
+  pub basedirs : lists_of asked.basedirs.now ≡ bases
+
+-- the preprocessor key over these files, if there is one
+abbrev pub key_over : SnapshotRequest → FileMap → Option Bytes
+key_over asked files = preprocessor_key_of (world_for sha256 no_text asked) (call_for Default files asked)
+
+-- this is the preprocessor key over a snapshot that has the input alone, if it has one
+pub record HasKey (environment : Environment) (request : Request) (key : Option Bytes) : Type 0 where
+  pub input : FileMap
+  pub tests : Bool
+  pub is_input : IsInput request input tests
+  pub asked : SnapshotRequest
+  pub is_request : IsRequest environment request environment.now [] asked
+  pub is_key : key_over asked input ≡ key
