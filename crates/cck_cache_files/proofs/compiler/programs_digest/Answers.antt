@@ -1,5 +1,6 @@
 use Rattle.std.proofs.Common.{◌≡◌, ◌∙◌, [], List, ℕ, ap, subst, lit<}
 use Rattle.std.specs.List.{AllZip}
+use Rattle.std.specs.Str.Iter.{split_has_more, split_pattern, split_text}
 use Rattle.std.proofs.lemmas.Iterator.Consumers.{YieldsList-end}
 use Rattle.std.proofs.lemmas.Iterator.Splits.{YieldsList-from_str_split}
 use Rattle.cck_digest.specs.Stream.{concatenation}
@@ -21,5 +22,5 @@ returns g c =
     let split = c.split-path-items.ensures in
     let P : List (List ℕ) → Type 0 = λ paths. AllZip (IsProgramLine g.H.HashState.hash c.args.part) paths c.loop-path.invariant.0 in
     (c.loop-path.invariant.0,
-    subst P (YieldsList-end (YieldsList-from_str_split 58 c.args.paths.now (lit< tt) split.text split.has_more split.pattern) c.loop-path.yielded _ c.loop-path.yielded_by _ _ c.in-None.is c.next.ensures.steps).0 c.loop-path.invariant.1,
+    subst P (YieldsList-end (YieldsList-from_str_split 58 c.args.paths.now (lit< tt) (ap split_text same ∙ split.text) (ap split_has_more same ∙ split.has_more) (ap split_pattern same ∙ split.pattern)) c.loop-path.yielded _ c.loop-path.yielded_by _ _ c.in-None.is c.next.ensures.steps).0 c.loop-path.invariant.1,
     c.in_ok-text_of.ensures (concatenation c.loop-path.invariant.0) c.loop-path.invariant.2)
