@@ -1,0 +1,5 @@
+pub mod CompilerLemmas
+pub mod ListingLemmas
+pub mod PathLemmas
+pub mod StateLemmas
+pub mod TimeLemmas

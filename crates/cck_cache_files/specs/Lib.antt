@@ -1,1 +1,5 @@
+pub mod Compiler
+pub mod Listing
+pub mod PathStates
 pub mod Paths
+pub mod Times
