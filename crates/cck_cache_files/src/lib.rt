@@ -25,6 +25,6 @@ mod times;
 pub use compiler::{compiler_digest, shared_compiler_digest};
 pub use listing::{StoredFile, list_counts, list_files};
 pub use path_states::{PathState, PathStates, is_absent};
-pub use snapshot::{add_file, add_named_files};
+pub use snapshot::{NamedFiles, add_file, add_named_files};
 pub use store_directory::{Kind, StoreDirectory, open_store};
 pub use times::{changed, modified};

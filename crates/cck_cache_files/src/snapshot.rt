@@ -1,5 +1,10 @@
 //! Real files, as they are now, in memory.
-ghost use Rattle.std.specs.Prelude.{◌≡◌, [], IsOkUnless, IsTrue};
+ghost use Rattle.std.specs.Prelude.{◌≡◌, [], IfOk, IsOkUnless, IsTrue, List, OnErr, true};
+ghost use Rattle.cck_files.specs.Calls.{Keeps};
+ghost use Rattle.cck_files.specs.FileState.{IsQuiet, fault_count};
+ghost use Rattle.cck_markers.specs.Marks.{Marks};
+ghost use Rattle.cck_markers.specs.Marks as marks;
+ghost use Rattle.cck_cache_files.specs.Snapshot.{Grows, IsAdded, IsNamed, IsPart, IsPut, StaysCalm};
 
 use crate::path_states::{PathState, PathStates};
 use crate::times::{changed, modified};
@@ -51,13 +56,15 @@ fn read_node<R: Files + AllocGlobal>(rt: &R, path: &str) -> Option<Node> {
 /// Puts what is at a path into the snapshot, links followed. What can't be read is left out.
 /// Returns whether the contents may test for the existence of a header.
 ///
-/// The only error is [`UtilError::Memory`].
+/// The only error is [`UtilError::Memory`], and then nothing is changed.
 pub fn add_file<R: Files + AllocGlobal>(
     rt: &R,
     files: &mut MapFiles,
     path: &[u8],
 ) -> Result<bool, UtilError>
-    ensures { IsOkUnless result UtilError.Memory }
+    ensures added { IfOk result (IsAdded files.old path.now files.new) }
+    ensures kept { OnErr result (files.new ≡ files.old) }
+    ensures errors { IsOkUnless result UtilError.Memory }
 {
     let Ok(text) = std::str::from_utf8(path) else {
         return Ok(false);
@@ -107,9 +114,48 @@ fn leads_there<R: Files + AllocGlobal>(
     Ok(!states.has_link(rt, joined)? && is_one_file(rt, joined, path))
 }
 
-/// Puts the files that a preprocessed text names into the snapshot. Returns whether one of them that
-/// is no system header may test for the existence of a header. A file is left out of the snapshot
-/// if a link on the way to it is in doubt, or its path with `.` and `..` may lead elsewhere.
+// Puts what is at a path into the snapshot, as `add_file` does, if the snapshot has nothing there.
+fn add_new_file<R: Files + AllocGlobal>(
+    rt: &R,
+    files: &mut MapFiles,
+    path: &[u8],
+) -> Result<bool, UtilError>
+    ensures put { IfOk result (IsPut files.old.files path.now files.new.files) }
+    ensures left { OnErr result (files.new.files ≡ files.old.files) }
+    ensures kept { IsQuiet files.old → IsPart files.old.files files.new.files }
+    ensures calm { StaysCalm files.old files.new }
+    ensures errors { IsOkUnless result UtilError.Memory }
+{
+    if files.exists(path) {
+        return Ok(false);
+    }
+    add_file(rt, files, path)
+}
+
+// Whether the snapshot has something at one of these paths.
+fn has_one(files: &mut MapFiles, paths: &[Vec<u8>]) -> bool
+    ensures { Keeps (λ files. files.files) fault_count IsQuiet files.old files.new }
+{
+    for path in paths {
+        if files.exists(path) {
+            return true;
+        }
+    }
+    false
+}
+
+/// What is known of the files that a text names.
+#[derive(Debug, Clone, Copy)]
+pub struct NamedFiles {
+    /// Whether one that was put into the snapshot, and is no system header, may test for the
+    /// existence of a header.
+    pub tests_headers: bool,
+    /// Whether the snapshot has a file at the path of a name that was left out.
+    pub is_doubtful: bool,
+}
+
+/// Puts the files that a preprocessed text names into the snapshot. A name is left out if a link on
+/// the way to it is in doubt, or its path with `.` and `..` may lead elsewhere.
 ///
 /// The only error is [`UtilError::Memory`].
 pub fn add_named_files<R: Files + AllocGlobal>(
@@ -118,11 +164,14 @@ pub fn add_named_files<R: Files + AllocGlobal>(
     states: &mut PathStates,
     cwd: &[u8],
     text: &[u8],
-) -> Result<bool, UtilError>
-    ensures { IsOkUnless result UtilError.Memory }
+) -> Result<NamedFiles, UtilError>
+    ensures named { IfOk result (λ named. (marks : List marks.Mark) → Marks true text.now marks
+        → Grows (IsNamed marks cwd.now named.tests_headers) files.old files.new) }
+    ensures errors { IsOkUnless result UtilError.Memory }
 {
     let alloc = rt.alloc();
     let mut tests_headers = false;
+    let mut left_out: Vec<Vec<u8>> = Vec::new(alloc);
     let mut last: &[u8] = b"";
     for mark in Markers::new(text) {
         let Mark::Name { name, is_system } = mark else {
@@ -134,11 +183,16 @@ pub fn add_named_files<R: Files + AllocGlobal>(
         last = name;
         let joined = join_path(alloc, cwd, name)?;
         let path = normalize_path(alloc, &joined)?;
-        if files.exists(&path) || !leads_there(rt, states, &joined, &path)? {
-            continue;
+        if leads_there(rt, states, &joined, &path)? {
+            let tests = add_new_file(rt, files, &path)?;
+            tests_headers = tests_headers || (tests && !is_system);
+        } else {
+            left_out.push(path)?;
         }
-        let tests = add_file(rt, files, &path)?;
-        tests_headers = tests_headers || (tests && !is_system);
     }
-    Ok(tests_headers)
+    let is_doubtful = has_one(files, &left_out);
+    Ok(NamedFiles {
+        tests_headers,
+        is_doubtful,
+    })
 }
