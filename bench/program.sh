@@ -15,7 +15,7 @@ build_program() {
     rm -rf "$folder/work"
     mkdir -p "$folder/work/crates/$1_bench/src"
     for crate in $2; do
-        cp -r "$top/crates/$crate" "$folder/work/crates/"
+        cp -rp "$top/crates/$crate" "$folder/work/crates/"
         grep "^$crate:" "$top/crates.txt" >> "$folder/work/crates.txt"
     done
     echo "$1_bench: $3" >> "$folder/work/crates.txt"

@@ -300,6 +300,24 @@ check '-Wp,-MD, with another option' 'passed on (preprocessor-option)*' same -c 
 check '-Wa,' 'passed on (assembler-option)*' same -c x.c -Ib -Wa,--noexecstack
 echo '-Ib' >options
 check '@file' 'passed on (response-file)*' same -c x.c @options
+check '-x' 'passed on (mode)*' same -x c -c x.c -Ib
+: >empty.c
+check '-x and its value in one word' 'passed on (mode)*' same -xassembler-with-cpp -c empty.c
+
+# A compiler that appears earlier in PATH.
+mkdir earlier
+PATH=$PWD/earlier:$PATH
+settle
+check 'the compiler of PATH' 'miss *' same -c x.c -Ib -O1
+check 'the same again' 'hit *' same -c x.c -Ib -O1
+printf '#!/bin/sh\nexec %s -Dv=w "$@"\n' "$(command -v gcc)" >earlier/gcc
+chmod +x earlier/gcc
+hash -r
+check 'another compiler earlier in PATH' 'miss *' same -c x.c -Ib -O1
+check 'the same again' 'hit *' same -c x.c -Ib -O1
+rm earlier/gcc
+hash -r
+check 'it is removed' 'hit *' same -c x.c -Ib -O1
 
 # The directory and the way in which the input is written.
 mkdir n1 n2

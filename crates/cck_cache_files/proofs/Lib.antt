@@ -1,1 +1,6 @@
+pub mod CompilerLemmas
+pub mod ListingLemmas
+pub mod PathLemmas
 pub mod SnapshotLemmas
+pub mod StateLemmas
+pub mod TimeLemmas

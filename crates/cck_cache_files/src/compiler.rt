@@ -1,6 +1,11 @@
 //! The programs that a compilation runs.
+ghost use Rattle.std.specs.Prelude.{◌≡◌, ◌⊎◌, ℕ, List, IfOk, IfSome, IsTrue, string_bytes};
+ghost use Rattle.cck_digest.specs.Digest.{digest_text};
+ghost use Rattle.cck_cache_files.specs.Compiler.{IsContentsLine, IsProgramLine, IsProgramsDigest, IsStatusLine, is_hex_digest, place_text, time_text};
+
 use crate::store_directory::StoreDirectory;
-use cck_digest::{Digest, Sha256State, UtilError};
+use cck_digest::{Digest, HashState, Sha256State};
+use std::alloc::{AllocError, Global};
 use std::os::unix::fs::MetadataExt;
 use std::rt::Files;
 use std::{fs, io};
@@ -8,58 +13,121 @@ use std::{fs, io};
 /// The number of digits of a hex digest.
 const DIGITS: usize = 64;
 
+// What a digest of programs depends on, beside their paths.
+#[derive(Clone, Copy)]
+enum Part {
+    // What the system says of them.
+    Status,
+    // Their contents.
+    Contents,
+}
+
+// The hex digest of all that was fed. A digest fails for memory alone.
+fn text_of<H: HashState>(alloc: Global, digest: Digest<H>) -> Result<String, AllocError>
+    ensures { IfOk result (λ text. (fed : List ℕ) → H.holds digest fed → string_bytes text ≡ digest_text H.hash fed) }
+{
+    match digest.finish(alloc) {
+        Ok(text) => Ok(text),
+        Err(_) => Err(AllocError),
+    }
+}
+
+// The text of a device, an inode and a size.
+fn place_text(alloc: Global, device: u64, inode: u64, size: u64) -> Result<String, AllocError>
+    ensures { IfOk result (λ text. string_bytes text ≡ place_text device inode size) }
+{
+    Ok(format!(in alloc; "{device} {inode} {size}")?)
+}
+
+// The text of a time.
+fn time_text(alloc: Global, seconds: i64, nanoseconds: i64) -> Result<String, AllocError>
+    ensures { IfOk result (λ text. string_bytes text ≡ time_text seconds nanoseconds) }
+{
+    Ok(format!(in alloc; "{seconds}.{nanoseconds}")?)
+}
+
+// The line of a program and of what the system says of it.
+fn status_line<R: Files + AllocGlobal>(rt: &R, path: &str) -> io::Result<String>
+    ensures { IfOk result (λ line. IsStatusLine path.now (string_bytes line)) }
+{
+    let alloc = rt.alloc();
+    let found = fs::metadata(rt, path)?;
+    let place = place_text(alloc, found.dev(), found.ino(), found.size())?;
+    let modified = time_text(alloc, found.mtime(), found.mtime_nsec())?;
+    let changed = time_text(alloc, found.ctime(), found.ctime_nsec())?;
+    Ok(format!(in alloc; "{path} {place} {modified} {changed}\n")?)
+}
+
+// The line of a program and of the hex digest of its contents.
+fn contents_line<H: HashState, R: Files + AllocGlobal>(rt: &R, path: &str) -> io::Result<String>
+    ensures { IfOk result (λ line. IsContentsLine H.hash path.now (string_bytes line)) }
+{
+    let mut digest = Digest::<H>::new();
+    digest.update(&fs::read(rt, path)?);
+    let digest = text_of(rt.alloc(), digest)?;
+    Ok(format!(in rt.alloc(); "{path} {digest}\n")?)
+}
+
+// The line of a program, by this part.
+fn program_line<H: HashState, R: Files + AllocGlobal>(
+    rt: &R,
+    part: Part,
+    path: &str,
+) -> io::Result<String>
+    ensures { IfOk result (λ line. IsProgramLine H.hash part path.now (string_bytes line)) }
+{
+    match part {
+        Part::Status => status_line(rt, path),
+        Part::Contents => contents_line::<H, R>(rt, path),
+    }
+}
+
+// The hex digest of the lines of these programs, whose paths are separated by colons.
+fn programs_digest<H: HashState, R: Files + AllocGlobal>(
+    rt: &R,
+    part: Part,
+    paths: &str,
+) -> io::Result<String>
+    ensures { IfOk result (λ text. IsProgramsDigest H.hash part paths.now (string_bytes text)) }
+{
+    let mut digest = Digest::<H>::new();
+    for path in paths.split(':') {
+        let line = program_line::<H, R>(rt, part, path)?;
+        digest.update(line.as_bytes());
+    }
+    Ok(text_of(rt.alloc(), digest)?)
+}
+
 /// The hex digest of what the system says of these programs, whose paths are separated by colons:
 /// path, device, inode, size and times of each. A program that is replaced or written to has other
 /// times, so that its digest changes.
 ///
 /// The error is that of a program that can't be looked at, or lack of memory.
-pub fn compiler_digest<R: Files + AllocGlobal>(rt: &R, paths: &str) -> io::Result<String> {
-    let alloc = rt.alloc();
-    let mut digest = Digest::<Sha256State>::new();
-    for path in paths.split(':') {
-        let found = fs::metadata(rt, path)?;
-        let (device, inode, size) = (found.dev(), found.ino(), found.size());
-        let (seconds, nanoseconds) = (found.mtime(), found.mtime_nsec());
-        let (changed, changed_nanoseconds) = (found.ctime(), found.ctime_nsec());
-        let line = format!(in alloc;
-            "{path} {device} {inode} {size} {seconds}.{nanoseconds} {changed}.{changed_nanoseconds}\n"
-        )?;
-        digest.update(line.as_bytes());
-    }
-    text_of(digest.finish(alloc))
+pub fn compiler_digest<R: Files + AllocGlobal>(rt: &R, paths: &str) -> io::Result<String>
+    ensures { IfOk result (λ text.
+        IsProgramsDigest ⟦<Sha256State as HashState>⟧.hash Part.Status paths.now (string_bytes text)) }
+{
+    programs_digest::<Sha256State, R>(rt, Part::Status, paths)
 }
 
-// A digest's text. A digest fails for memory alone.
-fn text_of(text: Result<String, UtilError>) -> io::Result<String> {
-    match text {
-        Ok(text) => Ok(text),
-        Err(_) => Err(io::Error::from(io::ErrorKind::OutOfMemory)),
-    }
-}
-
-// The hex digest of the path and the contents of each of these programs.
-fn contents_digest<R: Files + AllocGlobal>(rt: &R, paths: &str) -> io::Result<String> {
-    let alloc = rt.alloc();
-    let mut all = Digest::<Sha256State>::new();
-    for path in paths.split(':') {
-        let mut digest = Digest::<Sha256State>::new();
-        digest.update(&fs::read(rt, path)?);
-        let digest = text_of(digest.finish(alloc))?;
-        let line = format!(in alloc; "{path} {digest}\n")?;
-        all.update(line.as_bytes());
-    }
-    text_of(all.finish(alloc))
+// Whether a text is 64 hexadecimal digits.
+fn is_hex_digest(text: &str) -> bool
+    ensures { result ≡ is_hex_digest text.now }
+{
+    text.len() == DIGITS && text.as_bytes().iter().all(|byte| byte.is_ascii_hexdigit())
 }
 
 // The digest that a file has, if it has one and nothing else.
-fn kept_digest<R: Files + AllocGlobal>(rt: &R, path: &str) -> Option<String> {
+fn kept_digest<R: Files + AllocGlobal>(rt: &R, path: &str) -> Option<String>
+    ensures { IfSome result (λ text. IsTrue (is_hex_digest (string_bytes text))) }
+{
     let bytes = fs::read(rt, path).ok()?;
     let text = std::str::from_utf8(&bytes).ok()?;
-    if text.len() == DIGITS && text.bytes().all(|byte| byte.is_ascii_hexdigit()) {
-        String::from_str(rt.alloc(), text).ok()
-    } else {
-        None
+    if !is_hex_digest(text) {
+        return None;
     }
+    let digest = String::from_str(rt.alloc(), text).ok()?;
+    Some(digest)
 }
 
 /// The hex digest of the path and the contents of each of these programs, whose paths are separated
@@ -73,13 +141,16 @@ pub fn shared_compiler_digest<R: Files + AllocGlobal>(
     rt: &R,
     store: &StoreDirectory,
     paths: &str,
-) -> io::Result<String> {
+) -> io::Result<String>
+    ensures { IfOk result (λ text. IsTrue (is_hex_digest (string_bytes text))
+        ⊎ IsProgramsDigest ⟦<Sha256State as HashState>⟧.hash Part.Contents paths.now (string_bytes text)) }
+{
     let name = compiler_digest(rt, paths)?;
     let path = store.digest_path(rt, name.as_str())?;
     if let Some(digest) = kept_digest(rt, path.as_str()) {
         return Ok(digest);
     }
-    let digest = contents_digest(rt, paths)?;
+    let digest = programs_digest::<Sha256State, R>(rt, Part::Contents, paths)?;
     // A program that is replaced while it is read has a digest that is not kept.
     if compiler_digest(rt, paths)?.as_str() == name.as_str() {
         let _ = store.keep_digest(rt, name.as_str(), digest.as_bytes());

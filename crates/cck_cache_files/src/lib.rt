@@ -15,6 +15,7 @@
 #![tactic(auto)]
 
 mod compiler;
+pub mod laws;
 mod listing;
 mod path_states;
 mod snapshot;

@@ -1,7 +1,12 @@
 //! The files of a store.
+ghost use Rattle.std.specs.Prelude.{All, IfOk, IfSome, codes};
+ghost use Rattle.cck_cache_files.specs.Paths.{directory_bytes, kind_name};
+ghost use Rattle.cck_cache_files.specs.Listing.{AddsFilesIn, IsFileBelow, IsFileIn, IsFileNamed, path_in};
+
 use crate::store_directory::{Kind, StoreDirectory};
 use crate::times::modified;
 use cck_path::Timestamp;
+use std::alloc::AllocError;
 use std::io::ErrorKind;
 use std::rt::Files;
 use std::{fs, io};
@@ -39,28 +44,45 @@ fn names_in<R: Files + AllocGlobal + Clone + Drop>(
     Ok(names)
 }
 
+// The regular file of this name in a directory. `None` where it can't be looked at. The name alone
+// says whether it was renamed: the directories above may have any names.
+fn file_in<R: Files + AllocGlobal>(
+    rt: &R,
+    directory: &str,
+    name: &str,
+) -> Result<Option<StoredFile>, AllocError>
+    ensures { IfOk result (λ found. IfSome found (IsFileNamed directory.now name.now)) }
+{
+    let path = format!(in rt.alloc(); "{directory}/{name}")?;
+    let Ok(metadata) = fs::symlink_metadata(rt, path.as_str()) else {
+        return Ok(None);
+    };
+    if !metadata.is_file() {
+        return Ok(None);
+    }
+    let Some(used) = modified(&metadata) else {
+        return Ok(None);
+    };
+    let is_new = name.contains(".new");
+    Ok(Some(StoredFile {
+        path,
+        size: metadata.len(),
+        used,
+        is_new,
+    }))
+}
+
 // Adds the regular files in a directory. A file that another process removed meanwhile is left out.
-// The name alone says whether a file was renamed: the directories above may have any names.
 fn add_files<R: Files + AllocGlobal + Clone + Drop>(
     rt: &R,
     files: &mut Vec<StoredFile>,
     directory: &str,
-) -> io::Result<()> {
+) -> io::Result<()>
+    ensures { AddsFilesIn directory.now files.old.items files.new.items }
+{
     for name in names_in(rt, directory)? {
-        let path = format!(in rt.alloc(); "{directory}/{name}")?;
-        let Ok(metadata) = fs::symlink_metadata(rt, path.as_str()) else {
-            continue;
-        };
-        if let Some(used) = modified(&metadata)
-            && metadata.is_file()
-        {
-            let is_new = name.as_str().contains(".new");
-            files.push(StoredFile {
-                path,
-                size: metadata.len(),
-                used,
-                is_new,
-            })?;
+        if let Some(file) = file_in(rt, directory, name.as_str())? {
+            files.push(file)?;
         }
     }
     Ok(())
@@ -71,7 +93,10 @@ pub fn list_files<R: Files + AllocGlobal + Clone + Drop>(
     rt: &R,
     store: &StoreDirectory,
     kind: Kind,
-) -> io::Result<Vec<StoredFile>> {
+) -> io::Result<Vec<StoredFile>>
+    ensures { IfOk result (λ files.
+        All (IsFileBelow (path_in (directory_bytes store.now) (kind_name kind))) files.items) }
+{
     let alloc = rt.alloc();
     let (directory, kind) = (store.directory(), kind.as_str());
     let directory = format!(in alloc; "{directory}/{kind}")?;
@@ -87,7 +112,10 @@ pub fn list_files<R: Files + AllocGlobal + Clone + Drop>(
 pub fn list_counts<R: Files + AllocGlobal + Clone + Drop>(
     rt: &R,
     store: &StoreDirectory,
-) -> io::Result<Vec<StoredFile>> {
+) -> io::Result<Vec<StoredFile>>
+    ensures { IfOk result (λ files.
+        All (IsFileIn (path_in (directory_bytes store.now) (codes "counts"))) files.items) }
+{
     let directory = store.directory();
     let directory = format!(in rt.alloc(); "{directory}/counts")?;
     let mut files = Vec::new(rt.alloc());

@@ -1,7 +1,8 @@
 //! What there is on the way to a path.
-ghost use Rattle.std.specs.Prelude.{◌≡◌};
+ghost use Rattle.std.specs.Prelude.{◌≡◌, ℕ, List, None, length, IfOk, IsTrue, IsUtf8, MatchBool, OnErr};
+ghost use Rattle.cck_cache_files.specs.PathStates.{AreOnTheWay, HasOther, IsFirstOther, IsStateOf, IsUnchanged, Keeps, LeadsOn, state_at};
 
-use crate::times::changed_before;
+use crate::times::{changed, changed_before, modified};
 use cck_path::Timestamp;
 use std::alloc::AllocError;
 use std::collections::BTreeMap;
@@ -24,6 +25,18 @@ pub enum PathState {
     Doubtful,
 }
 
+impl PathState {
+    // Whether a path may lead on: a directory, or a link, which may lead to one.
+    fn leads_on(self) -> bool
+        ensures { MatchBool result (LeadsOn self) (¬ (LeadsOn self)) }
+    {
+        match self {
+            PathState::Directory | PathState::Link => true,
+            PathState::Absent | PathState::File | PathState::Doubtful => false,
+        }
+    }
+}
+
 /// The states of the paths that were asked for, and of those on the way to them.
 #[derive(Drop)]
 pub struct PathStates {
@@ -32,7 +45,9 @@ pub struct PathStates {
 }
 
 // The state of a path. A link at the path itself is not followed.
-fn look_at<R: Files>(rt: &R, path: &[u8], since: Timestamp) -> PathState {
+fn look_at<R: Files>(rt: &R, path: &[u8], since: Timestamp) -> PathState
+    ensures { ¬ (IsUtf8 path.now) → result ≡ PathState.Doubtful }
+{
     let Ok(path) = std::str::from_utf8(path) else {
         return PathState::Doubtful;
     };
@@ -41,7 +56,9 @@ fn look_at<R: Files>(rt: &R, path: &[u8], since: Timestamp) -> PathState {
         Err(error) if error.kind() == ErrorKind::NotADirectory => PathState::Absent,
         Err(_) => PathState::Doubtful,
         Ok(found) if found.is_dir() => PathState::Directory,
-        Ok(found) if !changed_before(&found, since) => PathState::Doubtful,
+        Ok(found) if !changed_before(modified(&found), changed(&found), since) => {
+            PathState::Doubtful
+        }
         Ok(found) if found.is_symlink() => PathState::Link,
         Ok(found) if found.is_file() => PathState::File,
         Ok(_) => PathState::Doubtful,
@@ -49,14 +66,17 @@ fn look_at<R: Files>(rt: &R, path: &[u8], since: Timestamp) -> PathState {
 }
 
 /// Whether there is nothing at a path. Where that can't be known it is not said.
-pub fn is_absent<R: Files>(rt: &R, path: &[u8]) -> bool {
+pub fn is_absent<R: Files>(rt: &R, path: &[u8]) -> bool
+    ensures { IsTrue result → IsUtf8 path.now }
+{
     look_at(rt, path, Timestamp::new(0, 0)) == PathState::Absent
 }
 
 impl PathStates {
     /// No states. Files and links must have changed before this time.
     pub fn new<R: AllocGlobal>(rt: &R, since: Timestamp) -> PathStates
-        ensures { result.since ≡ since }
+        ensures since { result.since ≡ since }
+        ensures none { (path : List ℕ) → state_at result path ≡ None }
     {
         PathStates {
             since,
@@ -64,12 +84,17 @@ impl PathStates {
         }
     }
 
-    /// The state of a path, looked at once.
+    /// The state of a path, looked at once: a state that is kept is returned, and another is kept.
+    ///
+    /// The only error is lack of memory.
     pub fn state_of<R: Files + AllocGlobal>(
         &mut self,
         rt: &R,
         path: &[u8],
-    ) -> Result<PathState, AllocError> {
+    ) -> Result<PathState, AllocError>
+        ensures state { IfOk result (IsStateOf self.old self.new path.now) }
+        ensures errors { OnErr result (IsUnchanged self.old self.new) }
+    {
         if let Some(state) = self.states.get(path) {
             return Ok(*state);
         }
@@ -79,17 +104,22 @@ impl PathStates {
     }
 
     /// The first path on the way to an absolute path, the path itself included, at which there is
-    /// no directory, and its state; the whole path where there are directories alone.
+    /// neither a directory nor a link, and its state; the whole path where there is none.
+    ///
+    /// The only error is lack of memory.
     pub fn first_other<'a, R: Files + AllocGlobal>(
         &mut self,
         rt: &R,
         path: &'a [u8],
-    ) -> Result<(&'a [u8], PathState), AllocError> {
+    ) -> Result<(&'a [u8], PathState), AllocError>
+        ensures first { IfOk result (λ other. IsFirstOther self.new path.now other.0.now other.1) }
+        ensures kept { Keeps self.old self.new }
+    {
         for (place, byte) in path.iter().enumerate() {
-            if *byte == b'/' && place > 0 && place <= path.len() {
+            if *byte == b'/' && place > 0 {
                 let front = &path[..place];
                 let state = self.state_of(rt, front)?;
-                if state != PathState::Directory && state != PathState::Link {
+                if !state.leads_on() {
                     return Ok((front, state));
                 }
             }
@@ -98,13 +128,19 @@ impl PathStates {
     }
 
     /// Whether a link is on the way to an absolute path, or something in doubt.
+    ///
+    /// The only error is lack of memory.
     pub fn has_link<R: Files + AllocGlobal>(
         &mut self,
         rt: &R,
         path: &[u8],
-    ) -> Result<bool, AllocError> {
+    ) -> Result<bool, AllocError>
+        ensures link { IfOk result (λ found. MatchBool found (HasOther self.new path.now)
+            (AreOnTheWay (λ state. state ≡ PathState.Directory) self.new path.now (length path.now))) }
+        ensures kept { Keeps self.old self.new }
+    {
         for (place, byte) in path.iter().enumerate() {
-            if *byte == b'/' && place > 0 && place <= path.len() {
+            if *byte == b'/' && place > 0 {
                 let state = self.state_of(rt, &path[..place])?;
                 if state != PathState::Directory {
                     return Ok(true);

@@ -1,9 +1,10 @@
 //! The directory of a store.
-ghost use Rattle.std.specs.Prelude.{◌≡◌};
-ghost use Rattle.cck_cache_files.specs.Paths.{directory_bytes, kind_name};
+ghost use Rattle.std.specs.Prelude.{◌≡◌, ◌<ℤ◌, pos, IfOk, IsErr, string_bytes};
+ghost use Rattle.cck_cache_files.specs.Paths.{IsStoreIn, digest_path, directory_bytes, first_digits, key_directory, key_path, kind_name};
 
 use crate::times::{modified, system_time};
 use cck_path::Timestamp;
+use std::alloc::AllocError;
 use std::fs::{FileTimes, OpenFile, OpenOptions};
 use std::io::{ErrorKind, Write};
 use std::rt::Files;
@@ -58,7 +59,9 @@ pub fn open_store<R: Files + AllocGlobal>(
     rt: &R,
     directory: &str,
     id: u32,
-) -> io::Result<StoreDirectory> {
+) -> io::Result<StoreDirectory>
+    ensures { IfOk result (λ store. IsStoreIn store directory.now id) }
+{
     let alloc = rt.alloc();
     let store = StoreDirectory {
         directory: String::from_str(alloc, directory)?,
@@ -76,6 +79,13 @@ pub fn open_store<R: Files + AllocGlobal>(
     }
 }
 
+// The first two digits of a key, or two zeros where a character would be cut after them.
+fn first_digits(key: &str) -> &str
+    ensures { result.now ≡ first_digits key.now }
+{
+    key.get(..2).unwrap_or("00")
+}
+
 impl StoreDirectory {
     /// The path of the store.
     pub fn directory(&self) -> &str
@@ -85,15 +95,33 @@ impl StoreDirectory {
     }
 
     // The directory of the file of a key.
-    fn directory_of<R: AllocGlobal>(&self, rt: &R, kind: Kind, key: &str) -> io::Result<String> {
+    fn directory_of<R: AllocGlobal>(
+        &self,
+        rt: &R,
+        kind: Kind,
+        key: &str,
+    ) -> Result<String, AllocError>
+        ensures { IfOk result (λ path. string_bytes path
+            ≡ key_directory (directory_bytes self.now) kind key.now) }
+    {
         let directory = self.directory.as_str();
         let kind = kind.as_str();
-        let digits = key.get(..2).unwrap_or("00");
+        let digits = first_digits(key);
         Ok(format!(in rt.alloc(); "{directory}/{kind}/{digits}")?)
     }
 
     /// The path of the file of a key.
-    pub fn path_of<R: AllocGlobal>(&self, rt: &R, kind: Kind, key: &str) -> io::Result<String> {
+    ///
+    /// The only error is lack of memory.
+    pub fn path_of<R: AllocGlobal>(
+        &self,
+        rt: &R,
+        kind: Kind,
+        key: &str,
+    ) -> Result<String, AllocError>
+        ensures { IfOk result (λ path. string_bytes path
+            ≡ key_path (directory_bytes self.now) kind key.now) }
+    {
         let directory = self.directory_of(rt, kind, key)?;
         Ok(format!(in rt.alloc(); "{directory}/{key}")?)
     }
@@ -151,7 +179,12 @@ impl StoreDirectory {
     }
 
     /// The path of the file that keeps the digest of a compiler of this name.
-    pub fn digest_path<R: AllocGlobal>(&self, rt: &R, name: &str) -> io::Result<String> {
+    ///
+    /// The only error is lack of memory.
+    pub fn digest_path<R: AllocGlobal>(&self, rt: &R, name: &str) -> Result<String, AllocError>
+        ensures { IfOk result (λ path. string_bytes path
+            ≡ digest_path (directory_bytes self.now) name.now) }
+    {
         let directory = self.directory.as_str();
         Ok(format!(in rt.alloc(); "{directory}/digests/{name}")?)
     }
@@ -184,14 +217,16 @@ impl StoreDirectory {
         }
     }
 
-    /// Sets the time at which the file of a key was used.
+    /// Sets the time at which the file of a key was used. A time before 1970 is an error.
     pub fn touch<R: Files + AllocGlobal>(
         &self,
         rt: &R,
         kind: Kind,
         key: &str,
         now: Timestamp,
-    ) -> io::Result<()> {
+    ) -> io::Result<()>
+        ensures { now.seconds <ℤ pos 0 → IsErr result }
+    {
         let path = self.path_of(rt, kind, key)?;
         let mut options = OpenOptions::new();
         options.write(true);

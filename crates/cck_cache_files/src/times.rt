@@ -1,5 +1,6 @@
 //! The times of real files.
-ghost use Rattle.std.specs.Prelude.{◌≡◌, ◌<◌, MatchOption, pos, ℕ};
+ghost use Rattle.std.specs.Prelude.{◌≡◌, ◌<◌, ◌↔◌, IsTrue, MatchOption, pos, ℕ};
+ghost use Rattle.cck_cache_files.specs.Times.{IsBefore, IsSystemTime};
 
 use cck_path::Timestamp;
 use std::fs::Metadata;
@@ -29,16 +30,31 @@ pub fn changed(metadata: &Metadata) -> Option<Timestamp> {
     time_of(metadata.ctime(), metadata.ctime_nsec())
 }
 
-/// Whether a file last changed before this time.
-pub fn changed_before(metadata: &Metadata, since: Timestamp) -> bool {
-    match (modified(metadata), changed(metadata)) {
-        (Some(modified), Some(changed)) => modified < since && changed < since,
-        _ => false,
+// Whether a time is known, and before this one.
+fn is_before(time: Option<Timestamp>, since: Timestamp) -> bool
+    ensures { IsTrue result ↔ IsBefore time since }
+{
+    match time {
+        Some(time) => time < since,
+        None => false,
     }
 }
 
-/// A time as the system has it. `None` for a time before 1970 or out of range.
-pub fn system_time(time: Timestamp) -> Option<SystemTime> {
+/// Whether a file last changed before this time, by when its contents and its status last did.
+pub fn changed_before(
+    modified: Option<Timestamp>,
+    changed: Option<Timestamp>,
+    since: Timestamp,
+) -> bool
+    ensures { IsTrue result ↔ (IsBefore modified since × IsBefore changed since) }
+{
+    is_before(modified, since) && is_before(changed, since)
+}
+
+/// A time as the system has it. `None` for a time before 1970.
+pub fn system_time(time: Timestamp) -> Option<SystemTime>
+    ensures { IsSystemTime time result }
+{
     let seconds = u64::try_from(time.seconds()).ok()?;
     let since = Duration::from_secs(seconds).checked_add(Duration::from_nanos(u64::from(
         time.nanoseconds(),

@@ -1,0 +1,174 @@
+-- The states that are kept of paths.
+use Rattle.std.proofs.Common.{◌≡◌, ◌≢◌, ◌<◌, ◌≤◌, ◌+◌, ◌⊎◌, ℕ, List, length, take, get_or, slice_get, Bool, true, false, not, Option, Some, None, IsTrue, IsUtf8, refl, sym, ap, ◌∙◌, subst, inl, inr, ⊎_elim, arith, rules}
+use Rattle.std.proofs.lemmas.Bool.{cases_Bool}
+use Rattle.std.proofs.lemmas.List.{length-take-le, take_all}
+use Rattle.std.proofs.lemmas.Option.{get_or_from_slice_get, slice_get-get_or}
+use Rattle.std.proofs.lemmas.Str.{IsUtf8-from_is_utf8, is_utf8-from_IsUtf8}
+use Rattle.std.proofs.lemmas.Map.Text.{is_eq-slice_cmp}
+use Rattle.std.proofs.lemmas.Cmp.{eq_by_cmp_equiv, nat_list_cmp_total}
+use Rattle.std.proofs.lemmas.Slice.Eq.{bytes_eq-Decides}
+use Rattle.std.specs.BTreeMap.{BTreeMap, UpdatesBy, get_by, is_at}
+use Rattle.std.specs.Cmp.Lexicographic.{slice_cmp}
+use Rattle.std.specs.Global.{Vec}
+use Rattle.std.specs.Map.{KeepsOthers}
+use Rattle.std.specs.Ordering.{is_eq, nat_cmp}
+use Rattle.std.specs.Str.{bytes_eq, is_utf8}
+use Rattle.std.specs.declared.cmp.Ordering.{Ordering}
+use denote.Enum.Bare.{differs_false, sameb}
+use Rattle.cck_path.specs.Timestamp.{Moment}
+use Rattle.cck_cache_files.specs.PathStates.{AreOnTheWay, EndsAt, HasOther, IsFirstOther, IsStateOf, IsUnchanged, Keeps, LeadsOn, state_at}
+use Rattle.cck_cache_files.specs.declared.path_states.PathState.{PathState}
+use Rattle.cck_cache_files.specs.declared.path_states.PathState.TheVariants.{Absent, Directory, Doubtful, File, Link}
+use Rattle.cck_cache_files.specs.declared.path_states.PathStates.{PathStates}
+use Rattle.cck_cache_files.specs.contracts.path_states.PathState.{the_type}
+
+-- ---- one more state
+
+abbrev name_cmp : Vec ℕ → Vec ℕ → Ordering
+name_cmp a b = slice_cmp nat_cmp a.items b.items
+
+-- bytes that are not those of a path are at no key of the path
+apart : (path other key : List ℕ) → other ≢ path → is_eq (slice_cmp nat_cmp path key) ≡ true → is_eq (slice_cmp nat_cmp other key) ≡ false
+apart path other key ne e =
+    let same : path ≡ key = (bytes_eq-Decides path key).0 (sym (is_eq-slice_cmp path key) ∙ e) in
+    ⊎_elim
+    (λ y. absurd (ne ((bytes_eq-Decides other key).0 (sym (is_eq-slice_cmp other key) ∙ y) ∙ sym same)))
+    (λ n. n)
+    (cases_Bool (is_eq (slice_cmp nat_cmp other key)))
+
+-- other paths keep what they have
+others_kept : (path : List ℕ) (old new : BTreeMap (Vec ℕ) PathState) (w : Option PathState) → UpdatesBy name_cmp (λ k. slice_cmp nat_cmp path k.items) old new w
+    → (other : List ℕ) → other ≢ path → get_by (λ k. slice_cmp nat_cmp other k.items) new ≡ get_by (λ k. slice_cmp nat_cmp other k.items) old
+unfolding KeepsOthers
+others_kept path old new w h other ne =
+    h.3 (is_at (λ k. slice_cmp nat_cmp other k.items)) (λ x y. (eq_by_cmp_equiv nat_list_cmp_total).congr other x.items y.items) (λ k. apart path other k.items ne)
+
+-- a state was added
+pub state_added : (old : PathStates) (new : BTreeMap (Vec ℕ) PathState) (key : Vec ℕ) (path : List ℕ) (state : PathState) → key.items ≡ path → state_at old path ≡ None
+    → UpdatesBy name_cmp (λ k. slice_cmp nat_cmp key.items k.items) old.states new (Some state) → (¬ (IsUtf8 path) → state ≡ Doubtful)
+    → IsStateOf old (record { since = old.since; states = new }) path state
+state_added old new key path state e none updates text =
+    let P : List ℕ → Type 0 = λ p. UpdatesBy name_cmp (λ k. slice_cmp nat_cmp p k.items) old.states new (Some state) in
+    let at = subst P e updates in
+    record {
+      since = refl;
+      state_is = at.1;
+      kept = λ known h. let two : None ≡ Some known = sym none ∙ h in cc;
+      others = others_kept path old.states new (Some state) at;
+      no_text = λ _ h. text h;
+    }
+
+-- a path that is in doubt where it is no text is absent only where it is text
+pub absent_is_text : (path : List ℕ) (state : PathState) (r : Bool) → (¬ (IsUtf8 path) → state ≡ Doubtful) → r ≡ sameb the_type state Absent → IsTrue r → IsUtf8 path
+absent_is_text path state r doubt e h =
+    ⊎_elim
+    (λ y. IsUtf8-from_is_utf8 path y)
+    (λ n. let is : state ≡ Doubtful = doubt (λ u. let two : false ≡ true = sym n ∙ is_utf8-from_IsUtf8 path u in cc) in
+      let wrong : false ≡ true = ap (λ s. sameb the_type s Absent) (sym is) ∙ sym e ∙ h in cc)
+    (cases_Bool (is_utf8 path))
+
+-- ---- what is kept
+
+pub Keeps-refl : (states : PathStates) → Keeps states states
+Keeps-refl states = record { since = refl; states = λ _ _ h. h }
+
+pub Keeps-trans : (a b c : PathStates) → Keeps a b → Keeps b c → Keeps a c
+Keeps-trans a b c h k = record { since = k.since ∙ h.since; states = λ path state e. k.states path state (h.states path state e) }
+
+pub Keeps-unchanged : (old new : PathStates) → IsUnchanged old new → Keeps old new
+Keeps-unchanged old new h = record { since = h.since; states = λ path state e. h.states path ∙ e }
+
+pub Keeps-state : (old new : PathStates) (path : List ℕ) (state : PathState) → IsStateOf old new path state → Keeps old new
+Keeps-state old new path state h = record {
+  since = h.since;
+  states = λ other known e.
+    ⊎_elim
+    (λ y. let same : other ≡ path = (bytes_eq-Decides other path).0 y in
+      let P : List ℕ → Type 0 = λ p. state_at old p ≡ Some known in
+      let is : known ≡ state = h.kept known (subst P same e) in
+      ap (state_at new) same ∙ h.state_is ∙ ap Some (sym is))
+    (λ n. h.others other (λ same. let two : false ≡ true = sym n ∙ (bytes_eq-Decides other path).1 same in cc) ∙ e)
+    (cases_Bool (bytes_eq other path));
+}
+
+-- a state that was asked for after others
+pub kept_after : (first old new : PathStates) (path : List ℕ) (state : PathState) → Keeps first old → IsStateOf old new path state → Keeps first new
+kept_after first old new path state h is = Keeps-trans first old new h (Keeps-state old new path state is)
+
+-- ---- the way to a path
+
+-- no other state is that of a directory
+pub is_directory : (state : PathState) → not (sameb the_type state Directory) ≡ false → state ≡ Directory
+is_directory state e = differs_false the_type (search rules) state Directory e
+
+-- the states that were kept are kept, and the path before each slash up to this place has one of these
+pub record OnTheWay (P : PathState → Type 0) (first now : PathStates) (path : List ℕ) (count : ℕ) : Type 0 where
+  pub keeps : Keeps first now
+  pub way : AreOnTheWay P now path count
+
+kept_on_the_way : (P : PathState → Type 0) (old new : PathStates) (path : List ℕ) (count : ℕ) → Keeps old new → AreOnTheWay P old path count → AreOnTheWay P new path count
+kept_on_the_way P old new path count keeps way = λ place l ends. let at = way place l ends in (at.0, keeps.states (take place path) at.0 at.1, at.2)
+
+one_more : (Q : ℕ → Type 0) (count : ℕ) → ((place : ℕ) → place < count → Q place) → Q count → (place : ℕ) → place < count + 1 → Q place
+one_more Q count before at place l =
+    ⊎_elim
+    (λ less. before place less)
+    (λ same. subst Q (sym same) at)
+    (let choice : (place < count) ⊎ (place ≡ count) = grind arith in choice)
+
+pub way_begins : (P : PathState → Type 0) (states : PathStates) (path : List ℕ) → OnTheWay P states states path 0
+way_begins P states path = record { keeps = Keeps-refl states; way = λ place l ends. absurd (omega arith) }
+
+-- the path before a slash has one of the states
+pub way_goes_on : (P : PathState → Type 0) (first old new : PathStates) (path : List ℕ) (place : ℕ) (state : PathState) → OnTheWay P first old path place
+    → IsStateOf old new (take place path) state → P state → OnTheWay P first new path (place + 1)
+way_goes_on P first old new path place state h is p =
+    let keeps = Keeps-state old new (take place path) state is in
+    record {
+      keeps = Keeps-trans first old new h.keeps keeps;
+      way = one_more (λ at. EndsAt path at → (s : PathState) × (state_at new (take at path) ≡ Some s) × P s) place (kept_on_the_way P old new path place keeps h.way) (λ _. (state, is.state_is, p));
+    }
+
+-- there is no slash
+pub way_passes : (P : PathState → Type 0) (first states : PathStates) (path : List ℕ) (place : ℕ) → OnTheWay P first states path place → ¬ (EndsAt path place)
+    → OnTheWay P first states path (place + 1)
+way_passes P first states path place h none = record {
+  keeps = h.keeps;
+  way = one_more (λ at. EndsAt path at → (s : PathState) × (state_at states (take at path) ≡ Some s) × P s) place h.way (λ ends. absurd (none ends));
+}
+
+pub no_slash : (path : List ℕ) (place : ℕ) → get_or path place 0 ≢ 47 → ¬ (EndsAt path place)
+no_slash path place ne ends = ne (get_or_from_slice_get path place 47 0 ends.slash)
+
+pub at_the_root : (path : List ℕ) (place : ℕ) → place ≤ 0 → ¬ (EndsAt path place)
+at_the_root path place l ends = let inside : 0 < place = ends.inside in omega arith
+
+pub slash_at : (path : List ℕ) (place : ℕ) → place < length path → 0 < place → get_or path place 0 ≡ 47 → EndsAt path place
+slash_at path place l inside e = record { inside = inside; slash = slice_get-get_or path place 0 l ∙ ap Some e }
+
+-- a path before a slash that does not lead on
+pub first_is_front : (first old new : PathStates) (path : List ℕ) (place : ℕ) (state : PathState) → place < length path → EndsAt path place → OnTheWay LeadsOn first old path place
+    → IsStateOf old new (take place path) state → ¬ (LeadsOn state) → IsFirstOther new path (take place path) state
+first_is_front first old new path place state l ends h is other =
+    let size : length (take place path) ≡ place = length-take-le place path (omega arith) in
+    let P : ℕ → Type 0 = λ n. AreOnTheWay LeadsOn new path n in
+    let Q : ℕ → Type 0 = λ n. EndsAt path n in
+    record {
+      front_is = ap (λ n. take n path) (sym size);
+      state_is = is.state_is;
+      before = subst P (sym size) (kept_on_the_way LeadsOn old new path place (Keeps-state old new (take place path) state is) h.way);
+      ends = inr (subst Q (sym size) ends, other);
+    }
+
+-- the whole path
+pub whole_is_front : (first old new : PathStates) (path : List ℕ) (place : ℕ) (state : PathState) → length path ≤ place → OnTheWay LeadsOn first old path place
+    → IsStateOf old new path state → IsFirstOther new path path state
+whole_is_front first old new path place state l h is = record {
+  front_is = sym (take_all (length path) path (omega arith));
+  state_is = is.state_is;
+  before = λ at less ends. kept_on_the_way LeadsOn old new path place (Keeps-state old new path state is) h.way at (omega arith) ends;
+  ends = inl refl;
+}
+
+pub way_ends : (P : PathState → Type 0) (first states : PathStates) (path : List ℕ) (place : ℕ) → length path ≤ place → OnTheWay P first states path place → AreOnTheWay P states path (length path)
+way_ends P first states path place l h = λ at less ends. h.way at (omega arith) ends

@@ -1,0 +1,25 @@
+-- the files of a store
+use Rattle.std.specs.Prelude.{◌≡◌, ℕ, List, All, ◌++◌, Bool, ◌↔◌, codes, IsTrue, string_bytes}
+use Rattle.std.specs.Str.Iter.{HasSubslice}
+use Rattle.cck_cache_files.specs.declared.listing.StoredFile.{StoredFile}
+
+-- the path of what has this name in a directory
+abbrev pub path_in : List ℕ → List ℕ → List ℕ
+path_in directory name = directory ++ codes "/" ++ name
+
+-- a file of this name in a directory, which is new exactly if its name says so
+pub record IsFileNamed (directory name : List ℕ) (file : StoredFile) : Type 0 where
+  pub path_is : string_bytes file.path ≡ path_in directory name
+  pub is_new : IsTrue file.is_new ↔ HasSubslice name (codes ".new")
+
+-- a file in a directory
+abbrev pub IsFileIn : List ℕ → StoredFile → Type 0
+IsFileIn directory file = (name : List ℕ) × IsFileNamed directory name file
+
+-- a file in a directory of this one
+abbrev pub IsFileBelow : List ℕ → StoredFile → Type 0
+IsFileBelow directory file = (name : List ℕ) × IsFileIn (path_in directory name) file
+
+-- files of a directory were added after those that were there
+abbrev pub AddsFilesIn : List ℕ → List StoredFile → List StoredFile → Type 0
+AddsFilesIn directory old new = (added : List StoredFile) × (new ≡ old ++ added) × All (IsFileIn directory) added

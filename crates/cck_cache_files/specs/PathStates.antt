@@ -1,0 +1,55 @@
+-- what is known of paths, and of the way to them
+use Rattle.std.specs.Prelude.{◌≡◌, ◌≢◌, ℕ, ◌<◌, ◌≤◌, ◌⊎◌, List, Option, Some, None, length, take, slice_get, IsUtf8}
+use Rattle.std.specs.Ordering.{nat_cmp}
+use Rattle.std.specs.BTreeMap.{get_by}
+use Rattle.std.specs.Cmp.Lexicographic.{slice_cmp}
+use Rattle.cck_cache_files.specs.declared.path_states.PathState.{PathState}
+use Rattle.cck_cache_files.specs.declared.path_states.PathState.TheVariants.{Directory, Doubtful, Link}
+use Rattle.cck_cache_files.specs.declared.path_states.PathStates.{PathStates}
+
+-- the state that is kept of a path
+abbrev pub state_at : PathStates → List ℕ → Option PathState
+state_at states path = get_by (λ known. slice_cmp nat_cmp path known.items) states.states
+
+-- the same states are kept
+pub record IsUnchanged (old new : PathStates) : Type 0 where
+  pub since : new.since ≡ old.since
+  pub states : (path : List ℕ) → state_at new path ≡ state_at old path
+
+-- all states that were kept are kept, and others may have been added
+pub record Keeps (old new : PathStates) : Type 0 where
+  pub since : new.since ≡ old.since
+  pub states : (path : List ℕ) (state : PathState) → state_at old path ≡ Some state → state_at new path ≡ Some state
+
+-- a path has this state: the one that was kept of it, or else one that is added for it alone, which is in doubt if the path is no text
+pub record IsStateOf (old new : PathStates) (path : List ℕ) (state : PathState) : Type 0 where
+  pub since : new.since ≡ old.since
+  pub state_is : state_at new path ≡ Some state
+  pub kept : (known : PathState) → state_at old path ≡ Some known → known ≡ state
+  pub others : (other : List ℕ) → other ≢ path → state_at new other ≡ state_at old other
+  pub no_text : state_at old path ≡ None → ¬ (IsUtf8 path) → state ≡ Doubtful
+
+-- a slash ends a directory's path, which is not empty, at this place
+pub record EndsAt (path : List ℕ) (place : ℕ) : Type 0 where
+  pub inside : 0 < place
+  pub slash : slice_get path place ≡ Some 47
+
+-- the path before each slash up to this place has one of these states
+abbrev pub AreOnTheWay : (PathState → Type 0) → PathStates → List ℕ → ℕ → Type 0
+AreOnTheWay P states path count =
+    (place : ℕ) → place < count → EndsAt path place → (state : PathState) × (state_at states (take place path) ≡ Some state) × P state
+
+-- a directory, or a link, which may lead to one
+abbrev pub LeadsOn : PathState → Type 0
+LeadsOn state = (state ≡ Directory) ⊎ (state ≡ Link)
+
+-- the first path on the way to a path that does not lead on, or the whole path, and its state
+pub record IsFirstOther (states : PathStates) (path front : List ℕ) (state : PathState) : Type 0 where
+  pub front_is : front ≡ take (length front) path
+  pub state_is : state_at states front ≡ Some state
+  pub before : AreOnTheWay LeadsOn states path (length front)
+  pub ends : (front ≡ path) ⊎ (EndsAt path (length front) × ¬ (LeadsOn state))
+
+-- a path on the way to a path is no directory
+abbrev pub HasOther : PathStates → List ℕ → Type 0
+HasOther states path = (place : ℕ) × EndsAt path place × (state : PathState) × (state_at states (take place path) ≡ Some state) × (state ≢ Directory)
