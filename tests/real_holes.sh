@@ -282,6 +282,12 @@ settle
 check 'a path through a link and ..' 'refused-named-file *' same -c m.c
 echo 'int m = 2;' >other/m.h
 check 'the file behind it changed' 'refused-named-file *' same -c m.c
+echo 'int o = 1;' >other/n.h
+echo 'int n = 1;' >n.h
+echo '#include "n.h"' >n.c
+echo '#include "l/../n.h"' >>n.c
+settle
+check 'the same path after the file that it seems to be' 'refused-named-file *' same -c n.c
 echo 'char *d = __DATE__;' >d.c
 settle
 check '__DATE__' 'miss *' same -c d.c
