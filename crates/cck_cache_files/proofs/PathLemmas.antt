@@ -1,5 +1,5 @@
 -- The paths of a store.
-use Rattle.std.proofs.Common.{◌≡◌, ◌≢◌, ◌≤◌, ◌<◌, ◌+◌, ℕ, List, [], ◌∷◌, ◌++◌, length, take, slice_index, Bool, true, false, cond, ◌&&◌, ◌||◌, nat_eq, nat_lt, nat_le, Option, None, Some, unwrap_or, codes, IsUtf8, refl, sym, ap, ◌∙◌, ⊎_elim, subst, arith, append_assoc, length-append}
+use Rattle.std.proofs.Common.{◌≡◌, ◌≢◌, ◌≤◌, ◌<◌, ◌+◌, ℕ, List, ◌++◌, length, take, slice_index, true, ◌&&◌, ◌||◌, nat_eq, nat_lt, nat_le, Option, None, Some, unwrap_or, codes, IsUtf8, refl, sym, ap, ◌∙◌, ⊎_elim, subst, arith, append_assoc, length-append}
 use mathlib.Core.Bool.{false≢true}
 use Rattle.std.proofs.lemmas.Bool.{cases_Bool, cond-true, cond-false}
 use Rattle.std.proofs.lemmas.Bool.Decides.{nat_tests}

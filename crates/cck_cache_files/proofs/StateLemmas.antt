@@ -1,8 +1,7 @@
 -- The states that are kept of paths.
-use Rattle.std.proofs.Common.{◌≡◌, ◌≢◌, ◌<◌, ◌≤◌, ◌+◌, ◌⊎◌, ℕ, List, length, take, get_or, slice_get, Bool, true, false, not, Option, Some, None, IsTrue, IsUtf8, refl, sym, ap, ◌∙◌, subst, inl, inr, ⊎_elim, arith, rules}
+use Rattle.std.proofs.Common.{◌≡◌, ◌≢◌, ◌<◌, ◌≤◌, ◌+◌, ◌⊎◌, ℕ, List, take, get_or, Bool, true, false, not, Option, Some, None, IsTrue, IsUtf8, refl, sym, ap, ◌∙◌, subst, ⊎_elim, arith, rules}
 use Rattle.std.proofs.lemmas.Bool.{cases_Bool}
-use Rattle.std.proofs.lemmas.List.{length-take-le, take_all}
-use Rattle.std.proofs.lemmas.Option.{get_or_from_slice_get, slice_get-get_or}
+use Rattle.std.proofs.lemmas.Option.{get_or_from_slice_get}
 use Rattle.std.proofs.lemmas.Str.{IsUtf8-from_is_utf8, is_utf8-from_IsUtf8}
 use Rattle.std.proofs.lemmas.Map.Text.{is_eq-slice_cmp}
 use Rattle.std.proofs.lemmas.Cmp.{eq_by_cmp_equiv, nat_list_cmp_total}
@@ -15,10 +14,9 @@ use Rattle.std.specs.Ordering.{is_eq, nat_cmp}
 use Rattle.std.specs.Str.{bytes_eq, is_utf8}
 use Rattle.std.specs.declared.cmp.Ordering.{Ordering}
 use denote.Enum.Bare.{differs_false, sameb}
-use Rattle.cck_path.specs.Timestamp.{Moment}
-use Rattle.cck_cache_files.specs.PathStates.{AreOnTheWay, EndsAt, HasOther, IsFirstOther, IsStateOf, IsUnchanged, Keeps, LeadsOn, state_at}
+use Rattle.cck_cache_files.specs.PathStates.{AreOnTheWay, EndsAt, IsStateOf, Keeps, state_at}
 use Rattle.cck_cache_files.specs.declared.path_states.PathState.{PathState}
-use Rattle.cck_cache_files.specs.declared.path_states.PathState.TheVariants.{Absent, Directory, Doubtful, File, Link}
+use Rattle.cck_cache_files.specs.declared.path_states.PathState.TheVariants.{Absent, Directory, Doubtful}
 use Rattle.cck_cache_files.specs.declared.path_states.PathStates.{PathStates}
 use Rattle.cck_cache_files.specs.contracts.path_states.PathState.{the_type}
 

@@ -36,6 +36,7 @@ status_line path s = concatenation (
     path ∷ codes " " ∷ place_text s.device s.inode s.size ∷ codes " " ∷ time_text s.seconds s.nanoseconds
     ∷ codes " " ∷ time_text s.changed s.changed_nanoseconds ∷ (10 ∷ []) ∷ [])
 
+-- the same, with some numbers
 abbrev pub IsStatusLine : List ℕ → List ℕ → Type 0
 IsStatusLine path line = (status : FileStatus) × (line ≡ status_line path status)
 
@@ -43,6 +44,7 @@ IsStatusLine path line = (status : FileStatus) × (line ≡ status_line path sta
 abbrev pub contents_line : (List ℕ → List ℕ) → List ℕ → List ℕ → List ℕ
 contents_line hash path contents = concatenation (path ∷ codes " " ∷ digest_text hash contents ∷ (10 ∷ []) ∷ [])
 
+-- the same, with some contents
 abbrev pub IsContentsLine : (List ℕ → List ℕ) → List ℕ → List ℕ → Type 0
 IsContentsLine hash path line = (contents : List ℕ) × (line ≡ contents_line hash path contents)
 
@@ -54,4 +56,5 @@ IsProgramLine hash Contents path line = IsContentsLine hash path line
 -- the digest of a line for each of the programs, whose paths are separated by colons
 abbrev pub IsProgramsDigest : (List ℕ → List ℕ) → Part → List ℕ → List ℕ → Type 0
 IsProgramsDigest hash part paths text =
-    (lines : List (List ℕ)) × AllZip (IsProgramLine hash part) (slice_split (λ c. c == 58) paths) lines × (text ≡ digest_text hash (concatenation lines))
+    (lines : List (List ℕ)) × AllZip (IsProgramLine hash part) (slice_split (λ c. c == 58) paths) lines
+    × (text ≡ digest_text hash (concatenation lines))

@@ -1,5 +1,5 @@
 -- the files of a store
-use Rattle.std.specs.Prelude.{◌≡◌, ℕ, List, All, ◌++◌, Bool, ◌↔◌, codes, IsTrue, String, string_bytes}
+use Rattle.std.specs.Prelude.{◌≡◌, ℕ, List, All, ◌++◌, ◌↔◌, codes, IsTrue, String, string_bytes}
 use Rattle.std.specs.Path.{has_no_slash}
 use Rattle.std.specs.Str.Iter.{HasSubslice}
 use Rattle.std.specs.declared.alloc.Global.{Global}

@@ -1,5 +1,5 @@
 -- what is known of paths, and of the way to them
-use Rattle.std.specs.Prelude.{◌≡◌, ◌≢◌, ℕ, ◌<◌, ◌≤◌, ◌⊎◌, Bool, true, false, List, Option, Some, None, length, take, slice_get, IsUtf8}
+use Rattle.std.specs.Prelude.{◌≡◌, ◌≢◌, ℕ, ◌<◌, ◌⊎◌, Bool, true, false, List, Option, Some, None, length, take, slice_get, IsUtf8}
 use Rattle.std.specs.Fs.{IsDir, IsFile, IsSymlink}
 use Rattle.std.specs.Ordering.{nat_cmp}
 use Rattle.std.specs.declared.fs.attrs.FileType.{FileType}
@@ -9,8 +9,8 @@ use Rattle.cck_cache_files.specs.declared.path_states.PathState.{PathState}
 use Rattle.cck_cache_files.specs.declared.path_states.PathState.TheVariants.{Directory, Doubtful, File, Link}
 use Rattle.cck_cache_files.specs.declared.path_states.PathStates.{PathStates}
 
--- A file of this type has this state: a directory whenever it changed, a link or a regular file if it last changed before the given time. All
--- else is in doubt.
+-- A file of this type has this state: a directory whenever it changed, a link or a regular file if it last changed
+-- before the given time. All else is in doubt.
 pub record IsStateFound (type : FileType) (is_old : Bool) (state : PathState) : Type 0 where
   pub directory : IsDir type → state ≡ Directory
   pub link : IsSymlink type → is_old ≡ true → state ≡ Link
@@ -32,7 +32,8 @@ pub record Keeps (old new : PathStates) : Type 0 where
   pub since : new.since ≡ old.since
   pub states : (path : List ℕ) (state : PathState) → state_at old path ≡ Some state → state_at new path ≡ Some state
 
--- a path has this state: the one that was kept of it, or else one that is added for it alone, which is in doubt if the path is no text
+-- A path has this state: the one that was kept of it, or else one that is added for it alone. The latter is in doubt
+-- if the path is no text.
 pub record IsStateOf (old new : PathStates) (path : List ℕ) (state : PathState) : Type 0 where
   pub since : new.since ≡ old.since
   pub state_is : state_at new path ≡ Some state

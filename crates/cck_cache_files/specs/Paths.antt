@@ -41,7 +41,8 @@ digest_path directory name = directory ++ codes "/digests/" ++ name
 
 -- in one store the files of two keys have one path only if kind and key are the same
 abbrev pub KeyPathsDiffer : Type 0
-KeyPathsDiffer = (directory : List ℕ) (a b : Kind) (k l : List ℕ) → key_path directory a k ≡ key_path directory b l → (a ≡ b) × (k ≡ l)
+KeyPathsDiffer =
+    (directory : List ℕ) (a b : Kind) (k l : List ℕ) → key_path directory a k ≡ key_path directory b l → (a ≡ b) × (k ≡ l)
 
 -- the files that keep two digests have one path only if they have one name, and none has the path of the file of a key
 abbrev pub DigestPathsDiffer : Type 0

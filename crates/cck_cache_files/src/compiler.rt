@@ -24,7 +24,8 @@ enum Part {
 
 // The hex digest of all that was fed. A digest fails for memory alone.
 fn text_of<H: HashState>(alloc: Global, digest: Digest<H>) -> Result<String, AllocError>
-    ensures { IfOk result (λ text. (fed : List ℕ) → H.holds digest fed → string_bytes text ≡ digest_text H.hash fed) }
+    ensures { IfOk result (λ text. (fed : List ℕ) → H.holds digest fed
+        → string_bytes text ≡ digest_text H.hash fed) }
 {
     match digest.finish(alloc) {
         Ok(text) => Ok(text),

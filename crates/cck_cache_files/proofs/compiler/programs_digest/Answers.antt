@@ -1,4 +1,4 @@
-use Rattle.std.proofs.Common.{◌≡◌, ◌∙◌, [], List, ℕ, ap, subst, lit<}
+use Rattle.std.proofs.Common.{◌∙◌, [], List, ℕ, ap, subst, lit<}
 use Rattle.std.specs.List.{AllZip}
 use Rattle.std.specs.Str.Iter.{split_has_more, split_pattern, split_text}
 use Rattle.std.proofs.lemmas.Iterator.Consumers.{YieldsList-end}

@@ -1,4 +1,4 @@
-use Rattle.std.proofs.Common.{◌≡◌, ◌∷◌, ◌++◌, ◌∙◌, [], List, ℕ, ap, string_bytes, of_z, to_z, w64}
+use Rattle.std.proofs.Common.{◌∷◌, ◌++◌, ◌∙◌, [], List, ℕ, ap, string_bytes, of_z, to_z, w64}
 use Rattle.cck_cache_files.specs.Compiler.{place_text, time_text}
 use Rattle.cck_cache_files.proofs.compiler.status_line.Goals as goal
 
