@@ -1,5 +1,5 @@
 -- the paths that must stay absent for a recorded key
-use Rattle.std.specs.Prelude.{◌≡◌, ◌<◌, ◌≤◌, ◌⊎◌, List, length, Option, Some, None, true}
+use Rattle.std.specs.Prelude.{◌≡◌, ◌<◌, ◌≤◌, ◌⊎◌, List, length, Some, None, true}
 use Rattle.cck_cache_command.specs.declared.absence.Absence.{Absence}
 use Rattle.cck_cache_command.specs.declared.absence.Absence.TheVariants.{Paths, Refused}
 use Rattle.cck_cache_entry.specs.Absent.{AreAbsentNames}
