@@ -64,7 +64,7 @@ absent_is_text path state r doubt e h =
     ⊎_elim
     (λ y. IsUtf8-from_is_utf8 path y)
     (λ n. let is : state ≡ Doubtful = doubt (λ u. let two : false ≡ true = sym n ∙ is_utf8-from_IsUtf8 path u in cc) in
-    let wrong : false ≡ true = ap (λ s. sameb the_type s Absent) (sym is) ∙ sym e ∙ h in cc)
+      let wrong : false ≡ true = ap (λ s. sameb the_type s Absent) (sym is) ∙ sym e ∙ h in cc)
     (cases_Bool (is_utf8 path))
 
 -- ---- what is kept
@@ -82,13 +82,13 @@ pub Keeps-state : (old new : PathStates) (path : List ℕ) (state : PathState) �
 Keeps-state old new path state h = record {
   since = h.since;
   states = λ other known e.
-      ⊎_elim
-      (λ y. let same : other ≡ path = (bytes_eq-Decides other path).0 y in
+    ⊎_elim
+    (λ y. let same : other ≡ path = (bytes_eq-Decides other path).0 y in
       let P : List ℕ → Type 0 = λ p. state_at old p ≡ Some known in
       let is : known ≡ state = h.kept known (subst P same e) in
       ap (state_at new) same ∙ h.state_is ∙ ap Some (sym is))
-      (λ n. h.others other (λ same. let two : false ≡ true = sym n ∙ (bytes_eq-Decides other path).1 same in cc) ∙ e)
-      (cases_Bool (bytes_eq other path));
+    (λ n. h.others other (λ same. let two : false ≡ true = sym n ∙ (bytes_eq-Decides other path).1 same in cc) ∙ e)
+    (cases_Bool (bytes_eq other path));
 }
 
 -- a state that was asked for after others

@@ -15,7 +15,7 @@ pub returns : goal.returns
 returns g c =
     let store = directory_bytes c.args.store.now in
     let path : string_bytes c.in_ok-directory.directory ≡ path_in store (kind_name c.args.kind) =
-    c.in_ok-directory.ensures.ok ∙ ap (λ (d : List ℕ). d ++ (codes "/" ++ c.as_str-kind.result.now)) c.directory-directory.ensures
-    ∙ ap (λ (k : List ℕ). store ++ (codes "/" ++ k)) c.as_str-kind.ensures ∙ sym (append_assoc store (codes "/") (kind_name c.args.kind)) in
+        c.in_ok-directory.ensures.ok ∙ ap (λ (d : List ℕ). d ++ (codes "/" ++ c.as_str-kind.result.now)) c.directory-directory.ensures
+        ∙ ap (λ (k : List ℕ). store ++ (codes "/" ++ k)) c.as_str-kind.ensures ∙ sym (append_assoc store (codes "/") (kind_name c.args.kind)) in
     let P : List ℕ → Type 0 = λ directory. All (IsFileBelow directory) c.loop-name.files.items in
     subst P path c.loop-name.invariant
