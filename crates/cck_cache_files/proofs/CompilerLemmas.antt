@@ -16,8 +16,9 @@ pub one_more_line : {S : Type 0} (holds : S → List ℕ → Type 0) (IsLine : L
     → IsFedLines holds IsLine (map (λ p. p.now) (before ++ path ∷ [])) new
 one_more_line {S} holds IsLine old new before path line fed h is same feeds =
     let P : List (List ℕ) → Type 0 = λ paths. AllZip IsLine paths (h.0 ++ line ∷ []) in
-    let Q : List ℕ → Type 0 = λ text. holds new text in
-    (h.0 ++ line ∷ [],
-    subst P (sym (map-append (λ (p : Bor (List ℕ)). p.now) before (path ∷ []))) (AllZip-push IsLine (map (λ p. p.now) before) h.0 path.now line h.1 is),
-    subst Q (ap (λ text. concatenation h.0 ++ text) same ∙ ap (λ text. concatenation h.0 ++ text) (sym (append-nil line)) ∙ sym (flat_map-append (λ (piece : List ℕ). piece) h.0 (line ∷ [])))
-    (feeds (concatenation h.0) h.2))
+    let Q : List ℕ → Type 0 = λ text. holds new text in (
+      h.0 ++ line ∷ [],
+      subst P (sym (map-append (λ (p : Bor (List ℕ)). p.now) before (path ∷ []))) (AllZip-push IsLine (map (λ p. p.now) before) h.0 path.now line h.1 is),
+      subst Q (ap (λ text. concatenation h.0 ++ text) same ∙ ap (λ text. concatenation h.0 ++ text) (sym (append-nil line)) ∙ sym (flat_map-append (λ (piece : List ℕ). piece) h.0 (line ∷ [])))
+          (feeds (concatenation h.0) h.2),
+    )

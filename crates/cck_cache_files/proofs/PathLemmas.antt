@@ -76,9 +76,9 @@ key_of_path directory a b k l e =
     let front = bytes_read_back (key_directory directory a k ++ codes "/") (key_directory directory b l ++ codes "/") k l (length_directory directory a k ∙ sym (length_directory directory b l)) e in
     let split = λ (kind : Kind) (key : List ℕ). append_assoc ((directory ++ codes "/") ++ kind_name kind) (codes "/") (first_digits key) in
     let named = bytes_read_back ((directory ++ codes "/") ++ kind_name a) ((directory ++ codes "/") ++ kind_name b) ((codes "/" ++ first_digits k) ++ codes "/") ((codes "/" ++ first_digits l) ++ codes "/")
-        (length_name directory a ∙ sym (length_name directory b))
-        (sym (append_assoc ((directory ++ codes "/") ++ kind_name a) (codes "/" ++ first_digits k) (codes "/")) ∙ ap (λ s. s ++ codes "/") (sym (split a k))
-        ∙ front.0 ∙ ap (λ s. s ++ codes "/") (split b l) ∙ append_assoc ((directory ++ codes "/") ++ kind_name b) (codes "/" ++ first_digits l) (codes "/")) in
+    (length_name directory a ∙ sym (length_name directory b))
+    (sym (append_assoc ((directory ++ codes "/") ++ kind_name a) (codes "/" ++ first_digits k) (codes "/")) ∙ ap (λ s. s ++ codes "/") (sym (split a k))
+    ∙ front.0 ∙ ap (λ s. s ++ codes "/") (split b l) ∙ append_assoc ((directory ++ codes "/") ++ kind_name b) (codes "/" ++ first_digits l) (codes "/")) in
     (same_kind a b (append_cancel_left (directory ++ codes "/") (kind_name a) (kind_name b) named.0), front.1)
 
 -- what follows the directory of a store
@@ -93,7 +93,8 @@ other_name Entry name key e = false≢true (sym (ap (λ path. nat_eq (slice_inde
 other_name Object name key e = false≢true (sym (ap (λ path. nat_eq (slice_index path 1) 100) e))
 
 pub digest_of_path : (directory m n : List ℕ) → (digest_path directory m ≡ digest_path directory n → m ≡ n) × ((kind : Kind) → digest_path directory m ≢ key_path directory kind n)
-digest_of_path directory m n =
-    (λ e. append_cancel_left (directory ++ codes "/digests/") m n e,
-    λ kind e. other_name kind m n (append_cancel_left directory (codes "/digests/" ++ m) (below_directory kind n)
-    (sym (append_assoc directory (codes "/digests/") m) ∙ e ∙ key_path_is directory kind n)))
+digest_of_path directory m n = (
+  λ e. append_cancel_left (directory ++ codes "/digests/") m n e,
+  λ kind e. other_name kind m n (append_cancel_left directory (codes "/digests/" ++ m) (below_directory kind n)
+      (sym (append_assoc directory (codes "/digests/") m) ∙ e ∙ key_path_is directory kind n)),
+)

@@ -64,31 +64,25 @@ absent_is_text path state r doubt e h =
     ⊎_elim
     (λ y. IsUtf8-from_is_utf8 path y)
     (λ n. let is : state ≡ Doubtful = doubt (λ u. let two : false ≡ true = sym n ∙ is_utf8-from_IsUtf8 path u in cc) in
-      let wrong : false ≡ true = ap (λ s. sameb the_type s Absent) (sym is) ∙ sym e ∙ h in cc)
+    let wrong : false ≡ true = ap (λ s. sameb the_type s Absent) (sym is) ∙ sym e ∙ h in cc)
     (cases_Bool (is_utf8 path))
 
 -- ---- what is kept
 
-pub Keeps-refl : (states : PathStates) → Keeps states states
-Keeps-refl states = record { since = refl; states = λ _ _ h. h }
-
-pub Keeps-trans : (a b c : PathStates) → Keeps a b → Keeps b c → Keeps a c
+Keeps-trans : (a b c : PathStates) → Keeps a b → Keeps b c → Keeps a c
 Keeps-trans a b c h k = record { since = k.since ∙ h.since; states = λ path state e. k.states path state (h.states path state e) }
 
-pub Keeps-unchanged : (old new : PathStates) → IsUnchanged old new → Keeps old new
-Keeps-unchanged old new h = record { since = h.since; states = λ path state e. h.states path ∙ e }
-
-pub Keeps-state : (old new : PathStates) (path : List ℕ) (state : PathState) → IsStateOf old new path state → Keeps old new
+Keeps-state : (old new : PathStates) (path : List ℕ) (state : PathState) → IsStateOf old new path state → Keeps old new
 Keeps-state old new path state h = record {
   since = h.since;
   states = λ other known e.
-    ⊎_elim
-    (λ y. let same : other ≡ path = (bytes_eq-Decides other path).0 y in
+      ⊎_elim
+      (λ y. let same : other ≡ path = (bytes_eq-Decides other path).0 y in
       let P : List ℕ → Type 0 = λ p. state_at old p ≡ Some known in
       let is : known ≡ state = h.kept known (subst P same e) in
       ap (state_at new) same ∙ h.state_is ∙ ap Some (sym is))
-    (λ n. h.others other (λ same. let two : false ≡ true = sym n ∙ (bytes_eq-Decides other path).1 same in cc) ∙ e)
-    (cases_Bool (bytes_eq other path));
+      (λ n. h.others other (λ same. let two : false ≡ true = sym n ∙ (bytes_eq-Decides other path).1 same in cc) ∙ e)
+      (cases_Bool (bytes_eq other path));
 }
 
 -- a state that was asked for after others
@@ -116,9 +110,6 @@ one_more Q count before at place l =
     (λ same. subst Q (sym same) at)
     (let choice : (place < count) ⊎ (place ≡ count) = grind arith in choice)
 
-pub way_begins : (P : PathState → Type 0) (states : PathStates) (path : List ℕ) → OnTheWay P states states path 0
-way_begins P states path = record { keeps = Keeps-refl states; way = λ place l ends. absurd (omega arith) }
-
 -- the path before a slash has one of the states
 pub way_goes_on : (P : PathState → Type 0) (first old new : PathStates) (path : List ℕ) (place : ℕ) (state : PathState) → OnTheWay P first old path place
     → IsStateOf old new (take place path) state → P state → OnTheWay P first new path (place + 1)
@@ -142,33 +133,3 @@ no_slash path place ne ends = ne (get_or_from_slice_get path place 47 0 ends.sla
 
 pub at_the_root : (path : List ℕ) (place : ℕ) → place ≤ 0 → ¬ (EndsAt path place)
 at_the_root path place l ends = let inside : 0 < place = ends.inside in omega arith
-
-pub slash_at : (path : List ℕ) (place : ℕ) → place < length path → 0 < place → get_or path place 0 ≡ 47 → EndsAt path place
-slash_at path place l inside e = record { inside = inside; slash = slice_get-get_or path place 0 l ∙ ap Some e }
-
--- a path before a slash that does not lead on
-pub first_is_front : (first old new : PathStates) (path : List ℕ) (place : ℕ) (state : PathState) → place < length path → EndsAt path place → OnTheWay LeadsOn first old path place
-    → IsStateOf old new (take place path) state → ¬ (LeadsOn state) → IsFirstOther new path (take place path) state
-first_is_front first old new path place state l ends h is other =
-    let size : length (take place path) ≡ place = length-take-le place path (omega arith) in
-    let P : ℕ → Type 0 = λ n. AreOnTheWay LeadsOn new path n in
-    let Q : ℕ → Type 0 = λ n. EndsAt path n in
-    record {
-      front_is = ap (λ n. take n path) (sym size);
-      state_is = is.state_is;
-      before = subst P (sym size) (kept_on_the_way LeadsOn old new path place (Keeps-state old new (take place path) state is) h.way);
-      ends = inr (subst Q (sym size) ends, other);
-    }
-
--- the whole path
-pub whole_is_front : (first old new : PathStates) (path : List ℕ) (place : ℕ) (state : PathState) → length path ≤ place → OnTheWay LeadsOn first old path place
-    → IsStateOf old new path state → IsFirstOther new path path state
-whole_is_front first old new path place state l h is = record {
-  front_is = sym (take_all (length path) path (omega arith));
-  state_is = is.state_is;
-  before = λ at less ends. kept_on_the_way LeadsOn old new path place (Keeps-state old new path state is) h.way at (omega arith) ends;
-  ends = inl refl;
-}
-
-pub way_ends : (P : PathState → Type 0) (first states : PathStates) (path : List ℕ) (place : ℕ) → length path ≤ place → OnTheWay P first states path place → AreOnTheWay P states path (length path)
-way_ends P first states path place l h = λ at less ends. h.way at (omega arith) ends

@@ -1,7 +1,13 @@
 -- the files of a store
-use Rattle.std.specs.Prelude.{◌≡◌, ℕ, List, All, ◌++◌, Bool, ◌↔◌, codes, IsTrue, string_bytes}
+use Rattle.std.specs.Prelude.{◌≡◌, ℕ, List, All, ◌++◌, Bool, ◌↔◌, codes, IsTrue, String, string_bytes}
+use Rattle.std.specs.Path.{has_no_slash}
 use Rattle.std.specs.Str.Iter.{HasSubslice}
+use Rattle.std.specs.declared.alloc.Global.{Global}
 use Rattle.cck_cache_files.specs.declared.listing.StoredFile.{StoredFile}
+
+-- names of what is in a directory
+abbrev pub AreNames : List (String Global) → Type 0
+AreNames names = All (λ name. IsTrue (has_no_slash (string_bytes name))) names
 
 -- the path of what has this name in a directory
 abbrev pub path_in : List ℕ → List ℕ → List ℕ
@@ -14,11 +20,11 @@ pub record IsFileNamed (directory name : List ℕ) (file : StoredFile) : Type 0 
 
 -- a file in a directory
 abbrev pub IsFileIn : List ℕ → StoredFile → Type 0
-IsFileIn directory file = (name : List ℕ) × IsFileNamed directory name file
+IsFileIn directory file = (name : List ℕ) × IsTrue (has_no_slash name) × IsFileNamed directory name file
 
 -- a file in a directory of this one
 abbrev pub IsFileBelow : List ℕ → StoredFile → Type 0
-IsFileBelow directory file = (name : List ℕ) × IsFileIn (path_in directory name) file
+IsFileBelow directory file = (name : List ℕ) × IsTrue (has_no_slash name) × IsFileIn (path_in directory name) file
 
 -- files of a directory were added after those that were there
 abbrev pub AddsFilesIn : List ℕ → List StoredFile → List StoredFile → Type 0

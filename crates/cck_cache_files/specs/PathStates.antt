@@ -1,11 +1,22 @@
 -- what is known of paths, and of the way to them
-use Rattle.std.specs.Prelude.{◌≡◌, ◌≢◌, ℕ, ◌<◌, ◌≤◌, ◌⊎◌, List, Option, Some, None, length, take, slice_get, IsUtf8}
+use Rattle.std.specs.Prelude.{◌≡◌, ◌≢◌, ℕ, ◌<◌, ◌≤◌, ◌⊎◌, Bool, true, false, List, Option, Some, None, length, take, slice_get, IsUtf8}
+use Rattle.std.specs.Fs.{IsDir, IsFile, IsSymlink}
 use Rattle.std.specs.Ordering.{nat_cmp}
+use Rattle.std.specs.declared.fs.attrs.FileType.{FileType}
 use Rattle.std.specs.BTreeMap.{get_by}
 use Rattle.std.specs.Cmp.Lexicographic.{slice_cmp}
 use Rattle.cck_cache_files.specs.declared.path_states.PathState.{PathState}
-use Rattle.cck_cache_files.specs.declared.path_states.PathState.TheVariants.{Directory, Doubtful, Link}
+use Rattle.cck_cache_files.specs.declared.path_states.PathState.TheVariants.{Directory, Doubtful, File, Link}
 use Rattle.cck_cache_files.specs.declared.path_states.PathStates.{PathStates}
+
+-- A file of this type has this state: a directory whenever it changed, a link or a regular file if it last changed before the given time. All
+-- else is in doubt.
+pub record IsStateFound (type : FileType) (is_old : Bool) (state : PathState) : Type 0 where
+  pub directory : IsDir type → state ≡ Directory
+  pub link : IsSymlink type → is_old ≡ true → state ≡ Link
+  pub file : IsFile type → is_old ≡ true → state ≡ File
+  pub young : ¬ (IsDir type) → is_old ≡ false → state ≡ Doubtful
+  pub other : ¬ (IsDir type) → ¬ (IsSymlink type) → ¬ (IsFile type) → state ≡ Doubtful
 
 -- the state that is kept of a path
 abbrev pub state_at : PathStates → List ℕ → Option PathState

@@ -4,14 +4,17 @@
 //!   they are now: [`add_file`] and [`add_named_files`]. What can't be read, or is in doubt, is left
 //!   out.
 //! - [`PathStates`] says of paths whether there is anything at them, and whether a link on the way
-//!   changed since a given time.
+//!   changed since a given time. It looks at each path once.
 //! - [`StoreDirectory`] is the directory of a store.
 //! - [`list_files`] and [`list_counts`] list the files of a store.
 //! - [`compiler_digest`] is the digest of a compiler's programs on this machine, and
 //!   [`shared_compiler_digest`] that of their contents.
+//! - [`laws`] states properties of the definitions.
 //!
-//! No contract says what a disk holds. The contracts here are on values alone, as on the parts of a
-//! time; beyond them these calls are proved to be safe.
+//! No contract says what a disk holds. The contracts here are on values alone: the paths of a
+//! store, the names in a directory, the parts of a time, the states that are kept of paths, and the
+//! lines that are hashed, with some numbers or contents for what was read. Beyond them these calls
+//! are proved to be safe.
 #![tactic(auto)]
 
 mod compiler;

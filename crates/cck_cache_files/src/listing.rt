@@ -1,7 +1,7 @@
 //! The files of a store.
 ghost use Rattle.std.specs.Prelude.{All, IfOk, IfSome, codes};
 ghost use Rattle.cck_cache_files.specs.Paths.{directory_bytes, kind_name};
-ghost use Rattle.cck_cache_files.specs.Listing.{AddsFilesIn, IsFileBelow, IsFileIn, IsFileNamed, path_in};
+ghost use Rattle.cck_cache_files.specs.Listing.{AddsFilesIn, AreNames, IsFileBelow, IsFileIn, IsFileNamed, path_in};
 
 use crate::store_directory::{Kind, StoreDirectory};
 use crate::times::modified;
@@ -28,7 +28,9 @@ pub struct StoredFile {
 fn names_in<R: Files + AllocGlobal + Clone + Drop>(
     rt: &R,
     directory: &str,
-) -> io::Result<Vec<String>> {
+) -> io::Result<Vec<String>>
+    ensures { IfOk result (λ names. AreNames names.items) }
+{
     let alloc = rt.alloc();
     let mut names = Vec::new(alloc);
     let entries = match fs::read_dir(rt, directory) {
@@ -38,8 +40,7 @@ fn names_in<R: Files + AllocGlobal + Clone + Drop>(
     };
     for entry in entries {
         let entry = entry?;
-        let name = entry.file_name();
-        names.push(format!(in alloc; "{name}")?)?;
+        names.push(String::from_str(alloc, entry.file_name())?)?;
     }
     Ok(names)
 }
@@ -80,7 +81,8 @@ fn add_files<R: Files + AllocGlobal + Clone + Drop>(
 ) -> io::Result<()>
     ensures { AddsFilesIn directory.now files.old.items files.new.items }
 {
-    for name in names_in(rt, directory)? {
+    let names = names_in(rt, directory)?;
+    for name in &names {
         if let Some(file) = file_in(rt, directory, name.as_str())? {
             files.push(file)?;
         }
@@ -101,7 +103,8 @@ pub fn list_files<R: Files + AllocGlobal + Clone + Drop>(
     let (directory, kind) = (store.directory(), kind.as_str());
     let directory = format!(in alloc; "{directory}/{kind}")?;
     let mut files = Vec::new(alloc);
-    for name in names_in(rt, directory.as_str())? {
+    let names = names_in(rt, directory.as_str())?;
+    for name in &names {
         let path = format!(in alloc; "{directory}/{name}")?;
         add_files(rt, &mut files, path.as_str())?;
     }

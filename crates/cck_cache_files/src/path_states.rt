@@ -1,12 +1,14 @@
 //! What there is on the way to a path.
 ghost use Rattle.std.specs.Prelude.{◌≡◌, ℕ, List, None, length, IfOk, IsTrue, IsUtf8, MatchBool, OnErr};
-ghost use Rattle.cck_cache_files.specs.PathStates.{AreOnTheWay, HasOther, IsFirstOther, IsStateOf, IsUnchanged, Keeps, LeadsOn, state_at};
+ghost use Rattle.std.specs.Fs.{file_type};
+ghost use Rattle.cck_cache_files.specs.PathStates.{AreOnTheWay, HasOther, IsFirstOther, IsStateFound, IsStateOf, IsUnchanged, Keeps, LeadsOn, state_at};
 
 use crate::times::{changed, changed_before, modified};
 use cck_path::Timestamp;
 use std::alloc::AllocError;
 use std::collections::BTreeMap;
 use std::fs;
+use std::fs::Metadata;
 use std::io::ErrorKind;
 use std::rt::Files;
 
@@ -44,6 +46,23 @@ pub struct PathStates {
     states: BTreeMap<Vec<u8>, PathState>,
 }
 
+// The state of what was found at a path, by whether it last changed before the given time.
+fn state_found(found: &Metadata, is_old: bool) -> PathState
+    ensures { IsStateFound (file_type found.now) is_old result }
+{
+    if found.is_dir() {
+        PathState::Directory
+    } else if !is_old {
+        PathState::Doubtful
+    } else if found.is_symlink() {
+        PathState::Link
+    } else if found.is_file() {
+        PathState::File
+    } else {
+        PathState::Doubtful
+    }
+}
+
 // The state of a path. A link at the path itself is not followed.
 fn look_at<R: Files>(rt: &R, path: &[u8], since: Timestamp) -> PathState
     ensures { ¬ (IsUtf8 path.now) → result ≡ PathState.Doubtful }
@@ -55,13 +74,10 @@ fn look_at<R: Files>(rt: &R, path: &[u8], since: Timestamp) -> PathState
         Err(error) if error.kind() == ErrorKind::NotFound => PathState::Absent,
         Err(error) if error.kind() == ErrorKind::NotADirectory => PathState::Absent,
         Err(_) => PathState::Doubtful,
-        Ok(found) if found.is_dir() => PathState::Directory,
-        Ok(found) if !changed_before(modified(&found), changed(&found), since) => {
-            PathState::Doubtful
+        Ok(found) => {
+            let is_old = changed_before(modified(&found), changed(&found), since);
+            state_found(&found, is_old)
         }
-        Ok(found) if found.is_symlink() => PathState::Link,
-        Ok(found) if found.is_file() => PathState::File,
-        Ok(_) => PathState::Doubtful,
     }
 }
 

@@ -8,8 +8,8 @@ use cck_store::{PreprocessorStore, StoreError};
 use std::alloc::{AllocError, Global};
 use std::marker::Model;
 
-/// A store that holds nothing and keeps the pair that was put last, or that memory was lacking for
-/// it. Its count of store failures is always the greatest: each get finds nothing, whatever was put.
+/// A store that holds nothing and keeps the pair that was put last, or notes that memory was lacking
+/// for it. Its count of store failures is always the greatest: each get finds nothing, whatever was put.
 #[derive(Drop)]
 pub(crate) struct LastPut {
     put: Result<Option<RecordedEntry>, AllocError>,

@@ -20,7 +20,8 @@ pub returns : goal.returns
 returns g c =
     let same = c.into_iter-path-iterator.ensures.into_iter_gives in
     let split = c.split-path-items.ensures in
-    let P : List (List ℕ) → Type 0 = λ paths. AllZip (IsProgramLine g.H.HashState.hash c.args.part) paths c.loop-path.invariant.0 in
-    (c.loop-path.invariant.0,
-    subst P (YieldsList-end (YieldsList-from_str_split 58 c.args.paths.now (lit< tt) (ap split_text same ∙ split.text) (ap split_has_more same ∙ split.has_more) (ap split_pattern same ∙ split.pattern)) c.loop-path.yielded _ c.loop-path.yielded_by _ _ c.in-None.is c.next.ensures.steps).0 c.loop-path.invariant.1,
-    c.in_ok-text_of.ensures (concatenation c.loop-path.invariant.0) c.loop-path.invariant.2)
+    let P : List (List ℕ) → Type 0 = λ paths. AllZip (IsProgramLine g.H.HashState.hash c.args.part) paths c.loop-path.invariant.0 in (
+      c.loop-path.invariant.0,
+      subst P (YieldsList-end (YieldsList-from_str_split 58 c.args.paths.now (lit< tt) (ap split_text same ∙ split.text) (ap split_has_more same ∙ split.has_more) (ap split_pattern same ∙ split.pattern)) c.loop-path.yielded _ c.loop-path.yielded_by _ _ c.in-None.is c.next.ensures.steps).0 c.loop-path.invariant.1,
+      c.in_ok-text_of.ensures (concatenation c.loop-path.invariant.0) c.loop-path.invariant.2,
+    )

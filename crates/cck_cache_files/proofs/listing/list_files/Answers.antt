@@ -1,21 +1,22 @@
 use Rattle.std.proofs.Common.{◌≡◌, ◌∙◌, ◌++◌, List, ℕ, All, ap, codes, string_bytes, subst, sym, append_assoc}
-use Rattle.cck_cache_files.specs.Listing.{IsFileBelow, path_in}
+use Rattle.cck_cache_files.specs.Listing.{AreNames, IsFileBelow, path_in}
 use Rattle.cck_cache_files.specs.Paths.{directory_bytes, kind_name}
-use Rattle.cck_cache_files.proofs.ListingLemmas.{added_below}
+use Rattle.cck_cache_files.proofs.ListingLemmas.{added_below, name_at}
 use Rattle.cck_cache_files.proofs.listing.list_files.Goals as goal
 
 pub loop-name-preserved : goal.loop-name-preserved
 loop-name-preserved g c =
     let directory = string_bytes c.in_ok-directory.directory in
-    let name = string_bytes c.in-Some.name in
+    let name = string_bytes c.name-item.result in
     added_below directory c.as_str-in-loop-name.result.now name c.loop-name.files.items c.add_files.new.files.items
     (c.as_str-in-loop-name.ensures.value ∙ c.in_ok-path.ensures.ok ∙ sym (append_assoc directory (codes "/") name)) c.loop-name.invariant c.in_ok-add_files.ensures
+    (name_at c.deref-name-items.result.now c.loop-name.name-index c.name-item.result (subst AreNames (sym c.deref-name-items.ensures.value) c.in_ok-names.ensures) c.loop-name-test.true c.name-item.is)
 
 pub returns : goal.returns
 returns g c =
     let store = directory_bytes c.args.store.now in
     let path : string_bytes c.in_ok-directory.directory ≡ path_in store (kind_name c.args.kind) =
-        c.in_ok-directory.ensures.ok ∙ ap (λ (d : List ℕ). d ++ (codes "/" ++ c.as_str-kind.result.now)) c.directory-directory.ensures
-        ∙ ap (λ (k : List ℕ). store ++ (codes "/" ++ k)) c.as_str-kind.ensures ∙ sym (append_assoc store (codes "/") (kind_name c.args.kind)) in
+    c.in_ok-directory.ensures.ok ∙ ap (λ (d : List ℕ). d ++ (codes "/" ++ c.as_str-kind.result.now)) c.directory-directory.ensures
+    ∙ ap (λ (k : List ℕ). store ++ (codes "/" ++ k)) c.as_str-kind.ensures ∙ sym (append_assoc store (codes "/") (kind_name c.args.kind)) in
     let P : List ℕ → Type 0 = λ directory. All (IsFileBelow directory) c.loop-name.files.items in
     subst P path c.loop-name.invariant
