@@ -1,6 +1,6 @@
 -- a snapshot in which nothing fails
-use Rattle.std.proofs.Common.{◌≡◌, ◌∙◌, ℕ, Bool, Option, refl, sym, ap, subst, lit<}
-use Rattle.cck_cache_command.specs.Input.{IsCalm, IsInput, NoFault, input_path}
+use Rattle.std.proofs.Common.{◌≡◌, ◌∙◌, ℕ, Bool, refl, sym, ap, subst, lit<}
+use Rattle.cck_cache_command.specs.Input.{IsCalm, IsInput, input_path}
 use Rattle.cck_cache_files.specs.Snapshot.{ArePut, IsAdded, IsPut, StaysCalm, none_put, one_more}
 use Rattle.cck_cache_words.specs.declared.request.Request.{Request}
 use Rattle.cck_files.specs.Calls.{Keeps}

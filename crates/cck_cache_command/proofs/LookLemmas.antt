@@ -1,5 +1,5 @@
 -- what a look-up finds
-use Rattle.std.proofs.Common.{◌≡◌, ◌∙◌, ◌<◌, ℕ, List, get_or, Bool, true, Bor, Option, Some, None, Ok, Result, String, string_bytes, IfSome, length, map, refl, sym, ap, subst}
+use Rattle.std.proofs.Common.{◌≡◌, ◌∙◌, ◌<◌, ℕ, List, get_or, Bool, Option, Some, None, Ok, String, string_bytes, IfSome, length, map, sym, ap, subst}
 use Rattle.std.specs.FinMap.{entries}
 use Rattle.std.specs.List.{Contains, slice_get}
 use Rattle.std.proofs.lemmas.List.{get_or-map, length-map}
@@ -12,7 +12,6 @@ use Rattle.cck_cache_command.specs.Request.{HasKey}
 use Rattle.cck_cache_command.specs.declared.environment.Environment.{Environment}
 use Rattle.cck_cache_command.specs.declared.look.Found.{Found}
 use Rattle.cck_cache_command.specs.declared.look.Found.TheVariants.{Hit, Miss, NoKey}
-use Rattle.cck_cache_entry.specs.Files.{EntryFields}
 use Rattle.cck_cache_files.specs.Snapshot.{ArePut}
 use Rattle.cck_cache_words.specs.declared.task.Look.{Look}
 use Rattle.cck_cache_words.specs.declared.task.Outputs.{Outputs}

@@ -1,5 +1,5 @@
 -- the arguments that keys are made of
-use Rattle.std.proofs.Common.{◌≡◌, ◌∙◌, List, [], ◌∷◌, ◌++◌, Option, Some, None, codes, ap, append_assoc}
+use Rattle.std.proofs.Common.{◌≡◌, ◌∙◌, List, [], ◌∷◌, ◌++◌, Some, None, codes, ap, append_assoc}
 use Rattle.cck_cache_base.specs.Base.{WordLists}
 use Rattle.cck_cache_command.specs.Request.{keyed_arguments}
 use Rattle.cck_path.specs.Bytes.{Bytes}

@@ -1,6 +1,6 @@
 //! The paths that must stay absent for a recorded key.
 ghost use Rattle.std.specs.Prelude.{IfOk, IfSome, Contains, map};
-ghost use Rattle.cck_cache_command.specs.Absence.{IsAbsence};
+ghost use Rattle.cck_cache_command.specs.Absence.{IsAbsence, IsVerdict};
 
 use anyhow::Result;
 use cck_cache_entry::{SearchList, absent_names};
@@ -36,14 +36,16 @@ fn judge<'a, R: Files + AllocGlobal>(
     rt: &R,
     states: &mut PathStates,
     path: &'a [u8],
-) -> Result<PathVerdict<'a>, AllocError> {
+) -> Result<PathVerdict<'a>, AllocError>
+    ensures { IfOk result (IsVerdict states.new path.now) }
+{
     let (front, state) = states.first_other(rt, path)?;
-    Ok(match state {
-        PathState::Absent => PathVerdict::Absent(front),
-        PathState::File if front.len() < path.len() => PathVerdict::Absent(path),
-        PathState::File if !path.ends_with(b".gch") => PathVerdict::Present,
-        _ => PathVerdict::Doubtful,
-    })
+    match state {
+        PathState::Absent => Ok(PathVerdict::Absent(front)),
+        PathState::File if front.len() < path.len() => Ok(PathVerdict::Absent(path)),
+        PathState::File if !path.ends_with(b".gch") => Ok(PathVerdict::Present),
+        _ => Ok(PathVerdict::Doubtful),
+    }
 }
 
 /// Judges the paths at which a header that a text names would have been found earlier. `printed` is

@@ -22,6 +22,7 @@ use cck_include::IncludeEntry;
 use cck_path::Timestamp;
 use cck_snapshot::{SnapshotRequest, look_up, preprocessor_key};
 use cck_util::Sha256State;
+use std::alloc::AllocError;
 use std::rt::Files;
 use std::{fs, io};
 
@@ -208,9 +209,9 @@ fn entry_path<R: AllocGlobal>(
     store: &StoreDirectory,
     path: Option<&str>,
     key: &str,
-) -> io::Result<String> {
+) -> Result<String, AllocError> {
     match path {
-        Some(path) => Ok(String::from_str(rt.alloc(), path)?),
+        Some(path) => String::from_str(rt.alloc(), path),
         None => store.path_of(rt, Kind::Entry, key),
     }
 }

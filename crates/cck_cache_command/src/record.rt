@@ -211,7 +211,9 @@ fn object_of<R: Files + AllocGlobal>(
     rt: &R,
     compilation: &Compilation<'_>,
     key: &str,
-) -> Result<Option<ObjectFile>> {
+) -> Result<Option<ObjectFile>>
+    ensures { IfOk result (λ object. IfSome object (λ o. o.key.items ≡ key.now)) }
+{
     match &compilation.made {
         Some(made) => Ok(Some(ObjectFile {
             key: key.as_bytes().to_vec(rt.alloc())?,

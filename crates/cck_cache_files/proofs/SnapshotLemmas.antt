@@ -1,5 +1,5 @@
 -- Files are put into a snapshot, and the quiet one keeps what it has.
-use Rattle.std.proofs.Common.{◌≡◌, ◌⊎◌, ◌<◌, ◌+◌, ◌^◌, ◌↔◌, ◌∙◌, ℕ, inl, inr, arith, List, [], ◌∷◌, ◌++◌, Bool, true, false, Option, Some, None, Result, Ok, Err, IfOk, OnErr, IsTrue, cond, codes, refl, sym, ap, subst}
+use Rattle.std.proofs.Common.{◌≡◌, ◌⊎◌, ◌<◌, ◌+◌, ◌^◌, ◌↔◌, ◌∙◌, ℕ, inl, inr, arith, List, [], ◌∷◌, ◌++◌, Bool, true, false, Option, Some, Result, Ok, Err, IfOk, OnErr, IsTrue, cond, codes, refl, sym, ap, subst}
 use Rattle.std.specs.FinMap.{get, get-insert}
 use Rattle.std.specs.Ordering.{is_eq}
 use Rattle.std.specs.Option.{is_some}
@@ -16,7 +16,7 @@ use Rattle.cck_markers.specs.Marks.{Mark, Name}
 use Rattle.cck_path.specs.Bytes.{Bytes}
 use Rattle.cck_path.specs.Path.{Path, components, joined, normal, path_cmp, path_cmp_total, path_cmp-IsAntisymmetric}
 use Rattle.cck_path.specs.Text.{path_text}
-use Rattle.cck_cache_files.specs.Snapshot.{ArePut, Grows, IsAdded, IsNamed, IsPart, IsPut, StaysCalm, TestsHeaders, none_put, one_more, with_node}
+use Rattle.cck_cache_files.specs.Snapshot.{ArePut, Grows, IsAdded, IsNamed, IsPart, IsPut, StaysCalm, none_put, one_more, with_node}
 
 -- one node was put
 pub added : (before after : FileState) (path : Bytes) (n : FileNode) (tests : Bool) (source : Bytes) → after ≡ record before { files = with_node before.files path n } → source ≡ n.contents

@@ -1,4 +1,4 @@
-use Rattle.std.proofs.Common.{◌≡◌, ℕ, subst}
+use Rattle.std.proofs.Common.{ℕ, subst}
 use Rattle.cck_files.specs.Calls.{Rose}
 use Rattle.cck_path.specs.Bytes.{Bytes}
 use Rattle.cck_cache_files.specs.Snapshot.{ArePut}

@@ -1,4 +1,4 @@
-use Rattle.std.proofs.Common.{◌≡◌, ℕ, List, refl, subst}
+use Rattle.std.proofs.Common.{ℕ, List, refl, subst}
 use Rattle.std.specs.Global.{Vec}
 use Rattle.cck_cache_base.specs.Base.{WordLists}
 use Rattle.cck_cache_base.specs.Text.{AreBases}

@@ -1,8 +1,7 @@
-use Rattle.std.proofs.Common.{◌≡◌, ◌∙◌, ℕ, Bor, List, Option, Some, None, ap, subst}
+use Rattle.std.proofs.Common.{◌≡◌, ◌∙◌, ℕ, Some, None, ap, subst}
 use Rattle.std.specs.Global.{Vec}
-use Rattle.std.specs.Option.{option_map}
-use Rattle.cck_cache_base.specs.Base.{BaseOf, WordLists, word_lists}
-use Rattle.cck_path.specs.Bytes.{Bytes, lists_of}
+use Rattle.cck_cache_base.specs.Base.{BaseOf, WordLists}
+use Rattle.cck_path.specs.Bytes.{lists_of}
 use Rattle.cck_cache_command.specs.Request.{keyed_arguments, request_words}
 use Rattle.cck_cache_command.proofs.RequestLemmas.{keyed_base, keyed_two}
 use Rattle.cck_cache_command.proofs.request.keyed_arguments.Goals as goal
