@@ -14,8 +14,8 @@ use std::rt::Files;
 /// What is found of the paths at which a header would have been found earlier.
 #[derive(Drop)]
 pub enum Absence {
-    /// There is nothing at these paths. Nothing is at the other ones either as long as that is so,
-    /// except files that were there and that the compiler does not read.
+    /// There is nothing at these paths. As long as that is so, no header can be found earlier than where
+    /// it was found.
     Paths(Vec<Vec<u8>>),
     /// The compilation is not recorded.
     Refused(Refusal),
@@ -31,8 +31,9 @@ enum PathVerdict<'a> {
     Doubtful,
 }
 
-// The verdict on an absolute path.
-fn judge<'a, R: Files + AllocGlobal>(
+// The verdict on an absolute path. Below a file there is nothing, so the whole path is absent there: a
+// directory may come in place of the file.
+fn path_verdict<'a, R: Files + AllocGlobal>(
     rt: &R,
     states: &mut PathStates,
     path: &'a [u8],
@@ -69,7 +70,7 @@ pub fn absence_of<R: Files + AllocGlobal>(
     let mut absent: BTreeSet<Vec<u8>> = BTreeSet::new(alloc);
     for name in &names {
         let path = join_path(alloc, directory.as_bytes(), name)?;
-        match judge(rt, states, &path)? {
+        match path_verdict(rt, states, &path)? {
             PathVerdict::Absent(front) => {
                 absent.insert(front.to_vec(alloc)?)?;
             }

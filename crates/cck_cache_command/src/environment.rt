@@ -1,5 +1,6 @@
 //! What a process is given beside its words.
-ghost use Rattle.std.specs.Prelude.{◌≡◌};
+ghost use Rattle.std.specs.Prelude.{◌≡◌, map};
+ghost use Rattle.cck_cache_command.specs.Environment.{variable_names};
 ghost use Rattle.cck_time.specs.Config.{activated};
 
 use anyhow::{Result, bail};
@@ -54,6 +55,13 @@ impl Environment<'_> {
     }
 }
 
+// The names of the variables that keys and recorded digests depend on.
+fn variable_names() -> &'static [&'static str]
+    ensures { map (λ name. name.now) result.now ≡ variable_names }
+{
+    &VARIABLES
+}
+
 // The value of a variable. One that is no UTF-8 is an error: it never counts as absent.
 fn value_of<R: Env + AllocGlobal>(rt: &R, name: &str) -> Result<Option<String>> {
     match env::var(rt, name) {
@@ -67,7 +75,7 @@ fn value_of<R: Env + AllocGlobal>(rt: &R, name: &str) -> Result<Option<String>> 
 pub fn variables<R: Env + AllocGlobal>(rt: &R) -> Result<Vec<(Vec<u8>, Vec<u8>)>> {
     let alloc = rt.alloc();
     let mut found = Vec::new(alloc);
-    for name in VARIABLES {
+    for name in variable_names() {
         if let Some(value) = value_of(rt, name)? {
             found.push((
                 name.as_bytes().to_vec(alloc)?,

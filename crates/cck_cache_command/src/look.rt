@@ -37,18 +37,18 @@ pub enum Found {
         /// The preprocessor key.
         preprocessor_key: String,
         /// The key of the object.
-        key: String,
+        object_key: String,
         /// What the compiler made.
         object: ObjectFile,
     },
     /// No object.
     Miss {
         /// The preprocessor key.
-        key: String,
+        preprocessor_key: String,
         /// When the look-up ended, by the clock of the store's file system.
         since: Timestamp,
         /// The key of the object that a result of the entry names, and that the store does not have.
-        object: Option<String>,
+        object_key: Option<String>,
         /// The path of a file that is damaged.
         damaged: Option<String>,
     },
@@ -117,7 +117,8 @@ fn add_includes<R: Files + AllocGlobal>(
     Ok(())
 }
 
-/// Puts the files that an entry names into the snapshot. `false` where the bytes are no entry.
+/// Puts the files that an entry names into the snapshot. `false` where the bytes are no entry, or memory
+/// is lacking to read it.
 pub fn add_entry_files<R: Files + AllocGlobal>(
     rt: &R,
     files: &mut MapFiles,
@@ -160,17 +161,17 @@ fn matching_key<R: Files + AllocGlobal>(
 fn miss<R: Files + AllocGlobal>(
     rt: &R,
     store: &StoreDirectory,
-    key: String,
-    object: Option<String>,
+    preprocessor_key: String,
+    object_key: Option<String>,
     damaged: Option<String>,
 ) -> Result<Found>
-    ensures { IfOk result (IsMiss key object) }
+    ensures { IfOk result (IsMiss preprocessor_key object_key) }
 {
     let since = store.stamp(rt)?;
     Ok(Found::Miss {
-        key,
+        preprocessor_key,
         since,
-        object,
+        object_key,
         damaged,
     })
 }
@@ -182,23 +183,23 @@ fn kept_object<R: Files + AllocGlobal>(
     store: &StoreDirectory,
     outputs: &Outputs<'_>,
     preprocessor_key: String,
-    key: String,
+    object_key: String,
 ) -> Result<Found>
-    ensures { IfOk result (IsKept outputs.now preprocessor_key key) }
+    ensures { IfOk result (IsKept outputs.now preprocessor_key object_key) }
 {
-    let Some(bytes) = store.read(rt, Kind::Object, key.as_str())? else {
-        return miss(rt, store, preprocessor_key, Some(key), None);
+    let Some(bytes) = store.read(rt, Kind::Object, object_key.as_str())? else {
+        return miss(rt, store, preprocessor_key, Some(object_key), None);
     };
-    match object_in::<Sha256State>(rt.alloc(), key.as_str(), &bytes)? {
+    match object_in::<Sha256State>(rt.alloc(), object_key.as_str(), &bytes)? {
         Some(object) if has_outputs(&object, outputs) => Ok(Found::Hit {
             preprocessor_key,
-            key,
+            object_key,
             object,
         }),
-        Some(_) => miss(rt, store, preprocessor_key, Some(key), None),
+        Some(_) => miss(rt, store, preprocessor_key, Some(object_key), None),
         None => {
-            let path = store.path_of(rt, Kind::Object, key.as_str())?;
-            miss(rt, store, preprocessor_key, Some(key), Some(path))
+            let path = store.path_of(rt, Kind::Object, object_key.as_str())?;
+            miss(rt, store, preprocessor_key, Some(object_key), Some(path))
         }
     }
 }
@@ -243,6 +244,9 @@ fn look_for<R: Files + AllocGlobal>(
 }
 
 /// Looks for the object of a request.
+///
+/// The error is of a program of the compiler, of the store or of the file at `wanted.entry` that can't
+/// be read, or lack of memory.
 ///
 /// No contract can say what a disk holds. So what is found is stated over snapshots that there are: one
 /// that has the input alone, and one that has the files that the entry names too.

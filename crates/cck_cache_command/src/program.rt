@@ -16,6 +16,7 @@ use cck_files::MapFiles;
 use cck_snapshot::preprocessor_key;
 use cck_util::Sha256State;
 use clap::Error;
+use std::io;
 use std::io::{Read, Write};
 use std::rt::Files;
 
@@ -70,28 +71,28 @@ fn run_look<R: Files + AllocGlobal, W: Write, E: Write>(
     match look(rt, environment, store, asked)? {
         Found::Hit {
             preprocessor_key,
-            key,
+            object_key,
             object,
         } => {
             write_outputs(rt, store, &asked.outputs, &object, errors)?;
             // Neither a time nor a count decides whether this is a hit.
-            let _ = store.touch(rt, Kind::Object, key.as_str(), environment.now);
+            let _ = store.touch(rt, Kind::Object, object_key.as_str(), environment.now);
             let _ = store.touch(rt, Kind::Entry, preprocessor_key.as_str(), environment.now);
             let _ = store.count(rt, "hit");
-            writeln!(writer, "hit {key}")?;
+            writeln!(writer, "hit {object_key}")?;
             Ok(DONE)
         }
         Found::Miss {
-            key,
+            preprocessor_key,
             since,
-            object,
+            object_key,
             damaged,
         } => {
             let (seconds, nanoseconds) = (since.seconds(), since.nanoseconds());
             let _ = store.count(rt, "miss");
-            write!(writer, "miss {key} {seconds}.{nanoseconds:09}")?;
-            if let Some(object) = object {
-                write!(writer, " object {object}")?;
+            write!(writer, "miss {preprocessor_key} {seconds}.{nanoseconds:09}")?;
+            if let Some(object_key) = object_key {
+                write!(writer, " object {object_key}")?;
             }
             if let Some(path) = damaged {
                 write!(writer, " damaged {path}")?;
@@ -152,41 +153,29 @@ fn run_record<R: Files + AllocGlobal, W: Write>(
     }
 }
 
-// Does what was asked for, except for `record` and `object-key`.
-fn run_task<R: Files + AllocGlobal + Clone + Drop, W: Write, E: Write>(
+// Reads a text to its end.
+fn read_text<R: AllocGlobal, I: Read>(rt: &R, reader: &mut I) -> io::Result<Vec<u8>> {
+    let mut text = Vec::new(rt.alloc());
+    reader.read_to_end(&mut text)?;
+    Ok(text)
+}
+
+// Prints the key of the object whose preprocessed text is read.
+fn run_object_key<R: Files + AllocGlobal, I: Read, W: Write>(
     rt: &R,
     environment: &Environment<'_>,
-    task: Task<'_>,
+    request: &Request<'_>,
+    reader: &mut I,
     writer: &mut W,
-    errors: &mut E,
 ) -> Result<u8> {
-    let id = environment.id;
-    match task {
-        Task::Key(request) => return run_key(rt, environment, &request, writer),
-        Task::Look(asked) => {
-            let store = open_store(rt, asked.store, id)?;
-            return run_look(rt, environment, &store, &asked, writer, errors);
-        }
-        Task::Unpack { store, packed } => {
-            let store = open_store(rt, store, id)?;
-            return run_unpack(rt, &store, &packed, writer, errors);
-        }
-        Task::Stats { store } => print_stats(rt, &open_store(rt, store, id)?, writer)?,
-        Task::Prune { store, max_size } => {
-            let store = open_store(rt, store, id)?;
-            prune(rt, environment, &store, max_size, writer)?;
-        }
-        Task::Why { store, request } => {
-            let store = open_store(rt, store, id)?;
-            print_why(rt, environment, &store, &request, writer)?;
-        }
-        Task::Record { .. } | Task::ObjectKey(_) => bail!("no text"),
-    }
+    let text = read_text(rt, reader)?;
+    let key = object_key(rt, environment, request, &text)?;
+    writeln!(writer, "{key}")?;
     Ok(DONE)
 }
 
-// Does what was asked for, with the text that `record` and `object-key` read.
-fn run_with_text<R: Files + AllocGlobal + Clone + Drop, I: Read, W: Write, E: Write>(
+// Does what was asked for.
+fn run_task<R: Files + AllocGlobal + Clone + Drop, I: Read, W: Write, E: Write>(
     rt: &R,
     environment: &Environment<'_>,
     task: Task<'_>,
@@ -194,15 +183,25 @@ fn run_with_text<R: Files + AllocGlobal + Clone + Drop, I: Read, W: Write, E: Wr
     writer: &mut W,
     errors: &mut E,
 ) -> Result<u8> {
+    let id = environment.id;
     match task {
+        Task::Key(request) => run_key(rt, environment, &request, writer),
+        Task::ObjectKey(request) => run_object_key(rt, environment, &request, reader, writer),
+        Task::Look(wanted) => {
+            let store = open_store(rt, wanted.store, id)?;
+            run_look(rt, environment, &store, &wanted, writer, errors)
+        }
+        Task::Unpack { store, packed } => {
+            let store = open_store(rt, store, id)?;
+            run_unpack(rt, &store, &packed, writer, errors)
+        }
         Task::Record {
             store,
             request,
             compilation,
         } => {
-            let store = open_store(rt, store, environment.id)?;
-            let mut text = Vec::new(rt.alloc());
-            reader.read_to_end(&mut text)?;
+            let store = open_store(rt, store, id)?;
+            let text = read_text(rt, reader)?;
             run_record(
                 rt,
                 environment,
@@ -213,14 +212,30 @@ fn run_with_text<R: Files + AllocGlobal + Clone + Drop, I: Read, W: Write, E: Wr
                 writer,
             )
         }
-        Task::ObjectKey(request) => {
-            let mut text = Vec::new(rt.alloc());
-            reader.read_to_end(&mut text)?;
-            let key = object_key(rt, environment, &request, &text)?;
-            writeln!(writer, "{key}")?;
+        Task::Stats { store } => {
+            print_stats(rt, &open_store(rt, store, id)?, writer)?;
             Ok(DONE)
         }
-        task => run_task(rt, environment, task, writer, errors),
+        Task::Prune { store, max_size } => {
+            prune(
+                rt,
+                environment,
+                &open_store(rt, store, id)?,
+                max_size,
+                writer,
+            )?;
+            Ok(DONE)
+        }
+        Task::Why { store, request } => {
+            print_why(
+                rt,
+                environment,
+                &open_store(rt, store, id)?,
+                &request,
+                writer,
+            )?;
+            Ok(DONE)
+        }
     }
 }
 
@@ -249,7 +264,7 @@ pub fn run<R: Files + AllocGlobal + Clone + Drop, I: Read, W: Write, E: Write>(
     errors: &mut E,
 ) -> Result<u8> {
     match task_of(rt.alloc(), words) {
-        Ok(Some(task)) => run_with_text(rt, environment, task, reader, writer, errors),
+        Ok(Some(task)) => run_task(rt, environment, task, reader, writer, errors),
         Ok(None) => bail!("a stamp or a size is no number, or an option is missing"),
         Err(error) => explain(&error, writer, errors),
     }

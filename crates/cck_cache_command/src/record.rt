@@ -81,7 +81,8 @@ enum Seen {
     Refused(Refusal),
 }
 
-// Reads the files that a text names.
+// Reads the input and the files that a text names, and lists the paths that must stay absent, by what the
+// compiler printed of its directories; or finds why the compilation is not recorded.
 fn see<R: Files + AllocGlobal>(
     rt: &R,
     request: &Request<'_>,
@@ -249,7 +250,11 @@ fn object_shows_base(bases: &[Vec<u8>], object: Option<&ObjectFile>) -> bool
     }
 }
 
-/// The key of the object that is compiled from this preprocessed text.
+/// The key of the object that is compiled from this preprocessed text. No file that the text names is
+/// part of that key, so a snapshot of the input is enough.
+///
+/// The error is of a program of the compiler that can't be read, of an input that is no regular file, of
+/// a malformed line marker, or lack of memory.
 pub fn object_key<R: Files + AllocGlobal>(
     rt: &R,
     environment: &Environment<'_>,
@@ -336,18 +341,25 @@ fn record_over<R: Files + AllocGlobal>(
         return Ok(Outcome::Refused(Refusal::NamedFile));
     }
     let recording = record_text::<Sha256State, MapFiles>(rt.alloc(), &mut files, &asked, text)?;
-    let Recording { key, put } = recording;
+    let Recording {
+        key: object_key,
+        put,
+    } = recording;
     let Some(entry) = put else {
         return Ok(Outcome::Refused(Refusal::NamedFile));
     };
     let file = entry_file_of(entry, absent_paths);
-    match keep(rt, store, compilation, &bases, key.as_str(), &file)? {
+    match keep(rt, store, compilation, &bases, object_key.as_str(), &file)? {
         Some(refusal) => Ok(Outcome::Refused(refusal)),
-        None => Ok(Outcome::Recorded(key)),
+        None => Ok(Outcome::Recorded(object_key)),
     }
 }
 
-/// Records a compilation whose preprocessed text is this, after it was compiled.
+/// Records a compilation whose preprocessed text is this, after it was compiled. Returns the key of the
+/// object, or why nothing was recorded.
+///
+/// The error is of a file that can't be read or written, of a malformed line marker, or lack of memory.
+/// After it the store may have the object file without the entry file.
 ///
 /// No contract can say what a disk holds. So what is recorded is stated over files that there are: the
 /// input, and files at the paths of the names of the text.

@@ -142,7 +142,7 @@ impl StoreDirectory {
     }
 
     /// Writes bytes beside a path, and renames the new file to the path. A file that could not be
-    /// written whole is removed.
+    /// written whole, or not be renamed, is removed.
     pub fn replace<R: Files + AllocGlobal>(
         &self,
         rt: &R,
@@ -157,7 +157,11 @@ impl StoreDirectory {
             return Err(error);
         }
         drop(file);
-        fs::rename(rt, beside.as_str(), path)
+        if let Err(error) = fs::rename(rt, beside.as_str(), path) {
+            let _ = fs::remove_file(rt, beside.as_str());
+            return Err(error);
+        }
+        Ok(())
     }
 
     /// Writes the file of a key, beside it and by a rename.
