@@ -124,7 +124,8 @@ pub fn snapshot_request<'a>(
     moment: Timestamp,
     basedirs: &'a [Vec<u8>],
 ) -> SnapshotRequest<'a>
-    ensures { (request : words.Request) → request.directory.now ≡ directory.now → IsHasher environment.entry.now request hasher.now
+    ensures { (request : words.Request) → request.directory.now ≡ directory.now
+        → IsHasher environment.entry.now request hasher.now
         → IsRequest environment.entry.now request moment (lists_of basedirs.now) result }
 {
     SnapshotRequest {
