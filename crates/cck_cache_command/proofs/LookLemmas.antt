@@ -6,9 +6,9 @@ use Rattle.std.proofs.lemmas.List.{get_or-map, length-map}
 use Rattle.std.proofs.lemmas.Option.{get_or_from_slice_get}
 use Rattle.std.specs.Global.{Vec}
 use Rattle.std.specs.declared.alloc.Global.{Global}
-use Rattle.cck_cache_command.specs.Look.{IsFound, IsFoundFor, IsIncluded, IsKept, IsMatch, IsMatchOfKey, IsMiss, IsOneOf}
+use Rattle.cck_cache_command.specs.Look.{IsLookResult, IsFoundFor, IsIncluded, IsKeptObject, IsMatch, IsMatchOfKey, IsLookMiss, IsIncludeOf}
 use Rattle.cck_cache_command.specs.Input.{NoFault}
-use Rattle.cck_cache_command.specs.Request.{HasKey}
+use Rattle.cck_cache_command.specs.Request.{HasPreprocessorKey}
 use Rattle.cck_cache_command.specs.declared.environment.Environment.{Environment}
 use Rattle.cck_cache_command.specs.declared.look.Found.{Found}
 use Rattle.cck_cache_command.specs.declared.look.Found.TheVariants.{Hit, Miss, NoKey}
@@ -26,7 +26,7 @@ use Rattle.sha2.specs.Sha256.{sha256}
 use Rattle.cck_snapshot.specs.declared.requests.SnapshotRequest.{SnapshotRequest}
 
 -- an object file that was found of the key of a match
-pub found_kept : (outputs : Outputs) (asked : SnapshotRequest) (input : FileMap) (key object : String Global) (found : Found) → IsMatchOfKey asked input key object → IsKept outputs key object found → IsFoundFor outputs asked input key found
+pub found_kept : (outputs : Outputs) (asked : SnapshotRequest) (input : FileMap) (key object : String Global) (found : Found) → IsMatchOfKey asked input key object → IsKeptObject outputs key object found → IsFoundFor outputs asked input key found
 found_kept outputs asked input key object (Hit k o file) is kept =
     (kept.0, subst (λ (x : String Global). IsMatchOfKey asked input key x) (sym kept.1) is, kept.2 ∙ sym (ap string_bytes kept.1), kept.3)
 found_kept outputs asked input key object (Miss k since o damaged) is kept =
@@ -34,19 +34,19 @@ found_kept outputs asked input key object (Miss k since o damaged) is kept =
 found_kept outputs asked input key object NoKey is kept = kept
 
 -- a miss without a key of an object
-pub found_none : (outputs : Outputs) (asked : SnapshotRequest) (input : FileMap) (key : String Global) (found : Found) → IsMiss key None found → IsFoundFor outputs asked input key found
+pub found_none : (outputs : Outputs) (asked : SnapshotRequest) (input : FileMap) (key : String Global) (found : Found) → IsLookMiss key None found → IsFoundFor outputs asked input key found
 found_none outputs asked input key (Hit k o file) miss = absurd miss
 found_none outputs asked input key (Miss k since o damaged) miss =
     (miss.0, subst (λ (x : Option (String Global)). IfSome x (IsMatchOfKey asked input key)) (sym miss.1) tt)
 found_none outputs asked input key NoKey miss = miss
 
 -- the result for the preprocessor key of a request is the result for the request
-pub found_all : (environment : Environment) (wanted : Look) (key : String Global) (has : HasKey environment wanted.request (Some (string_bytes key))) (found : Found)
-    → IsFoundFor wanted.outputs has.asked has.input key found → IsFound environment wanted found
+pub found_all : (environment : Environment) (wanted : Look) (key : String Global) (has : HasPreprocessorKey environment wanted.request (Some (string_bytes key))) (found : Found)
+    → IsFoundFor wanted.outputs has.asked has.input key found → IsLookResult environment wanted found
 found_all environment wanted key has (Hit k o file) is =
-    subst (λ (x : String Global). IsFound environment wanted (Hit x o file)) (sym is.0) (has, is.1, is.2, is.3)
+    subst (λ (x : String Global). IsLookResult environment wanted (Hit x o file)) (sym is.0) (has, is.1, is.2, is.3)
 found_all environment wanted key has (Miss k since o damaged) is =
-    subst (λ (x : String Global). IsFound environment wanted (Miss x since o damaged)) (sym is.0) (has, is.1)
+    subst (λ (x : String Global). IsLookResult environment wanted (Miss x since o damaged)) (sym is.0) (has, is.1)
 found_all environment wanted key has NoKey is = absurd is
 
 -- an element of a list under a function
@@ -54,12 +54,12 @@ pub contains_map : {X Y : Type 0} (f : X → Y) (xs : List X) (x : X) → Contai
 contains_map f xs x at = (at.0, subst (λ (n : ℕ). at.0 < n) (sym (length-map xs f)) at.1, get_or-map f xs at.0 x (f x) at.1 ∙ ap f at.2)
 
 -- the file of an include of a result
-pub one_of_at : (includes : List IncludeEntry) (i : ℕ) (x : IncludeEntry) (path : Bytes) (tests : Bool) → i < length includes → x ≡ get_or includes i x → path ≡ x.path.items → IsOneOf (includes_in includes) path tests
+pub one_of_at : (includes : List IncludeEntry) (i : ℕ) (x : IncludeEntry) (path : Bytes) (tests : Bool) → i < length includes → x ≡ get_or includes i x → path ≡ x.path.items → IsIncludeOf (includes_in includes) path tests
 one_of_at includes i x path tests within is same = (include_in x, contains_map include_in includes x (i, within, sym is), sym same)
 
 -- the file of an include of an entry
 pub included_at : (bytes : Bytes) (entry : Entry) (results : List (String Global × Vec IncludeEntry)) (n : ℕ) (r : String Global × Vec IncludeEntry) → Reads (Ok entry) bytes → entries entry ≡ map result_in results → (n < length results) × (slice_get results n ≡ Some r)
-    → (path : Bytes) (tests : Bool) → IsOneOf (includes_in r.1.items) path tests → IsIncluded bytes path tests
+    → (path : Bytes) (tests : Bool) → IsIncludeOf (includes_in r.1.items) path tests → IsIncluded bytes path tests
 included_at bytes entry results n r reads same at path tests one = record {
   entry = entry;
   is_entry = reads;

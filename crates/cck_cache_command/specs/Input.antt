@@ -1,6 +1,6 @@
 -- the input of a request, in a snapshot
 use Rattle.std.specs.Prelude.{◌≡◌, Bool}
-use Rattle.cck_cache_files.specs.Snapshot.{IsPut}
+use Rattle.cck_cache_files.specs.Snapshot.{IsNodePut}
 use Rattle.cck_cache_words.specs.declared.request.Request.{Request}
 use Rattle.cck_files.specs.Calls.{Rose}
 use Rattle.cck_files.specs.FileMap.{FileMap}
@@ -9,12 +9,12 @@ use Rattle.cck_path.specs.Bytes.{Bytes}
 use Rattle.cck_path.specs.Text.{join_path}
 
 -- the path of the input: it is relative to the working directory
-abbrev pub input_path : Request → Bytes
-input_path request = join_path request.directory.now request.input.now
+abbrev pub request_input_path : Request → Bytes
+request_input_path request = join_path request.directory.now request.input.now
 
 -- the input alone, if it can be read, and whether it tests for headers
 abbrev pub IsInput : Request → FileMap → Bool → Type 0
-IsInput request files tests = IsPut no_files (input_path request) files tests
+IsInput request files tests = IsNodePut no_files (request_input_path request) files tests
 
 -- a snapshot met no fault so far, and meets none
 pub record IsCalm (s : FileState) : Type 0 where

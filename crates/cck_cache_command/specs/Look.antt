@@ -4,7 +4,7 @@ use Rattle.std.specs.FinMap.{entries}
 use Rattle.std.specs.declared.alloc.Global.{Global}
 use Rattle.cck_cache_command.specs.Input.{NoFault}
 use Rattle.cck_cache_command.specs.Outputs.{has_outputs}
-use Rattle.cck_cache_command.specs.Request.{HasKey}
+use Rattle.cck_cache_command.specs.Request.{HasPreprocessorKey}
 use Rattle.cck_cache_command.specs.declared.environment.Environment.{Environment}
 use Rattle.cck_cache_command.specs.declared.look.Found.{Found}
 use Rattle.cck_cache_command.specs.declared.look.Found.TheVariants.{Hit, Miss, NoKey}
@@ -24,8 +24,8 @@ use Rattle.cck_snapshot.specs.declared.requests.SnapshotRequest.{SnapshotRequest
 use Rattle.sha2.specs.Sha256.{sha256}
 
 -- one of these files
-abbrev pub IsOneOf : List Include → Bytes → Bool → Type 0
-IsOneOf includes path tests = (include : Include) × Contains includes include × (include.path ≡ path)
+abbrev pub IsIncludeOf : List Include → Bytes → Bool → Type 0
+IsIncludeOf includes path tests = (include : Include) × Contains includes include × (include.path ≡ path)
 
 -- a file that a result of the entry of these bytes included
 pub record IsIncluded (bytes : Bytes) (path : Bytes) (tests : Bool) : Type 0 where
@@ -33,7 +33,7 @@ pub record IsIncluded (bytes : Bytes) (path : Bytes) (tests : Bool) : Type 0 whe
   pub is_entry : Reads (Ok entry) bytes
   pub found : KeyResult
   pub among : Contains (entries entry) found
-  pub one_of : IsOneOf (found.1) path tests
+  pub one_of : IsIncludeOf (found.1) path tests
 
 -- The look-up of this key in an entry of these bytes, over files that have grown by those that the entry names, returned this key of an object.
 pub record IsMatch (asked : SnapshotRequest) (input : FileMap) (key bytes : Bytes) (object : String Global) : Type 0 where
@@ -53,17 +53,17 @@ IsKeyEntry key Damaged = Unit {0}
 IsKeyEntry key (KeptEntry file) = file.preprocessor_key.items ≡ key
 
 -- a miss
-abbrev pub IsMiss : String Global → Option (String Global) → Found → Type 0
-IsMiss key object (Hit k o file) = ⊥
-IsMiss key object (Miss k since o damaged) = (k ≡ key) × (o ≡ object)
-IsMiss key object NoKey = ⊥
+abbrev pub IsLookMiss : String Global → Option (String Global) → Found → Type 0
+IsLookMiss key object (Hit k o file) = ⊥
+IsLookMiss key object (Miss k since o damaged) = (k ≡ key) × (o ≡ object)
+IsLookMiss key object NoKey = ⊥
 
 -- what was found in a store of a key that an entry of a preprocessor key names
-abbrev pub IsKept : Outputs → String Global → String Global → Found → Type 0
-IsKept outputs preprocessor_key key (Hit k o object) =
+abbrev pub IsKeptObject : Outputs → String Global → String Global → Found → Type 0
+IsKeptObject outputs preprocessor_key key (Hit k o object) =
     (k ≡ preprocessor_key) × (o ≡ key) × (object.key.items ≡ string_bytes key) × (has_outputs outputs object ≡ true)
-IsKept outputs preprocessor_key key (Miss k since o damaged) = (k ≡ preprocessor_key) × (o ≡ Some key)
-IsKept outputs preprocessor_key key NoKey = ⊥
+IsKeptObject outputs preprocessor_key key (Miss k since o damaged) = (k ≡ preprocessor_key) × (o ≡ Some key)
+IsKeptObject outputs preprocessor_key key NoKey = ⊥
 
 -- what was found for a preprocessor key over a snapshot of the input
 abbrev pub IsFoundFor : Outputs → SnapshotRequest → FileMap → String Global → Found → Type 0
@@ -73,10 +73,10 @@ IsFoundFor outputs asked input key (Miss k since o damaged) = (k ≡ key) × IfS
 IsFoundFor outputs asked input key NoKey = ⊥
 
 -- The result of a look-up. A hit has an object file of a key that is looked up in an entry file of the request's preprocessor key.
-abbrev pub IsFound : Environment → Look → Found → Type 0
-IsFound environment wanted (Hit k o object) =
-    (has : HasKey environment wanted.request (Some (string_bytes k))) × IsMatchOfKey has.asked has.input k o × (object.key.items ≡ string_bytes o)
+abbrev pub IsLookResult : Environment → Look → Found → Type 0
+IsLookResult environment wanted (Hit k o object) =
+    (has : HasPreprocessorKey environment wanted.request (Some (string_bytes k))) × IsMatchOfKey has.asked has.input k o × (object.key.items ≡ string_bytes o)
     × (has_outputs wanted.outputs object ≡ true)
-IsFound environment wanted (Miss k since o damaged) =
-    (has : HasKey environment wanted.request (Some (string_bytes k))) × IfSome o (IsMatchOfKey has.asked has.input k)
-IsFound environment wanted NoKey = HasKey environment wanted.request None
+IsLookResult environment wanted (Miss k since o damaged) =
+    (has : HasPreprocessorKey environment wanted.request (Some (string_bytes k))) × IfSome o (IsMatchOfKey has.asked has.input k)
+IsLookResult environment wanted NoKey = HasPreprocessorKey environment wanted.request None

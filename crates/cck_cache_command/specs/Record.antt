@@ -90,8 +90,8 @@ IsSeen request text (Files gathered) =
 IsSeen request text (NotSeen refusal) = IsRefusedByText text refusal
 
 -- why a compilation is not recorded by its input and its time, if it is not
-abbrev pub IsJudged : Environment → SnapshotRequest → FileMap → Bool → Bytes → Option Refusal → Type 0
-IsJudged environment asked files tests key refusal =
+abbrev pub IsJudgedByInput : Environment → SnapshotRequest → FileMap → Bool → Bytes → Option Refusal → Type 0
+IsJudgedByInput environment asked files tests key refusal =
     (one_day : Bool) × IsOneDay (plain_zone asked.zone.now) asked.moment.seconds environment.now.seconds one_day × IsRefusal (key_over asked files) key one_day tests refusal
 
 -- one of the base directories is in a part of the object file, if there is one
@@ -117,7 +117,7 @@ pub record IsAsked (environment : Environment) (request : Request) (compilation 
 pub record IsRecordedOver (environment : Environment) (request : Request) (compilation : Compilation) (text : Bytes) (tests : Bool) (files : FileMap) (key : String Global) : Type 0 where
   pub asked : SnapshotRequest
   pub is_asked : IsAsked environment request compilation text asked
-  pub judged : IsJudged environment asked files tests compilation.key.now None
+  pub judged : IsJudgedByInput environment asked files tests compilation.key.now None
   pub entry : RecordedEntry
   pub recorded : IsRecording sha256 files asked NoFault text (record { key = key; put = Some entry })
 
@@ -125,10 +125,10 @@ pub record IsRecordedOver (environment : Environment) (request : Request) (compi
 pub record IsRefusedByInput (environment : Environment) (request : Request) (compilation : Compilation) (text : Bytes) (tests : Bool) (files : FileMap) (refusal : Refusal) : Type 0 where
   pub asked : SnapshotRequest
   pub is_asked : IsAsked environment request compilation text asked
-  pub judged : IsJudged environment asked files tests compilation.key.now (Some refusal)
+  pub judged : IsJudgedByInput environment asked files tests compilation.key.now (Some refusal)
 
 -- the recording has no entry
-pub record HasNoEntry (environment : Environment) (request : Request) (compilation : Compilation) (text : Bytes) (files : FileMap) : Type 0 where
+pub record RecordsNoEntry (environment : Environment) (request : Request) (compilation : Compilation) (text : Bytes) (files : FileMap) : Type 0 where
   pub asked : SnapshotRequest
   pub is_asked : IsAsked environment request compilation text asked
   pub key : String Global
@@ -142,7 +142,7 @@ ShowsBaseOf request text refusal = (bases : List Bytes) × AreBases (request_wor
 abbrev pub IsRefusedOver : Environment → Request → Compilation → Bytes → Bool → Bool → FileMap → Refusal → Type 0
 IsRefusedOver environment request compilation text tests doubtful files refusal =
     IsRefusedByInput environment request compilation text tests files refusal
-    ⊎ (((refusal ≡ NamedFile) × ((doubtful ≡ true) ⊎ HasNoEntry environment request compilation text files)) ⊎ ShowsBaseOf request text refusal)
+    ⊎ (((refusal ≡ NamedFile) × ((doubtful ≡ true) ⊎ RecordsNoEntry environment request compilation text files)) ⊎ ShowsBaseOf request text refusal)
 
 abbrev pub IsOutcomeOver : Environment → Request → Compilation → Bytes → Gathered → Outcome → Type 0
 IsOutcomeOver environment request compilation text gathered (Recorded key) =

@@ -73,7 +73,7 @@ abbrev pub key_over : SnapshotRequest → FileMap → Option Bytes
 key_over asked files = preprocessor_key_of (world_for sha256 no_text asked) (call_for Default files asked)
 
 -- this is the preprocessor key over a snapshot that has the input alone, if it has one
-pub record HasKey (environment : Environment) (request : Request) (key : Option Bytes) : Type 0 where
+pub record HasPreprocessorKey (environment : Environment) (request : Request) (key : Option Bytes) : Type 0 where
   pub input : FileMap
   pub tests : Bool
   pub is_input : IsInput request input tests

@@ -1,7 +1,7 @@
 //! Looks for an object in the store.
 ghost use Rattle.std.specs.Prelude.{IfOk, IfSome, OnOk};
 ghost use Rattle.cck_cache_command.specs.Input.{IsCalm};
-ghost use Rattle.cck_cache_command.specs.Look.{IsFound, IsFoundFor, IsIncluded, IsKept, IsKeyEntry, IsMatch, IsMiss, IsOneOf};
+ghost use Rattle.cck_cache_command.specs.Look.{IsLookResult, IsFoundFor, IsIncluded, IsKeptObject, IsKeyEntry, IsMatch, IsLookMiss, IsIncludeOf};
 ghost use Rattle.cck_cache_files.specs.Snapshot.{ArePut};
 ghost use Rattle.cck_include.specs.Include.{includes_in};
 
@@ -108,7 +108,7 @@ fn add_includes<R: Files + AllocGlobal>(
     includes: &[IncludeEntry],
 ) -> Result<(), UtilError>
     ensures put { OnOk result
-        (ArePut (IsOneOf (includes_in includes.now)) files.old.files files.new.files) }
+        (ArePut (IsIncludeOf (includes_in includes.now)) files.old.files files.new.files) }
     ensures calm { OnOk result (IsCalm files.old → IsCalm files.new) }
 {
     for include in includes {
@@ -165,7 +165,7 @@ fn miss<R: Files + AllocGlobal>(
     object_key: Option<String>,
     damaged: Option<String>,
 ) -> Result<Found>
-    ensures { IfOk result (IsMiss preprocessor_key object_key) }
+    ensures { IfOk result (IsLookMiss preprocessor_key object_key) }
 {
     let since = store.stamp(rt)?;
     Ok(Found::Miss {
@@ -185,7 +185,7 @@ fn kept_object<R: Files + AllocGlobal>(
     preprocessor_key: String,
     object_key: String,
 ) -> Result<Found>
-    ensures { IfOk result (IsKept outputs.now preprocessor_key object_key) }
+    ensures { IfOk result (IsKeptObject outputs.now preprocessor_key object_key) }
 {
     let Some(bytes) = store.read(rt, Kind::Object, object_key.as_str())? else {
         return miss(rt, store, preprocessor_key, Some(object_key), None);
@@ -256,7 +256,7 @@ pub fn look<R: Files + AllocGlobal>(
     store: &StoreDirectory,
     wanted: &Look<'_>,
 ) -> Result<Found>
-    ensures { IfOk result (IsFound environment.entry.now wanted.now) }
+    ensures { IfOk result (IsLookResult environment.entry.now wanted.now) }
 {
     let request = &wanted.request;
     let hasher = hasher_of(rt, environment, request)?;

@@ -2,7 +2,7 @@
 ghost use Rattle.std.specs.Prelude.{◌≡◌, ◌↔◌, IfOk, IfSome, IsTrue, MatchOption, OnOk, Some};
 ghost use Rattle.std.specs.Option.{option_map};
 ghost use Rattle.cck_cache_command.specs.Input.{IsCalm};
-ghost use Rattle.cck_cache_command.specs.Record.{HasNoLocalTime, IsJudged, IsLocalTime, IsObjectKey, IsOneDay, IsOutcome, IsOutcomeOver, IsRefusedByBase, IsSeen, ObjectShowsBase, recorded_fields};
+ghost use Rattle.cck_cache_command.specs.Record.{HasNoLocalTime, IsJudgedByInput, IsLocalTime, IsObjectKey, IsOneDay, IsOutcome, IsOutcomeOver, IsRefusedByBase, IsSeen, ObjectShowsBase, recorded_fields};
 ghost use Rattle.cck_cache_entry.specs.Files.{entry_fields};
 ghost use Rattle.cck_files.specs.Calls.{Keeps};
 ghost use Rattle.cck_files.specs.FileState.{IsQuiet, fault_count};
@@ -148,7 +148,7 @@ fn refusal_by_input<R: AllocGlobal>(
     key: &str,
 ) -> Result<Option<Refusal>>
     ensures judged { IfOk result
-        (IsJudged environment.entry.now asked.now files.old.files tests_headers key.now) }
+        (IsJudgedByInput environment.entry.now asked.now files.old.files tests_headers key.now) }
     ensures keeps { OnOk result
         (Keeps (λ files. files.files) fault_count IsQuiet files.old files.new) }
 {

@@ -8,7 +8,7 @@ use Rattle.std.proofs.lemmas.List.Elements.{All-append, All-push}
 use Rattle.std.proofs.lemmas.Bool.{cond_both}
 use Rattle.std.specs.Option.{MatchOption, option_map, unwrap_or}
 use Rattle.std.specs.Path.{has_no_slash, rfind_below, rsplit_once, slash}
-use Rattle.cck_cache_files.specs.Listing.{AddsFilesIn, AreNames, IsFileBelow, IsFileIn, path_in}
+use Rattle.cck_cache_files.specs.Listing.{AddsFilesIn, AreFileNames, IsFileBelow, IsFileIn, path_in}
 use Rattle.cck_cache_files.specs.declared.listing.StoredFile.{StoredFile}
 
 -- ---- names
@@ -47,13 +47,13 @@ unfolding rsplit_once
 last_has_no_slash path = last_part path (rfind_below slash path (length path)) (none_after path (length path))
 
 -- one more name
-pub one_more_name : (old new : List (String Global)) (name : String Global) (path : List ℕ) → AreNames old → new ≡ old ++ name ∷ [] → string_bytes name ≡ last_of path → AreNames new
+pub one_more_name : (old new : List (String Global)) (name : String Global) (path : List ℕ) → AreFileNames old → new ≡ old ++ name ∷ [] → string_bytes name ≡ last_of path → AreFileNames new
 one_more_name old new name path all e is =
     let P : List ℕ → Type 0 = λ bytes. IsTrue (has_no_slash bytes) in
-    subst AreNames (sym e) (All-push (λ s. P (string_bytes s)) old name all (subst P (sym is) (last_has_no_slash path)))
+    subst AreFileNames (sym e) (All-push (λ s. P (string_bytes s)) old name all (subst P (sym is) (last_has_no_slash path)))
 
 -- one of the names
-pub name_at : (names : List (String Global)) (i : ℕ) (name : String Global) → AreNames names → i < length names → name ≡ get_or names i name → IsTrue (has_no_slash (string_bytes name))
+pub name_at : (names : List (String Global)) (i : ℕ) (name : String Global) → AreFileNames names → i < length names → name ≡ get_or names i name → IsTrue (has_no_slash (string_bytes name))
 name_at names i name all l e = let P : String Global → Type 0 = λ s. IsTrue (has_no_slash (string_bytes s)) in subst P (sym e) (all i name l)
 
 -- ---- files

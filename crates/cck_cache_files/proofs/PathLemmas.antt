@@ -9,7 +9,7 @@ use Rattle.std.specs.Str.{IsCharBoundary}
 use Rattle.std.specs.Str.Pattern.{GetsRange}
 use denote.Ref.{Bor}
 use Rattle.cck_digest.proofs.ReadsBack.{bytes_read_back}
-use Rattle.cck_cache_files.specs.Paths.{digest_path, first_digits, is_boundary, key_directory, key_path, kind_name}
+use Rattle.cck_cache_files.specs.Paths.{digest_path, first_digits, is_char_boundary, key_directory, key_path, kind_name}
 use Rattle.cck_cache_files.specs.declared.store_directory.Kind.{Kind}
 use Rattle.cck_cache_files.specs.declared.store_directory.Kind.TheVariants.{Entry, Object}
 
@@ -24,10 +24,10 @@ tested_length n b e = grind (arith, nat_tests)
 tested_lead : (n b : ℕ) → (nat_le 2 n && (nat_lt b 128 || nat_le 192 b)) ≡ true → 128 ≤ b → 192 ≤ b
 tested_lead n b e l = grind (arith, nat_tests)
 
-boundary_is_tested : (key : List ℕ) → IsCharBoundary key 2 → is_boundary key 2 ≡ true
+boundary_is_tested : (key : List ℕ) → IsCharBoundary key 2 → is_char_boundary key 2 ≡ true
 boundary_is_tested key h = boundary_test (length key) (slice_index key 2) h.0 h.1 (λ l. get_or_past key 2 0 l)
 
-tested_is_boundary : (key : List ℕ) → is_boundary key 2 ≡ true → IsCharBoundary key 2
+tested_is_boundary : (key : List ℕ) → is_char_boundary key 2 ≡ true → IsCharBoundary key 2
 tested_is_boundary key e = (tested_length (length key) (slice_index key 2) e, λ _ l. tested_lead (length key) (slice_index key 2) e l)
 
 -- the first two bytes, where they can be had, and else two zeros
@@ -35,20 +35,20 @@ pub digits_are_first : (key : List ℕ) (r : Option (Bor (List ℕ))) (zeros t :
     → zeros.now ≡ codes "00" → IsUtf8 t.now → t.now ≡ first_digits key
 digits_are_first key None zeros t utf8 cases is none text =
     ap (λ s. s.now) is ∙ none
-    ∙ sym (cond-false (is_boundary key 2) (take 2 key) (codes "00")
-    (⊎_elim (λ y. absurd (cases (omega arith) (IsCharBoundary-start key utf8) (tested_is_boundary key y))) (λ n. n) (cases_Bool (is_boundary key 2))))
+    ∙ sym (cond-false (is_char_boundary key 2) (take 2 key) (codes "00")
+    (⊎_elim (λ y. absurd (cases (omega arith) (IsCharBoundary-start key utf8) (tested_is_boundary key y))) (λ n. n) (cases_Bool (is_char_boundary key 2))))
 digits_are_first key (Some x) zeros t utf8 cases is none text =
     let same : t.now ≡ take 2 key = ap (λ s. s.now) is ∙ cases.0 in
     let P : List ℕ → Type 0 = λ s. IsUtf8 s in
-    same ∙ sym (cond-true (is_boundary key 2) (take 2 key) (codes "00")
+    same ∙ sym (cond-true (is_char_boundary key 2) (take 2 key) (codes "00")
     (boundary_is_tested key (IsCharBoundary-from_take key 2 utf8 cases.2 (subst P same text))))
 
 length_digits : (key : List ℕ) → length (first_digits key) ≡ 2
 length_digits key =
     ⊎_elim
-    (λ y. ap length (cond-true (is_boundary key 2) (take 2 key) (codes "00") y) ∙ length-take-le 2 key (tested_length (length key) (slice_index key 2) y))
-    (λ n. ap length (cond-false (is_boundary key 2) (take 2 key) (codes "00") n))
-    (cases_Bool (is_boundary key 2))
+    (λ y. ap length (cond-true (is_char_boundary key 2) (take 2 key) (codes "00") y) ∙ length-take-le 2 key (tested_length (length key) (slice_index key 2) y))
+    (λ n. ap length (cond-false (is_char_boundary key 2) (take 2 key) (codes "00") n))
+    (cases_Bool (is_char_boundary key 2))
 
 length_kind : (kind : Kind) → length (kind_name kind) ≡ 7
 length_kind Entry = refl

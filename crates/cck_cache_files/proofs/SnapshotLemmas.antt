@@ -16,7 +16,7 @@ use Rattle.cck_markers.specs.Marks.{Mark, Name}
 use Rattle.cck_path.specs.Bytes.{Bytes}
 use Rattle.cck_path.specs.Path.{Path, components, joined, normal, path_cmp, path_cmp_total, path_cmp-IsAntisymmetric}
 use Rattle.cck_path.specs.Text.{path_text}
-use Rattle.cck_cache_files.specs.Snapshot.{ArePut, Grows, IsAdded, IsNamed, IsPart, IsPut, StaysCalm, none_put, one_more, with_node}
+use Rattle.cck_cache_files.specs.Snapshot.{ArePut, SnapshotGrows, IsAdded, IsNamed, IsPart, IsNodePut, StaysCalm, none_put, one_more, with_node}
 
 -- one node was put
 pub added : (before after : FileState) (path : Bytes) (n : FileNode) (tests : Bool) (source : Bytes) → after ≡ record before { files = with_node before.files path n } → source ≡ n.contents
@@ -34,7 +34,7 @@ still a b same low (inl up) = omega arith
 still a b same low (inr high) = omega arith
 
 -- a node at a free path is put in place of none
-pub put_free : (before after : FileMap) (path : Bytes) (tests : Bool) → exists_at before (components path) ≡ false → IsPut before path after tests → IsPart before after
+pub put_free : (before after : FileMap) (path : Bytes) (tests : Bool) → exists_at before (components path) ≡ false → IsNodePut before path after tests → IsPart before after
 unfolding exists_at
 put_free before after path tests free (inl none) p n held = ap (λ (m : FileMap). get m.nodes p) none.0 ∙ held
 put_free before after path tests free (inr some) p n held =
@@ -52,7 +52,7 @@ pub new_part : (old mid new : FileState) (path : Bytes) (r : Result Bool UtilErr
     → ((exists_at old.files (components path) ≡ false) ⊎ Rose (fault_count old) (fault_count mid)) → IfOk r (IsAdded mid path new) → OnErr r (new ≡ mid) → IsQuiet old → (p : Path) (n : FileNode) → get old.files.nodes p ≡ Some n → get new.files.nodes p ≡ Some n
 new_part old mid new path r keeps (inr rose) ok err quiet p n held = absurd (still (fault_count old) (fault_count mid) (keeps.stays_calm quiet) quiet.1 rose)
 new_part old mid new path (Ok tests) keeps (inl free) ok err quiet p n held =
-    put_free old.files new.files path tests free (subst (λ (m : FileMap). IsPut m path new.files tests) keeps.same_map ok.put) p n held
+    put_free old.files new.files path tests free (subst (λ (m : FileMap). IsNodePut m path new.files tests) keeps.same_map ok.put) p n held
 new_part old mid new path (Err e) keeps (inl free) ok err quiet p n held =
     ap (λ (s : FileState). get s.files.nodes p) err ∙ ap (λ (m : FileMap). get m.nodes p) keeps.same_map ∙ held
 
@@ -75,14 +75,14 @@ pub put_among : (At Among : Bytes → Bool → Type 0) (a b : FileMap) → ((pat
 put_among At Among a b all (none_put same) = none_put same
 put_among At Among a b all (one_more m path tests before at is) = one_more m path tests (put_among At Among a m all before) (all path tests at) is
 
-pub grows_not : (At : Bytes → Bool → Type 0) (a : FileState) → Grows At a a
+pub grows_not : (At : Bytes → Bool → Type 0) (a : FileState) → SnapshotGrows At a a
 grows_not At a = record { put = none_put refl; kept = λ quiet p n held. held; calm = calm_itself a }
 
-pub grows_among : (At Among : Bytes → Bool → Type 0) (a b : FileState) → ((path : Bytes) (tests : Bool) → At path tests → Among path tests) → Grows At a b → Grows Among a b
+pub grows_among : (At Among : Bytes → Bool → Type 0) (a b : FileState) → ((path : Bytes) (tests : Bool) → At path tests → Among path tests) → SnapshotGrows At a b → SnapshotGrows Among a b
 grows_among At Among a b all grown = record { put = put_among At Among a.files b.files all grown.put; kept = grown.kept; calm = grown.calm }
 
 -- one file more
-pub grows_more : (At : Bytes → Bool → Type 0) (a b c : FileState) (path : Bytes) (tests : Bool) → Grows At a b → At path tests → IsPut b.files path c.files tests → (IsQuiet b → IsPart b.files c.files) → StaysCalm b c → Grows At a c
+pub grows_more : (At : Bytes → Bool → Type 0) (a b c : FileState) (path : Bytes) (tests : Bool) → SnapshotGrows At a b → At path tests → IsNodePut b.files path c.files tests → (IsQuiet b → IsPart b.files c.files) → StaysCalm b c → SnapshotGrows At a c
 grows_more At a b c path tests grown at put kept calm = record {
   put = one_more b.files path tests grown.put at put;
   kept = λ quiet p n held. kept (grown.calm.stays_quiet quiet) p n (grown.kept quiet p n held);
@@ -90,7 +90,7 @@ grows_more At a b c path tests grown at put kept calm = record {
 }
 
 -- calls that put nothing
-pub grows_kept : (At : Bytes → Bool → Type 0) (a b c : FileState) → Grows At a b → Keeps (λ (s : FileState). s.files) fault_count IsQuiet b c → Grows At a c
+pub grows_kept : (At : Bytes → Bool → Type 0) (a b c : FileState) → SnapshotGrows At a b → Keeps (λ (s : FileState). s.files) fault_count IsQuiet b c → SnapshotGrows At a c
 grows_kept At a b c grown keeps = record {
   put = subst (λ (m : FileMap). ArePut At a.files m) (sym keeps.same_map) grown.put;
   kept = λ quiet p n held. ap (λ (m : FileMap). get m.nodes p) keeps.same_map ∙ grown.kept quiet p n held;
@@ -107,14 +107,14 @@ named_more done mark cwd test more known path tests named = record {
   tested = λ none. named.tested (known none);
 }
 
-pub grows_named : (done : List Mark) (mark : Mark) (cwd : Bytes) (test more : Bool) (a b : FileState) → (more ≡ false → test ≡ false) → Grows (IsNamed done cwd test) a b → Grows (IsNamed (done ++ mark ∷ []) cwd more) a b
+pub grows_named : (done : List Mark) (mark : Mark) (cwd : Bytes) (test more : Bool) (a b : FileState) → (more ≡ false → test ≡ false) → SnapshotGrows (IsNamed done cwd test) a b → SnapshotGrows (IsNamed (done ++ mark ∷ []) cwd more) a b
 grows_named done mark cwd test more a b known =
     grows_among (IsNamed done cwd test) (IsNamed (done ++ mark ∷ []) cwd more) a b (named_more done mark cwd test more known)
 
 -- a file is put at the path of one mark more
 pub grows_by_name : (done : List Mark) (name : Bytes) (is_system : Bool) (cwd : Bytes) (test more tests : Bool) (a b c : FileState) (path : Bytes) → path ≡ path_text (normal (joined (components cwd) (components name)))
-    → (more ≡ false → (test ≡ false) × ((tests ≡ false) ⊎ (is_system ≡ true))) → Grows (IsNamed done cwd test) a b → IsPut b.files path c.files tests → (IsQuiet b → IsPart b.files c.files) → StaysCalm b c
-    → Grows (IsNamed (done ++ Name name is_system ∷ []) cwd more) a c
+    → (more ≡ false → (test ≡ false) × ((tests ≡ false) ⊎ (is_system ≡ true))) → SnapshotGrows (IsNamed done cwd test) a b → IsNodePut b.files path c.files tests → (IsQuiet b → IsPart b.files c.files) → StaysCalm b c
+    → SnapshotGrows (IsNamed (done ++ Name name is_system ∷ []) cwd more) a c
 grows_by_name done name is_system cwd test more tests a b c path leads known grown put kept calm =
     grows_more (IsNamed (done ++ Name name is_system ∷ []) cwd more) a b c path tests
     (grows_named done (Name name is_system) cwd test more a b (λ none. (known none).0) grown)

@@ -14,7 +14,7 @@ use Rattle.std.specs.Ordering.{is_eq, nat_cmp}
 use Rattle.std.specs.Str.{bytes_eq, is_utf8}
 use Rattle.std.specs.declared.cmp.Ordering.{Ordering}
 use denote.Enum.Bare.{differs_false, sameb}
-use Rattle.cck_cache_files.specs.PathStates.{AreOnTheWay, EndsAt, IsStateOf, Keeps, state_at}
+use Rattle.cck_cache_files.specs.PathStates.{AreOnTheWay, EndsAt, IsStateOf, KeepsStates, state_at}
 use Rattle.cck_cache_files.specs.declared.path_states.PathState.{PathState}
 use Rattle.cck_cache_files.specs.declared.path_states.PathState.TheVariants.{Absent, Directory, Doubtful}
 use Rattle.cck_cache_files.specs.declared.path_states.PathStates.{PathStates}
@@ -67,11 +67,11 @@ absent_is_text path state r doubt e h =
 
 -- ---- what is kept
 
-Keeps-trans : (a b c : PathStates) → Keeps a b → Keeps b c → Keeps a c
-Keeps-trans a b c h k = record { since = k.since ∙ h.since; states = λ path state e. k.states path state (h.states path state e) }
+KeepsStates-trans : (a b c : PathStates) → KeepsStates a b → KeepsStates b c → KeepsStates a c
+KeepsStates-trans a b c h k = record { since = k.since ∙ h.since; states = λ path state e. k.states path state (h.states path state e) }
 
-Keeps-state : (old new : PathStates) (path : List ℕ) (state : PathState) → IsStateOf old new path state → Keeps old new
-Keeps-state old new path state h = record {
+KeepsStates-state : (old new : PathStates) (path : List ℕ) (state : PathState) → IsStateOf old new path state → KeepsStates old new
+KeepsStates-state old new path state h = record {
   since = h.since;
   states = λ other known e.
       ⊎_elim
@@ -84,8 +84,8 @@ Keeps-state old new path state h = record {
 }
 
 -- a state that was asked for after others
-pub kept_after : (first old new : PathStates) (path : List ℕ) (state : PathState) → Keeps first old → IsStateOf old new path state → Keeps first new
-kept_after first old new path state h is = Keeps-trans first old new h (Keeps-state old new path state is)
+pub kept_after : (first old new : PathStates) (path : List ℕ) (state : PathState) → KeepsStates first old → IsStateOf old new path state → KeepsStates first new
+kept_after first old new path state h is = KeepsStates-trans first old new h (KeepsStates-state old new path state is)
 
 -- ---- the way to a path
 
@@ -95,10 +95,10 @@ is_directory state e = differs_false the_type (search rules) state Directory e
 
 -- the states that were kept are kept, and the path before each slash up to this place has one of these
 pub record OnTheWay (P : PathState → Type 0) (first now : PathStates) (path : List ℕ) (count : ℕ) : Type 0 where
-  pub keeps : Keeps first now
+  pub keeps : KeepsStates first now
   pub way : AreOnTheWay P now path count
 
-kept_on_the_way : (P : PathState → Type 0) (old new : PathStates) (path : List ℕ) (count : ℕ) → Keeps old new → AreOnTheWay P old path count → AreOnTheWay P new path count
+kept_on_the_way : (P : PathState → Type 0) (old new : PathStates) (path : List ℕ) (count : ℕ) → KeepsStates old new → AreOnTheWay P old path count → AreOnTheWay P new path count
 kept_on_the_way P old new path count keeps way = λ place l ends. let at = way place l ends in (at.0, keeps.states (take place path) at.0 at.1, at.2)
 
 one_more : (Q : ℕ → Type 0) (count : ℕ) → ((place : ℕ) → place < count → Q place) → Q count → (place : ℕ) → place < count + 1 → Q place
@@ -112,9 +112,9 @@ one_more Q count before at place l =
 pub way_goes_on : (P : PathState → Type 0) (first old new : PathStates) (path : List ℕ) (place : ℕ) (state : PathState) → OnTheWay P first old path place
     → IsStateOf old new (take place path) state → P state → OnTheWay P first new path (place + 1)
 way_goes_on P first old new path place state h is p =
-    let keeps = Keeps-state old new (take place path) state is in
+    let keeps = KeepsStates-state old new (take place path) state is in
     record {
-      keeps = Keeps-trans first old new h.keeps keeps;
+      keeps = KeepsStates-trans first old new h.keeps keeps;
       way = one_more (λ at. EndsAt path at → (s : PathState) × (state_at new (take at path) ≡ Some s) × P s) place (kept_on_the_way P old new path place keeps h.way) (λ _. (state, is.state_is, p));
     }
 

@@ -6,8 +6,8 @@ use Rattle.std.specs.declared.alloc.Global.{Global}
 use Rattle.cck_cache_files.specs.declared.listing.StoredFile.{StoredFile}
 
 -- names of what is in a directory
-abbrev pub AreNames : List (String Global) → Type 0
-AreNames names = All (λ name. IsTrue (has_no_slash (string_bytes name))) names
+abbrev pub AreFileNames : List (String Global) → Type 0
+AreFileNames names = All (λ name. IsTrue (has_no_slash (string_bytes name))) names
 
 -- the path of what has this name in a directory
 abbrev pub path_in : List ℕ → List ℕ → List ℕ

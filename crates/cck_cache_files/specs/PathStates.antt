@@ -28,7 +28,7 @@ pub record IsUnchanged (old new : PathStates) : Type 0 where
   pub states : (path : List ℕ) → state_at new path ≡ state_at old path
 
 -- all states that were kept are kept, and others may have been added
-pub record Keeps (old new : PathStates) : Type 0 where
+pub record KeepsStates (old new : PathStates) : Type 0 where
   pub since : new.since ≡ old.since
   pub states : (path : List ℕ) (state : PathState) → state_at old path ≡ Some state → state_at new path ≡ Some state
 

@@ -20,12 +20,12 @@ kind_name Entry = codes "entries"
 kind_name Object = codes "objects"
 
 -- no character of the text is cut after this many bytes
-abbrev pub is_boundary : List ℕ → ℕ → Bool
-is_boundary text count = nat_le count (length text) && (nat_lt (slice_index text count) 128 || nat_le 192 (slice_index text count))
+abbrev pub is_char_boundary : List ℕ → ℕ → Bool
+is_char_boundary text count = nat_le count (length text) && (nat_lt (slice_index text count) 128 || nat_le 192 (slice_index text count))
 
 -- the first two digits of a key, or two zeros where a character would be cut after them
 abbrev pub first_digits : List ℕ → List ℕ
-first_digits key = if is_boundary key 2 then take 2 key else codes "00"
+first_digits key = if is_char_boundary key 2 then take 2 key else codes "00"
 
 -- the directory of the file of a key, in the directory of a store
 abbrev pub key_directory : List ℕ → Kind → List ℕ → List ℕ

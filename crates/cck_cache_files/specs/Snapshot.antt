@@ -18,19 +18,19 @@ abbrev pub with_node : FileMap → Bytes → FileNode → FileMap
 with_node files path n = with_place files (components path) n (normal (components path))
 
 -- Nothing was put, or this one node. Whether its contents test for headers is known; where nothing was put they don't.
-abbrev pub IsPut : FileMap → Bytes → FileMap → Bool → Type 0
-IsPut before path after tests =
+abbrev pub IsNodePut : FileMap → Bytes → FileMap → Bool → Type 0
+IsNodePut before path after tests =
     ((after ≡ before) × (tests ≡ false)) ⊎ ((n : FileNode) × (after ≡ with_node before path n) × (IsTrue tests ↔ TestsHeaders n))
 
 -- the same of a snapshot, of which nothing else changed
 pub record IsAdded (before : FileState) (path : Bytes) (after : FileState) (tests : Bool) : Type 0 where
-  pub put : IsPut before.files path after.files tests
+  pub put : IsNodePut before.files path after.files tests
   pub others : after ≡ record before { files = after.files }
 
 -- files were put one after the other, each at such a path and with such contents
 pub data ArePut (At : Bytes → Bool → Type 0) (before : FileMap) : FileMap → Type 0 where
   none_put : {after : FileMap} → after ≡ before → ArePut At before after
-  one_more : {after : FileMap} (between : FileMap) (path : Bytes) (tests : Bool) → ArePut At before between → At path tests → IsPut between path after tests → ArePut At before after
+  one_more : {after : FileMap} (between : FileMap) (path : Bytes) (tests : Bool) → ArePut At before between → At path tests → IsNodePut between path after tests → ArePut At before after
 
 -- the count of faults never falls, and a quiet snapshot stays quiet and meets no fault
 pub record StaysCalm (before after : FileState) : Type 0 where
@@ -43,7 +43,7 @@ abbrev pub IsPart : FileMap → FileMap → Type 0
 IsPart part whole = (p : Path) (n : FileNode) → get part.nodes p ≡ Some n → get whole.nodes p ≡ Some n
 
 -- files were put into a snapshot, and none of a quiet one was replaced
-pub record Grows (At : Bytes → Bool → Type 0) (before after : FileState) : Type 0 where
+pub record SnapshotGrows (At : Bytes → Bool → Type 0) (before after : FileState) : Type 0 where
   pub put : ArePut At before.files after.files
   pub kept : IsQuiet before → IsPart before.files after.files
   pub calm : StaysCalm before after

@@ -5,9 +5,9 @@ use Rattle.std.specs.declared.time.SystemTime.{SystemTime}
 use Rattle.cck_path.specs.Timestamp.{Moment, nanos_of}
 
 -- a time is known, and before this one: by the seconds, or by the nanoseconds where the seconds are the same
-abbrev pub IsBefore : Option Moment → Moment → Type 0
-IsBefore None since = ⊥
-IsBefore (Some time) since =
+abbrev pub IsTimeBefore : Option Moment → Moment → Type 0
+IsTimeBefore None since = ⊥
+IsTimeBefore (Some time) since =
     (time.seconds <ℤ since.seconds) ⊎ ((time.seconds ≡ since.seconds) × (time.nanoseconds < since.nanoseconds))
 
 -- the system's time for a time, and none before 1970

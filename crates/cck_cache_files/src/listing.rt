@@ -1,7 +1,7 @@
 //! The files of a store.
 ghost use Rattle.std.specs.Prelude.{All, IfOk, IfSome, codes};
 ghost use Rattle.cck_cache_files.specs.Paths.{directory_bytes, kind_name};
-ghost use Rattle.cck_cache_files.specs.Listing.{AddsFilesIn, AreNames, IsFileBelow, IsFileIn, IsFileNamed, path_in};
+ghost use Rattle.cck_cache_files.specs.Listing.{AddsFilesIn, AreFileNames, IsFileBelow, IsFileIn, IsFileNamed, path_in};
 
 use crate::store_directory::{Kind, StoreDirectory};
 use crate::times::modified;
@@ -29,7 +29,7 @@ fn names_in<R: Files + AllocGlobal + Clone + Drop>(
     rt: &R,
     directory: &str,
 ) -> io::Result<Vec<String>>
-    ensures { IfOk result (λ names. AreNames names.items) }
+    ensures { IfOk result (λ names. AreFileNames names.items) }
 {
     let alloc = rt.alloc();
     let mut names = Vec::new(alloc);

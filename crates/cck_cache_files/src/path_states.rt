@@ -1,7 +1,7 @@
 //! What there is on the way to a path.
 ghost use Rattle.std.specs.Prelude.{◌≡◌, ℕ, List, None, length, IfOk, IsTrue, IsUtf8, MatchBool, OnErr};
 ghost use Rattle.std.specs.Fs.{file_type};
-ghost use Rattle.cck_cache_files.specs.PathStates.{AreOnTheWay, HasOther, IsFirstOther, IsStateFound, IsStateOf, IsUnchanged, Keeps, LeadsOn, state_at};
+ghost use Rattle.cck_cache_files.specs.PathStates.{AreOnTheWay, HasOther, IsFirstOther, IsStateFound, IsStateOf, IsUnchanged, KeepsStates, LeadsOn, state_at};
 
 use crate::times::{changed, changed_before, modified};
 use cck_path::Timestamp;
@@ -129,7 +129,7 @@ impl PathStates {
         path: &'a [u8],
     ) -> Result<(&'a [u8], PathState), AllocError>
         ensures first { IfOk result (λ other. IsFirstOther self.new path.now other.0.now other.1) }
-        ensures kept { Keeps self.old self.new }
+        ensures kept { KeepsStates self.old self.new }
     {
         for (place, byte) in path.iter().enumerate() {
             if *byte == b'/' && place > 0 {
@@ -153,7 +153,7 @@ impl PathStates {
     ) -> Result<bool, AllocError>
         ensures link { IfOk result (λ found. MatchBool found (HasOther self.new path.now)
             (AreOnTheWay (λ state. state ≡ PathState.Directory) self.new path.now (length path.now))) }
-        ensures kept { Keeps self.old self.new }
+        ensures kept { KeepsStates self.old self.new }
     {
         for (place, byte) in path.iter().enumerate() {
             if *byte == b'/' && place > 0 {

@@ -1,6 +1,6 @@
 //! The times of real files.
 ghost use Rattle.std.specs.Prelude.{◌≡◌, ◌<◌, ◌↔◌, IsTrue, MatchOption, pos, ℕ};
-ghost use Rattle.cck_cache_files.specs.Times.{IsBefore, IsSystemTime};
+ghost use Rattle.cck_cache_files.specs.Times.{IsTimeBefore, IsSystemTime};
 
 use cck_path::Timestamp;
 use std::fs::Metadata;
@@ -32,7 +32,7 @@ pub fn changed(metadata: &Metadata) -> Option<Timestamp> {
 
 // Whether a time is known, and before this one.
 fn is_before(time: Option<Timestamp>, since: Timestamp) -> bool
-    ensures { IsTrue result ↔ IsBefore time since }
+    ensures { IsTrue result ↔ IsTimeBefore time since }
 {
     match time {
         Some(time) => time < since,
@@ -46,7 +46,7 @@ pub fn changed_before(
     changed: Option<Timestamp>,
     since: Timestamp,
 ) -> bool
-    ensures { IsTrue result ↔ (IsBefore modified since × IsBefore changed since) }
+    ensures { IsTrue result ↔ (IsTimeBefore modified since × IsTimeBefore changed since) }
 {
     is_before(modified, since) && is_before(changed, since)
 }

@@ -7,7 +7,7 @@ use Rattle.cck_cache_files.proofs.SnapshotLemmas.{put_among}
 use Rattle.cck_cache_files.specs.Snapshot.{ArePut, none_put}
 use Rattle.cck_include.specs.Include.{includes_in}
 use Rattle.cck_include.specs.declared.include.IncludeEntry.{IncludeEntry}
-use Rattle.cck_cache_command.specs.Look.{IsIncluded, IsOneOf}
+use Rattle.cck_cache_command.specs.Look.{IsIncluded, IsIncludeOf}
 use Rattle.cck_cache_command.proofs.InputLemmas.{put_all}
 use Rattle.cck_cache_command.proofs.LookLemmas.{included_at}
 use Rattle.cck_cache_command.proofs.look.add_entry_files.Goals as goal
@@ -28,9 +28,9 @@ loop-includes-preserved g c =
     let old = c.args.files.now.files in
     let mid = c.loop-includes.files.files in
     let new = c.add_includes.new.files.files in
-    let put = subst (λ (is : List IncludeEntry). ArePut (IsOneOf (includes_in is)) mid new) c.deref.ensures.value c.in_ok-add_includes.ensures.put in (
+    let put = subst (λ (is : List IncludeEntry). ArePut (IsIncludeOf (includes_in is)) mid new) c.deref.ensures.value c.in_ok-add_includes.ensures.put in (
       put_all (IsIncluded bytes) old mid new c.loop-includes.invariant.0
-          (put_among (IsOneOf (includes_in c.in-Some.includes.now.items)) (IsIncluded bytes) mid new
+          (put_among (IsIncludeOf (includes_in c.in-Some.includes.now.items)) (IsIncluded bytes) mid new
           (included_at bytes c.in-Ok.entry all (length c.loop-includes.yielded) (deref_pair item) c.in-Ok.ensures.reads c.results.ensures at) put),
       λ calm. c.in_ok-add_includes.ensures.calm (c.loop-includes.invariant.1 calm),
     )

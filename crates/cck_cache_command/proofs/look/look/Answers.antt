@@ -4,8 +4,8 @@ use Rattle.std.specs.Option.{option_map}
 use Rattle.std.specs.declared.alloc.Global.{Global}
 use Rattle.cck_files.specs.FileMap.{FileMap}
 use Rattle.cck_cache_command.specs.Input.{IsCalm}
-use Rattle.cck_cache_command.specs.Look.{IsFound, IsFoundFor}
-use Rattle.cck_cache_command.specs.Request.{HasKey}
+use Rattle.cck_cache_command.specs.Look.{IsLookResult, IsFoundFor}
+use Rattle.cck_cache_command.specs.Request.{HasPreprocessorKey}
 use Rattle.cck_cache_command.specs.declared.look.Found.{Found}
 use Rattle.cck_cache_command.proofs.InputLemmas.{calm_kept}
 use Rattle.cck_cache_command.proofs.LookLemmas.{found_all}
@@ -19,7 +19,7 @@ returns-in-Some g c =
     let after = c.preprocessor_key.new.snapshot in
     let asked = c.snapshot_request-asked.result in
     let key = c.in-Some.key in
-    let has : HasKey environment wanted.request (Some (string_bytes key)) = record {
+    let has : HasPreprocessorKey environment wanted.request (Some (string_bytes key)) = record {
       input = files.files;
       tests = c.in_ok-files.field-0.tests_headers;
       is_input = c.in_ok-files.ensures.input;
@@ -27,7 +27,7 @@ returns-in-Some g c =
       is_request = c.snapshot_request-asked.ensures wanted.request refl c.in_ok-hasher.ensures;
       is_key = sym c.in_ok-key.ensures.key ∙ ap (λ (o : Option (String Global)). option_map string_bytes o) c.in-Some.is;
     } in
-    IfOk-weaker c.look_for.result (λ (found : Found). IsCalm after → IsFoundFor wanted.outputs asked after.files key found) (IsFound environment wanted)
+    IfOk-weaker c.look_for.result (λ (found : Found). IsCalm after → IsFoundFor wanted.outputs asked after.files key found) (IsLookResult environment wanted)
     (λ found is. found_all environment wanted key has found
     (subst (λ (m : FileMap). IsFoundFor wanted.outputs asked m key found) c.in_ok-key.ensures.keeps.same_map (is (calm_kept files after c.in_ok-key.ensures.keeps c.in_ok-files.ensures.calm))))
     c.look_for.ensures

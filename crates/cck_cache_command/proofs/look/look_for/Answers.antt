@@ -4,7 +4,7 @@ use Rattle.std.specs.declared.alloc.Global.{Global}
 use Rattle.cck_cache_entry.specs.Files.{entry_fields}
 use Rattle.cck_path.specs.Bytes.{Bytes}
 use Rattle.cck_cache_command.specs.Input.{IsCalm}
-use Rattle.cck_cache_command.specs.Look.{IsFoundFor, IsKept, IsMatch, IsMatchOfKey}
+use Rattle.cck_cache_command.specs.Look.{IsFoundFor, IsKeptObject, IsMatch, IsMatchOfKey}
 use Rattle.cck_cache_command.specs.declared.look.Found.{Found}
 use Rattle.cck_cache_command.proofs.LookLemmas.{found_kept}
 use Rattle.cck_cache_command.proofs.look.look_for.Goals as goal
@@ -24,5 +24,5 @@ returns-in-Some g c =
       subst (λ (k : Bytes). IsMatch asked files.files k bytes object) c.as_str-2.ensures.value
           (subst (λ (o : Option (String Global)). IfSome o (IsMatch asked files.files c.as_str-2.result.now bytes)) c.in-Some.is (c.in_ok-object.ensures calm)),
     ) in
-    IfOk-weaker c.kept_object.result (IsKept outputs key object) (λ (found : Found). IsCalm files → IsFoundFor outputs asked files.files key found)
+    IfOk-weaker c.kept_object.result (IsKeptObject outputs key object) (λ (found : Found). IsCalm files → IsFoundFor outputs asked files.files key found)
     (λ found kept calm. found_kept outputs asked files.files key object found (is calm) kept) c.kept_object.ensures

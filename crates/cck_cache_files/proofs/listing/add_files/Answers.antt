@@ -1,5 +1,5 @@
 use Rattle.std.proofs.Common.{◌≡◌, ◌∷◌, ◌++◌, [], ℕ, List, Option, IfSome, string_bytes, ap, rules, subst, sym}
-use Rattle.cck_cache_files.specs.Listing.{AddsFilesIn, AreNames, IsFileNamed}
+use Rattle.cck_cache_files.specs.Listing.{AddsFilesIn, AreFileNames, IsFileNamed}
 use Rattle.cck_cache_files.specs.declared.listing.StoredFile.{StoredFile}
 use Rattle.cck_cache_files.proofs.ListingLemmas.{name_at, one_added}
 use Rattle.cck_cache_files.proofs.listing.add_files.Goals as goal
@@ -16,7 +16,7 @@ loop-name-preserved g c =
       | in-Some+in_ok-push w ↦
           let pushed : w.push.new.self.items ≡ c.loop-name.files.items ++ w.in-Some.file ∷ [] = search rules in
           let R : List ℕ → Type 0 = λ bytes. IsFileNamed directory bytes w.in-Some.file in
-          let listed = name_at c.deref-name-items.result.now c.loop-name.name-index name (subst AreNames (sym c.deref-name-items.ensures.value) c.in_ok-names.ensures) c.loop-name-test.true c.name-item.is in
+          let listed = name_at c.deref-name-items.result.now c.loop-name.name-index name (subst AreFileNames (sym c.deref-name-items.ensures.value) c.in_ok-names.ensures) c.loop-name-test.true c.name-item.is in
           subst P (sym (ap (λ files. files.items) w.files-is))
           (one_added directory first c.loop-name.files.items w.push.new.self.items w.in-Some.file c.loop-name.invariant pushed
           (string_bytes name, listed, subst R c.as_str.ensures.value (subst Q w.in-Some.is c.in_ok-file.ensures)))

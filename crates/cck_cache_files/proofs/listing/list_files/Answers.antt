@@ -1,5 +1,5 @@
 use Rattle.std.proofs.Common.{◌≡◌, ◌∙◌, ◌++◌, List, ℕ, All, ap, codes, string_bytes, subst, sym, append_assoc}
-use Rattle.cck_cache_files.specs.Listing.{AreNames, IsFileBelow, path_in}
+use Rattle.cck_cache_files.specs.Listing.{AreFileNames, IsFileBelow, path_in}
 use Rattle.cck_cache_files.specs.Paths.{directory_bytes, kind_name}
 use Rattle.cck_cache_files.proofs.ListingLemmas.{added_below, name_at}
 use Rattle.cck_cache_files.proofs.listing.list_files.Goals as goal
@@ -10,7 +10,7 @@ loop-name-preserved g c =
     let name = string_bytes c.name-item.result in
     added_below directory c.as_str-in-loop-name.result.now name c.loop-name.files.items c.add_files.new.files.items
     (c.as_str-in-loop-name.ensures.value ∙ c.in_ok-path.ensures.ok ∙ sym (append_assoc directory (codes "/") name)) c.loop-name.invariant c.in_ok-add_files.ensures
-    (name_at c.deref-name-items.result.now c.loop-name.name-index c.name-item.result (subst AreNames (sym c.deref-name-items.ensures.value) c.in_ok-names.ensures) c.loop-name-test.true c.name-item.is)
+    (name_at c.deref-name-items.result.now c.loop-name.name-index c.name-item.result (subst AreFileNames (sym c.deref-name-items.ensures.value) c.in_ok-names.ensures) c.loop-name-test.true c.name-item.is)
 
 pub returns : goal.returns
 returns g c =
