@@ -7,13 +7,13 @@ use Rattle.std.proofs.lemmas.Bool.Decides.{Decides-eqb}
 use Rattle.std.proofs.lemmas.List.{get_or-map, length-map}
 use Rattle.std.proofs.lemmas.List.Elements.{All-from_all_within, All-map}
 use Rattle.std.proofs.lemmas.Slice.Eq.{ends_is, starts_is}
-use Rattle.cck_cache_base.specs.Argument.{Begins, Ends}
+use Rattle.cck_cache_base.specs.Argument.{Begins, IsEndOf}
 
 pub starts_decided : (text word : List ℕ) (r : Bool) → r ≡ starts_with nat_eq text word → Decides r (Begins text word)
 starts_decided text word r e =
     let is = starts_is Decides-eqb text word r e in (λ q. (drop (length word) text, is.0 q), λ (rest, same). is.1 rest same)
 
-pub ends_decided : (text word : List ℕ) (r : Bool) → r ≡ ends_with nat_eq text word → Decides r (Ends text word)
+pub ends_decided : (text word : List ℕ) (r : Bool) → r ≡ ends_with nat_eq text word → Decides r (IsEndOf text word)
 ends_decided text word r e =
     let is = ends_is Decides-eqb text word r e in (λ q. (_, is.0 q), λ (front, same). is.1 front same)
 

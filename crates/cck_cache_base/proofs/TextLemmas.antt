@@ -5,13 +5,13 @@ use Rattle.std.proofs.lemmas.Bool.{cases_lt}
 use Rattle.std.proofs.lemmas.List.{append_cancel_left, drop_at, get_or-drop, take_at, take_rest}
 use Rattle.memchr.specs.Find.{FindsNeedle, OccursAt}
 use Rattle.memchr.proofs.lemmas.MatchLemmas.{OccursAt-split}
-use Rattle.cck_cache_base.specs.Argument.{Begins, Ends}
+use Rattle.cck_cache_base.specs.Argument.{Begins, IsEndOf}
 use Rattle.cck_cache_base.specs.Text.{IsDirectoryMarker, IsPortableText}
 use Rattle.cck_cache_base.proofs.ArgumentLemmas.{occurs, parts}
 
 -- what is after the directory
 module _ (before after directory rest : List ℕ) (begins : after ≡ directory ++ rest) where
-  pub marker_decided : (r : Bool) → Ends before (codes "\n# 1 \"") → Decides r (Begins rest (codes "//\"\n")) → Decides r (IsDirectoryMarker before after directory)
+  pub marker_decided : (r : Bool) → IsEndOf before (codes "\n# 1 \"") → Decides r (Begins rest (codes "//\"\n")) → Decides r (IsDirectoryMarker before after directory)
   marker_decided r line end = (
     λ q. let on = end.0 q in (line, (on.0, begins ∙ (ap (λ x. directory ++ x) on.1 ∙ sym (append_assoc directory (codes "//\"\n") on.0)))),
     λ marker. let on = marker.1 in end.1 (on.0, append_cancel_left directory rest (codes "//\"\n" ++ on.0) (sym begins ∙ (on.1 ∙ append_assoc directory (codes "//\"\n") on.0))),

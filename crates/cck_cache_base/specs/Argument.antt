@@ -8,8 +8,8 @@ Has text word = (before : List ℕ) × (after : List ℕ) × (text ≡ before ++
 abbrev pub Begins : List ℕ → List ℕ → Type 0
 Begins text word = (rest : List ℕ) × (text ≡ word ++ rest)
 
-abbrev pub Ends : List ℕ → List ℕ → Type 0
-Ends text word = (front : List ℕ) × (text ≡ front ++ word)
+abbrev pub IsEndOf : List ℕ → List ℕ → Type 0
+IsEndOf text word = (front : List ℕ) × (text ≡ front ++ word)
 
 -- an option, the base directory, `=` and a name that has neither `=` nor the base directory
 pub record MapsBase (argument option base : List ℕ) : Type 0 where

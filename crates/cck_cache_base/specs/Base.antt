@@ -1,7 +1,7 @@
 -- the base directory of portable words
 use Rattle.std.specs.Prelude.{◌≡◌, ◌≢◌, ◌≤◌, ℕ, ◌⊎◌, List, ◌++◌, All, Any, map, Option, Some, None, codes}
 use Rattle.std.specs.Option.{option_map}
-use Rattle.cck_cache_base.specs.Argument.{AsksForDebug, Begins, Ends, IsPortable, MapsDebug}
+use Rattle.cck_cache_base.specs.Argument.{AsksForDebug, Begins, IsEndOf, IsPortable, MapsDebug}
 use Rattle.cck_cache_base.specs.declared.base.Words.{Words}
 
 -- the words as lists of bytes
@@ -28,7 +28,7 @@ pub record IsPlainByte (byte : ℕ) : Type 0 where
 -- an absolute path that is not the root, and stays as it is in a line marker and in an option
 pub record IsPlain (base : List ℕ) : Type 0 where
   pub absolute : Begins base (codes "/")
-  pub ended : ¬ Ends base (codes "/")
+  pub ended : ¬ IsEndOf base (codes "/")
   pub bytes : All IsPlainByte base
 
 -- the path is the base directory, or goes on with a slash after it

@@ -1,7 +1,7 @@
 -- the base directories that are cut from the key of words with a text
 use Rattle.std.specs.Prelude.{◌≡◌, ℕ, List, [], ◌∷◌, ◌++◌, map, codes}
 use Rattle.std.specs.Global.{Vec}
-use Rattle.cck_cache_base.specs.Argument.{Begins, Ends}
+use Rattle.cck_cache_base.specs.Argument.{Begins, IsEndOf}
 use Rattle.cck_cache_base.specs.Base.{ArePortable, WordLists}
 
 abbrev pub byte_lists : Vec (Vec ℕ) → List (List ℕ)
@@ -10,7 +10,7 @@ byte_lists parts = map (λ p. p.items) parts.items
 -- between these parts of a text begins the directory in a line marker of its own: a line with `# 1 "`, the directory and `//"`
 abbrev pub IsDirectoryMarker : List ℕ → List ℕ → List ℕ → Type 0
 IsDirectoryMarker before after directory =
-    Ends before (codes "\n# 1 \"") × Begins after (directory ++ codes "//\"\n")
+    IsEndOf before (codes "\n# 1 \"") × Begins after (directory ++ codes "//\"\n")
 
 -- each occurrence of the base directory begins the working directory in the marker of it
 abbrev pub IsPortableText : List ℕ → List ℕ → List ℕ → Type 0

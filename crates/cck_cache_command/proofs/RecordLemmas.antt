@@ -16,7 +16,7 @@ use Rattle.cck_cache_command.specs.declared.record.Outcome.{Outcome}
 use Rattle.cck_cache_command.specs.declared.record.Outcome.TheVariants.{Recorded, Refused}
 use Rattle.cck_cache_entry.specs.Assembler.{may_include}
 use Rattle.cck_cache_entry.specs.declared.object_file.ObjectFile.{ObjectFile}
-use Rattle.cck_cache_files.specs.Snapshot.{ArePut, SnapshotGrows, IsNamed}
+use Rattle.cck_cache_files.specs.Snapshot.{ArePut, SnapshotGrows, IsNamedFile}
 use Rattle.cck_cache_words.specs.declared.request.Request.{Request}
 use Rattle.cck_cache_words.specs.declared.task.Compilation.{Compilation}
 use Rattle.cck_files.specs.Calls.{Keeps, Rose}
@@ -35,7 +35,7 @@ use Rattle.sha2.specs.Sha256.{sha256}
 
 -- a snapshot grew by the files of a text
 abbrev pub GrewBy : Bytes → Bytes → Bool → FileState → FileState → Type 0
-GrewBy text cwd test before after = (marks : List Mark) → Marks true text marks → SnapshotGrows (IsNamed marks cwd test) before after
+GrewBy text cwd test before after = (marks : List Mark) → Marks true text marks → SnapshotGrows (IsNamedFile marks cwd test) before after
 
 pub gathered : (request : Request) (text cwd : Bytes) (tests test : Bool) (before after : FileState) → IsCalm before → IsInput request before.files tests → GrewBy text cwd test before after → cwd ≡ request.directory.now → test ≡ false → AreGathered request text tests after.files
 gathered request text cwd tests test before after calm is grew same none =
@@ -46,7 +46,7 @@ gathered request text cwd tests test before after calm is grew same none =
       is_input = is;
       marks = list.0;
       are_marks = list.1;
-      put = subst (λ (d : Bytes). ArePut (IsNamed list.0 d false) before.files after.files) same (subst (λ (b : Bool). ArePut (IsNamed list.0 cwd b) before.files after.files) none grown.put);
+      put = subst (λ (d : Bytes). ArePut (IsNamedFile list.0 d false) before.files after.files) same (subst (λ (b : Bool). ArePut (IsNamedFile list.0 cwd b) before.files after.files) none grown.put);
       kept = grown.kept calm.quiet;
     }
 

@@ -15,7 +15,7 @@ use Rattle.cck_cache_command.specs.declared.record.Seen.TheVariants.{Files, Refu
 use Rattle.cck_cache_entry.specs.Assembler.{may_include}
 use Rattle.cck_cache_entry.specs.Files.{EntryFields}
 use Rattle.cck_cache_entry.specs.declared.object_file.ObjectFile.{ObjectFile}
-use Rattle.cck_cache_files.specs.Snapshot.{ArePut, IsNamed, IsPart}
+use Rattle.cck_cache_files.specs.Snapshot.{ArePut, IsNamedFile, IsPart}
 use Rattle.cck_cache_rules.specs.Refusal.{IsRefusal}
 use Rattle.cck_cache_rules.specs.declared.refusal.Refusal.{Refusal}
 use Rattle.cck_cache_rules.specs.declared.refusal.Refusal.TheVariants.{NoKey, InputChanged, DayChanged, NoSearchList, UnknownHeader, HeaderTest, AssemblerInclude, EarlierPath, NamedFile, BaseDirectory}
@@ -68,7 +68,7 @@ pub record AreGathered (request : Request) (text : Bytes) (tests : Bool) (files 
   pub is_input : IsInput request input tests
   pub marks : List Mark
   pub are_marks : Marks true text marks
-  pub put : ArePut (IsNamed marks request.directory.now false) input files
+  pub put : ArePut (IsNamedFile marks request.directory.now false) input files
   pub kept : IsPart input files
 
 -- why a compilation is not recorded by its text and what the compiler printed of its directories

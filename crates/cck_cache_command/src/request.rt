@@ -1,7 +1,7 @@
 //! The compilation of a request.
 ghost use Rattle.std.specs.Prelude.{◌≡◌, ◌++◌, ◌∷◌, [], IfOk, OnOk};
 ghost use Rattle.cck_cache_base.specs.Base.{word_lists};
-ghost use Rattle.cck_cache_command.specs.Request.{AreKeyed, IsHasher, IsRequest, command_line, request_words};
+ghost use Rattle.cck_cache_command.specs.Request.{AreKeyed, IsHasher, IsRequest, gcc_arguments, request_words};
 ghost use Rattle.cck_cache_words.specs.declared.request.Request as words;
 ghost use Rattle.cck_compiler.specs.Seen.{arguments_of};
 ghost use Rattle.cck_path.specs.Bytes.{lists_of};
@@ -69,7 +69,7 @@ fn keyed_arguments(
 
 // A parsed command line with this input and these arguments, and nothing else.
 fn parsed(alloc: Global, input: Vec<u8>, common_args: Vec<Vec<u8>>) -> ParsedArguments
-    ensures { arguments_of result ≡ command_line input.items (lists_of common_args.items) }
+    ensures { arguments_of result ≡ gcc_arguments input.items (lists_of common_args.items) }
 {
     let mut arguments = ParsedArguments::new(alloc, input, Language::C);
     arguments.common_args = common_args;

@@ -11,7 +11,7 @@ use Rattle.cck_cache_entry.specs.Names.{AreNames, is_named, is_place}
 use Rattle.cck_cache_entry.specs.SearchList.{SearchFields}
 use Rattle.cck_cache_entry.specs.declared.names.Named.{Named}
 use Rattle.cck_cache_entry.proofs.NameLemmas.{system_named}
-use Rattle.cck_cache_entry.specs.Absent.{AreAbsentNames, AreAdded, IsBefore, IsBeside, IsEarlier, IsForName, IsListed, IsInDirectory, path_in, precompiled}
+use Rattle.cck_cache_entry.specs.Absent.{AreAbsentNames, AreAdded, IsBeforeDirectory, IsBeside, IsEarlier, IsForName, IsListed, IsInDirectory, path_in, precompiled}
 use Rattle.cck_cache_entry.specs.Reading.{ReadsBack}
 use Rattle.cck_cache_entry.specs.Sets.{Adds, IsSetOf, has_key}
 use Rattle.cck_cache_entry.proofs.SetLemmas.{Below, adds_as, adds_both, adds_nothing, has_key_at, key_at}
@@ -80,7 +80,7 @@ module _ (places names : List ℕ → Bool) (directories earlier : List (List �
   abbrev Second : List ℕ → Type 0
   Second q = Below (InDirectory names earlier rest) n q
 
-  to_before : (q : List ℕ) → First q ⊎ Second q → IsBefore places names directories name place q
+  to_before : (q : List ℕ) → First q ⊎ Second q → IsBeforeDirectory places names directories name place q
   to_before q (inl (d, known, beside)) = (rest, d ++ rest, is, inl (d, known, refl), beside)
   to_before q (inr (k, lt, beside)) = (rest, path_in (get_or earlier k []) rest, is, inr (k, omega (arith, size), ap (λ d. path_in d rest) (same k (omega (arith, size)))), beside)
 
@@ -89,32 +89,32 @@ module _ (places names : List ℕ → Bool) (directories earlier : List (List �
   from_earlier q other path e (inr (k, lt, at)) beside =
       inr (k, omega (arith, size), subst (λ (p : List ℕ). IsBeside names p q) (at ∙ (ap (λ r. path_in (get_or directories k []) r) e ∙ ap (λ d. path_in d rest) (sym (same k lt)))) beside)
 
-  from_before : (q : List ℕ) → IsBefore places names directories name place q → First q ⊎ Second q
+  from_before : (q : List ℕ) → IsBeforeDirectory places names directories name place q → First q ⊎ Second q
   from_before q (other, path, at, earlier_one, beside) = from_earlier q other path (only other at) earlier_one beside
 
   -- what is added before the directory in which a name was found
   pub before_found : (old middle new : BTreeSet (Vec ℕ)) → Adds (λ q. (directory : List ℕ) × IsTrue (places directory) × IsBeside names (directory ++ rest) q) old middle
-      → Adds (Below (InDirectory names earlier rest) n) middle new → Adds (IsBefore places names directories name place) old new
+      → Adds (Below (InDirectory names earlier rest) n) middle new → Adds (IsBeforeDirectory places names directories name place) old new
   before_found old middle new a b =
-      adds_as (λ q. First q ⊎ Second q) (IsBefore places names directories name place) old new to_before from_before (adds_both First Second old middle new a b)
+      adds_as (λ q. First q ⊎ Second q) (IsBeforeDirectory places names directories name place) old new to_before from_before (adds_both First Second old middle new a b)
 
 -- nothing is added where a name is not in the directory
 pub nothing_before : (places names : List ℕ → Bool) (directories : List (List ℕ)) (place : ℕ) (name : List ℕ) (old : BTreeSet (Vec ℕ)) → ((rest : List ℕ) → path_in (get_or directories place []) rest ≡ name → ⊥)
-    → Adds (IsBefore places names directories name place) old old
+    → Adds (IsBeforeDirectory places names directories name place) old old
 nothing_before places names directories place name old none =
-    adds_nothing (IsBefore places names directories name place) old (λ q before. none before.0 before.2)
+    adds_nothing (IsBeforeDirectory places names directories name place) old (λ q before. none before.0 before.2)
 
 -- what is added for one name
 pub for_name : (places names : List ℕ → Bool) (directories : List (List ℕ)) (name first : List ℕ) (n : ℕ) (old middle new : BTreeSet (Vec ℕ)) → first ≡ precompiled name → n ≡ length directories
-    → Adds (λ q. q ≡ first) old middle → Adds (Below (IsBefore places names directories name) n) middle new → Adds (IsForName places names directories name) old new
+    → Adds (λ q. q ≡ first) old middle → Adds (Below (IsBeforeDirectory places names directories name) n) middle new → Adds (IsForName places names directories name) old new
 for_name places names directories name first n old middle new is size a b =
-    adds_as (λ q. (q ≡ first) ⊎ Below (IsBefore places names directories name) n q) (IsForName places names directories name) old new to from (adds_both (λ q. q ≡ first) (Below (IsBefore places names directories name) n) old middle new a b)
+    adds_as (λ q. (q ≡ first) ⊎ Below (IsBeforeDirectory places names directories name) n q) (IsForName places names directories name) old new to from (adds_both (λ q. q ≡ first) (Below (IsBeforeDirectory places names directories name) n) old middle new a b)
   where
-    to : (q : List ℕ) → (q ≡ first) ⊎ Below (IsBefore places names directories name) n q → IsForName places names directories name q
+    to : (q : List ℕ) → (q ≡ first) ⊎ Below (IsBeforeDirectory places names directories name) n q → IsForName places names directories name q
     to q (inl e) = inl (e ∙ is)
     to q (inr (k, lt, before)) = inr (k, omega (arith, size), before)
 
-    from : (q : List ℕ) → IsForName places names directories name q → (q ≡ first) ⊎ Below (IsBefore places names directories name) n q
+    from : (q : List ℕ) → IsForName places names directories name q → (q ≡ first) ⊎ Below (IsBeforeDirectory places names directories name) n q
     from q (inl e) = inl (e ∙ sym is)
     from q (inr (k, lt, before)) = inr (k, omega (arith, size), before)
 

@@ -26,14 +26,14 @@ abbrev pub IsBeside : (List ℕ → Bool) → List ℕ → List ℕ → Type 0
 IsBeside is_named_in path absent = (absent ≡ precompiled path) ⊎ ((absent ≡ path) × (is_named_in path ≡ false))
 
 -- a path that is looked at before a name is found in the directory at this place
-abbrev pub IsBefore : (List ℕ → Bool) → (List ℕ → Bool) → List (List ℕ) → List ℕ → ℕ → List ℕ → Type 0
-IsBefore is_place_in is_named_in directories name place absent =
+abbrev pub IsBeforeDirectory : (List ℕ → Bool) → (List ℕ → Bool) → List (List ℕ) → List ℕ → ℕ → List ℕ → Type 0
+IsBeforeDirectory is_place_in is_named_in directories name place absent =
     (rest : List ℕ) × (path : List ℕ) × (path_in (get_or directories place []) rest ≡ name) × IsEarlier is_place_in directories place rest path × IsBeside is_named_in path absent
 
 -- a path that is looked at for one name
 abbrev pub IsForName : (List ℕ → Bool) → (List ℕ → Bool) → List (List ℕ) → List ℕ → List ℕ → Type 0
 IsForName is_place_in is_named_in directories name absent =
-    (absent ≡ precompiled name) ⊎ ((place : ℕ) × (place < length directories) × IsBefore is_place_in is_named_in directories name place absent)
+    (absent ≡ precompiled name) ⊎ ((place : ℕ) × (place < length directories) × IsBeforeDirectory is_place_in is_named_in directories name place absent)
 
 -- the name is of a file in the directory at this place of a list
 abbrev pub IsInDirectory : List (List ℕ) → List ℕ → ℕ → Type 0

@@ -3,7 +3,7 @@ ghost use Rattle.std.specs.Prelude.{◌≡◌, ◌<◌, ◌↔◌, ◌++◌, Con
 ghost use Rattle.std.specs.Option.{option_map};
 ghost use Rattle.cck_markers.specs.Marks as spec;
 ghost use Rattle.cck_markers.specs.Marks.{Marks};
-ghost use Rattle.cck_cache_entry.specs.Absent.{AreAbsentNames, AreAdded, IsBefore, IsBeside, IsForName, IsListed, IsInDirectory, path_in};
+ghost use Rattle.cck_cache_entry.specs.Absent.{AreAbsentNames, AreAdded, IsBeforeDirectory, IsBeside, IsForName, IsListed, IsInDirectory, path_in};
 ghost use Rattle.cck_cache_entry.specs.Reading.{ReadsBack, byte_lists};
 ghost use Rattle.cck_cache_entry.specs.SearchList.{search_fields};
 ghost use Rattle.cck_cache_entry.specs.Sets.{Adds, IsSetOf, has_key};
@@ -103,7 +103,7 @@ fn add_before(
     requires { place < length directories.now }
     ensures found { IfOk result (λ found.
         IsTrue found ↔ IsInDirectory (map (λ d. d.items) directories.now) name.now place) }
-    ensures added { OnOk result (Adds (IsBefore (has_key named.now.directories) (has_key named.now.names)
+    ensures added { OnOk result (Adds (IsBeforeDirectory (has_key named.now.directories) (has_key named.now.names)
         (map (λ d. d.items) directories.now) name.now place) paths.old paths.new) }
 {
     let Some(rest) = within(name, &directories[place]) else {

@@ -16,7 +16,7 @@ use Rattle.cck_markers.specs.Marks.{Mark, Name}
 use Rattle.cck_path.specs.Bytes.{Bytes}
 use Rattle.cck_path.specs.Path.{Path, components, joined, normal, path_cmp, path_cmp_total, path_cmp-IsAntisymmetric}
 use Rattle.cck_path.specs.Text.{path_text}
-use Rattle.cck_cache_files.specs.Snapshot.{ArePut, SnapshotGrows, IsAdded, IsNamed, IsPart, IsNodePut, StaysCalm, none_put, one_more, with_node}
+use Rattle.cck_cache_files.specs.Snapshot.{ArePut, SnapshotGrows, IsAdded, IsNamedFile, IsPart, IsNodePut, StaysCalm, none_put, one_more, with_node}
 
 -- one node was put
 pub added : (before after : FileState) (path : Bytes) (n : FileNode) (tests : Bool) (source : Bytes) → after ≡ record before { files = with_node before.files path n } → source ≡ n.contents
@@ -98,7 +98,7 @@ grows_kept At a b c grown keeps = record {
 }
 
 -- what is named by some marks is named by more, and of a file that tests less is known
-pub named_more : (done : List Mark) (mark : Mark) (cwd : Bytes) (test more : Bool) → (more ≡ false → test ≡ false) → (path : Bytes) (tests : Bool) → IsNamed done cwd test path tests → IsNamed (done ++ mark ∷ []) cwd more path tests
+pub named_more : (done : List Mark) (mark : Mark) (cwd : Bytes) (test more : Bool) → (more ≡ false → test ≡ false) → (path : Bytes) (tests : Bool) → IsNamedFile done cwd test path tests → IsNamedFile (done ++ mark ∷ []) cwd more path tests
 named_more done mark cwd test more known path tests named = record {
   name = named.name;
   is_system = named.is_system;
@@ -107,16 +107,16 @@ named_more done mark cwd test more known path tests named = record {
   tested = λ none. named.tested (known none);
 }
 
-pub grows_named : (done : List Mark) (mark : Mark) (cwd : Bytes) (test more : Bool) (a b : FileState) → (more ≡ false → test ≡ false) → SnapshotGrows (IsNamed done cwd test) a b → SnapshotGrows (IsNamed (done ++ mark ∷ []) cwd more) a b
+pub grows_named : (done : List Mark) (mark : Mark) (cwd : Bytes) (test more : Bool) (a b : FileState) → (more ≡ false → test ≡ false) → SnapshotGrows (IsNamedFile done cwd test) a b → SnapshotGrows (IsNamedFile (done ++ mark ∷ []) cwd more) a b
 grows_named done mark cwd test more a b known =
-    grows_among (IsNamed done cwd test) (IsNamed (done ++ mark ∷ []) cwd more) a b (named_more done mark cwd test more known)
+    grows_among (IsNamedFile done cwd test) (IsNamedFile (done ++ mark ∷ []) cwd more) a b (named_more done mark cwd test more known)
 
 -- a file is put at the path of one mark more
 pub grows_by_name : (done : List Mark) (name : Bytes) (is_system : Bool) (cwd : Bytes) (test more tests : Bool) (a b c : FileState) (path : Bytes) → path ≡ path_text (normal (joined (components cwd) (components name)))
-    → (more ≡ false → (test ≡ false) × ((tests ≡ false) ⊎ (is_system ≡ true))) → SnapshotGrows (IsNamed done cwd test) a b → IsNodePut b.files path c.files tests → (IsQuiet b → IsPart b.files c.files) → StaysCalm b c
-    → SnapshotGrows (IsNamed (done ++ Name name is_system ∷ []) cwd more) a c
+    → (more ≡ false → (test ≡ false) × ((tests ≡ false) ⊎ (is_system ≡ true))) → SnapshotGrows (IsNamedFile done cwd test) a b → IsNodePut b.files path c.files tests → (IsQuiet b → IsPart b.files c.files) → StaysCalm b c
+    → SnapshotGrows (IsNamedFile (done ++ Name name is_system ∷ []) cwd more) a c
 grows_by_name done name is_system cwd test more tests a b c path leads known grown put kept calm =
-    grows_more (IsNamed (done ++ Name name is_system ∷ []) cwd more) a b c path tests
+    grows_more (IsNamedFile (done ++ Name name is_system ∷ []) cwd more) a b c path tests
     (grows_named done (Name name is_system) cwd test more a b (λ none. (known none).0) grown)
     (record { name = name; is_system = is_system; among = Contains-push done (Name name is_system); leads = leads; tested = λ none. (known none).1 })
     put kept calm

@@ -27,14 +27,14 @@ abbrev pub place_text : ℕ → ℕ → ℕ → List ℕ
 place_text device inode size = decimal device ++ codes " " ++ decimal inode ++ codes " " ++ decimal size
 
 -- seconds and nanoseconds
-abbrev pub seconds_text : ℤ → ℤ → List ℕ
-seconds_text seconds nanoseconds = signed_decimal seconds ++ codes "." ++ signed_decimal nanoseconds
+abbrev pub instant_text : ℤ → ℤ → List ℕ
+instant_text seconds nanoseconds = signed_decimal seconds ++ codes "." ++ signed_decimal nanoseconds
 
 -- the line of a program and of what the system says of it
 abbrev pub status_line : List ℕ → FileStatus → List ℕ
 status_line path s = concatenation (
-    path ∷ codes " " ∷ place_text s.device s.inode s.size ∷ codes " " ∷ seconds_text s.seconds s.nanoseconds
-    ∷ codes " " ∷ seconds_text s.changed s.changed_nanoseconds ∷ (10 ∷ []) ∷ [])
+    path ∷ codes " " ∷ place_text s.device s.inode s.size ∷ codes " " ∷ instant_text s.seconds s.nanoseconds
+    ∷ codes " " ∷ instant_text s.changed s.changed_nanoseconds ∷ (10 ∷ []) ∷ [])
 
 -- the same, with some numbers
 abbrev pub IsStatusLine : List ℕ → List ℕ → Type 0

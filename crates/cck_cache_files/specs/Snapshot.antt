@@ -50,7 +50,7 @@ pub record SnapshotGrows (At : Bytes → Bool → Type 0) (before after : FileSt
 
 -- The path is that of a name among these marks, in this working directory. If it is known that no file tests for headers, one that does has
 -- the name of a system header.
-pub record IsNamed (marks : List Mark) (cwd : Bytes) (test : Bool) (path : Bytes) (tests : Bool) : Type 0 where
+pub record IsNamedFile (marks : List Mark) (cwd : Bytes) (test : Bool) (path : Bytes) (tests : Bool) : Type 0 where
   pub name : Bytes
   pub is_system : Bool
   pub among : Contains marks (Name name is_system)

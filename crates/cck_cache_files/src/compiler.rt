@@ -1,7 +1,7 @@
 //! The programs that a compilation runs.
 ghost use Rattle.std.specs.Prelude.{◌≡◌, ◌⊎◌, ℕ, List, IfOk, IfSome, IsTrue, string_bytes};
 ghost use Rattle.cck_digest.specs.Digest.{digest_text};
-ghost use Rattle.cck_cache_files.specs.Compiler.{IsContentsLine, IsProgramLine, IsProgramsDigest, IsStatusLine, is_hex_digest, place_text, seconds_text};
+ghost use Rattle.cck_cache_files.specs.Compiler.{IsContentsLine, IsProgramLine, IsProgramsDigest, IsStatusLine, is_hex_digest, place_text, instant_text};
 
 use crate::store_directory::StoreDirectory;
 use cck_digest::{Digest, HashState, Sha256State};
@@ -41,8 +41,8 @@ fn place_text(alloc: Global, device: u64, inode: u64, size: u64) -> Result<Strin
 }
 
 // The text of a time.
-fn seconds_text(alloc: Global, seconds: i64, nanoseconds: i64) -> Result<String, AllocError>
-    ensures { IfOk result (λ text. string_bytes text ≡ seconds_text seconds nanoseconds) }
+fn instant_text(alloc: Global, seconds: i64, nanoseconds: i64) -> Result<String, AllocError>
+    ensures { IfOk result (λ text. string_bytes text ≡ instant_text seconds nanoseconds) }
 {
     Ok(format!(in alloc; "{seconds}.{nanoseconds}")?)
 }
@@ -54,8 +54,8 @@ fn status_line<R: Files + AllocGlobal>(rt: &R, path: &str) -> io::Result<String>
     let alloc = rt.alloc();
     let found = fs::metadata(rt, path)?;
     let place = place_text(alloc, found.dev(), found.ino(), found.size())?;
-    let modified = seconds_text(alloc, found.mtime(), found.mtime_nsec())?;
-    let changed = seconds_text(alloc, found.ctime(), found.ctime_nsec())?;
+    let modified = instant_text(alloc, found.mtime(), found.mtime_nsec())?;
+    let changed = instant_text(alloc, found.ctime(), found.ctime_nsec())?;
     Ok(format!(in alloc; "{path} {place} {modified} {changed}\n")?)
 }
 

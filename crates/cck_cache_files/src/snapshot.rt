@@ -4,7 +4,7 @@ ghost use Rattle.cck_files.specs.Calls.{Keeps};
 ghost use Rattle.cck_files.specs.FileState.{IsQuiet, fault_count};
 ghost use Rattle.cck_markers.specs.Marks.{Marks};
 ghost use Rattle.cck_markers.specs.Marks as marks;
-ghost use Rattle.cck_cache_files.specs.Snapshot.{SnapshotGrows, IsAdded, IsNamed, IsPart, IsNodePut, StaysCalm};
+ghost use Rattle.cck_cache_files.specs.Snapshot.{SnapshotGrows, IsAdded, IsNamedFile, IsPart, IsNodePut, StaysCalm};
 
 use crate::path_states::{PathState, PathStates};
 use crate::times::{changed, modified};
@@ -166,7 +166,7 @@ pub fn add_named_files<R: Files + AllocGlobal>(
     text: &[u8],
 ) -> Result<NamedFiles, UtilError>
     ensures named { IfOk result (λ named. (marks : List marks.Mark) → Marks true text.now marks
-        → SnapshotGrows (IsNamed marks cwd.now named.tests_headers) files.old files.new) }
+        → SnapshotGrows (IsNamedFile marks cwd.now named.tests_headers) files.old files.new) }
     ensures errors { IsOkUnless result UtilError.Memory }
 {
     let alloc = rt.alloc();

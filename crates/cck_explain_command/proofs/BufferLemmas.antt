@@ -5,17 +5,17 @@ use Rattle.std.proofs.Math.Seq.{take-append-add}
 use Rattle.std.specs.Io.KnownBytes.{Appends}
 use Rattle.cck_path.specs.Bytes.{Bytes}
 use Rattle.cck_command.specs.Printing.{AppendsBeginning}
-use Rattle.cck_explain_command.specs.Buffer.{Puts}
+use Rattle.cck_explain_command.specs.Buffer.{PutsWaiting}
 
 -- nothing was put in
-pub puts_nothing : (a : Option Bytes) (waiting : Bytes) → Puts a waiting a waiting []
+pub puts_nothing : (a : Option Bytes) (waiting : Bytes) → PutsWaiting a waiting a waiting []
 puts_nothing a waiting = record { written = []; appends = Appends-nil a; all = append-nil waiting }
 
 -- these bytes are in the buffer, and then some of it was written
-pub puts_spilled : (a b : Option Bytes) (waiting left bytes : Bytes) → Puts a (waiting ++ bytes) b left [] → Puts a waiting b left bytes
+pub puts_spilled : (a b : Option Bytes) (waiting left bytes : Bytes) → PutsWaiting a (waiting ++ bytes) b left [] → PutsWaiting a waiting b left bytes
 puts_spilled a b waiting left bytes p = record { written = p.written; appends = p.appends; all = sym (append-nil (waiting ++ bytes)) ∙ p.all }
 
-pub puts_trans : (a b c : Option Bytes) (waiting kept left xs ys : Bytes) → Puts a waiting b kept xs → Puts b kept c left ys → Puts a waiting c left (xs ++ ys)
+pub puts_trans : (a b c : Option Bytes) (waiting kept left xs ys : Bytes) → PutsWaiting a waiting b kept xs → PutsWaiting b kept c left ys → PutsWaiting a waiting c left (xs ++ ys)
 puts_trans a b c waiting kept left xs ys p q = record {
   written = p.written ++ q.written;
   appends = Appends-trans a b c p.written q.written p.appends q.appends;
@@ -37,7 +37,7 @@ pub begun_sooner : (a b : Option Bytes) (xs ys : Bytes) → AppendsBeginning a b
 begun_sooner a b xs ys begun = let more = shorter begun.0 xs ys in (more.0, subst (Appends a b) more.1 begun.1)
 
 -- after some bytes a prefix of others was written
-pub begun_later : (a b c : Option Bytes) (waiting kept xs ys : Bytes) → Puts a waiting b kept xs → AppendsBeginning b c (kept ++ ys) → AppendsBeginning a c (waiting ++ (xs ++ ys))
+pub begun_later : (a b c : Option Bytes) (waiting kept xs ys : Bytes) → PutsWaiting a waiting b kept xs → AppendsBeginning b c (kept ++ ys) → AppendsBeginning a c (waiting ++ (xs ++ ys))
 begun_later a b c waiting kept xs ys p begun =
     let whole : waiting ++ (xs ++ ys) ≡ p.written ++ (kept ++ ys) =
     sym (append_assoc waiting xs ys) ∙ ap (λ l. l ++ ys) p.all ∙ append_assoc p.written kept ys in
@@ -48,7 +48,7 @@ begun_later a b c waiting kept xs ys p begun =
     )
 
 -- after some bytes a prefix of the next was written, and others follow
-pub begun_between : (a b c : Option Bytes) (waiting kept xs ys zs : Bytes) → Puts a waiting b kept xs → AppendsBeginning b c (kept ++ ys)
+pub begun_between : (a b c : Option Bytes) (waiting kept xs ys zs : Bytes) → PutsWaiting a waiting b kept xs → AppendsBeginning b c (kept ++ ys)
     → AppendsBeginning a c (waiting ++ (xs ++ (ys ++ zs)))
 begun_between a b c waiting kept xs ys zs p begun =
     begun_later a b c waiting kept xs (ys ++ zs) p (subst (AppendsBeginning b c) (append_assoc kept ys zs) (begun_sooner b c (kept ++ ys) zs begun))

@@ -1,7 +1,7 @@
 //! A buffer before a writer.
 ghost use Rattle.std.specs.Prelude.{[], OnErr, OnOk};
 ghost use Rattle.cck_command.specs.Printing.{AppendsBeginning};
-ghost use Rattle.cck_explain_command.specs.Buffer.{Puts};
+ghost use Rattle.cck_explain_command.specs.Buffer.{PutsWaiting};
 
 use crate::error::ExplainError;
 use cck_command::print;
@@ -14,7 +14,7 @@ const BUFFER_SIZE: usize = 65536;
 ///
 /// The only error is [`ExplainError::Write`]. A prefix of what the buffer holds is then written.
 pub fn spill<W: Write>(writer: &mut W, buffer: &mut Vec<u8>) -> Result<(), ExplainError>
-    ensures put { OnOk result (Puts (W.contents writer.old) buffer.old.items
+    ensures put { OnOk result (PutsWaiting (W.contents writer.old) buffer.old.items
         (W.contents writer.new) buffer.new.items []) }
     ensures begun { OnErr result (AppendsBeginning (W.contents writer.old) (W.contents writer.new) buffer.old.items) }
 {

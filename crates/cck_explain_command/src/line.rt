@@ -1,7 +1,7 @@
 //! The lines of parts.
 ghost use Rattle.std.specs.Prelude.{◌≡◌, ◌+◌, ◌<◌, ◌^◌, ◌++◌, OnErr, OnOk, length, true};
 ghost use Rattle.cck_command.specs.Printing.{AppendsBeginning};
-ghost use Rattle.cck_explain_command.specs.Buffer.{Puts};
+ghost use Rattle.cck_explain_command.specs.Buffer.{PutsWaiting};
 ghost use Rattle.cck_explain_command.specs.Listing.{listed_parts, listed_part, part_line, part_lines, rows, shown};
 
 use crate::buffer::spill;
@@ -47,7 +47,7 @@ fn push_line(
     Ok(())
 }
 
-// Puts the line of bytes with this name at this offset into the writer.
+// PutsWaiting the line of bytes with this name at this offset into the writer.
 fn put_line<W: Write>(
     alloc: Global,
     writer: &mut W,
@@ -56,7 +56,7 @@ fn put_line<W: Write>(
     name: &str,
     bytes: &[u8],
 ) -> Result<(), ExplainError>
-    ensures put { OnOk result (Puts (W.contents writer.old) buffer.old.items
+    ensures put { OnOk result (PutsWaiting (W.contents writer.old) buffer.old.items
         (W.contents writer.new) buffer.new.items (part_line offset name.now bytes.now)) }
     ensures begun { OnErr result (AppendsBeginning (W.contents writer.old) (W.contents writer.new)
         (buffer.old.items ++ part_line offset name.now bytes.now)) }
@@ -65,7 +65,7 @@ fn put_line<W: Write>(
     spill(writer, buffer)
 }
 
-// Puts the lines of a part's rows into the writer.
+// PutsWaiting the lines of a part's rows into the writer.
 fn put_rows<W: Write>(
     alloc: Global,
     writer: &mut W,
@@ -74,7 +74,7 @@ fn put_rows<W: Write>(
     part: &Part<'_>,
 ) -> Result<(), ExplainError>
     requires { offset + length part.now.bytes < 2 ^ 64 }
-    ensures put { OnOk result (Puts (W.contents writer.old) buffer.old.items
+    ensures put { OnOk result (PutsWaiting (W.contents writer.old) buffer.old.items
         (W.contents writer.new) buffer.new.items (part_lines offset (rows part.now))) }
     ensures begun { OnErr result (AppendsBeginning (W.contents writer.old) (W.contents writer.new)
         (buffer.old.items ++ part_lines offset (rows part.now))) }
@@ -91,7 +91,7 @@ fn put_rows<W: Write>(
     Ok(())
 }
 
-// Puts what is listed of a part into the writer.
+// PutsWaiting what is listed of a part into the writer.
 fn put_part<W: Write>(
     alloc: Global,
     writer: &mut W,
@@ -101,7 +101,7 @@ fn put_part<W: Write>(
     is_full: bool,
 ) -> Result<(), ExplainError>
     requires { offset + length part.now.bytes < 2 ^ 64 }
-    ensures put { OnOk result (Puts (W.contents writer.old) buffer.old.items
+    ensures put { OnOk result (PutsWaiting (W.contents writer.old) buffer.old.items
         (W.contents writer.new) buffer.new.items (part_lines offset (listed_part is_full part.now))) }
     ensures begun { OnErr result (AppendsBeginning (W.contents writer.old) (W.contents writer.new)
         (buffer.old.items ++ part_lines offset (listed_part is_full part.now))) }
@@ -114,7 +114,7 @@ fn put_part<W: Write>(
     Ok(())
 }
 
-/// Puts the lines of these parts into the writer through the buffer, each with its offset in all of
+/// PutsWaiting the lines of these parts into the writer through the buffer, each with its offset in all of
 /// them. With `is_full` a part is listed in rows of 256 bytes; else a part of more than 256 bytes is
 /// listed by its checksum.
 ///
@@ -127,7 +127,7 @@ pub fn put_parts<W: Write>(
     parts: &[Part<'_>],
     is_full: bool,
 ) -> Result<(), ExplainError>
-    ensures put { OnOk result (Puts (W.contents writer.old) buffer.old.items
+    ensures put { OnOk result (PutsWaiting (W.contents writer.old) buffer.old.items
         (W.contents writer.new) buffer.new.items (part_lines 0 (listed_parts is_full parts.now))) }
     ensures begun { OnErr result (AppendsBeginning (W.contents writer.old) (W.contents writer.new)
         (buffer.old.items ++ part_lines 0 (listed_parts is_full parts.now))) }

@@ -1,6 +1,6 @@
 use Rattle.std.proofs.Common.{◌≡◌, ℕ, true, false, map, length, ◌∙◌, subst, ◌↔◌, ◌<◌, IsTrue, arith}
 use Rattle.std.proofs.lemmas.List.{append-nil, length-map}
-use Rattle.cck_cache_entry.specs.Absent.{IsBefore, IsInDirectory, precompiled}
+use Rattle.cck_cache_entry.specs.Absent.{IsBeforeDirectory, IsInDirectory, precompiled}
 use Rattle.cck_cache_entry.specs.Sets.{has_key}
 use Rattle.cck_cache_entry.proofs.AbsentLemmas.{for_name, within_more}
 use Rattle.cck_cache_entry.proofs.SetLemmas.{adds_more, adds_none_below}
@@ -12,7 +12,7 @@ false_true e = cc
 pub loop-place-init : goal.loop-place-init
 loop-place-init c = record {
   found = (λ t. absurd (false_true t), λ w. absurd (omega (arith, w.1)));
-  added = adds_none_below (IsBefore (has_key c.args.named.now.directories) (has_key c.args.named.now.names) (map (λ d. d.items) c.args.directories.now) c.args.name.now) c.add.new.paths;
+  added = adds_none_below (IsBeforeDirectory (has_key c.args.named.now.directories) (has_key c.args.named.now.names) (map (λ d. d.items) c.args.directories.now) c.args.name.now) c.add.new.paths;
 }
 
 pub loop-place-preserved : goal.loop-place-preserved
@@ -20,7 +20,7 @@ loop-place-preserved c =
     let directories = map (λ d. d.items) c.args.directories.now in
     record {
       found = within_more directories c.args.name.now c.loop-place.place c.loop-place.is_found c.in_ok-is_found.field-0 c.loop-place.invariant.found c.in_ok-is_found.ensures.found;
-      added = adds_more (IsBefore (has_key c.args.named.now.directories) (has_key c.args.named.now.names) directories c.args.name.now) c.loop-place.place c.add.new.paths c.loop-place.paths c.add_before.new.paths c.loop-place.invariant.added c.in_ok-is_found.ensures.added;
+      added = adds_more (IsBeforeDirectory (has_key c.args.named.now.directories) (has_key c.args.named.now.names) directories c.args.name.now) c.loop-place.place c.add.new.paths c.loop-place.paths c.add_before.new.paths c.loop-place.invariant.added c.in_ok-is_found.ensures.added;
     }
 
 pub returns-clause-found : goal.returns-clause-found

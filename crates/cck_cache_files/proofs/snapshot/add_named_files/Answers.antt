@@ -9,7 +9,7 @@ use Rattle.cck_markers.proofs.OneList.{one_list}
 use Rattle.cck_path.specs.Bytes.{Bytes}
 use Rattle.cck_path.specs.Path.{Path, components, joined, normal}
 use Rattle.cck_path.specs.Text.{path_text}
-use Rattle.cck_cache_files.specs.Snapshot.{SnapshotGrows, IsNamed}
+use Rattle.cck_cache_files.specs.Snapshot.{SnapshotGrows, IsNamedFile}
 use Rattle.cck_cache_files.proofs.SnapshotLemmas.{grows_by_name, grows_kept, grows_named, grows_not}
 use Rattle.cck_cache_files.proofs.snapshot.add_named_files.Goals as goal
 use Rattle.cck_cache_files.proofs.snapshot.add_named_files.Goals.{then-branch+in_ok-tests, then-tests_headers, else-tests_headers+then-tests, else-tests_headers+else-tests, else-branch+in_ok-push}
@@ -21,7 +21,7 @@ turned false e = sym e
 pub loop-mark-init : goal.loop-mark-init
 loop-mark-init g c =
     let same : c.into_iter-mark-iterator.result ≡ unread_text c.args.text.now = c.into_iter-mark-iterator.ensures.into_iter_gives ∙ c.new-mark-items.ensures in
-    ([], λ marks left. subst (λ (u : Unread). MarksLeft u marks) same left, grows_not (IsNamed [] c.args.cwd.now false) c.args.files.now)
+    ([], λ marks left. subst (λ (u : Unread). MarksLeft u marks) same left, grows_not (IsNamedFile [] c.args.cwd.now false) c.args.files.now)
 
 pub loop-mark-preserved-in_default : goal.loop-mark-preserved-in_default
 loop-mark-preserved-in_default g c =
@@ -62,11 +62,11 @@ loop-mark-preserved g c =
               | else-tests_headers+then-tests v ↦ (v.if-tests_headers.false, inr (turned is_system (sym v.tests_headers-is ∙ (sym w.tests_headers-is ∙ none))))
               | else-tests_headers+else-tests v ↦ (v.if-tests_headers.false, inl v.if-tests.false)
             ] in
-            subst (λ (s : FileState). SnapshotGrows (IsNamed all cwd c.if-branch.tests_headers) c.args.files.now s) (sym w.files-is)
+            subst (λ (s : FileState). SnapshotGrows (IsNamedFile all cwd c.if-branch.tests_headers) c.args.files.now s) (sym w.files-is)
             (grows_by_name done name is_system cwd c.loop-mark.tests_headers c.if-branch.tests_headers tests c.args.files.now c.loop-mark.files w.add_new_file.new.files
             w.deref-then-branch.result.now leads known c.loop-mark.invariant.2 w.in_ok-tests.ensures.put w.add_new_file.ensures.kept w.add_new_file.ensures.calm)
         | else-branch+in_ok-push w ↦
-            subst (λ (s : FileState). SnapshotGrows (IsNamed all cwd c.if-branch.tests_headers) c.args.files.now s) (sym w.files-is)
+            subst (λ (s : FileState). SnapshotGrows (IsNamedFile all cwd c.if-branch.tests_headers) c.args.files.now s) (sym w.files-is)
             (grows_named done (Name name is_system) cwd c.loop-mark.tests_headers c.if-branch.tests_headers c.args.files.now c.loop-mark.files (λ none. sym w.tests_headers-is ∙ none) c.loop-mark.invariant.2)
       ],
     )
@@ -76,5 +76,5 @@ returns-clause-named g c marks others =
     let done = c.loop-mark.invariant.0 in
     let all = c.loop-mark.invariant.1 [] c.in-None.ensures.steps.0 in
     let same : done ≡ marks = sym (append-nil done) ∙ one_list _ c.args.text.now (done ++ []) marks all others in
-    grows_kept (IsNamed marks c.args.cwd.now c.loop-mark.tests_headers) c.args.files.now c.loop-mark.files c.has_one-is_doubtful.new.files
-    (subst (λ (ms : List Mark). SnapshotGrows (IsNamed ms c.args.cwd.now c.loop-mark.tests_headers) c.args.files.now c.loop-mark.files) same c.loop-mark.invariant.2) c.has_one-is_doubtful.ensures
+    grows_kept (IsNamedFile marks c.args.cwd.now c.loop-mark.tests_headers) c.args.files.now c.loop-mark.files c.has_one-is_doubtful.new.files
+    (subst (λ (ms : List Mark). SnapshotGrows (IsNamedFile ms c.args.cwd.now c.loop-mark.tests_headers) c.args.files.now c.loop-mark.files) same c.loop-mark.invariant.2) c.has_one-is_doubtful.ensures
