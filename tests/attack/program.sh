@@ -15,7 +15,7 @@ if [ ! -x "$program" ]; then
     rm -rf "$work"
     mkdir -p "$work/crates/entries_attack/src"
     for crate in $crates; do
-        cp -r "$top/crates/$crate" "$work/crates/"
+        cp -rp "$top/crates/$crate" "$work/crates/"
         grep "^$crate:" "$top/crates.txt" >> "$work/crates.txt"
     done
     echo 'entries_attack: cck_entry jiff anyhow' >> "$work/crates.txt"
