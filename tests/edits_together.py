@@ -121,8 +121,8 @@ def judged(name, status, said):
     faults = re.findall(rf"^(?:\./)?proofs/{re.escape(path)}/.*: error: .*$", said, re.M)
     if not faults and path.replace("/", ".") not in status:
         return "proved", ""
-    told = [fault for fault in faults if not GONE.search(fault)]
-    return "rejected" if told or not faults else "undecided", (told or faults or [status])[0]
+    of_meaning = [fault for fault in faults if not GONE.search(fault)]
+    return "rejected" if of_meaning or not faults else "undecided", (of_meaning or faults or [status])[0]
 
 
 def verdict(functions, said):
