@@ -47,11 +47,11 @@ use Rattle.c_cache_keys.specs.Keys.{extra_texts, input_file, input_recorded, is_
 use Rattle.c_cache_keys.specs.Premises.{IsHashed, CollisionFree, Premises, DeterministicPreprocessor, of_file, of_folder, of_key, of_time}
 use Rattle.c_cache_keys.specs.Step.{AreOwnIncludes, Hit, Miss, Opened, OwnPair, Step, asked, gives, matching}
 use Rattle.c_cache_keys.specs.Walk.{Accepted, AreRecorded, Errs, IsRecorded, MarksDecide, Walk, input_path}
-use Rattle.c_cache_keys.specs.Witness.{PremisesCanHold, file_of, first_call, header_text, input_text, path_in_w, printed_text, second, second_call, sized, witness_call, witness_done, witness_files, witness_hash, witness_nodes, witness_run, witness_world}
+use Rattle.c_cache_keys.specs.Witness.{PremisesCanHold, file_of, first_call, header_text, witness_input_text, path_in_w, printed_text, second, second_call, sized, witness_call, witness_done, witness_files, witness_hash, witness_nodes, witness_run, witness_world}
 use Rattle.c_cache_keys.specs.World.{HasSize, setting}
 
 abbrev pub input_node : FileNode
-input_node = file_of input_text
+input_node = file_of witness_input_text
 
 abbrev included_node : FileNode
 included_node = file_of header_text
@@ -97,7 +97,7 @@ no_folder p e = by (eq_by_cmp path_cmp p input_in_w) (eq_by_cmp path_cmp p inclu
 pub input_read : (object : Bytes) → file_at witness_files (components (input_path (witness_call object))) ≡ Ok input_node
 input_read object = ap (file_at witness_files) (input_meant witness_world (witness_call object) refl refl) ∙ input_at
 
-input_digest : recorded (setting witness_world first_call) input_node ≡ Some (digest_text witness_hash input_text)
+input_digest : recorded (setting witness_world first_call) input_node ≡ Some (digest_text witness_hash witness_input_text)
 unfolding recorded has_time has_date has_timestamp
 input_digest = refl
 
@@ -111,7 +111,7 @@ abbrev witness_parts : RequestParts
 witness_parts = request_parts witness_world first_call.request (input_path first_call)
 
 abbrev witness_material : Bytes
-witness_material = preprocessor_material witness_parts [] (digest_text witness_hash input_text)
+witness_material = preprocessor_material witness_parts [] (digest_text witness_hash witness_input_text)
 
 -- the place of an object is no part of the key
 pub same_parts : (object : Bytes) → request_parts witness_world (witness_call object).request (input_path (witness_call object)) ≡ witness_parts
@@ -130,7 +130,7 @@ input_is : (object : Bytes) → input_file witness_world (witness_call object) �
 unfolding input_file
 input_is object = ap ok_value (input_read object)
 
-recorded_is : (object : Bytes) → input_recorded witness_world (witness_call object) ≡ Some (digest_text witness_hash input_text)
+recorded_is : (object : Bytes) → input_recorded witness_world (witness_call object) ≡ Some (digest_text witness_hash witness_input_text)
 unfolding input_recorded
 recorded_is object = ap (option_and_then (recorded (setting witness_world first_call))) (input_is object) ∙ input_digest
 
@@ -141,7 +141,7 @@ material_is object =
     let made : List Bytes → Bytes → Bytes = preprocessor_material (request_parts witness_world c.request (input_path c)) in
     ap (λ b. cond b (of_both made (extra_texts witness_world c) (input_recorded witness_world c)) None) (used object)
     ∙ ap₂ (of_both made) (extra_is object) (recorded_is object)
-    ∙ ap (λ parts. Some (preprocessor_material parts [] (digest_text witness_hash input_text))) (same_parts object)
+    ∙ ap (λ parts. Some (preprocessor_material parts [] (digest_text witness_hash witness_input_text))) (same_parts object)
 
 abbrev pub witness_key : Bytes
 witness_key = digest_text witness_hash witness_material
@@ -170,7 +170,7 @@ material_size = refl
 -- the string that has a digest
 abbrev hashed_of : Bytes → Bytes
 hashed_of digest =
-    cond (bytes_eq digest (digest_text witness_hash input_text)) input_text
+    cond (bytes_eq digest (digest_text witness_hash witness_input_text)) witness_input_text
     (cond (bytes_eq digest (digest_text witness_hash header_text)) header_text witness_material)
 
 untimed : (n : FileNode) → (n ≡ input_node) ⊎ (n ≡ included_node) → is_timed n.contents ≡ false

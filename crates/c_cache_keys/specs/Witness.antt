@@ -31,8 +31,8 @@ abbrev pub witness_hash : Bytes → Bytes
 witness_hash fed = sized (length fed)
 
 -- an input that includes a header, and what is printed of it
-abbrev pub input_text : Bytes
-input_text = codes "#include \"h.h\"\nint x;\n"
+abbrev pub witness_input_text : Bytes
+witness_input_text = codes "#include \"h.h\"\nint x;\n"
 
 abbrev pub header_text : Bytes
 header_text = codes "int y1;\n"
@@ -51,7 +51,7 @@ abbrev pub path_in_w : Bytes → Path
 path_in_w name = Root ∷ Name (codes "w") ∷ Name name ∷ []
 
 abbrev pub witness_nodes : List (Path × FileNode)
-witness_nodes = (path_in_w (codes "a.c"), file_of input_text) ∷ (path_in_w (codes "h.h"), file_of header_text) ∷ []
+witness_nodes = (path_in_w (codes "a.c"), file_of witness_input_text) ∷ (path_in_w (codes "h.h"), file_of header_text) ∷ []
 
 abbrev pub witness_files : FileMap
 witness_files = record { nodes = from_sorted {R = path_cmp} witness_nodes; canonicals = empty }

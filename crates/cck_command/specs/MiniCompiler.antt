@@ -5,7 +5,7 @@ use Rattle.cck_compiler.specs.Compiler.{Compilation, Compiler, NotCompilation, P
 use Rattle.cck_compiler.specs.Arguments.{Arguments, Output, only_input}
 use Rattle.cck_compiler.specs.declared.compiler.CCompilerKind.TheVariants.{Gcc}
 use Rattle.cck_path.specs.Bytes.{Bytes}
-use Rattle.cck_mini.specs.Printed.{printed}
+use Rattle.cck_mini.specs.Printed.{printed_input}
 use Rattle.cck_util.specs.declared.language.Language.{Language}
 use Rattle.cck_util.specs.declared.language.Language.TheVariants as language
 
@@ -34,5 +34,5 @@ mini_compiler = record {
   version = λ zone. None;
   assembler_digest = λ zone. None;
   parsed = λ zone arguments cwd variables. parsed arguments;
-  prints = λ zone executable arguments cwd variables files moment. printed zone moment files cwd arguments.input;
+  prints = λ zone executable arguments cwd variables files moment. printed_input zone moment files cwd arguments.input;
 }

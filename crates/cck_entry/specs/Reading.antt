@@ -23,9 +23,9 @@ Fails Deserialization read = read ≡ None
 Fails (Io e) read = ⊥
 Fails (UnknownFormat b) read = ⊥
 
-abbrev pub ReadsAs : {X Y : Type 0} → (X → Y) → Result X Error → Option Y → Type 0
-ReadsAs view (Ok x) read = read ≡ Some (view x)
-ReadsAs view (Err e) read = Fails e read
+abbrev pub IsReadResult : {X Y : Type 0} → (X → Y) → Result X Error → Option Y → Type 0
+IsReadResult view (Ok x) read = read ≡ Some (view x)
+IsReadResult view (Err e) read = Fails e read
 
 -- A field is a value and the bytes after it.
 abbrev pub number_at : Width → List ℕ → Option (ℕ × List ℕ)

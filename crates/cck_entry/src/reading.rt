@@ -7,7 +7,7 @@ ghost use Rattle.std.specs.List.{AllByRecursion};
 ghost use Rattle.std.specs.Option.{option_map};
 ghost use Rattle.cck_include.specs.Include.{include_lent};
 ghost use Rattle.cck_entry.specs.Lent.{IsWhole, result_lent};
-ghost use Rattle.cck_entry.specs.Reading.{ReadsAs, IsOvercounted, entry_at, include_at, includes_at, length_prefixed_at, moment_at, number_at, result_at, results_from, text_at, time_at};
+ghost use Rattle.cck_entry.specs.Reading.{IsReadResult, IsOvercounted, entry_at, include_at, includes_at, length_prefixed_at, moment_at, number_at, result_at, results_from, text_at, time_at};
 
 use crate::lent::comes_last;
 use crate::result_ref::ResultRef;
@@ -27,7 +27,7 @@ const NANOS_IN_A_SECOND: u32 = 1_000_000_000;
 
 /// A number of 4 bytes.
 fn read_u32(bytes: &[u8]) -> Result<(u32, &[u8]), Error>
-    ensures read { ReadsAs (λ x. (x.0, x.1.now)) result (number_at w32 bytes.now) }
+    ensures read { IsReadResult (λ x. (x.0, x.1.now)) result (number_at w32 bytes.now) }
     ensures err { IfErr result (λ e. e ≡ Error.Deserialization) }
 {
     if bytes.len() < 4 {
@@ -40,7 +40,7 @@ fn read_u32(bytes: &[u8]) -> Result<(u32, &[u8]), Error>
 
 /// A number of 8 bytes.
 fn read_u64(bytes: &[u8]) -> Result<(u64, &[u8]), Error>
-    ensures read { ReadsAs (λ x. (x.0, x.1.now)) result (number_at w64 bytes.now) }
+    ensures read { IsReadResult (λ x. (x.0, x.1.now)) result (number_at w64 bytes.now) }
     ensures err { IfErr result (λ e. e ≡ Error.Deserialization) }
 {
     if bytes.len() < 8 {
@@ -56,7 +56,7 @@ fn read_u64(bytes: &[u8]) -> Result<(u64, &[u8]), Error>
 /// Bytes after their length.
 #[tactic(auto, unfolding(crate::specs::Reading::length_prefixed_at))]
 fn read_length_prefixed(bytes: &[u8]) -> Result<(&[u8], &[u8]), Error>
-    ensures read { ReadsAs (λ x. (x.0.now, x.1.now)) result (length_prefixed_at bytes.now) }
+    ensures read { IsReadResult (λ x. (x.0.now, x.1.now)) result (length_prefixed_at bytes.now) }
     ensures err { IfErr result (λ e. e ≡ Error.Deserialization) }
 {
     let (len, rest) = read_u64(bytes)?;
@@ -69,7 +69,7 @@ fn read_length_prefixed(bytes: &[u8]) -> Result<(&[u8], &[u8]), Error>
 /// A text after its length.
 #[tactic(auto, using(crate::proofs::Utf8Lemmas::tested), unfolding(crate::specs::Reading::text_at))]
 fn read_text(bytes: &[u8]) -> Result<(&str, &[u8]), Error>
-    ensures read { ReadsAs (λ x. (x.0.now, x.1.now)) result (text_at bytes.now) }
+    ensures read { IsReadResult (λ x. (x.0.now, x.1.now)) result (text_at bytes.now) }
     ensures err { IfErr result (λ e. e ≡ Error.Deserialization) }
 {
     let (text, rest) = read_length_prefixed(bytes)?;
@@ -83,7 +83,7 @@ fn read_text(bytes: &[u8]) -> Result<(&str, &[u8]), Error>
 #[inline(always)]
 #[tactic(auto, unfolding(crate::specs::Reading::moment_at))]
 fn read_moment(bytes: &[u8]) -> Result<(Timestamp, &[u8]), Error>
-    ensures read { ReadsAs (λ x. (x.0, x.1.now)) result (moment_at bytes.now) }
+    ensures read { IsReadResult (λ x. (x.0, x.1.now)) result (moment_at bytes.now) }
     ensures err { IfErr result (λ e. e ≡ Error.Deserialization) }
 {
     let (seconds, rest) = read_u64(bytes)?;
@@ -98,7 +98,7 @@ fn read_moment(bytes: &[u8]) -> Result<(Timestamp, &[u8]), Error>
 #[inline(always)]
 #[tactic(auto, unfolding(crate::specs::Reading::time_at))]
 fn read_time(bytes: &[u8]) -> Result<(Option<Timestamp>, &[u8]), Error>
-    ensures read { ReadsAs (λ x. (x.0, x.1.now)) result (time_at bytes.now) }
+    ensures read { IsReadResult (λ x. (x.0, x.1.now)) result (time_at bytes.now) }
     ensures err { IfErr result (λ e. e ≡ Error.Deserialization) }
 {
     match bytes {
@@ -117,7 +117,7 @@ fn read_time(bytes: &[u8]) -> Result<(Option<Timestamp>, &[u8]), Error>
 #[inline(always)]
 #[tactic(auto, unfolding(crate::specs::Reading::include_at))]
 pub(crate) fn read_include(bytes: &[u8]) -> Result<(IncludeRef<'_>, &[u8]), Error>
-    ensures read { ReadsAs (λ x. (include_lent x.0, x.1.now)) result (include_at bytes.now) }
+    ensures read { IsReadResult (λ x. (include_lent x.0, x.1.now)) result (include_at bytes.now) }
     ensures err { IfErr result (λ e. e ≡ Error.Deserialization) }
 {
     let (path, rest) = read_length_prefixed(bytes)?;
@@ -145,7 +145,7 @@ pub(crate) fn read_include(bytes: &[u8]) -> Result<(IncludeRef<'_>, &[u8]), Erro
 
 /// Returns the bytes after `count` includes.
 fn skip_includes(count: u64, bytes: &[u8]) -> Result<&[u8], Error>
-    ensures { ReadsAs (λ rest. rest.now) result (option_map (λ x. x.1) (includes_at count bytes.now)) }
+    ensures { IsReadResult (λ rest. rest.now) result (option_map (λ x. x.1) (includes_at count bytes.now)) }
 {
     let mut rest = bytes;
     for _ in 0..count {
@@ -161,7 +161,7 @@ fn skip_includes(count: u64, bytes: &[u8]) -> Result<&[u8], Error>
 /// A result, with its key and its includes borrowed.
 #[tactic(auto, unfolding(crate::specs::Reading::counted_at, crate::specs::Reading::result_at))]
 fn read_result(bytes: &[u8]) -> Result<(ResultRef<'_>, &[u8]), Error>
-    ensures read { ReadsAs (λ x. (result_lent x.0, x.1.now)) result (result_at bytes.now) }
+    ensures read { IsReadResult (λ x. (result_lent x.0, x.1.now)) result (result_at bytes.now) }
     ensures whole { IfOk result (λ x. IsWhole x.0) }
 {
     let (key, rest) = read_text(bytes)?;
@@ -188,7 +188,7 @@ fn read_results(
     bytes: &[u8],
 ) -> Result<(Vec<ResultRef<'_>>, &[u8]), Error>
     requires fits { count ≤ length bytes.now / 16 }
-    ensures read { ReadsAs
+    ensures read { IsReadResult
         (λ x. (map result_lent x.0.items, x.1.now)) result (results_from [] count bytes.now) }
     ensures whole { IfOk result (λ x. AllByRecursion IsWhole x.0.items) }
     ensures room { IfOk result (λ x. vec_capacity x.0 ≤ length bytes.now / 16) }
@@ -215,7 +215,7 @@ fn read_results(
 /// [`Error::Deserialization`]: no memory is taken for such a number.
 #[tactic(auto, unfolding(crate::specs::Reading::entry_at))]
 pub(crate) fn read_entry(alloc: Global, bytes: &[u8]) -> Result<Vec<ResultRef<'_>>, Error>
-    ensures read { ReadsAs (λ x. map result_lent x.items) result (entry_at bytes.now) }
+    ensures read { IsReadResult (λ x. map result_lent x.items) result (entry_at bytes.now) }
     ensures whole { IfOk result (λ x. AllByRecursion IsWhole x.items) }
     ensures room { IfOk result (λ x. vec_capacity x ≤ length bytes.now / 16) }
     ensures counted { IsOvercounted bytes.now → result ≡ Err Error.Deserialization }

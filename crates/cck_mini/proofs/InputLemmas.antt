@@ -4,7 +4,7 @@ use Rattle.cck_files.specs.FileMap.{FileMap}
 use Rattle.cck_path.specs.Bytes.{Bytes}
 use Rattle.cck_path.specs.Text.{join_path}
 use Rattle.cck_path.specs.Timestamp.{Moment}
-use Rattle.cck_mini.specs.Printed.{Macros, both, input_text, lines_in, lines_text, macros_of, marker, printed, file_text_at}
+use Rattle.cck_mini.specs.Printed.{Macros, both, input_text, lines_in, lines_text, macros_of, marker, printed_input, file_text_at}
 use Rattle.cck_mini.specs.Errors.{IsPrintError}
 use Rattle.cck_mini.specs.declared.error.PrintError.{PrintError}
 use Rattle.cck_mini.specs.declared.error.PrintError.TheVariants.{Fault, Failed, Memory}
@@ -16,10 +16,10 @@ both_done front out (Some text) h = ap Some (sym h)
 
 module _ (zone : ℤ) (moment : Moment) (map : FileMap) (folder input path : Bytes) (is_path : path ≡ join_path folder input) where
   abbrev whole : Option Bytes
-  whole = printed zone moment map folder input
+  whole = printed_input zone moment map folder input
 
   printed_is : whole ≡ input_text zone moment map folder path (file_text_at map path)
-  unfolding printed
+  unfolding printed_input
   printed_is = ap (λ p. input_text zone moment map folder p (file_text_at map p)) (sym is_path)
 
   -- the input is no regular file

@@ -134,5 +134,5 @@ module _ (zone : ℤ) (moment : Moment) (map : FileMap) (folder path : Bytes) wh
   input_text (Some file) = both (Some (marker 1 path [])) (lines_text (macros_of zone moment file.1) 2 (lines_in file.0))
 
 -- what is printed at a call time for an input in a directory, if it and all that it includes are regular files
-unfoldable pub printed : ℤ → Moment → FileMap → Bytes → Bytes → Option Bytes
-printed zone moment map folder input = input_text zone moment map folder (join_path folder input) (file_text_at map (join_path folder input))
+unfoldable pub printed_input : ℤ → Moment → FileMap → Bytes → Bytes → Option Bytes
+printed_input zone moment map folder input = input_text zone moment map folder (join_path folder input) (file_text_at map (join_path folder input))

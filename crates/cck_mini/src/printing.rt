@@ -2,7 +2,7 @@
 ghost use Rattle.std.specs.Prelude.{◌≡◌, ◌++◌, Some, IfOk, IsSomeAnd, MatchResult, OnOk};
 ghost use Rattle.cck_files.specs.Calls.{Keeps, Rose};
 ghost use Rattle.cck_path.specs.Text.{join_path};
-ghost use Rattle.cck_mini.specs.Printed.{include_name, included_text, line_text, lines_in, lines_text, marker, printed};
+ghost use Rattle.cck_mini.specs.Printed.{include_name, included_text, line_text, lines_in, lines_text, marker, printed_input};
 ghost use Rattle.cck_mini.specs.Errors.{IsPrintError};
 ghost use Rattle.cck_mini.specs.Seen.{macros_seen};
 
@@ -38,7 +38,7 @@ pub fn print_input<F: Files>(
     input: &[u8],
 ) -> Result<Vec<u8>, PrintError>
     ensures keeps { Keeps F.file_map F.faults F.is_quiet files.old files.new }
-    ensures outcome { let text = printed zone_offset moment (F.file_map files.old) cwd.now input.now in
+    ensures outcome { let text = printed_input zone_offset moment (F.file_map files.old) cwd.now input.now in
         MatchResult result (λ out. text ≡ Some out.items)
         (IsPrintError text (Rose (F.faults files.old) (F.faults files.new))) }
 {

@@ -5,9 +5,9 @@ use Rattle.cck_path.specs.Bytes.{Bytes}
 use Rattle.cck_path.specs.Escape.{Meaning, unescaped}
 
 -- the text that an escaped text means, if its escapes are right
-abbrev pub text_of : Meaning → Option Bytes
-text_of (Ok text) = Some text
-text_of (Err e) = None
+abbrev pub meaning_text : Meaning → Option Bytes
+meaning_text (Ok text) = Some text
+meaning_text (Err e) = None
 
 abbrev pub is_nil : {X : Type 0} → List X → Bool
 is_nil [] = true
@@ -15,7 +15,7 @@ is_nil (x ∷ xs) = false
 
 -- a word: not empty, and unescaped
 unfoldable pub word : Bytes → Option Bytes
-word part = if is_nil part then None else text_of (unescaped part)
+word part = if is_nil part then None else meaning_text (unescaped part)
 
 abbrev pub parts_at : Option ℕ → Bytes → Bytes × Option Bytes
 parts_at None s = (s, None)
@@ -45,7 +45,7 @@ next_word (Some s) = word_in (cut 32 s)
 -- the text that is left, which is empty if the line ended before
 unfoldable pub last_text : Option Bytes → Option Bytes
 last_text None = Some []
-last_text (Some s) = text_of (unescaped s)
+last_text (Some s) = meaning_text (unescaped s)
 
 abbrev pub with_word : Option Bytes → Option (List Bytes) → Option (List Bytes)
 with_word None rest = None

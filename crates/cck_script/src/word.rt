@@ -3,7 +3,7 @@ ghost use Rattle.std.specs.Prelude.{◌≡◌, ◌==◌, Some, IfOk, position};
 ghost use Rattle.std.specs.Option.{option_map};
 ghost use Rattle.cck_path.specs.Bytes.{lists_of};
 ghost use Rattle.cck_path.specs.Escape.{unescaped};
-ghost use Rattle.cck_script.specs.Words.{cut, last_text, next_word, text_of, word, words};
+ghost use Rattle.cck_script.specs.Words.{cut, last_text, next_word, meaning_text, word, words};
 
 use cck_digest::UtilError;
 use cck_path::ascii_unescape_default;
@@ -55,7 +55,7 @@ fn find(separator: u8, text: &[u8]) -> Option<usize>
 // The text that an escaped text means; `None` if an escape in it is wrong.
 fn undone(alloc: Global, text: &[u8]) -> Result<Option<Vec<u8>>, AllocError>
     ensures { IfOk result (λ found. option_map (λ v. v.items) found
-        ≡ text_of (unescaped text.now)) }
+        ≡ meaning_text (unescaped text.now)) }
 {
     match ascii_unescape_default(alloc, text) {
         Ok(bytes) => Ok(Some(bytes)),

@@ -16,7 +16,7 @@ use Rattle.cck_path.specs.Path.{Path, components, has_root}
 use Rattle.cck_path.specs.Text.{join_path}
 use Rattle.cck_path.specs.Variables.{Variable, first_value}
 use Rattle.cck_util.proofs.FindLemmas.{found_here, found_later}
-use Rattle.cck_util.specs.Wrapper.{begins_with, candidates, found, is_compiler, is_settled, kept_parts, leads_if, leads_to_wrapper, places}
+use Rattle.cck_util.specs.Wrapper.{begins_with, candidates, found_compiler, is_compiler, is_settled, kept_parts, leads_if, leads_to_wrapper, places}
 
 -- a name that is too short
 pub too_short : (name beginning : List ℕ) → length name < length beginning → begins_with name beginning ≡ false
@@ -72,8 +72,8 @@ if_ok (Ok x) h f = f x h
 if_ok (Err e) h f = h
 
 -- the executable is settled
-pub nothing_found : (m : FileMap) (executable : List ℕ) (variables : List Variable) → true ≡ is_settled m (components executable) → None ≡ found m executable variables
-unfolding found
+pub nothing_found : (m : FileMap) (executable : List ℕ) (variables : List Variable) → true ≡ is_settled m (components executable) → None ≡ found_compiler m executable variables
+unfolding found_compiler
 nothing_found m executable variables e =
     ap (λ b. cond b None (find (λ path. is_compiler m (components path)) (candidates executable variables))) e
 
@@ -82,15 +82,15 @@ none_either_way true x e = refl
 none_either_way false x e = sym e
 
 -- there is no file name
-pub no_name : (m : FileMap) (executable : List ℕ) (variables : List Variable) → None ≡ file_name_of (components executable) → None ≡ found m executable variables
-unfolding found
+pub no_name : (m : FileMap) (executable : List ℕ) (variables : List Variable) → None ≡ file_name_of (components executable) → None ≡ found_compiler m executable variables
+unfolding found_compiler
 no_name m executable variables e =
     none_either_way (is_settled m (components executable)) (find (λ path. is_compiler m (components path)) (candidates executable variables))
     (ap (λ name. find (λ path. is_compiler m (components path)) (places name (first_value variables (codes "PATH")))) (sym e))
 
 -- there is no variable `PATH`
-pub no_path : (m : FileMap) (executable name : List ℕ) (variables : List Variable) → Some name ≡ file_name_of (components executable) → None ≡ first_value variables (codes "PATH") → None ≡ found m executable variables
-unfolding found
+pub no_path : (m : FileMap) (executable name : List ℕ) (variables : List Variable) → Some name ≡ file_name_of (components executable) → None ≡ first_value variables (codes "PATH") → None ≡ found_compiler m executable variables
+unfolding found_compiler
 no_path m executable name variables e h =
     none_either_way (is_settled m (components executable)) (find (λ path. is_compiler m (components path)) (candidates executable variables))
     (ap (λ n. find (λ path. is_compiler m (components path)) (places n (first_value variables (codes "PATH")))) (sym e)
@@ -108,8 +108,8 @@ candidates_by executable name path variables parts e h kept =
 
 -- the first of the candidates
 pub first_found : (m n : FileMap) (executable : List ℕ) (variables : List Variable) (paths : List (List ℕ)) → n ≡ m → paths ≡ candidates executable variables → false ≡ is_settled m (components executable)
-    → find (λ path. is_compiler n (components path)) paths ≡ found m executable variables
-unfolding found
+    → find (λ path. is_compiler n (components path)) paths ≡ found_compiler m executable variables
+unfolding found_compiler
 first_found m n executable variables paths same are other =
     ap (λ k. find (λ path. is_compiler k (components path)) paths) same
     ∙ ap (find (λ path. is_compiler m (components path))) are

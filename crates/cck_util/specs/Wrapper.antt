@@ -71,11 +71,11 @@ is_settled m p = has_root p && not (leads_to_wrapper m p)
 
 -- the compiler that replaces the executable: none if the executable is settled, otherwise the first candidate that is
 -- a compiler
-unfoldable pub found : FileMap → List ℕ → List Variable → Option (List ℕ)
-found m executable variables =
+unfoldable pub found_compiler : FileMap → List ℕ → List Variable → Option (List ℕ)
+found_compiler m executable variables =
     if is_settled m (components executable) then None
     else find (λ path. is_compiler m (components path)) (candidates executable variables)
 
 -- the path of the compiler that the executable names
 abbrev pub resolved : FileMap → List ℕ → List Variable → List ℕ
-resolved m executable variables = unwrap_or (found m executable variables) executable
+resolved m executable variables = unwrap_or (found_compiler m executable variables) executable

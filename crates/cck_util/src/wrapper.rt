@@ -9,7 +9,7 @@ ghost use Rattle.cck_path.specs.Bytes.{variables_of};
 ghost use Rattle.cck_path.specs.Components.{component_of};
 ghost use Rattle.cck_path.specs.Path.{components};
 ghost use Rattle.cck_path.specs.Text.{join_path as joined_text};
-ghost use Rattle.cck_util.specs.Wrapper.{begins_with, is_wrapper_name, is_wrapper, leads_to_wrapper, has_wrapper_component, is_wrapper_component, kept_parts, candidates, is_compiler, is_settled, found, resolved};
+ghost use Rattle.cck_util.specs.Wrapper.{begins_with, is_wrapper_name, is_wrapper, leads_to_wrapper, has_wrapper_component, is_wrapper_component, kept_parts, candidates, is_compiler, is_settled, found_compiler, resolved};
 
 use cck_digest::{FileError, UtilError};
 use cck_files::Files;
@@ -64,7 +64,7 @@ fn find_compiler<F: Files>(
 ) -> Result<Option<Vec<u8>>, AllocError>
     ensures keeps { Keeps F.file_map F.faults F.is_quiet files.old files.new }
     ensures outcome { IfOk result (λ compiler.
-        (option_map (λ path. path.items) compiler ≡ found (F.file_map files.old) executable.now
+        (option_map (λ path. path.items) compiler ≡ found_compiler (F.file_map files.old) executable.now
         (variables_of vars.now))
         ⊎ Rose (F.faults files.old) (F.faults files.new)) }
     ensures place { IfOk result (λ compiler. IfSome compiler (λ path. Contains
