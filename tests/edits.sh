@@ -32,7 +32,7 @@ fault_of() {
         /^old: / { old = substr($0, 6) }
         /^new:/ {
             pairs++
-            if ((n = count(texts[file], old)) != 1) print "an old text stands " n " times in " file
+            if ((n = count(texts[file], old)) != 1) print "an old text is " n " times in " file
             new = substr($0, 5)
             sub(/^ /, "", new)
             at = index(texts[file], old)

@@ -1,3 +1,4 @@
+pub mod AbsenceLemmas
 pub mod InputLemmas
 pub mod LookLemmas
 pub mod RecordLemmas

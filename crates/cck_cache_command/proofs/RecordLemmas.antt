@@ -8,7 +8,7 @@ use Rattle.cck_cache_base.specs.Text.{AreBases}
 use Rattle.cck_cache_base.specs.declared.base.Words.{Words}
 use Rattle.cck_cache_command.proofs.InputLemmas.{calm_kept, calm_stays, without_fault}
 use Rattle.cck_cache_command.specs.Input.{IsCalm, IsInput, NoFault}
-use Rattle.cck_cache_command.specs.Record.{AreGathered, IsAsked, IsLocalTime, IsOneDay, IsOutcome, IsOutcomeOver, ObjectShowsBase}
+use Rattle.cck_cache_command.specs.Record.{AreGathered, HasAbsentPaths, IsAsked, IsLocalTime, IsOneDay, IsOutcome, IsOutcomeOver, ObjectShowsBase}
 use Rattle.cck_cache_command.specs.Request.{IsRequest, request_words}
 use Rattle.cck_cache_command.specs.declared.environment.Environment.{Environment}
 use Rattle.cck_cache_command.specs.declared.record.Gathered.{Gathered}
@@ -25,6 +25,7 @@ use Rattle.cck_files.specs.FileState.{FileState, IsQuiet, fault_count}
 use Rattle.cck_markers.proofs.EachText.{has_one_list}
 use Rattle.cck_markers.specs.Marks.{Mark, Marks}
 use Rattle.cck_path.specs.Bytes.{Bytes, lists_of}
+use Rattle.cck_path.specs.Timestamp.{Moment}
 use Rattle.cck_snapshot.specs.Recordings.{IsRecording}
 use Rattle.cck_snapshot.specs.declared.recordings.RecordedEntry.{RecordedEntry}
 use Rattle.cck_snapshot.specs.declared.recordings.Recording.{Recording}
@@ -37,8 +38,9 @@ use Rattle.sha2.specs.Sha256.{sha256}
 abbrev pub GrewBy : Bytes → Bytes → Bool → FileState → FileState → Type 0
 GrewBy text cwd test before after = (marks : List Mark) → Marks true text marks → SnapshotGrows (IsNamedFile marks cwd test) before after
 
-pub gathered : (request : Request) (text cwd : Bytes) (tests test : Bool) (before after : FileState) → IsCalm before → IsInput request before.files tests → GrewBy text cwd test before after → cwd ≡ request.directory.now → test ≡ false → AreGathered request text tests after.files
-gathered request text cwd tests test before after calm is grew same none =
+pub gathered : (request : Request) (since : Moment) (text cwd : Bytes) (tests test : Bool) (before after : FileState) (paths : List Bytes) → IsCalm before → IsInput request before.files tests → GrewBy text cwd test before after → cwd ≡ request.directory.now → test ≡ false
+    → HasAbsentPaths request since text paths → AreGathered request since text tests after.files paths
+gathered request since text cwd tests test before after paths calm is grew same none absent =
     let list = has_one_list true text in
     let grown = grew list.0 list.1 in
     record {
@@ -48,6 +50,7 @@ gathered request text cwd tests test before after calm is grew same none =
       are_marks = list.1;
       put = subst (λ (d : Bytes). ArePut (IsNamedFile list.0 d false) before.files after.files) same (subst (λ (b : Bool). ArePut (IsNamedFile list.0 cwd b) before.files after.files) none grown.put);
       kept = grown.kept calm.quiet;
+      absent = absent;
     }
 
 pub calm_grown : (text cwd : Bytes) (test : Bool) (before after : FileState) → GrewBy text cwd test before after → IsCalm before → IsCalm after
@@ -86,8 +89,8 @@ recorded_over asked text before mid after recording put calm first second is rec
     (without_fault (λ (a b : ℕ). IsRecording sha256 mid.files asked (Rose a b) text recording) mid after second (calm_kept before mid first calm) recorded))
 
 -- an outcome over the files that were gathered is the outcome
-pub outcome_all : (environment : Environment) (request : Request) (compilation : Compilation) (text : Bytes) (gathered : Gathered) (outcome : Outcome) → may_include text ≡ false → AreGathered request text gathered.tests_headers gathered.files.files
-    → IsOutcomeOver environment request compilation text gathered outcome → IsOutcome environment request compilation text outcome
-outcome_all environment request compilation text gathered (Recorded key) none are is = (none, (gathered.tests_headers, gathered.files.files, are, is))
+pub outcome_all : (environment : Environment) (request : Request) (compilation : Compilation) (text : Bytes) (gathered : Gathered) (outcome : Outcome) → may_include text ≡ false
+    → AreGathered request compilation.since text gathered.tests_headers gathered.files.files (lists_of gathered.absent_paths.items) → IsOutcomeOver environment request compilation text gathered outcome → IsOutcome environment request compilation text outcome
+outcome_all environment request compilation text gathered (Recorded key) none are is = (none, (gathered.tests_headers, gathered.files.files, lists_of gathered.absent_paths.items, are, is))
 outcome_all environment request compilation text gathered (Refused refusal) none are is =
-    inr (gathered.tests_headers, gathered.is_doubtful, gathered.files.files, are, is)
+    inr (gathered.tests_headers, gathered.is_doubtful, gathered.files.files, lists_of gathered.absent_paths.items, are, is)

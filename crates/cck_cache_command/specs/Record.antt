@@ -3,7 +3,7 @@ use Rattle.std.specs.Prelude.{◌≡◌, ◌⊎◌, ℤ, pos, ◌*ℤ◌, ◌+�
 use Rattle.std.specs.declared.alloc.Global.{Global}
 use Rattle.cck_cache_base.specs.Shown.{ShowsBase}
 use Rattle.cck_cache_base.specs.Text.{AreBases}
-use Rattle.cck_cache_command.specs.Absence.{IsRefusedByPath}
+use Rattle.cck_cache_command.specs.Absence.{ArePathsOf, IsRefusedByPath}
 use Rattle.cck_cache_command.specs.Input.{IsCalm, IsInput, NoFault}
 use Rattle.cck_cache_command.specs.Request.{IsRequest, key_over, request_words}
 use Rattle.cck_cache_command.specs.declared.environment.Environment.{Environment}
@@ -15,15 +15,17 @@ use Rattle.cck_cache_command.specs.declared.record.Seen.TheVariants.{Files, Refu
 use Rattle.cck_cache_entry.specs.Assembler.{may_include}
 use Rattle.cck_cache_entry.specs.Files.{EntryFields}
 use Rattle.cck_cache_entry.specs.declared.object_file.ObjectFile.{ObjectFile}
-use Rattle.cck_cache_files.specs.Snapshot.{ArePut, IsNamedFile, IsPart}
+use Rattle.cck_cache_files.specs.declared.path_states.PathStates.{PathStates}
+use Rattle.cck_cache_files.specs.Snapshot.{ArePut, HasNamedTest, IsNamedFile, IsPart}
 use Rattle.cck_cache_rules.specs.Refusal.{IsRefusal}
 use Rattle.cck_cache_rules.specs.declared.refusal.Refusal.{Refusal}
-use Rattle.cck_cache_rules.specs.declared.refusal.Refusal.TheVariants.{NoKey, InputChanged, DayChanged, NoSearchList, UnknownHeader, HeaderTest, AssemblerInclude, EarlierPath, NamedFile, BaseDirectory}
+use Rattle.cck_cache_rules.specs.declared.refusal.Refusal.TheVariants.{HeaderTest, AssemblerInclude, NamedFile, BaseDirectory}
 use Rattle.cck_cache_words.specs.declared.request.Request.{Request}
 use Rattle.cck_cache_words.specs.declared.task.Compilation.{Compilation}
 use Rattle.cck_files.specs.FileMap.{FileMap}
 use Rattle.cck_markers.specs.Marks.{Mark, Marks}
-use Rattle.cck_path.specs.Bytes.{Bytes}
+use Rattle.cck_path.specs.Bytes.{Bytes, lists_of}
+use Rattle.cck_path.specs.Timestamp.{Moment}
 use Rattle.cck_snapshot.specs.Recordings.{IsRecording}
 use Rattle.cck_snapshot.specs.declared.recordings.RecordedEntry.{RecordedEntry}
 use Rattle.cck_snapshot.specs.declared.requests.SnapshotRequest.{SnapshotRequest}
@@ -61,33 +63,47 @@ IsOneDay zone a b true = (x y : DateTime) × IsLocalTime zone a x × IsLocalTime
 IsOneDay zone a b false =
     HasNoLocalTime a ⊎ (HasNoLocalTime b ⊎ ((x y : DateTime) × IsLocalTime zone a x × IsLocalTime zone b y × ¬ (epoch_day x.date ≡ epoch_day y.date)))
 
+-- These paths must stay absent, by states of paths that last changed before this time and by what the compiler printed of its directories.
+pub record HasAbsentPaths (request : Request) (since : Moment) (text : Bytes) (paths : List Bytes) : Type 0 where
+  pub states : PathStates
+  pub since_is : states.since ≡ since
+  pub printed : Bytes
+  pub paths_are : ArePathsOf states request.directory.now text printed paths
+
 -- Files that were gathered for a text: the input, and files at the paths of the names of the text, none of which replaced another. Those that test
--- for headers are of system headers, but for the input.
-pub record AreGathered (request : Request) (text : Bytes) (tests : Bool) (files : FileMap) : Type 0 where
+-- for headers are of system headers, but for the input. No path at which a header would have been found earlier is in doubt.
+pub record AreGathered (request : Request) (since : Moment) (text : Bytes) (tests : Bool) (files : FileMap) (paths : List Bytes) : Type 0 where
   pub input : FileMap
   pub is_input : IsInput request input tests
   pub marks : List Mark
   pub are_marks : Marks true text marks
   pub put : ArePut (IsNamedFile marks request.directory.now false) input files
   pub kept : IsPart input files
+  pub absent : HasAbsentPaths request since text paths
 
--- why a compilation is not recorded by its text and what the compiler printed of its directories
-abbrev pub IsRefusedByText : Bytes → Refusal → Type 0
-IsRefusedByText text AssemblerInclude = may_include text ≡ true
-IsRefusedByText text HeaderTest = Unit {0}
-IsRefusedByText text NoSearchList = (printed : Bytes) × IsRefusedByPath text printed NoSearchList
-IsRefusedByText text UnknownHeader = (printed : Bytes) × IsRefusedByPath text printed UnknownHeader
-IsRefusedByText text EarlierPath = Unit {0}
-IsRefusedByText text NoKey = ⊥
-IsRefusedByText text InputChanged = ⊥
-IsRefusedByText text DayChanged = ⊥
-IsRefusedByText text NamedFile = ⊥
-IsRefusedByText text BaseDirectory = ⊥
+-- a path keeps a compilation from being recorded
+pub record HasPathRefusal (request : Request) (since : Moment) (text : Bytes) (refusal : Refusal) : Type 0 where
+  pub states : PathStates
+  pub since_is : states.since ≡ since
+  pub printed : Bytes
+  pub refused : IsRefusedByPath states request.directory.now text printed refusal
 
-abbrev pub IsSeen : Request → Bytes → Seen → Type 0
-IsSeen request text (Files gathered) =
-    (may_include text ≡ false) × AreGathered request text gathered.tests_headers gathered.files.files × IsCalm gathered.files
-IsSeen request text (NotSeen refusal) = IsRefusedByText text refusal
+-- files of a text, in which the contents at the path of a name that is not one of a system header test for headers
+pub record HasTest (request : Request) (text : Bytes) : Type 0 where
+  pub files : FileMap
+  pub marks : List Mark
+  pub are_marks : Marks true text marks
+  pub named : HasNamedTest marks request.directory.now files
+
+-- why a compilation is not recorded by its text: an assembler may include files; or a file that it names tests for headers; or a path
+abbrev pub IsRefusedByText : Request → Moment → Bytes → Refusal → Type 0
+IsRefusedByText request since text refusal =
+    ((refusal ≡ AssemblerInclude) × (may_include text ≡ true)) ⊎ (((refusal ≡ HeaderTest) × HasTest request text) ⊎ HasPathRefusal request since text refusal)
+
+abbrev pub IsSeen : Request → Moment → Bytes → Seen → Type 0
+IsSeen request since text (Files gathered) =
+    (may_include text ≡ false) × AreGathered request since text gathered.tests_headers gathered.files.files (lists_of gathered.absent_paths.items) × IsCalm gathered.files
+IsSeen request since text (NotSeen refusal) = IsRefusedByText request since text refusal
 
 -- why a compilation is not recorded by its input and its time, if it is not
 abbrev pub IsJudgedByInput : Environment → SnapshotRequest → FileMap → Bool → Bytes → Option Refusal → Type 0
@@ -153,7 +169,9 @@ IsOutcomeOver environment request compilation text gathered (Refused refusal) =
 -- The outcome of a recording. What is recorded is recorded over files that were gathered for the text.
 abbrev pub IsOutcome : Environment → Request → Compilation → Bytes → Outcome → Type 0
 IsOutcome environment request compilation text (Recorded key) =
-    (may_include text ≡ false) × ((tests : Bool) × (files : FileMap) × AreGathered request text tests files × IsRecordedOver environment request compilation text tests files key)
+    (may_include text ≡ false)
+    × ((tests : Bool) × (files : FileMap) × (paths : List Bytes) × AreGathered request compilation.since text tests files paths × IsRecordedOver environment request compilation text tests files key)
 IsOutcome environment request compilation text (Refused refusal) =
-    IsRefusedByText text refusal
-    ⊎ ((tests doubtful : Bool) × (files : FileMap) × AreGathered request text tests files × IsRefusedOver environment request compilation text tests doubtful files refusal)
+    IsRefusedByText request compilation.since text refusal
+    ⊎ ((tests doubtful : Bool) × (files : FileMap) × (paths : List Bytes) × AreGathered request compilation.since text tests files paths
+    × IsRefusedOver environment request compilation text tests doubtful files refusal)

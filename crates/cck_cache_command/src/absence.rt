@@ -1,13 +1,18 @@
 //! The paths that must stay absent for a recorded key.
-ghost use Rattle.std.specs.Prelude.{IfOk, IfSome, Contains, map};
-ghost use Rattle.cck_cache_command.specs.Absence.{IsAbsence, IsVerdict};
+ghost use Rattle.std.specs.Prelude.{Contains, IfOk, IfSome, IsOkUnless, IsTrue, OnOk, map};
+ghost use Rattle.std.specs.Option.{option_map};
+ghost use Rattle.cck_cache_command.specs.Absence.{AreAbsentPaths, GainsPath, IsAbsence, IsVerdict};
+ghost use Rattle.cck_cache_entry.specs.Sets.{has_key};
+ghost use Rattle.cck_cache_files.specs.PathStates.{IsFirstOther, KeepsStates};
+ghost use Rattle.cck_cache_files.specs.declared.path_states.PathStates.{PathStates};
+ghost use Rattle.cck_path.specs.Bytes.{lists_of};
 
-use anyhow::Result;
 use cck_cache_entry::{SearchList, absent_names};
 use cck_cache_files::{PathState, PathStates, is_absent};
 use cck_cache_rules::Refusal;
+use cck_digest::UtilError;
 use cck_path::join_path;
-use std::alloc::AllocError;
+use std::alloc::{AllocError, Global};
 use std::collections::BTreeSet;
 use std::rt::Files;
 
@@ -31,34 +36,99 @@ enum PathVerdict<'a> {
     Doubtful,
 }
 
-// The verdict on an absolute path. Below a file there is nothing, so the whole path is absent there: a
-// directory may come in place of the file.
+// The verdict on a path on whose way this is the path of a file. Below a file there is nothing, so the
+// whole path is absent there: a directory may come in place of the file.
+fn file_verdict<'a>(path: &'a [u8], front: &[u8]) -> PathVerdict<'a>
+    ensures { (states : PathStates) → IsFirstOther states path.now front.now PathState.File
+        → IsVerdict states path.now result }
+{
+    if front.len() < path.len() {
+        PathVerdict::Absent(path)
+    } else if path.ends_with(b".gch") {
+        PathVerdict::Doubtful
+    } else {
+        PathVerdict::Present
+    }
+}
+
+// The verdict on an absolute path.
 fn path_verdict<'a, R: Files + AllocGlobal>(
     rt: &R,
     states: &mut PathStates,
     path: &'a [u8],
 ) -> Result<PathVerdict<'a>, AllocError>
-    ensures { IfOk result (IsVerdict states.new path.now) }
+    ensures verdict { IfOk result (IsVerdict states.new path.now) }
+    ensures kept { KeepsStates states.old states.new }
 {
     let (front, state) = states.first_other(rt, path)?;
     match state {
         PathState::Absent => Ok(PathVerdict::Absent(front)),
-        PathState::File if front.len() < path.len() => Ok(PathVerdict::Absent(path)),
-        PathState::File if !path.ends_with(b".gch") => Ok(PathVerdict::Present),
-        _ => Ok(PathVerdict::Doubtful),
+        PathState::File => Ok(file_verdict(path, front)),
+        PathState::Link | PathState::Directory | PathState::Doubtful => Ok(PathVerdict::Doubtful),
     }
+}
+
+// Whether this is the last of these paths.
+fn is_last(paths: &[Vec<u8>], path: &[u8]) -> bool
+    ensures { IsTrue result → Contains (lists_of paths.now) path.now }
+{
+    match paths.last() {
+        Some(last) => last.as_slice() == path,
+        None => false,
+    }
+}
+
+// Appends a path, unless it is the last one.
+fn push_path(alloc: Global, paths: &mut Vec<Vec<u8>>, path: &[u8]) -> Result<(), AllocError>
+    ensures { OnOk result (GainsPath (lists_of paths.old.items) path.now (lists_of paths.new.items)) }
+{
+    if is_last(paths, path) {
+        return Ok(());
+    }
+    paths.push(path.to_vec(alloc)?)?;
+    Ok(())
+}
+
+// The paths that must stay absent for these names, which are relative to the directory. `None` where it
+// is not known what is at one of them.
+fn absent_paths<R: Files + AllocGlobal>(
+    rt: &R,
+    states: &mut PathStates,
+    directory: &[u8],
+    names: &BTreeSet<Vec<u8>>,
+) -> Result<Option<Vec<Vec<u8>>>, UtilError>
+    ensures paths { IfOk result (λ paths. AreAbsentPaths states.new directory.now
+        (λ name. IsTrue (has_key names.now name)) (option_map (λ all. lists_of all.items) paths)) }
+    ensures kept { KeepsStates states.old states.new }
+    ensures errors { IsOkUnless result UtilError.Memory }
+{
+    let alloc = rt.alloc();
+    let mut paths = Vec::new(alloc);
+    for name in names {
+        let path = join_path(alloc, directory, name)?;
+        match path_verdict(rt, states, &path)? {
+            PathVerdict::Absent(front) => push_path(alloc, &mut paths, front)?,
+            PathVerdict::Present => {}
+            PathVerdict::Doubtful => return Ok(None),
+        }
+    }
+    Ok(Some(paths))
 }
 
 /// Judges the paths at which a header that a text names would have been found earlier. `printed` is
 /// what the compiler printed of its directories.
+///
+/// The only error is [`UtilError::Memory`].
 pub fn absence_of<R: Files + AllocGlobal>(
     rt: &R,
     states: &mut PathStates,
     directory: &str,
     text: &[u8],
     printed: &[u8],
-) -> Result<Absence>
-    ensures { IfOk result (IsAbsence text.now printed.now) }
+) -> Result<Absence, UtilError>
+    ensures absence { IfOk result (IsAbsence states.new directory.now text.now printed.now) }
+    ensures kept { KeepsStates states.old states.new }
+    ensures errors { IsOkUnless result UtilError.Memory }
 {
     let alloc = rt.alloc();
     let Some(search) = SearchList::read(alloc, printed)? else {
@@ -67,22 +137,10 @@ pub fn absence_of<R: Files + AllocGlobal>(
     let Some(names) = absent_names(alloc, text, &search)? else {
         return Ok(Absence::Refused(Refusal::UnknownHeader));
     };
-    let mut absent: BTreeSet<Vec<u8>> = BTreeSet::new(alloc);
-    for name in &names {
-        let path = join_path(alloc, directory.as_bytes(), name)?;
-        match path_verdict(rt, states, &path)? {
-            PathVerdict::Absent(front) => {
-                absent.insert(front.to_vec(alloc)?)?;
-            }
-            PathVerdict::Present => {}
-            PathVerdict::Doubtful => return Ok(Absence::Refused(Refusal::EarlierPath)),
-        }
+    match absent_paths(rt, states, directory.as_bytes(), &names)? {
+        Some(paths) => Ok(Absence::Paths(paths)),
+        None => Ok(Absence::Refused(Refusal::EarlierPath)),
     }
-    let mut paths = Vec::new(alloc);
-    for path in absent {
-        paths.push(path)?;
-    }
-    Ok(Absence::Paths(paths))
 }
 
 /// The first of these paths at which there is something.

@@ -5,16 +5,14 @@ use crate::look::{Found, NO_KEY, look};
 use crate::outputs::write_outputs;
 use crate::prune::prune;
 use crate::record::{Outcome, object_key, record};
-use crate::request::{hasher_of, snapshot_request};
+use crate::request::request_key;
 use crate::stats::print_stats;
 use crate::unpack::unpack;
 use crate::why::print_why;
 use anyhow::{Result, bail};
 use cck_cache_files::{Kind, StoreDirectory, open_store};
 use cck_cache_words::{Compilation, Look, Packed, Request, Task, task_of};
-use cck_files::MapFiles;
-use cck_snapshot::preprocessor_key;
-use cck_util::Sha256State;
+use cck_path::Timestamp;
 use clap::Error;
 use std::io;
 use std::io::{Read, Write};
@@ -36,17 +34,8 @@ fn run_key<R: Files + AllocGlobal, W: Write>(
     request: &Request<'_>,
     writer: &mut W,
 ) -> Result<u8> {
-    let alloc = rt.alloc();
-    let hasher = hasher_of(rt, environment, request)?;
     let mut files = input_snapshot(rt, request)?.files;
-    let asked = snapshot_request(
-        environment,
-        &hasher,
-        request.directory,
-        environment.now,
-        &[],
-    );
-    match preprocessor_key::<Sha256State, MapFiles>(alloc, &mut files, &asked)? {
+    match request_key(rt, environment, request, &mut files)? {
         Some(key) => {
             writeln!(writer, "{key}")?;
             Ok(DONE)
@@ -58,27 +47,59 @@ fn run_key<R: Files + AllocGlobal, W: Write>(
     }
 }
 
+// Prints a miss: the preprocessor key, the time at which the look-up ended, and the key of an object and
+// the path of a damaged file, if there are such.
+fn print_miss<W: Write>(
+    writer: &mut W,
+    preprocessor_key: &str,
+    since: Timestamp,
+    object_key: Option<&str>,
+    damaged: Option<&str>,
+) -> Result<()> {
+    let (seconds, nanoseconds) = (since.seconds(), since.nanoseconds());
+    write!(writer, "miss {preprocessor_key} {seconds}.{nanoseconds:09}")?;
+    if let Some(object_key) = object_key {
+        write!(writer, " object {object_key}")?;
+    }
+    if let Some(path) = damaged {
+        write!(writer, " damaged {path}")?;
+    }
+    writeln!(writer)?;
+    Ok(())
+}
+
+// Notes that the files of these keys were used, and counts a hit. An error changes no result: neither
+// a time nor a count decides whether a look-up hits.
+fn note_hit<R: Files + AllocGlobal>(
+    rt: &R,
+    environment: &Environment<'_>,
+    store: &StoreDirectory,
+    preprocessor_key: &str,
+    object_key: &str,
+) {
+    let _ = store.touch(rt, Kind::Object, object_key, environment.now);
+    let _ = store.touch(rt, Kind::Entry, preprocessor_key, environment.now);
+    let _ = store.count(rt, "hit");
+}
+
 // Looks for an object, and writes it, with the dependency file if there is a path for it. The compiler's
 // messages go to `errors`.
 fn run_look<R: Files + AllocGlobal, W: Write, E: Write>(
     rt: &R,
     environment: &Environment<'_>,
-    store: &StoreDirectory,
-    asked: &Look<'_>,
+    wanted: &Look<'_>,
     writer: &mut W,
     errors: &mut E,
 ) -> Result<u8> {
-    match look(rt, environment, store, asked)? {
+    let store = open_store(rt, wanted.store, environment.id)?;
+    match look(rt, environment, &store, wanted)? {
         Found::Hit {
             preprocessor_key,
             object_key,
             object,
         } => {
-            write_outputs(rt, store, &asked.outputs, &object, errors)?;
-            // Neither a time nor a count decides whether this is a hit.
-            let _ = store.touch(rt, Kind::Object, object_key.as_str(), environment.now);
-            let _ = store.touch(rt, Kind::Entry, preprocessor_key.as_str(), environment.now);
-            let _ = store.count(rt, "hit");
+            write_outputs(rt, &store, &wanted.outputs, &object, errors)?;
+            note_hit(rt, environment, &store, &preprocessor_key, &object_key);
             writeln!(writer, "hit {object_key}")?;
             Ok(DONE)
         }
@@ -88,16 +109,9 @@ fn run_look<R: Files + AllocGlobal, W: Write, E: Write>(
             object_key,
             damaged,
         } => {
-            let (seconds, nanoseconds) = (since.seconds(), since.nanoseconds());
             let _ = store.count(rt, "miss");
-            write!(writer, "miss {preprocessor_key} {seconds}.{nanoseconds:09}")?;
-            if let Some(object_key) = object_key {
-                write!(writer, " object {object_key}")?;
-            }
-            if let Some(path) = damaged {
-                write!(writer, " damaged {path}")?;
-            }
-            writeln!(writer)?;
+            let (object_key, damaged) = (object_key.as_deref(), damaged.as_deref());
+            print_miss(writer, &preprocessor_key, since, object_key, damaged)?;
             Ok(MISS)
         }
         Found::NoKey => {
@@ -112,12 +126,14 @@ fn run_look<R: Files + AllocGlobal, W: Write, E: Write>(
 // compiler's messages go to `errors`.
 fn run_unpack<R: Files + AllocGlobal, W: Write, E: Write>(
     rt: &R,
-    store: &StoreDirectory,
+    environment: &Environment<'_>,
+    store: &str,
     packed: &Packed<'_>,
     writer: &mut W,
     errors: &mut E,
 ) -> Result<u8> {
-    if unpack(rt, store, packed, errors)? {
+    let store = open_store(rt, store, environment.id)?;
+    if unpack(rt, &store, packed, errors)? {
         let _ = store.count(rt, "unpacked");
         writeln!(writer, "hit {}", packed.key)?;
         Ok(DONE)
@@ -128,17 +144,26 @@ fn run_unpack<R: Files + AllocGlobal, W: Write, E: Write>(
     }
 }
 
-// Records a compilation.
-fn run_record<R: Files + AllocGlobal, W: Write>(
+// Reads a text to its end.
+fn read_text<R: AllocGlobal, I: Read>(rt: &R, reader: &mut I) -> io::Result<Vec<u8>> {
+    let mut text = Vec::new(rt.alloc());
+    reader.read_to_end(&mut text)?;
+    Ok(text)
+}
+
+// Records a compilation, whose preprocessed text is read.
+fn run_record<R: Files + AllocGlobal, I: Read, W: Write>(
     rt: &R,
     environment: &Environment<'_>,
-    store: &StoreDirectory,
+    store: &str,
     request: &Request<'_>,
     compilation: &Compilation<'_>,
-    text: &[u8],
+    reader: &mut I,
     writer: &mut W,
 ) -> Result<u8> {
-    match record(rt, environment, store, request, compilation, text)? {
+    let store = open_store(rt, store, environment.id)?;
+    let text = read_text(rt, reader)?;
+    match record(rt, environment, &store, request, compilation, &text)? {
         Outcome::Recorded(key) => {
             let _ = store.count(rt, "recorded");
             writeln!(writer, "miss {key}")?;
@@ -151,13 +176,6 @@ fn run_record<R: Files + AllocGlobal, W: Write>(
             Ok(MISS)
         }
     }
-}
-
-// Reads a text to its end.
-fn read_text<R: AllocGlobal, I: Read>(rt: &R, reader: &mut I) -> io::Result<Vec<u8>> {
-    let mut text = Vec::new(rt.alloc());
-    reader.read_to_end(&mut text)?;
-    Ok(text)
 }
 
 // Prints the key of the object whose preprocessed text is read.
@@ -174,68 +192,73 @@ fn run_object_key<R: Files + AllocGlobal, I: Read, W: Write>(
     Ok(DONE)
 }
 
+// Prints what a store has.
+fn run_stats<R: Files + AllocGlobal + Clone + Drop, W: Write>(
+    rt: &R,
+    environment: &Environment<'_>,
+    store: &str,
+    writer: &mut W,
+) -> Result<u8> {
+    let store = open_store(rt, store, environment.id)?;
+    print_stats(rt, &store, writer)?;
+    Ok(DONE)
+}
+
+// Removes files from a store.
+fn run_prune<R: Files + AllocGlobal + Clone + Drop, W: Write>(
+    rt: &R,
+    environment: &Environment<'_>,
+    store: &str,
+    max_size: u64,
+    writer: &mut W,
+) -> Result<u8> {
+    let store = open_store(rt, store, environment.id)?;
+    prune(rt, environment, &store, max_size, writer)?;
+    Ok(DONE)
+}
+
+// Prints why a look-up misses.
+fn run_why<R: Files + AllocGlobal, W: Write>(
+    rt: &R,
+    environment: &Environment<'_>,
+    store: &str,
+    request: &Request<'_>,
+    writer: &mut W,
+) -> Result<u8> {
+    let store = open_store(rt, store, environment.id)?;
+    print_why(rt, environment, &store, request, writer)?;
+    Ok(DONE)
+}
+
 // Does what was asked for.
 fn run_task<R: Files + AllocGlobal + Clone + Drop, I: Read, W: Write, E: Write>(
     rt: &R,
     environment: &Environment<'_>,
-    task: Task<'_>,
+    task: &Task<'_>,
     reader: &mut I,
     writer: &mut W,
     errors: &mut E,
 ) -> Result<u8> {
-    let id = environment.id;
     match task {
-        Task::Key(request) => run_key(rt, environment, &request, writer),
-        Task::ObjectKey(request) => run_object_key(rt, environment, &request, reader, writer),
-        Task::Look(wanted) => {
-            let store = open_store(rt, wanted.store, id)?;
-            run_look(rt, environment, &store, &wanted, writer, errors)
-        }
-        Task::Unpack { store, packed } => {
-            let store = open_store(rt, store, id)?;
-            run_unpack(rt, &store, &packed, writer, errors)
-        }
+        Task::Key(request) => run_key(rt, environment, request, writer),
+        Task::ObjectKey(request) => run_object_key(rt, environment, request, reader, writer),
+        Task::Look(wanted) => run_look(rt, environment, wanted, writer, errors),
+        Task::Unpack { store, packed } => run_unpack(
+            rt,
+            environment,
+            store,
+            packed,
+            writer,
+            errors,
+        ),
         Task::Record {
             store,
             request,
             compilation,
-        } => {
-            let store = open_store(rt, store, id)?;
-            let text = read_text(rt, reader)?;
-            run_record(
-                rt,
-                environment,
-                &store,
-                &request,
-                &compilation,
-                &text,
-                writer,
-            )
-        }
-        Task::Stats { store } => {
-            print_stats(rt, &open_store(rt, store, id)?, writer)?;
-            Ok(DONE)
-        }
-        Task::Prune { store, max_size } => {
-            prune(
-                rt,
-                environment,
-                &open_store(rt, store, id)?,
-                max_size,
-                writer,
-            )?;
-            Ok(DONE)
-        }
-        Task::Why { store, request } => {
-            print_why(
-                rt,
-                environment,
-                &open_store(rt, store, id)?,
-                &request,
-                writer,
-            )?;
-            Ok(DONE)
-        }
+        } => run_record(rt, environment, store, request, compilation, reader, writer),
+        Task::Stats { store } => run_stats(rt, environment, store, writer),
+        Task::Prune { store, max_size } => run_prune(rt, environment, store, *max_size, writer),
+        Task::Why { store, request } => run_why(rt, environment, store, request, writer),
     }
 }
 
@@ -264,7 +287,7 @@ pub fn run<R: Files + AllocGlobal + Clone + Drop, I: Read, W: Write, E: Write>(
     errors: &mut E,
 ) -> Result<u8> {
     match task_of(rt.alloc(), words) {
-        Ok(Some(task)) => run_task(rt, environment, task, reader, writer, errors),
+        Ok(Some(task)) => run_task(rt, environment, &task, reader, writer, errors),
         Ok(None) => bail!("a stamp or a size is no number, or an option is missing"),
         Err(error) => explain(&error, writer, errors),
     }

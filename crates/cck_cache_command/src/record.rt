@@ -89,7 +89,7 @@ fn see<R: Files + AllocGlobal>(
     compilation: &Compilation<'_>,
     text: &[u8],
 ) -> Result<Seen>
-    ensures { IfOk result (IsSeen request.now text.now) }
+    ensures { IfOk result (IsSeen request.now compilation.now.since text.now) }
 {
     let InputSnapshot {
         mut files,

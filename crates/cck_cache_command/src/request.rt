@@ -1,7 +1,9 @@
 //! The compilation of a request.
-ghost use Rattle.std.specs.Prelude.{◌≡◌, ◌++◌, ◌∷◌, [], IfOk, OnOk};
+ghost use Rattle.std.specs.Prelude.{◌≡◌, ◌++◌, ◌∷◌, [], Bool, IfOk, OnOk, string_bytes};
+ghost use Rattle.std.specs.Option.{option_map};
 ghost use Rattle.cck_cache_base.specs.Base.{word_lists};
-ghost use Rattle.cck_cache_command.specs.Request.{AreKeyed, IsHasher, IsRequest, gcc_arguments, request_words};
+ghost use Rattle.cck_cache_command.specs.Input.{IsInput};
+ghost use Rattle.cck_cache_command.specs.Request.{AreKeyed, HasPreprocessorKey, IsHasher, IsRequest, gcc_arguments, request_words};
 ghost use Rattle.cck_cache_words.specs.declared.request.Request as words;
 ghost use Rattle.cck_compiler.specs.Seen.{arguments_of};
 ghost use Rattle.cck_path.specs.Bytes.{lists_of};
@@ -13,9 +15,10 @@ use cck_cache_base::{Words, base_of};
 use cck_cache_files::{compiler_digest, open_store, shared_compiler_digest};
 use cck_cache_words::Request;
 use cck_compiler::copy_lists;
+use cck_files::MapFiles;
 use cck_path::Timestamp;
-use cck_snapshot::{ExternalCompiler, SnapshotRequest};
-use cck_util::Language;
+use cck_snapshot::{ExternalCompiler, SnapshotRequest, preprocessor_key};
+use cck_util::{Language, Sha256State};
 use std::alloc::{AllocError, Global};
 use std::io;
 use std::rt::Files;
@@ -137,4 +140,23 @@ pub fn snapshot_request<'a>(
         config: environment.config(),
         basedirs,
     }
+}
+
+/// The preprocessor key of a request over a snapshot of its input. `None` where it has none.
+///
+/// The error is of a program of the compiler that can't be read, or lack of memory.
+pub fn request_key<R: Files + AllocGlobal>(
+    rt: &R,
+    environment: &Environment<'_>,
+    request: &Request<'_>,
+    files: &mut MapFiles,
+) -> Result<Option<String>>
+    ensures { IfOk result (λ key. (tests : Bool) → IsInput request.now files.old.files tests
+        → HasPreprocessorKey environment.entry.now request.now (option_map string_bytes key)) }
+{
+    let hasher = hasher_of(rt, environment, request)?;
+    let (directory, now) = (request.directory, environment.now);
+    let asked = snapshot_request(environment, &hasher, directory, now, &[]);
+    let key = preprocessor_key::<Sha256State, MapFiles>(rt.alloc(), files, &asked)?;
+    Ok(key)
 }

@@ -3,7 +3,7 @@ use crate::absence::first_present;
 use crate::environment::Environment;
 use crate::input::input_snapshot;
 use crate::look::{Kept, NO_KEY, add_entry_files, read_entry};
-use crate::request::{hasher_of, snapshot_request};
+use crate::request::request_key;
 use anyhow::Result;
 use cck_cache_entry::EntryFile;
 use cck_cache_files::{Kind, StoreDirectory};
@@ -11,7 +11,6 @@ use cck_cache_words::Request;
 use cck_entry::PreprocessorCacheEntry;
 use cck_files::MapFiles;
 use cck_include::{IncludeEntry, JudgeContext, KnownFiles, include_matches};
-use cck_snapshot::preprocessor_key;
 use cck_util::Sha256State;
 use std::io::Write;
 use std::rt::Files;
@@ -75,6 +74,26 @@ fn print_entry<R: Files + AllocGlobal, W: Write>(
     Ok(())
 }
 
+// Prints what the store has of a preprocessor key.
+fn print_kept<R: Files + AllocGlobal, W: Write>(
+    rt: &R,
+    environment: &Environment<'_>,
+    store: &StoreDirectory,
+    files: &mut MapFiles,
+    key: &str,
+    writer: &mut W,
+) -> Result<()> {
+    match read_entry(rt, store, None, key)? {
+        Kept::Nothing => writeln!(writer, "no entry")?,
+        Kept::Damaged => {
+            let path = store.path_of(rt, Kind::Entry, key)?;
+            writeln!(writer, "damaged {path}")?;
+        }
+        Kept::Entry(file) => print_entry(rt, environment, files, &file, writer)?,
+    }
+    Ok(())
+}
+
 /// Prints what the store has of a request and which paths keep it from matching, a line each:
 /// `key KEY`; `no entry` or `damaged PATH`; `present PATH`, for the first path that was absent when
 /// the entry was recorded and is there now; `result KEY`, and after it `changed PATH` for each
@@ -86,28 +105,11 @@ pub fn print_why<R: Files + AllocGlobal, W: Write>(
     request: &Request<'_>,
     writer: &mut W,
 ) -> Result<()> {
-    let alloc = rt.alloc();
-    let hasher = hasher_of(rt, environment, request)?;
     let mut files = input_snapshot(rt, request)?.files;
-    let asked = snapshot_request(
-        environment,
-        &hasher,
-        request.directory,
-        environment.now,
-        &[],
-    );
-    let Some(key) = preprocessor_key::<Sha256State, MapFiles>(alloc, &mut files, &asked)? else {
+    let Some(key) = request_key(rt, environment, request, &mut files)? else {
         writeln!(writer, "{NO_KEY}")?;
         return Ok(());
     };
     writeln!(writer, "key {key}")?;
-    match read_entry(rt, store, None, key.as_str())? {
-        Kept::Nothing => writeln!(writer, "no entry")?,
-        Kept::Damaged => {
-            let path = store.path_of(rt, Kind::Entry, key.as_str())?;
-            writeln!(writer, "damaged {path}")?;
-        }
-        Kept::Entry(file) => print_entry(rt, environment, &mut files, &file, writer)?,
-    }
-    Ok(())
+    print_kept(rt, environment, store, &mut files, key.as_str(), writer)
 }

@@ -18,7 +18,7 @@ no_slash : (text : List ℕ) → ((i : ℕ) → i < length text → get_or text 
 no_slash [] h = refl
 no_slash (b ∷ bs) h = ap₂ (λ head rest. not head && rest) (ne_eqb b 47 (h 0 (omega arith))) (no_slash bs (λ i l. h (suc i) (omega arith)))
 
--- no slash stands after this one, or none is there
+-- no slash is after this one, or there is none
 abbrev NoneAfter : List ℕ → ℕ → Option ℕ → Type 0
 NoneAfter text n r = MatchOption r ((i : ℕ) → i < n → get_or text i 0 ≢ 47) (λ k. (i : ℕ) → k < i → i < n → get_or text i 0 ≢ 47)
 

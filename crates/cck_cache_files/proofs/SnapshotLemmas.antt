@@ -13,10 +13,11 @@ use Rattle.cck_files.specs.Calls.{Keeps, Rose}
 use Rattle.cck_files.specs.FileMap.{FileMap, FileNode, exists_at}
 use Rattle.cck_files.specs.FileState.{FileState, IsQuiet, fault_count}
 use Rattle.cck_markers.specs.Marks.{Mark, Name}
+use Rattle.cck_path.proofs.OrderLemmas.{path_cmp-same}
 use Rattle.cck_path.specs.Bytes.{Bytes}
 use Rattle.cck_path.specs.Path.{Path, components, joined, normal, path_cmp, path_cmp_total, path_cmp-IsAntisymmetric}
 use Rattle.cck_path.specs.Text.{path_text}
-use Rattle.cck_cache_files.specs.Snapshot.{ArePut, SnapshotGrows, IsAdded, IsNamedFile, IsPart, IsNodePut, StaysCalm, none_put, one_more, with_node}
+use Rattle.cck_cache_files.specs.Snapshot.{ArePut, HasNamedTest, SnapshotGrows, IsAdded, IsNamedFile, IsPart, IsNodePut, StaysCalm, none_put, one_more, with_node}
 
 -- one node was put
 pub added : (before after : FileState) (path : Bytes) (n : FileNode) (tests : Bool) (source : Bytes) → after ≡ record before { files = with_node before.files path n } → source ≡ n.contents
@@ -120,3 +121,28 @@ grows_by_name done name is_system cwd test more tests a b c path leads known gro
     (grows_named done (Name name is_system) cwd test more a b (λ none. (known none).0) grown)
     (record { name = name; is_system = is_system; among = Contains-push done (Name name is_system); leads = leads; tested = λ none. (known none).1 })
     put kept calm
+
+-- ---- a file that tests for headers
+
+-- more marks, and files that were added
+pub tests_more : (done : List Mark) (mark : Mark) (cwd : Bytes) (a b : FileMap) → IsPart a b → HasNamedTest done cwd a → HasNamedTest (done ++ mark ∷ []) cwd b
+tests_more done mark cwd a b part has = record {
+  name = has.name;
+  among = Contains-append_left done (mark ∷ []) (Name has.name false) has.among;
+  n = has.n;
+  at = part (components (path_text (normal (joined (components cwd) (components has.name))))) has.n has.at;
+  tests = has.tests;
+}
+
+-- a file that was put
+pub tests_put : (done : List Mark) (name cwd path : Bytes) (a b : FileMap) → path ≡ path_text (normal (joined (components cwd) (components name))) → IsNodePut a path b true → HasNamedTest (done ++ Name name false ∷ []) cwd b
+tests_put done name cwd path a b leads (inl none) = absurd (false≢true (sym none.1))
+tests_put done name cwd path a b leads (inr some) = record {
+  name = name;
+  among = Contains-push done (Name name false);
+  n = some.0;
+  at = subst (λ (p : Bytes). get b.nodes (components p) ≡ Some some.0) leads
+      (ap (λ (m : FileMap). get m.nodes (components path)) some.1 ∙ (get-insert path_cmp_total a.nodes (components path) some.0 (components path)
+      ∙ ap (λ (o : Ordering). cond (is_eq o) (Some some.0) (get a.nodes (components path))) (path_cmp-same (components path))));
+  tests = some.2.0 refl;
+}

@@ -1,5 +1,5 @@
 -- The states that are kept of paths.
-use Rattle.std.proofs.Common.{◌≡◌, ◌≢◌, ◌<◌, ◌≤◌, ◌+◌, ◌⊎◌, ℕ, List, take, get_or, Bool, true, false, not, Option, Some, None, IsTrue, IsUtf8, refl, sym, ap, ◌∙◌, subst, ⊎_elim, arith, rules}
+use Rattle.std.proofs.Common.{◌≡◌, ◌≢◌, ◌<◌, ◌≤◌, ◌+◌, ◌⊎◌, ℕ, List, length, take, get_or, Bool, true, false, not, Option, Some, None, IsTrue, IsUtf8, refl, sym, ap, ◌∙◌, subst, ⊎_elim, arith, rules}
 use Rattle.std.proofs.lemmas.Bool.{cases_Bool}
 use Rattle.std.proofs.lemmas.Option.{get_or_from_slice_get}
 use Rattle.std.proofs.lemmas.Str.{IsUtf8-from_is_utf8, is_utf8-from_IsUtf8}
@@ -14,7 +14,7 @@ use Rattle.std.specs.Ordering.{is_eq, nat_cmp}
 use Rattle.std.specs.Str.{bytes_eq, is_utf8}
 use Rattle.std.specs.declared.cmp.Ordering.{Ordering}
 use denote.Enum.Bare.{differs_false, sameb}
-use Rattle.cck_cache_files.specs.PathStates.{AreOnTheWay, EndsAt, IsStateOf, KeepsStates, state_at}
+use Rattle.cck_cache_files.specs.PathStates.{AreOnTheWay, EndsAt, IsFirstOther, IsStateOf, KeepsStates, LeadsOn, state_at}
 use Rattle.cck_cache_files.specs.declared.path_states.PathState.{PathState}
 use Rattle.cck_cache_files.specs.declared.path_states.PathState.TheVariants.{Absent, Directory, Doubtful}
 use Rattle.cck_cache_files.specs.declared.path_states.PathStates.{PathStates}
@@ -67,7 +67,7 @@ absent_is_text path state r doubt e h =
 
 -- ---- what is kept
 
-KeepsStates-trans : (a b c : PathStates) → KeepsStates a b → KeepsStates b c → KeepsStates a c
+pub KeepsStates-trans : (a b c : PathStates) → KeepsStates a b → KeepsStates b c → KeepsStates a c
 KeepsStates-trans a b c h k = record { since = k.since ∙ h.since; states = λ path state e. k.states path state (h.states path state e) }
 
 KeepsStates-state : (old new : PathStates) (path : List ℕ) (state : PathState) → IsStateOf old new path state → KeepsStates old new
@@ -100,6 +100,15 @@ pub record OnTheWay (P : PathState → Type 0) (first now : PathStates) (path : 
 
 kept_on_the_way : (P : PathState → Type 0) (old new : PathStates) (path : List ℕ) (count : ℕ) → KeepsStates old new → AreOnTheWay P old path count → AreOnTheWay P new path count
 kept_on_the_way P old new path count keeps way = λ place l ends. let at = way place l ends in (at.0, keeps.states (take place path) at.0 at.1, at.2)
+
+-- the first path that does not lead on stays so as more states are kept
+pub first_other_kept : (old new : PathStates) (path front : List ℕ) (state : PathState) → KeepsStates old new → IsFirstOther old path front state → IsFirstOther new path front state
+first_other_kept old new path front state keeps is = record {
+  front_is = is.front_is;
+  state_is = keeps.states front state is.state_is;
+  before = kept_on_the_way LeadsOn old new path (length front) keeps is.before;
+  ends = is.ends;
+}
 
 one_more : (Q : ℕ → Type 0) (count : ℕ) → ((place : ℕ) → place < count → Q place) → Q count → (place : ℕ) → place < count + 1 → Q place
 one_more Q count before at place l =

@@ -56,3 +56,11 @@ pub record IsNamedFile (marks : List Mark) (cwd : Bytes) (test : Bool) (path : B
   pub among : Contains marks (Name name is_system)
   pub leads : path ≡ path_text (normal (joined (components cwd) (components name)))
   pub tested : test ≡ false → (tests ≡ false) ⊎ (is_system ≡ true)
+
+-- the files have contents that test for headers at the path of a name among these marks, in this working directory, that is not one of a system header
+pub record HasNamedTest (marks : List Mark) (cwd : Bytes) (files : FileMap) : Type 0 where
+  pub name : Bytes
+  pub among : Contains marks (Name name false)
+  pub n : FileNode
+  pub at : get files.nodes (components (path_text (normal (joined (components cwd) (components name))))) ≡ Some n
+  pub tests : TestsHeaders n

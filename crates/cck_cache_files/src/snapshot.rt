@@ -4,7 +4,7 @@ ghost use Rattle.cck_files.specs.Calls.{Keeps};
 ghost use Rattle.cck_files.specs.FileState.{IsQuiet, fault_count};
 ghost use Rattle.cck_markers.specs.Marks.{Marks};
 ghost use Rattle.cck_markers.specs.Marks as marks;
-ghost use Rattle.cck_cache_files.specs.Snapshot.{SnapshotGrows, IsAdded, IsNamedFile, IsPart, IsNodePut, StaysCalm};
+ghost use Rattle.cck_cache_files.specs.Snapshot.{HasNamedTest, SnapshotGrows, IsAdded, IsNamedFile, IsPart, IsNodePut, StaysCalm};
 
 use crate::path_states::{PathState, PathStates};
 use crate::times::{changed, modified};
@@ -167,6 +167,8 @@ pub fn add_named_files<R: Files + AllocGlobal>(
 ) -> Result<NamedFiles, UtilError>
     ensures named { IfOk result (λ named. (marks : List marks.Mark) → Marks true text.now marks
         → SnapshotGrows (IsNamedFile marks cwd.now named.tests_headers) files.old files.new) }
+    ensures tests { IfOk result (λ named. (marks : List marks.Mark) → Marks true text.now marks
+        → named.tests_headers ≡ true → IsQuiet files.old → HasNamedTest marks cwd.now files.new.files) }
     ensures errors { IsOkUnless result UtilError.Memory }
 {
     let alloc = rt.alloc();
