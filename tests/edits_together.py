@@ -52,12 +52,14 @@ def function_at(path, text, place):
         if line.startswith(("impl", "trait ", "pub trait ")):
             head = IMPL.match(line)
             owner = r"\w*".join(filter(None, (head[3], head[1], head[2]))) if head else r"\w+"
+            # A check names a type's own methods by the module of the type, whichever module their impl is in.
+            owner = (r"(?:\w+::)*" if head and not head[1] else module) + owner + "::"
         elif line == "}":
             owner = ""
         if (head := FUNCTION.match(line)) and name is None:
             indent, name = head[1], head[2]
         if start <= place <= end:
-            return rf"\w+::{module}{owner + '::' if owner and indent else ''}{name}(?:::.*)?" if name else None
+            return rf"\w+::{owner if owner and indent else module}{name}(?:::.*)?" if name else None
         if name and line == indent + "}":
             name = None
         start = end + 1
@@ -114,12 +116,14 @@ def judged(name, status, said):
         return "proved", ""
     if "could not tell" in status:
         return "undecided", status
-    if "it stands on" not in status:
+    if "it stands on" not in status and status != "not proved":
         return "rejected", f"{name}: {status}"
     # Its proof is by hand. If only the proof of another function is refused, it waits for that one.
     path = name.split("::", 1)[1].replace("::", "/")
-    faults = re.findall(rf"^(?:\./)?proofs/{re.escape(path)}/.*: error: .*$", said, re.M)
-    if not faults and path.replace("/", ".") not in status:
+    faults = re.findall(rf"^(?:\./)?proofs/{re.escape(path)}/.*: error: .*(?:\n  .*)*$", said, re.M)
+    # What is long in a message is in indented lines of its own.
+    faults = [fault.replace("\n ", "") for fault in faults]
+    if not faults and "it stands on" in status and path.replace("/", ".") not in status:
         return "proved", ""
     of_meaning = [fault for fault in faults if not GONE.search(fault)]
     return "rejected" if of_meaning or not faults else "undecided", (of_meaning or faults or [status])[0]
