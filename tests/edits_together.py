@@ -126,7 +126,8 @@ def judged(name, status, said):
     if not faults and "it stands on" in status and path.replace("/", ".") not in status:
         return "proved", ""
     of_meaning = [fault for fault in faults if not GONE.search(fault)]
-    return "rejected" if of_meaning or not faults else "undecided", (of_meaning or faults or [status])[0]
+    is_rejected = of_meaning or not faults and status != "not proved"
+    return "rejected" if is_rejected else "undecided", (of_meaning or faults or [status])[0]
 
 
 def verdict(functions, said):
