@@ -1,26 +1,130 @@
 //! The commands, their options and their words.
-use clap::{Arg, ArgAction, Command, Error};
-use std::alloc::Global;
+use clap::{Arg, ArgAction, Command};
+use std::alloc::{AllocError, Global};
 
 /// The version of the program.
 const VERSION: &str = "0.19.0";
 
-// An option that takes a value and may be left out.
-fn extra_arg<'a>(alloc: Global, name: &'a str, value: &'a str, help: &'a str) -> Arg<'a> {
-    Arg::new(alloc, name)
-        .long(name)
-        .value_name(value)
-        .action(ArgAction::Set)
-        .help(help)
-}
+// The name of an option, that of its value, and its help.
+type OptionWords<'a> = (&'a str, &'a str, &'a str);
 
-// A required option that takes a value.
-fn option_arg<'a>(alloc: Global, name: &'a str, value: &'a str, help: &'a str) -> Arg<'a> {
-    extra_arg(alloc, name, value, help).required(true)
+const REQUEST_REQUIRED: [OptionWords<'static>; 2] = [
+    (
+        "compiler",
+        "PATHS",
+        "The programs that the compiler runs, with colons between them",
+    ),
+    ("directory", "DIR", "The working directory"),
+];
+
+const REQUEST_EXTRA: [OptionWords<'static>; 2] = [
+    (
+        "digests",
+        "STORE",
+        "Counts the programs by their contents, whose digests this store keeps",
+    ),
+    (
+        "base",
+        "DIR",
+        "The base directory, which objects that do not depend on it are shared without",
+    ),
+];
+
+const UNPACK_REQUIRED: [OptionWords<'static>; 3] = [
+    ("key", "KEY", "The key of the object"),
+    ("object", "FILE", "The object file"),
+    ("out", "FILE", "Where the object is written"),
+];
+
+const UNPACK_EXTRA: [OptionWords<'static>; 1] = [(
+    "dependencies",
+    "FILE",
+    "Where the dependency file is written",
+)];
+
+const LOOK_REQUIRED: [OptionWords<'static>; 1] = [("out", "FILE", "Where the object is written")];
+
+const LOOK_EXTRA: [OptionWords<'static>; 2] = [
+    (
+        "dependencies",
+        "FILE",
+        "Where the dependency file is written",
+    ),
+    (
+        "entry",
+        "FILE",
+        "An entry file that is read in place of the store's",
+    ),
+];
+
+const RECORD_REQUIRED: [OptionWords<'static>; 3] = [
+    ("since", "STAMP", "The time that the look-up printed"),
+    (
+        "key",
+        "KEY",
+        "The preprocessor key that the look-up printed",
+    ),
+    ("search", "FILE", "What `-E -v` printed on standard error"),
+];
+
+const RECORD_EXTRA: [OptionWords<'static>; 5] = [
+    (
+        "object",
+        "FILE",
+        "The object; without it the entry alone is recorded",
+    ),
+    (
+        "messages",
+        "FILE",
+        "What the compilation printed on standard error",
+    ),
+    (
+        "dependencies",
+        "FILE",
+        "The dependency file that the compilation wrote",
+    ),
+    (
+        "entry-out",
+        "FILE",
+        "Where the entry file is written in place of the store's",
+    ),
+    (
+        "object-out",
+        "FILE",
+        "Where the object file is written in place of the store's",
+    ),
+];
+
+const PRUNE_REQUIRED: [OptionWords<'static>; 1] = [(
+    "max-size",
+    "BYTES",
+    "The most bytes that the files may have together",
+)];
+
+// A command with these options, which take a value each.
+fn with_options<'a>(
+    alloc: Global,
+    command: Command<'a>,
+    options: &[OptionWords<'a>],
+    are_required: bool,
+) -> Result<Command<'a>, AllocError> {
+    let mut command = command;
+    for (name, value, help) in options {
+        let option = Arg::new(alloc, name)
+            .long(name)
+            .value_name(value)
+            .action(ArgAction::Set)
+            .help(help)
+            .required(are_required);
+        command = command.arg(option)?;
+    }
+    Ok(command)
 }
 
 // A command with the words of a request after its own.
-fn with_request<'a>(alloc: Global, command: Command<'a>) -> Result<Command<'a>, Error> {
+fn with_request<'a>(alloc: Global, command: Command<'a>) -> Result<Command<'a>, AllocError> {
+    let command = with_options(alloc, command, &REQUEST_REQUIRED, true)?;
+    let command = with_options(alloc, command, &REQUEST_EXTRA, false)?;
     let input = Arg::new(alloc, "INPUT")
         .required(true)
         .help("The input, as the compiler's command line has it");
@@ -29,52 +133,26 @@ fn with_request<'a>(alloc: Global, command: Command<'a>) -> Result<Command<'a>, 
         .trailing_var_arg(true)
         .allow_hyphen_values(true)
         .help("The compiler's arguments, without the output");
-    Ok(
-        command
-            .arg(option_arg(
-                alloc,
-                "compiler",
-                "PATHS",
-                "The programs that the compiler runs, with colons between them",
-            ))?
-            .arg(option_arg(alloc, "directory", "DIR", "The working directory"))?
-            .arg(extra_arg(
-                alloc,
-                "digests",
-                "STORE",
-                "Counts the programs by their contents, whose digests this store keeps",
-            ))?
-            .arg(extra_arg(
-                alloc,
-                "base",
-                "DIR",
-                "The base directory, which objects that do not depend on it are shared without",
-            ))?
-            .arg(input)?
-            .arg(arguments)?,
+    command.arg(input)?.arg(arguments)
+}
+
+// A command with the word STORE.
+fn with_store<'a>(alloc: Global, command: Command<'a>) -> Result<Command<'a>, AllocError> {
+    command.arg(
+        Arg::new(alloc, "STORE")
+            .required(true)
+            .help("The directory of the store"),
     )
 }
 
-// The option for the dependency file.
-fn dependencies_arg<'a>(alloc: Global, help: &'a str) -> Arg<'a> {
-    extra_arg(alloc, "dependencies", "FILE", help)
-}
-
-// The word STORE.
-fn store_arg<'a>(alloc: Global) -> Arg<'a> {
-    Arg::new(alloc, "STORE")
-        .required(true)
-        .help("The directory of the store")
-}
-
 // The command `key`.
-fn key_command<'a>(alloc: Global) -> Result<Command<'a>, Error> {
+fn key_command<'a>(alloc: Global) -> Result<Command<'a>, AllocError> {
     let command = Command::new(alloc, "key").about("Prints the preprocessor key");
     with_request(alloc, command)
 }
 
 // The command `object-key`.
-fn object_key_command<'a>(alloc: Global) -> Result<Command<'a>, Error> {
+fn object_key_command<'a>(alloc: Global) -> Result<Command<'a>, AllocError> {
     let command = Command::new(alloc, "object-key").about(
         "Prints the key of the object whose preprocessed text is read from standard input",
     );
@@ -82,129 +160,85 @@ fn object_key_command<'a>(alloc: Global) -> Result<Command<'a>, Error> {
 }
 
 // The command `unpack`.
-fn unpack_command<'a>(alloc: Global) -> Result<Command<'a>, Error> {
-    Ok(
-        Command::new(alloc, "unpack")
-            .about("Writes the object that an object file has")
-            .arg(option_arg(alloc, "key", "KEY", "The key of the object"))?
-            .arg(option_arg(alloc, "object", "FILE", "The object file"))?
-            .arg(option_arg(alloc, "out", "FILE", "Where the object is written"))?
-            .arg(dependencies_arg(alloc, "Where the dependency file is written"))?
-            .arg(store_arg(alloc))?,
-    )
+fn unpack_command<'a>(alloc: Global) -> Result<Command<'a>, AllocError> {
+    let command = Command::new(alloc, "unpack").about("Writes the object that an object file has");
+    let command = with_options(alloc, command, &UNPACK_REQUIRED, true)?;
+    let command = with_options(alloc, command, &UNPACK_EXTRA, false)?;
+    with_store(alloc, command)
 }
 
 // The command `look`.
-fn look_command<'a>(alloc: Global) -> Result<Command<'a>, Error> {
-    let command = Command::new(alloc, "look")
-        .about("Writes the object from the store")
-        .arg(option_arg(alloc, "out", "FILE", "Where the object is written"))?
-        .arg(dependencies_arg(alloc, "Where the dependency file is written"))?
-        .arg(extra_arg(
-            alloc,
-            "entry",
-            "FILE",
-            "An entry file that is read in place of the store's",
-        ))?
-        .arg(store_arg(alloc))?;
-    with_request(alloc, command)
+fn look_command<'a>(alloc: Global) -> Result<Command<'a>, AllocError> {
+    let command = Command::new(alloc, "look").about("Writes the object from the store");
+    let command = with_options(alloc, command, &LOOK_REQUIRED, true)?;
+    let command = with_options(alloc, command, &LOOK_EXTRA, false)?;
+    with_request(alloc, with_store(alloc, command)?)
 }
 
 // The command `record`.
-fn record_command<'a>(alloc: Global) -> Result<Command<'a>, Error> {
-    let command = Command::new(alloc, "record")
-        .about("Records a compilation, whose preprocessed text is read from standard input")
-        .arg(option_arg(alloc, "since", "STAMP", "The time that the look-up printed"))?
-        .arg(option_arg(
-            alloc,
-            "key",
-            "KEY",
-            "The preprocessor key that the look-up printed",
-        ))?
-        .arg(option_arg(
-            alloc,
-            "search",
-            "FILE",
-            "What `-E -v` printed on standard error",
-        ))?
-        .arg(extra_arg(
-            alloc,
-            "object",
-            "FILE",
-            "The object; without it the entry alone is recorded",
-        ))?
-        .arg(extra_arg(
-            alloc,
-            "messages",
-            "FILE",
-            "What the compilation printed on standard error",
-        ))?
-        .arg(dependencies_arg(alloc, "The dependency file that the compilation wrote"))?
-        .arg(extra_arg(
-            alloc,
-            "entry-out",
-            "FILE",
-            "Where the entry file is written in place of the store's",
-        ))?
-        .arg(extra_arg(
-            alloc,
-            "object-out",
-            "FILE",
-            "Where the object file is written in place of the store's",
-        ))?
-        .arg(store_arg(alloc))?;
-    with_request(alloc, command)
+fn record_command<'a>(alloc: Global) -> Result<Command<'a>, AllocError> {
+    let command = Command::new(alloc, "record").about(
+        "Records a compilation, whose preprocessed text is read from standard input",
+    );
+    let command = with_options(alloc, command, &RECORD_REQUIRED, true)?;
+    let command = with_options(alloc, command, &RECORD_EXTRA, false)?;
+    with_request(alloc, with_store(alloc, command)?)
 }
 
 // The command `stats`.
-fn stats_command<'a>(alloc: Global) -> Result<Command<'a>, Error> {
-    Ok(
-        Command::new(alloc, "stats")
-            .about("Prints what a store has, and what was counted")
-            .arg(store_arg(alloc))?,
-    )
+fn stats_command<'a>(alloc: Global) -> Result<Command<'a>, AllocError> {
+    let command = Command::new(alloc, "stats").about(
+        "Prints what a store has, and what was counted",
+    );
+    with_store(alloc, command)
 }
 
 // The command `prune`.
-fn prune_command<'a>(alloc: Global) -> Result<Command<'a>, Error> {
-    let max_size = option_arg(
-        alloc,
-        "max-size",
-        "BYTES",
-        "The most bytes that the files may have together",
+fn prune_command<'a>(alloc: Global) -> Result<Command<'a>, AllocError> {
+    let command = Command::new(alloc, "prune").about(
+        "Removes the files that were used longest ago",
     );
-    Ok(
-        Command::new(alloc, "prune")
-            .about("Removes the files that were used longest ago")
-            .arg(max_size)?
-            .arg(store_arg(alloc))?,
-    )
+    let command = with_options(alloc, command, &PRUNE_REQUIRED, true)?;
+    with_store(alloc, command)
 }
 
 // The command `why`.
-fn why_command<'a>(alloc: Global) -> Result<Command<'a>, Error> {
-    let command = Command::new(alloc, "why")
-        .about("Prints which paths keep an entry from matching")
-        .arg(store_arg(alloc))?;
-    with_request(alloc, command)
+fn why_command<'a>(alloc: Global) -> Result<Command<'a>, AllocError> {
+    let command = Command::new(alloc, "why").about(
+        "Prints which paths keep an entry from matching",
+    );
+    with_request(alloc, with_store(alloc, command)?)
+}
+
+// A program with the commands that have the words of a request.
+fn with_request_commands<'a>(
+    alloc: Global,
+    program: Command<'a>,
+) -> Result<Command<'a>, AllocError> {
+    program
+        .subcommand(key_command(alloc)?)?
+        .subcommand(object_key_command(alloc)?)?
+        .subcommand(look_command(alloc)?)?
+        .subcommand(record_command(alloc)?)?
+        .subcommand(why_command(alloc)?)
+}
+
+// A program with the other commands.
+fn with_store_commands<'a>(alloc: Global, program: Command<'a>) -> Result<Command<'a>, AllocError> {
+    program
+        .subcommand(unpack_command(alloc)?)?
+        .subcommand(stats_command(alloc)?)?
+        .subcommand(prune_command(alloc)?)
 }
 
 /// The whole command line.
 ///
 /// The error is lack of memory.
-pub(crate) fn program<'a>(alloc: Global) -> Result<Command<'a>, Error> {
-    Ok(
-        Command::new(alloc, "cck_cache")
-            .version(VERSION)
-            .about("Keeps the objects of compilations")
-            .subcommand_required(true)
-            .subcommand(key_command(alloc)?)?
-            .subcommand(object_key_command(alloc)?)?
-            .subcommand(look_command(alloc)?)?
-            .subcommand(unpack_command(alloc)?)?
-            .subcommand(record_command(alloc)?)?
-            .subcommand(stats_command(alloc)?)?
-            .subcommand(prune_command(alloc)?)?
-            .subcommand(why_command(alloc)?)?,
-    )
+pub(crate) fn program<'a>(alloc: Global) -> Result<Command<'a>, AllocError> {
+    let program = Command::new(alloc, "cck_cache")
+        .version(VERSION)
+        .about("Keeps the objects of compilations")
+        .subcommand_required(true);
+    let program = with_request_commands(alloc, program)?;
+    with_store_commands(alloc, program)
 }
