@@ -43,7 +43,7 @@ IsVerdict states path (Absent absent) = IsAbsentAt states path absent.now
 IsVerdict states path Present = IsPresentAt states path
 IsVerdict states path Doubtful = IsDoubtfulAt states path
 
--- a path is added to a list, if it is not in it, and no other
+-- a list has the paths that it had, this one, and no other
 pub record GainsPath (old : List Bytes) (path : Bytes) (new : List Bytes) : Type 0 where
   pub kept : (p : Bytes) → Contains old p → Contains new p
   pub gained : Contains new path

@@ -63,7 +63,8 @@ IsOneDay zone a b true = (x y : DateTime) × IsLocalTime zone a x × IsLocalTime
 IsOneDay zone a b false =
     HasNoLocalTime a ⊎ (HasNoLocalTime b ⊎ ((x y : DateTime) × IsLocalTime zone a x × IsLocalTime zone b y × ¬ (epoch_day x.date ≡ epoch_day y.date)))
 
--- These paths must stay absent, by states of paths that last changed before this time and by what the compiler printed of its directories.
+-- These paths must stay absent, by what the compiler printed of its directories and by states of paths, where a file or a link that changed at this
+-- time or later is in doubt.
 pub record HasAbsentPaths (request : Request) (since : Moment) (text : Bytes) (paths : List Bytes) : Type 0 where
   pub states : PathStates
   pub since_is : states.since ≡ since

@@ -118,7 +118,7 @@ fn absent_paths<R: Files + AllocGlobal>(
 /// Judges the paths at which a header that a text names would have been found earlier. `printed` is
 /// what the compiler printed of its directories.
 ///
-/// The only error is [`UtilError::Memory`].
+/// The only error is [`UtilError::Memory`]. The states that were kept are kept, after it too.
 pub fn absence_of<R: Files + AllocGlobal>(
     rt: &R,
     states: &mut PathStates,
