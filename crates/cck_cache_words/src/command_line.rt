@@ -8,6 +8,14 @@ const VERSION: &str = "0.19.0";
 // The name of an option, that of its value, and its help.
 type OptionWords<'a> = (&'a str, &'a str, &'a str);
 
+const OUT: OptionWords<'static> = ("out", "FILE", "Where the object is written");
+
+const DEPENDENCIES: OptionWords<'static> = (
+    "dependencies",
+    "FILE",
+    "Where the dependency file is written",
+);
+
 const REQUEST_REQUIRED: [OptionWords<'static>; 2] = [
     (
         "compiler",
@@ -33,23 +41,15 @@ const REQUEST_EXTRA: [OptionWords<'static>; 2] = [
 const UNPACK_REQUIRED: [OptionWords<'static>; 3] = [
     ("key", "KEY", "The key of the object"),
     ("object", "FILE", "The object file"),
-    ("out", "FILE", "Where the object is written"),
+    OUT,
 ];
 
-const UNPACK_EXTRA: [OptionWords<'static>; 1] = [(
-    "dependencies",
-    "FILE",
-    "Where the dependency file is written",
-)];
+const UNPACK_EXTRA: [OptionWords<'static>; 1] = [DEPENDENCIES];
 
-const LOOK_REQUIRED: [OptionWords<'static>; 1] = [("out", "FILE", "Where the object is written")];
+const LOOK_REQUIRED: [OptionWords<'static>; 1] = [OUT];
 
 const LOOK_EXTRA: [OptionWords<'static>; 2] = [
-    (
-        "dependencies",
-        "FILE",
-        "Where the dependency file is written",
-    ),
+    DEPENDENCIES,
     (
         "entry",
         "FILE",

@@ -1,13 +1,8 @@
-//! Maps of paths, files in memory, and digests of files and directories.
+//! Files that count the calls on them.
 ghost use Rattle.std.specs.Prelude.{◌≡◌};
 
-use cck_path_map::PathMap;
-use cck_util::{
-    Digest, DigestFiles, FileError, FileKind, Files, MapFiles, Metadata, Node, Sha256State,
-    UtilError, same_path,
-};
+use cck_util::{FileError, FileKind, Files, MapFiles, Metadata, Node, UtilError, same_path};
 use std::alloc::Global;
-use std::test::Fail;
 
 // A node of these contents, without times.
 fn node(alloc: Global, kind: FileKind, contents: &[u8]) -> Result<Node, UtilError> {
@@ -26,48 +21,6 @@ pub(crate) fn files_of(alloc: Global, files: &[(&[u8], &[u8])]) -> Result<MapFil
         map.put(path, node(alloc, FileKind::File, contents)?)?;
     }
     Ok(map)
-}
-
-#[test]
-fn a_map_of_paths(rt: HostRuntime) -> Result<(), Fail> {
-    let mut map: PathMap<u32> = PathMap::new(rt.alloc());
-    map.insert(b"/a-b", 2)?;
-    map.insert(b"/a/x", 1)?;
-    assert_eq!(rt; map.get(b"//a/./x/").copied(), Some(1));
-    let first = map.entries().next().ok_or("an entry")?;
-    assert_eq!(rt; first.path.as_slice(), b"/a/x".as_slice());
-    assert_eq!(rt; map.remove(b"/a-b/"), Some(2));
-    assert_eq!(rt; map.len(), 1);
-    Ok(())
-}
-
-#[test]
-fn a_link_and_a_fault(rt: HostRuntime) -> Result<(), UtilError> {
-    let alloc = rt.alloc();
-    let mut files = files_of(alloc, &[(b"/w/h.h", b"int y;")])?;
-    files.link(b"/l", b"/w/h.h")?;
-    let mut buffer = [0; 4];
-    assert_eq!(rt; files.read_at(b"/l", 4, &mut buffer), Ok(2));
-    assert!(rt; buffer.starts_with(b"y;"));
-    assert!(rt; !files.exists(b"/w"));
-    files.fail_at(1);
-    assert_eq!(rt; files.metadata(b"/l"), Err(FileError::Fault));
-    assert_eq!(rt; files.metadata(b"/l")?.len, 6);
-    Ok(())
-}
-
-#[test]
-fn the_digest_of_a_folder(rt: HostRuntime) -> Result<(), UtilError> {
-    let alloc = rt.alloc();
-    let mut files = files_of(alloc, &[(b"/d/a-b", b"2"), (b"/d/a/x", b"1")])?;
-    files.put(b"/d/a", node(alloc, FileKind::Folder, b"")?)?;
-    files.put(b"/d", node(alloc, FileKind::Folder, b"")?)?;
-    let text = Digest::<Sha256State>::file(alloc, &mut files, b"/d")?;
-    assert_eq!(rt;
-        text.as_str(),
-        "6f8a4bd440a8736e27b5f968dee131dc43bd2d1b67fc871564cf8b897fff40cc"
-    );
-    Ok(())
 }
 
 /// Files that count the calls on one path, and the times that any file is read from its start.
@@ -148,23 +101,40 @@ fn count_existing<F: Files>(files: &mut F, paths: &[&[u8]]) -> usize {
     count
 }
 
-#[test]
-fn counted_calls(rt: HostRuntime) -> Result<(), UtilError> {
-    let alloc = rt.alloc();
+/// What calls on files return, and how many calls were on one path.
+#[derive(Clone, Copy)]
+pub(crate) struct Counts {
+    /// The size of a file.
+    pub(crate) size: u64,
+    /// Whether the file has a time of modification.
+    pub(crate) is_dated: bool,
+    /// The number of bytes that a read gives.
+    pub(crate) read: usize,
+    /// How many of three paths exist.
+    pub(crate) existing: usize,
+    /// How many calls were on the path of the file.
+    pub(crate) calls: u64,
+    /// How many reads were from a file's start.
+    pub(crate) reads: u64,
+}
+
+/// Makes calls on files that count them.
+pub(crate) fn counted_calls(alloc: Global) -> Result<Counts, UtilError> {
     let mut files: CountedFiles<MapFiles> = CountedFiles {
         inner: files_of(alloc, &[(b"/d/x", b"abc"), (b"/d", b"")])?,
         path: b"/d/x".to_vec(alloc)?,
         calls: 0,
         reads: 0,
     };
-    assert_eq!(rt; files.metadata(b"/d//x")?.len, 3);
-    assert_eq!(rt; files.read_at(b"/d/x", 0, &mut [0; 2]), Ok(2));
-    assert_eq!(rt; files.read_dir(alloc, b"/d"), Err(FileError::OtherKind));
-    assert_eq!(rt;
-        files.canonical(alloc, b"/d/x")?.as_slice(),
-        b"/d/x".as_slice()
-    );
-    assert_eq!(rt; count_existing(&mut files, &[b"/d", b"/d/x", b"/none"]), 2);
-    assert_eq!(rt; (files.calls, files.reads), (4, 1));
-    Ok(())
+    let metadata = files.metadata(b"/d//x")?;
+    let read = files.read_at(b"/d/x", 0, &mut [0; 2])?;
+    let existing = count_existing(&mut files, &[b"/d", b"/d/x", b"/none"]);
+    Ok(Counts {
+        size: metadata.len,
+        is_dated: metadata.modified.is_some(),
+        read,
+        existing,
+        calls: files.calls,
+        reads: files.reads,
+    })
 }

@@ -1,0 +1,44 @@
+//! Examples of use, and calls at types of this crate's own: a compiler, files, a sink and a writer.
+//! The program prints the result of each, a line for each. `stdout` has the lines that are expected.
+#![tactic(auto)]
+
+mod calls;
+mod entries;
+mod files;
+mod values;
+
+use std::alloc::Global;
+use std::process::ExitCode;
+
+// The lines, or `None` if a call fails.
+fn lines(alloc: Global) -> Option<String> {
+    let (first, second) = values::keys_of_a_copy(alloc).ok()?;
+    let pieces = values::pieces_taken(alloc).ok()?;
+    let is_failed = values::is_flush_failed();
+    let counts = files::counted_calls(alloc).ok()?;
+    let (size, is_dated) = (counts.size, counts.is_dated);
+    let (read, existing) = (counts.read, counts.existing);
+    let (calls, reads) = (counts.calls, counts.reads);
+    let (found, headers) = entries::look_up_over_counted_files(alloc)?;
+    let key = calls::key_by_own_compiler(alloc).ok()?;
+    let text = format!(in alloc;
+        "{first}\n\
+        {second} plusplus\n\
+        {pieces} pieces\n\
+        flush failed: {is_failed}\n\
+        {size} bytes, dated: {is_dated}, {read} read, {existing} exist: {calls} calls, {reads} reads\n\
+        {found}: {headers} reads\n\
+        {key}\n"
+    );
+    text.ok()
+}
+
+fn main(rt: HostRuntime) -> ExitCode {
+    let Some(text) = lines(rt.alloc()) else {
+        return ExitCode::from(1);
+    };
+    match rt.print(&text) {
+        Ok(()) => ExitCode::from(0),
+        Err(_) => ExitCode::from(1),
+    }
+}
