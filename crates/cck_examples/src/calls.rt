@@ -32,7 +32,7 @@ fn arguments(alloc: Global) -> Result<ParsedArguments, KeyError> {
     Ok(arguments)
 }
 
-/// The key of a compilation, from a command line on.
+/// The key of a compilation, from a command line on. The empty text if that is no compilation.
 pub(crate) fn key_by_own_compiler(alloc: Global) -> Result<String, KeyError> {
     let mut files = files_of(alloc, &[(b"/cc", b"cc"), (b"/w/a.i", b"int x;")])?;
     let own = OwnCompiler {

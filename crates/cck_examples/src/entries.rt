@@ -1,13 +1,14 @@
-//! A look-up over files that count the calls on them.
+//! Look-ups over files that count the calls on them, and over a directory with times.
 use crate::files::{CountedFiles, files_of};
 use cck_entry::{
-    Error, MapFiles, PreprocessorCacheEntry, PreprocessorCacheModeConfig, Sha256State, Timestamp,
-    recorded_digest,
+    Error, FileKind, MapFiles, Node, PreprocessorCacheEntry, PreprocessorCacheModeConfig,
+    Sha256State, Timestamp, recorded_digest,
 };
+use cck_util::UtilError;
 use jiff::tz::TimeZone;
 use std::alloc::Global;
 
-// The recorded digest of a file on the first day of 1970, in UTC.
+// The recorded digest of a file on the first day of 1970, in UTC. The empty text if it has none.
 fn recorded(alloc: Global, files: &mut MapFiles, path: &[u8]) -> Result<String, Error> {
     let moment = Timestamp::new(0, 0);
     let config = PreprocessorCacheModeConfig::activated();
@@ -59,4 +60,40 @@ pub(crate) fn look_up_over_counted_files(alloc: Global) -> Option<(String, u64)>
     );
     let key = String::from_str(alloc, found.ok()??).ok()?;
     Some((key, files.reads))
+}
+
+// A directory at `/h`, modified and changed at the start of 1970.
+fn dated_directory(alloc: Global) -> Result<MapFiles, UtilError> {
+    let node = Node {
+        kind: FileKind::Folder,
+        contents: Vec::new(alloc),
+        modified: Some(Timestamp::new(0, 0)),
+        changed: Some(Timestamp::new(0, 0)),
+    };
+    let mut files = MapFiles::new(alloc);
+    files.put(b"/h", node)?;
+    Ok(files)
+}
+
+/// Whether a directory matches an include, if its size and its times are those that were recorded.
+/// `None` if a call fails.
+pub(crate) fn is_directory_found(alloc: Global) -> Option<bool> {
+    let mut files = dated_directory(alloc).ok()?;
+    let path = b"/h".to_vec(alloc).ok()?;
+    let included = vec![in alloc; (String::new(alloc), path)].ok()?;
+    let mut entry = PreprocessorCacheEntry::new(alloc);
+    let moment = Timestamp::new(1, 0);
+    entry.add_result(&mut files, moment, "k", &included).ok()?;
+    let found = entry.lookup_result_digest::<Sha256State, MapFiles>(
+        alloc,
+        &mut files,
+        Timestamp::new(2, 0),
+        &TimeZone::UTC,
+        &[],
+        PreprocessorCacheModeConfig {
+            file_stat_matches: true,
+            ..PreprocessorCacheModeConfig::activated()
+        },
+    );
+    Some(found.ok()?.is_some())
 }

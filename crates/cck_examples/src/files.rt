@@ -110,6 +110,10 @@ pub(crate) struct Counts {
     pub(crate) is_dated: bool,
     /// The number of bytes that a read gives.
     pub(crate) read: usize,
+    /// Whether a file can be listed.
+    pub(crate) is_listed: bool,
+    /// The length of a canonical path.
+    pub(crate) canonical_length: usize,
     /// How many of three paths exist.
     pub(crate) existing: usize,
     /// How many calls were on the path of the file.
@@ -128,11 +132,15 @@ pub(crate) fn counted_calls(alloc: Global) -> Result<Counts, UtilError> {
     };
     let metadata = files.metadata(b"/d//x")?;
     let read = files.read_at(b"/d/x", 0, &mut [0; 2])?;
+    let is_listed = files.read_dir(alloc, b"/d").is_ok();
+    let canonical = files.canonical(alloc, b"/d/x")?;
     let existing = count_existing(&mut files, &[b"/d", b"/d/x", b"/none"]);
     Ok(Counts {
         size: metadata.len,
         is_dated: metadata.modified.is_some(),
         read,
+        is_listed,
+        canonical_length: canonical.len(),
         existing,
         calls: files.calls,
         reads: files.reads,

@@ -17,17 +17,21 @@ fn lines(alloc: Global) -> Option<String> {
     let is_failed = values::is_flush_failed();
     let counts = files::counted_calls(alloc).ok()?;
     let (size, is_dated) = (counts.size, counts.is_dated);
-    let (read, existing) = (counts.read, counts.existing);
+    let (read, is_listed) = (counts.read, counts.is_listed);
+    let (length, existing) = (counts.canonical_length, counts.existing);
     let (calls, reads) = (counts.calls, counts.reads);
     let (found, headers) = entries::look_up_over_counted_files(alloc)?;
+    let is_found = entries::is_directory_found(alloc)?;
     let key = calls::key_by_own_compiler(alloc).ok()?;
     let text = format!(in alloc;
         "{first}\n\
         {second} plusplus\n\
         {pieces} pieces\n\
         flush failed: {is_failed}\n\
-        {size} bytes, dated: {is_dated}, {read} read, {existing} exist: {calls} calls, {reads} reads\n\
+        {size} bytes, dated: {is_dated}, {read} read, listed: {is_listed}, path of {length} bytes\n\
+        {existing} exist: {calls} calls, {reads} reads\n\
         {found}: {headers} reads\n\
+        directory found: {is_found}\n\
         {key}\n"
     );
     text.ok()
