@@ -1,14 +1,14 @@
 #!/bin/sh
-# Lets one request for memory fail in each run of a program of cases: the first one, then the second
+# Lets one request for memory fail in each run of the program of vectors: the first one, then the second
 # one, and so on. A run has to end with status 2, for want of memory, with no difference printed, or
 # to print what the program prints with all its memory. Run by hand:
-# fail_alloc.sh CRATE FILE [RUNS [FIRST]], where FILE is one of the crate's data/ and FIRST the first
+# fail_alloc.sh FILE [RUNS [FIRST]], where FILE is one of crates/cck_vectors/data/ and FIRST the first
 # request that fails. A run builds the program, so there are 5 where no number is given.
 set -eu
-cd "$(dirname "$0")/../crates/$1"
-file=data/$2
-runs=${3:-5}
-first=${4:-1}
+cd "$(dirname "$0")/../crates/cck_vectors"
+file=data/$1
+runs=${2:-5}
+first=${3:-1}
 log=$(mktemp)
 trap 'rm "$log"' EXIT
 
@@ -27,7 +27,7 @@ while [ "$n" -lt $((first + runs)) ]; do
     0) ;;
     *) expected='a run that ends' ;;
     esac
-    [ "$text" = "$expected" ] || { echo "$1 $2: allocation $n refused: $text"; cat "$log"; exit 1; }
+    [ "$text" = "$expected" ] || { echo "$1: allocation $n refused: $text"; cat "$log"; exit 1; }
     n=$((n + 1))
 done
-echo "$1 $2: $runs runs from allocation $first on, $short of them ended for want of memory"
+echo "$1: $runs runs from allocation $first on, $short of them ended for want of memory"

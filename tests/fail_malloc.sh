@@ -1,15 +1,16 @@
 #!/bin/sh
-# Lets each request for memory fail in turn in a program of cases that is built (`rt run` in its directory
-# proves and builds it): fail_malloc.sh CRATE FILE [on], where FILE is one of the crate's data/. Once,
-# or with all later requests too where `on` is given. A run has to end with status 2, for want of
-# memory, with no difference printed, or to print what the program prints with all its memory. The last
-# line counts the runs. It needs a C compiler and the GNU C library.
+# Lets each request for memory fail in turn in the program of vectors (`rt run` in its directory proves and
+# builds it): fail_malloc.sh FILE [on], where FILE is one of crates/cck_vectors/data/. Once, or with all
+# later requests too where `on` is given. A run has to end with status 2, for want of memory, with no
+# difference printed, or to print what the program prints with all its memory. The last line counts the
+# runs. It needs a C compiler and the GNU C library.
 set -eu
 top=$(cd "$(dirname "$0")/.." && pwd)
-folder=$top/crates/$1
-program=$folder/out/$1
-how=${3:-once}
-[ -x "$program" ] || { echo "$program is not built: rt run in crates/$1 builds it" >&2; exit 1; }
+folder=$top/crates/cck_vectors
+program=$folder/out/cck_vectors
+file=$1
+how=${2:-once}
+[ -x "$program" ] || { echo "$program is not built: rt run in $folder builds it" >&2; exit 1; }
 room=$(mktemp -d)
 trap 'rm -r "$room"' EXIT
 ${CC:-cc} -O2 -shared -fPIC -o "$room/fail.so" "$top/tests/fail_malloc.c"
@@ -17,7 +18,6 @@ ${CC:-cc} -O2 -shared -fPIC -o "$room/fail.so" "$top/tests/fail_malloc.c"
 run() {
     (cd "$folder/data" && env "$@" LD_PRELOAD="$room/fail.so" FAIL_COUNT="$room/count" "$program" "$file")
 }
-file=$2
 all=$(run FAIL_AT=0)
 requests=$(cat "$room/count")
 n=1
@@ -39,7 +39,7 @@ while [ "$n" -le "$requests" ]; do
         ;;
     *) expected="a run that ends" ;;
     esac
-    [ "$text" = "$expected" ] || { echo "$1 $file: request $n refused, $how: status $status: $text"; exit 1; }
+    [ "$text" = "$expected" ] || { echo "$file: request $n refused, $how: status $status: $text"; exit 1; }
     n=$((n + 1))
 done
-echo "$1 $file: $requests requests refused in turn, $how; $short runs ended for want of memory, and the others printed all"
+echo "$file: $requests requests refused in turn, $how; $short runs ended for want of memory, and the others printed all"

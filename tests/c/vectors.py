@@ -14,7 +14,7 @@ sys.path.insert(0, str(TESTS))
 from reference.cases import Made, expected_of, statements_of  # noqa: E402
 from reference.subjects import files, values, walks  # noqa: E402
 
-CRATES = TESTS.parent / "crates"
+DATA = TESTS.parent / "crates/cck_vectors/data"
 
 DONE, LANGUAGE, FORMAT, ENTRY, UNCHANGED = 0, 3, 5, 6, 7
 
@@ -126,7 +126,7 @@ def of_marks(subject, text, expected):
 
 
 CALLS = {
-    "cck_value_vectors": (values, {
+    "values": (values, {
         "key": of_key,
         "language_of": of_language,
         "strip": of_strip("strip_text"),
@@ -136,8 +136,8 @@ CALLS = {
         "find_in_reader": of_one_piece,
         "find_at_each_cut": of_cuts,
     }),
-    "cck_file_vectors": (files, {"read_entry": of_entry, "read_each_prefix": of_prefixes}),
-    "cck_walk_vectors": (walks, {"marks": of_marks}),
+    "files": (files, {"read_entry": of_entry, "read_each_prefix": of_prefixes}),
+    "walks": (walks, {"marks": of_marks}),
 }  # fmt: skip
 
 
@@ -158,8 +158,8 @@ def main(words):
     """Makes all calls by one run of the program, and returns the exit status."""
     cases = [
         case
-        for crate, (module, calls) in CALLS.items()
-        for path in sorted((CRATES / crate / "data").glob("*.txt"))
+        for folder, (module, calls) in CALLS.items()
+        for path in sorted((DATA / folder).glob("*.txt"))
         for case in lines_of(path, module.Subject(), calls)
     ]
     lines = "".join(line + "\n" for line, _, _ in cases).encode()

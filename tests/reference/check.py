@@ -7,19 +7,15 @@ from .cases import outcomes_of, report_of, rewritten
 
 TOP = pathlib.Path(__file__).resolve().parents[2]
 
-# The programs of cases, each with the module of `subjects` that makes their calls.
-PROGRAMS = [
-    ("cck_value_vectors", "values"),
-    ("cck_file_vectors", "files"),
-    ("cck_walk_vectors", "walks"),
-    ("cck_vectors", "calls"),
-    ("cck_script_vectors", "scripts"),
-]
+DATA = TOP / "crates/cck_vectors/data"
+
+# The folders of vector files. The module of `subjects` of the same name makes their calls.
+FOLDERS = ["values", "files", "walks", "calls", "scripts"]
 
 
-def data_files(crate):
-    """The vector files of a program, in order."""
-    return sorted((TOP / "crates" / crate / "data").glob("*.txt"))
+def data_files(folder):
+    """The vector files of a folder, in order."""
+    return sorted((DATA / folder).glob("*.txt"))
 
 
 def module_of(name):
@@ -31,7 +27,7 @@ def module_of(name):
 
 def vector_files():
     """Each vector file of the repository, with its adapter or None."""
-    return [(file, module_of(name)) for crate, name in PROGRAMS for file in data_files(crate)]
+    return [(file, module_of(name)) for name in FOLDERS for file in data_files(name)]
 
 
 def name_of(file):
@@ -74,9 +70,9 @@ def vector_names():
 
 def agrees(name):
     """Whether all results of the vector file of this name are the expected ones."""
-    crate = name.split("/")[1]
-    module = module_of(dict(PROGRAMS)[crate])
-    outcomes = outcomes_of((TOP / name).read_bytes(), module.Subject())
+    file = TOP / name
+    module = module_of(file.parent.name)
+    outcomes = outcomes_of(file.read_bytes(), module.Subject())
     return all(outcome.agrees() for outcome in outcomes)
 
 

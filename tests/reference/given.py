@@ -1,4 +1,4 @@
-"""Words that several programs of cases know: what lines give to calls on bytes and on files.
+"""Words that several libraries of cases know: what lines give to calls on bytes and on files.
 
 `Given` and `World` are parts of an adapter: its `begin` calls theirs, and its `give` asks them.
 """

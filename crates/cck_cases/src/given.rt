@@ -77,20 +77,6 @@ impl Given {
         }
     }
 
-    /// Removes all that was given.
-    pub fn begin(&mut self) {
-        self.basedirs.clear();
-        self.arguments.clear();
-        self.variables.clear();
-        self.extra_hashes.clear();
-        self.compiler = None;
-        self.language = Language::C;
-        self.plusplus = false;
-        self.multiarch = false;
-        self.assembler = None;
-        self.base.clear();
-    }
-
     /// Returns the hex digest of the compiler.
     pub fn compiler(&self) -> &str {
         match &self.compiler {

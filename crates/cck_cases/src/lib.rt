@@ -1,10 +1,10 @@
 //! Test vectors: reads cases from files, makes their calls, and reports the results.
 //!
 //! A vector file has one line for each thing that a case says. `docs/VECTORS.md` has the grammar. A
-//! program of cases implements [`Subject`] for the calls that it knows, and its `main` is
-//! [`run_files`]. A case that is added to a file needs no proof.
+//! library of cases implements [`Subject`] for the calls that it knows, and runs a file by
+//! [`run_file`]. A case that is added to a file needs no proof.
 //!
-//! - A program uses [`Subject`] and [`run_files`]. A call returns a [`Value`], or a [`CaseError`]
+//! - A library uses [`Subject`] and [`run_file`]. A call returns a [`Value`], or a [`CaseError`]
 //!   as the reason why there is none.
 //! - [`Given`] has what lines give for calls on bytes, and [`World`] what they give for calls on
 //!   files.
@@ -20,8 +20,8 @@ mod case_error;
 mod failing;
 mod given;
 mod made;
-mod program;
 mod report;
+mod run;
 mod session;
 mod subject;
 mod table;
@@ -32,9 +32,11 @@ mod world;
 pub use case_error::CaseError;
 pub use failing::{FailReader, FailWriter, Failures};
 pub use given::Given;
-pub use program::run_files;
+pub use run::run_file;
 pub use subject::{CaseLine, Subject};
 pub use table::find;
-pub use text::{byte_of, bytes_of, moment_of, number, optional_moment_of, variables_of, words_of};
-pub use value::{Value, write_cut, write_moment, write_numbers};
+pub use text::{
+    byte_of, bytes_of, moment_of, number, optional_moment_of, variables_of, words_of, zone_of,
+};
+pub use value::{Value, end_line, write_cut, write_moment, write_numbers};
 pub use world::World;

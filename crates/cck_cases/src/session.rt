@@ -7,12 +7,13 @@ use crate::text::bytes_of;
 use crate::value::write_error;
 use std::alloc::Global;
 
-// The result of a call, and what was expected of it so far.
+// The result of a call, and the lines of the expected one so far.
 #[derive(Drop)]
 struct Returned {
     line: usize,
     result: Vec<u8>,
-    expected: Option<Vec<u8>>,
+    expected: Vec<u8>,
+    is_expected: bool,
 }
 
 #[derive(Drop)]
@@ -65,7 +66,7 @@ impl<S: Subject + Drop> Session<S> {
         }
         if name == "case" {
             self.made.begin();
-            self.subject.begin();
+            self.subject = S::new(self.alloc);
             report.begin(rest)?;
             return Ok(());
         }
@@ -94,24 +95,23 @@ impl<S: Subject + Drop> Session<S> {
         self.last = Some(Returned {
             line,
             result,
-            expected: None,
+            expected: Vec::new(self.alloc),
+            is_expected: false,
         });
         Ok(())
     }
 
     // Takes one line of the expected result.
     fn expect(&mut self, rest: &str) -> Result<(), CaseError> {
-        let line = bytes_of(self.alloc, rest)?;
         let Some(last) = &mut self.last else {
             return Err(CaseError::Line);
         };
-        match &mut last.expected {
-            Some(lines) => {
-                lines.push(b'\n')?;
-                lines.extend_from_slice(&line)?;
-            }
-            None => last.expected = Some(line),
+        if last.is_expected {
+            last.expected.push(b'\n')?;
         }
+        last.is_expected = true;
+        last.expected
+            .extend_from_slice(&bytes_of(self.alloc, rest)?)?;
         Ok(())
     }
 
@@ -120,9 +120,10 @@ impl<S: Subject + Drop> Session<S> {
         let Some(last) = self.last.take() else {
             return Ok(());
         };
-        match &last.expected {
-            Some(expected) => report.compare(last.line, expected, &last.result)?,
-            None => report.reject(last.line, "the call has no expected result")?,
+        if last.is_expected {
+            report.compare(last.line, &last.expected, &last.result)?;
+        } else {
+            report.reject(last.line, "the call has no expected result")?;
         }
         Ok(())
     }

@@ -1,4 +1,4 @@
-//! The calls of a program of cases.
+//! The calls of a library of cases.
 use crate::case_error::CaseError;
 use crate::value::Value;
 use std::alloc::Global;
@@ -12,13 +12,10 @@ pub struct CaseLine<'a> {
     pub bytes: &'a [u8],
 }
 
-/// The calls that a program knows, and what lines give for them.
+/// The calls that a library knows, and what lines give for them.
 pub trait Subject {
-    /// Returns the state in which nothing is given.
+    /// Returns the state in which nothing is given, as it is at the beginning of each case.
     fn new(alloc: Global) -> Self;
-
-    /// Removes all that was given, since a case begins.
-    fn begin(&mut self);
 
     /// Applies a line, and returns whether its word is known here.
     fn give(&mut self, word: &str, rest: &str) -> Result<bool, CaseError>;

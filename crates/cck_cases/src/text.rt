@@ -1,6 +1,7 @@
 //! Bytes, words, numbers and times, as a vector file writes them.
 use crate::case_error::CaseError;
 use cck_util::{Timestamp, UtilError, ascii_unescape_default};
+use jiff::tz::{Offset, TimeZone};
 use std::alloc::Global;
 use std::str::FromStr;
 
@@ -41,6 +42,14 @@ where
 {
     match text.parse::<T>() {
         Ok(number) => Ok(number),
+        Err(_) => Err(CaseError::Line),
+    }
+}
+
+/// Returns the zone that is this many seconds east of UTC.
+pub fn zone_of(seconds: i32) -> Result<TimeZone<'static>, CaseError> {
+    match Offset::from_seconds(seconds) {
+        Ok(offset) => Ok(TimeZone::fixed(offset)),
         Err(_) => Err(CaseError::Line),
     }
 }

@@ -68,6 +68,14 @@ fn write_part(out: &mut Vec<u8>, part: Option<&[u8]>) -> Result<(), AllocError> 
     out.extend_from_slice(part)
 }
 
+/// Ends the line before, if there is one.
+pub fn end_line(out: &mut Vec<u8>) -> Result<(), AllocError> {
+    if out.is_empty() {
+        return Ok(());
+    }
+    Ok(out.push(b'\n')?)
+}
+
 /// Writes `kept` if nothing was cut, or `cut` and what remains.
 pub fn write_cut(out: &mut Vec<u8>, kept: &CowSlice<'_, u8>) -> Result<(), AllocError> {
     match kept {

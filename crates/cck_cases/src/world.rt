@@ -51,6 +51,19 @@ pub struct World {
     pub config: PreprocessorCacheModeConfig,
 }
 
+// The regular file of the text `MODIFIED CHANGED TEXT`.
+fn file_of(alloc: Global, rest: &str) -> Result<Node, CaseError> {
+    let (modified, rest) = rest.split_once(' ').ok_or(CaseError::Line)?;
+    let (changed, text) = rest.split_once(' ').unwrap_or((rest, ""));
+    let (modified, changed) = (optional_moment_of(modified)?, optional_moment_of(changed)?);
+    Ok(Node {
+        kind: FileKind::File,
+        contents: bytes_of(alloc, text)?,
+        modified,
+        changed,
+    })
+}
+
 impl World {
     /// Returns the state in which nothing is given.
     pub fn new(alloc: Global) -> World {
@@ -61,14 +74,6 @@ impl World {
             zone: 0,
             config: PreprocessorCacheModeConfig::activated(),
         }
-    }
-
-    /// Removes all that was given.
-    pub fn begin(&mut self) {
-        self.files = MapFiles::new(self.alloc);
-        self.moment = Timestamp::new(100, 0);
-        self.zone = 0;
-        self.config = PreprocessorCacheModeConfig::activated();
     }
 
     /// Applies a line, and returns whether its word is known here.
@@ -93,14 +98,7 @@ impl World {
 
     fn put_file(&mut self, rest: &str) -> Result<(), CaseError> {
         let (path, rest) = rest.split_once(' ').ok_or(CaseError::Line)?;
-        let (modified, rest) = rest.split_once(' ').ok_or(CaseError::Line)?;
-        let (changed, text) = rest.split_once(' ').unwrap_or((rest, ""));
-        let node = Node {
-            kind: FileKind::File,
-            contents: bytes_of(self.alloc, text)?,
-            modified: optional_moment_of(modified)?,
-            changed: optional_moment_of(changed)?,
-        };
+        let node = file_of(self.alloc, rest)?;
         self.files.put(&bytes_of(self.alloc, path)?, node)?;
         Ok(())
     }

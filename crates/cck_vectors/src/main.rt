@@ -1,43 +1,60 @@
-//! The program `cck_vectors`: cases of compilers, stores, calls for keys and lists of calls.
+//! The program `cck_vectors`: makes the calls of vector files, and compares their results.
 //!
-//! The words after its name are vector files. `docs/VECTORS.md` has their grammar.
+//! The words after its name are vector files. The folder that a file is in says which library knows
+//! its calls; `docs/VECTORS.md` has a table of them, and the grammar of the files. For each file the
+//! program prints each difference, and the number of results. For the word `examples` it prints the
+//! results of the calls of `cck_examples`.
 //!
-//! Lines give a compilation, and what the call for its key is made under:
-//!
-//! - of the command line `input`, `compilation_flag`, `depfile`, `too_hard` and a path or a word;
-//!   `output NAME PATH` and `optional_output NAME PATH`; `dependency`, `preprocessor`, `common`,
-//!   `arch`, `unhashed`, `dist_files`, `extra_files` and a list; the flags `double_dash`,
-//!   `external_assembler`, `show_includes`, `explicit_language`, `profile_generate` and
-//!   `suppress_rewrite_includes_only`; `color_off`, `color_on`, `color_auto`; `language NAME`;
-//! - of the compiler `executable PATH`, `compiler DIGEST`, `kind NAME`, `plusplus`, `version TEXT`,
-//!   `assembler DIGEST`, `printed TEXT`, and instead of a compilation `not_compilation`,
-//!   `cannot_cache` or `cannot_cache_for DETAIL`;
-//! - of the call `cwd PATH`, `recache` or `any_key`, the words of `Given` and `World`, and of the
-//!   store `new_store`, `empty_store`, `store_fail_at N`, `store_fail_after N` and
-//!   `store_forget_at N`;
-//! - `add_call` adds a call of all this to the list that `run_calls` makes. `counted_path PATH` and
-//!   `count N` say on which path calls are counted, and from where on; `bytewise`, that each read
-//!   of a file gives one byte.
-//!
-//! The calls of each module are in its table `CALLS`.
+//! The status is 0 if all results are the expected ones, and 1 if one differs or a line can't be
+//! read. It is 2 if a file can't be read, memory is lacking or a call of `cck_examples` fails.
 #![tactic(auto)]
 
-mod arguments;
-mod calls;
-mod compilers;
-mod errors;
-mod fixed_compiler;
-mod keys;
-mod lists;
-mod noting_files;
-mod request;
-mod shown;
-mod stores;
-
-use crate::calls::Calls;
-use cck_cases::run_files;
 use std::process::ExitCode;
+use std::{env, io};
+
+// The name of the folder that a file is in, or nothing where its path has none.
+fn folder_of(path: &str) -> &str {
+    let (folders, _) = path.rsplit_once('/').unwrap_or(("", path));
+    match folders.rsplit_once('/') {
+        Some((_, folder)) => folder,
+        None => folders,
+    }
+}
+
+fn print_examples(rt: &HostRuntime) -> io::Result<bool> {
+    let Some(results) = cck_examples::results(rt.alloc()) else {
+        return Err(io::Error::from(io::ErrorKind::Other));
+    };
+    rt.print(&results)?;
+    Ok(true)
+}
+
+fn run_word(rt: &HostRuntime, name: &str) -> io::Result<bool> {
+    if name == "examples" {
+        return print_examples(rt);
+    }
+    match folder_of(name) {
+        "values" => cck_value_cases::run_file(rt, name),
+        "files" => cck_file_cases::run_file(rt, name),
+        "walks" => cck_walk_cases::run_file(rt, name),
+        "calls" => cck_call_cases::run_file(rt, name),
+        "scripts" => cck_script_cases::run_file(rt, name),
+        _ => Err(io::Error::from(io::ErrorKind::NotFound)),
+    }
+}
+
+fn run_all(rt: &HostRuntime) -> io::Result<bool> {
+    let mut agree = true;
+    for name in env::args(rt)?.skip(1) {
+        agree = run_word(rt, &name)? && agree;
+    }
+    Ok(agree)
+}
 
 fn main(rt: HostRuntime) -> ExitCode {
-    run_files::<Calls>(&rt)
+    match run_all(&rt) {
+        Ok(true) => ExitCode::from(0),
+        Ok(false) => ExitCode::from(1),
+        Err(_) => ExitCode::from(2),
+    }
 }

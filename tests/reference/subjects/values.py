@@ -1,4 +1,4 @@
-"""The calls of `cck_value_vectors`: bytes, paths, texts, times, digests, readers and keys."""
+"""The calls of `cck_value_cases`: bytes, paths, texts, times, digests, readers and keys."""
 from .. import digests, key, paths, strip, texts, times
 from ..cases import (
     BaseSubject,

@@ -1,0 +1,133 @@
+//! Calls for keys.
+use crate::noting_files::NotingFiles;
+use crate::request::GivenRequest;
+use crate::shown::{error_value, write_result};
+use c_cache_keys::{CCompilerImpl, HashResult, KeyError, PreprocessError, PreprocessorStore};
+use cck_cases::{CaseError, Given, Value, World, zone_of};
+use cck_util::{Files, Sha256State, UtilError};
+use std::alloc::Global;
+
+#[derive(Clone, Copy)]
+pub(crate) enum KeyCall {
+    Compile,
+    Toolchain,
+    ResultShown,
+    Control,
+    Preprocess,
+    Preprocessed,
+    CallEach,
+}
+
+pub(crate) const CALLS: [(&str, KeyCall); 7] = [
+    ("compile", KeyCall::Compile),
+    ("toolchain", KeyCall::Toolchain),
+    ("compile_shown", KeyCall::ResultShown),
+    ("control", KeyCall::Control),
+    ("preprocess", KeyCall::Preprocess),
+    ("preprocessed", KeyCall::Preprocessed),
+    ("call_each", KeyCall::CallEach),
+];
+
+/// Calls for the key of the compilation that is given.
+pub(crate) fn key_of<S: PreprocessorStore>(
+    request: &GivenRequest,
+    given: &Given,
+    world: &World,
+    files: &mut NotingFiles,
+    store: &mut S,
+) -> Result<Result<HashResult, KeyError>, CaseError> {
+    let zone = zone_of(world.zone)?;
+    Ok(
+        request
+            .hasher
+            .generate_hash_key::<Sha256State, NotingFiles, S>(
+                request.alloc,
+                files,
+                store,
+                &request.cwd,
+                &given.variables,
+                world.moment,
+                &zone,
+                world.config,
+                &given.basedirs,
+                request.control,
+            ),
+    )
+}
+
+/// The result of a call for a key, in short.
+pub(crate) fn result_value<'a>(
+    alloc: Global,
+    returned: &Result<HashResult, KeyError>,
+) -> Result<Value<'a>, CaseError> {
+    let mut out = Vec::new(alloc);
+    write_result(alloc, &mut out, returned)?;
+    Ok(Value::Bytes(out))
+}
+
+/// The key of the toolchain that a call for a key returns.
+pub(crate) fn toolchain_value<'a>(
+    alloc: Global,
+    returned: Result<HashResult, KeyError>,
+) -> Result<Value<'a>, CaseError> {
+    match returned {
+        Ok(found) => Ok(Value::Text(found.weak_toolchain_key)),
+        Err(error) => error_value(alloc, error),
+    }
+}
+
+/// The result of a call for a key, as `Debug` prints it.
+pub(crate) fn result_shown<'a>(
+    alloc: Global,
+    returned: &Result<HashResult, KeyError>,
+) -> Result<Value<'a>, CaseError> {
+    if matches!(returned, Err(KeyError::Memory)) {
+        return Err(CaseError::Util(UtilError::Memory));
+    }
+    Ok(Value::Text(format!(in alloc; "{returned:?}")?))
+}
+
+/// Whether a stored key may be returned, as `Debug` prints it.
+pub(crate) fn control_shown<'a>(request: &GivenRequest) -> Result<Value<'a>, CaseError> {
+    let control = request.control;
+    Ok(Value::Text(format!(in request.alloc; "{control:?}")?))
+}
+
+/// The text that the compiler prints.
+pub(crate) fn preprocessed_text<'a>(
+    request: &GivenRequest,
+    given: &Given,
+    world: &World,
+    files: &mut NotingFiles,
+) -> Result<Value<'a>, CaseError> {
+    let printed = request.hasher.compiler.preprocess::<NotingFiles>(
+        request.alloc,
+        files,
+        &request.hasher.executable,
+        &request.hasher.parsed_args,
+        &request.cwd,
+        &given.variables,
+        world.moment,
+    );
+    match printed {
+        Ok(text) => Ok(Value::Bytes(text)),
+        Err(PreprocessError::Memory) => Err(CaseError::Util(UtilError::Memory)),
+        Err(PreprocessError::Fault) => Ok(Value::Word("error Fault")),
+        Err(PreprocessError::Failed) => Ok(Value::Word("error Failed")),
+    }
+}
+
+/// Makes each call on files once, on one path: the length, how many of 4 bytes are read from the
+/// offset 5 on, whether it can be listed and whether something is there.
+pub(crate) fn call_each<'a>(
+    alloc: Global,
+    files: &mut NotingFiles,
+    path: &[u8],
+) -> Result<Value<'a>, CaseError> {
+    let length = files.metadata(path)?.len;
+    let read = files.read_at(path, 5, &mut [0; 4])?;
+    let is_listed = files.read_dir(alloc, path).is_ok();
+    let present = files.exists(path);
+    let is_canonical = files.canonical(alloc, path)?.as_slice() == path;
+    Ok(Value::Text(format!(in alloc; "{length} {read} {is_listed} {present} {is_canonical}")?))
+}

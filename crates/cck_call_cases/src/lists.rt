@@ -1,0 +1,76 @@
+//! Lists of calls for keys.
+use crate::fixed_compiler::{FixedCompiler, PREPROCESSED};
+use crate::noting_files::NotingFiles;
+use crate::request::GivenRequest;
+use crate::shown::{held, write_result};
+use c_cache_keys::{Call, HashResult, KeyError, PreprocessorStore, run_calls};
+use cck_cases::{CaseError, Given, Value, World, zone_of};
+use cck_script::copy_variables;
+use cck_util::Sha256State;
+use std::alloc::Global;
+
+/// A call for a key.
+pub(crate) type FixedCall = Call<FixedCompiler, NotingFiles>;
+
+/// The call for the key of the compilation that is given, over a copy of the files.
+pub(crate) fn call_of(
+    request: &GivenRequest,
+    given: &Given,
+    world: &World,
+) -> Result<FixedCall, CaseError> {
+    let alloc = request.alloc;
+    Ok(Call {
+        hasher: held(request.hasher.copy(alloc))?,
+        files: noting(alloc, world)?,
+        cwd: request.cwd.to_vec(alloc)?,
+        vars: copy_variables(alloc, &given.variables)?,
+        moment: world.moment,
+        control: request.control,
+    })
+}
+
+fn noting(alloc: Global, world: &World) -> Result<NotingFiles, CaseError> {
+    Ok(NotingFiles {
+        files: world.files.copy(alloc)?,
+        path: PREPROCESSED.to_vec(alloc)?,
+        count: 0,
+        is_bytewise: false,
+    })
+}
+
+/// Makes the calls, and returns a line for each: its result, and how often it preprocessed.
+pub(crate) fn run<'a, S: PreprocessorStore>(
+    given: &Given,
+    world: &World,
+    store: &mut S,
+    calls: &mut [FixedCall],
+) -> Result<Value<'a>, CaseError> {
+    let alloc = given.alloc;
+    let zone = zone_of(world.zone)?;
+    let results = run_calls::<Sha256State, FixedCompiler, NotingFiles, S>(
+        alloc,
+        store,
+        &zone,
+        world.config,
+        &given.basedirs,
+        calls,
+    )?;
+    results_value(alloc, &results, calls)
+}
+
+fn results_value<'a>(
+    alloc: Global,
+    results: &[Result<HashResult, KeyError>],
+    calls: &[FixedCall],
+) -> Result<Value<'a>, CaseError> {
+    let count = results.len();
+    let mut out = Vec::new(alloc);
+    out.extend_from_slice(format!(in alloc; "{count} results")?.as_bytes())?;
+    for (result, call) in results.iter().zip(calls) {
+        out.push(b'\n')?;
+        write_result(alloc, &mut out, result)?;
+        let times = call.files.count;
+        out.extend_from_slice(format!(in alloc; ", preprocessed {times}")?.as_bytes())?;
+    }
+    Ok(Value::Bytes(out))
+}

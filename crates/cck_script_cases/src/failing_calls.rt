@@ -1,0 +1,116 @@
+//! The calls of a script as a list, and failures among them.
+use crate::broken_streams::{self, Broken};
+use crate::failures::{self, FailureCause};
+use crate::lists::{CallResult, List, write_call_result};
+use crate::streams::Streams;
+use cck_cases::{CaseError, end_line};
+use std::alloc::Global;
+
+#[derive(Clone, Copy)]
+pub(crate) enum ListCall {
+    PlainKeys,
+    Results,
+    Checked,
+    FailEach,
+}
+
+pub(crate) const CALLS: [(&str, ListCall); 4] = [
+    ("plain_keys", ListCall::PlainKeys),
+    ("results", ListCall::Results),
+    ("checked_results", ListCall::Checked),
+    ("fail_each", ListCall::FailEach),
+];
+
+/// What lines give to a list of calls.
+#[derive(Clone, Copy)]
+pub(crate) struct ListGiven<'a> {
+    /// The reader and the writer of a run.
+    pub(crate) streams: &'a Streams,
+    /// From which get or put of the store on all fail, or 0.
+    pub(crate) store_fail_after: u64,
+    /// How many results the entry has that the store holds at first, beside that of the first call,
+    /// or 0 where it holds none.
+    pub(crate) other_results: u64,
+    /// The path of the file that they include.
+    pub(crate) path: &'a [u8],
+}
+
+/// Makes a call on the list of calls that the script of this text asks for, and writes its result.
+pub(crate) fn write(
+    call: ListCall,
+    alloc: Global,
+    out: &mut Vec<u8>,
+    given: ListGiven<'_>,
+    text: &[u8],
+    rest: &str,
+) -> Result<(), CaseError> {
+    if let (ListCall::FailEach, Some((broken, is_once))) = (call, broken_of(rest)) {
+        return broken_streams::write(alloc, out, given.streams, text, broken, is_once);
+    }
+    let mut list = List::of_text(alloc, text)?;
+    if given.other_results > 0 {
+        list.hold_entry(given.other_results, given.path)?;
+    }
+    match call {
+        ListCall::PlainKeys => write_plain_keys(&list, out),
+        ListCall::Results => write_results(&list, out, given.store_fail_after),
+        ListCall::Checked => failures::write_checked(&list, out),
+        ListCall::FailEach => {
+            let (cause, is_once) = cause_of(rest).ok_or(CaseError::Line)?;
+            failures::write(&list, out, cause, is_once)
+        }
+    }
+}
+
+// Makes each call alone, on an empty store.
+fn write_plain_keys(list: &List, out: &mut Vec<u8>) -> Result<(), CaseError> {
+    for alone in list.each_alone()? {
+        end_line(out)?;
+        write_call_result(list.alloc, out, &alone.call_result)?;
+    }
+    Ok(())
+}
+
+// Makes all calls at once, on one store, of whose gets and puts all from this one on fail.
+fn write_results(list: &List, out: &mut Vec<u8>, fail_after: u64) -> Result<(), CaseError> {
+    let mut store = list.store()?;
+    store.fail_after(fail_after);
+    let call_results: Vec<CallResult> = list.make_all(&mut store, &mut list.calls()?)?;
+    for call_result in &call_results {
+        end_line(out)?;
+        write_call_result(list.alloc, out, call_result)?;
+    }
+    Ok(())
+}
+
+// `CAUSE once` and `CAUSE on`: a cause, and whether one call alone fails.
+fn cause_of(rest: &str) -> Option<(FailureCause, bool)> {
+    let (cause, how) = rest.split_once(' ')?;
+    let cause = match cause {
+        "files" => FailureCause::Files,
+        "store" => FailureCause::Store,
+        "forget" => FailureCause::Forgetting,
+        _ => return None,
+    };
+    Some((cause, is_once(how)?))
+}
+
+// The same of the reader and the writer of `cck run`.
+fn broken_of(rest: &str) -> Option<(Broken, bool)> {
+    let (cause, how) = rest.split_once(' ')?;
+    let broken = match cause {
+        "reads" => Broken::Reads,
+        "writes" => Broken::Writes,
+        "flushes" => Broken::Flushes,
+        _ => return None,
+    };
+    Some((broken, is_once(how)?))
+}
+
+fn is_once(how: &str) -> Option<bool> {
+    match how {
+        "once" => Some(true),
+        "on" => Some(false),
+        _ => None,
+    }
+}

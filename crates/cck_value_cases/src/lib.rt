@@ -1,0 +1,37 @@
+//! Cases of the calls on bytes, paths, texts, times, digests, readers and keys.
+//!
+//! [`run_file`] runs a vector file. `docs/VECTORS.md` has the grammar, and the words that are known in
+//! every file. These words are known here too:
+//!
+//! | word | meaning |
+//! |---|---|
+//! | `basedirs_with N FIRST LETTER` | N base directories: the text FIRST, followed by no LETTER, by one, and so on |
+//! | `pieces LIST` | the pieces that a digest or a finder is given in turn; none at first |
+//! | `reader STEP PASSING KIND` | how the call's bytes are read: the number of bytes of one read, the number of reads that pass, and the error kind of the reads after them, `interrupted` or `other`; at first no read fails, and each gives as much as is asked for |
+//! | `writer PASSING` | the number of writes that pass before a writer fails; all at first |
+#![tactic(auto)]
+
+mod digests;
+mod errors;
+mod finder;
+mod keys;
+mod paths;
+mod readers;
+mod searches;
+mod streams;
+mod strip;
+mod texts;
+mod times;
+mod values;
+
+use crate::values::Values;
+use std::io;
+
+/// Runs the cases of a file as [`cck_cases::run_file`] does.
+///
+/// # Errors
+///
+/// Those of [`cck_cases::run_file`].
+pub fn run_file(rt: &HostRuntime, name: &str) -> io::Result<bool> {
+    cck_cases::run_file::<Values>(rt, name)
+}
