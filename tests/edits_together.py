@@ -120,7 +120,10 @@ def judged(name, status, said):
         return "rejected", f"{name}: {status}"
     # Its proof is by hand. If only the proof of another function is refused, it waits for that one.
     path = name.split("::", 1)[1].replace("::", "/")
-    faults = re.findall(rf"^(?:\./)?proofs/{re.escape(path)}/.*: error: .*(?:\n  .*)*$", said, re.M)
+    # Functions that call one another have one proof, in a directory whose name begins with `+`.
+    module, slash, own = path.rpartition("/")
+    folder = rf"{re.escape(module + slash)}(?:{re.escape(own)}|\+\w+)"
+    faults = re.findall(rf"^(?:\./)?proofs/{folder}/.*: error: .*(?:\n  .*)*$", said, re.M)
     # What is long in a message is in indented lines of its own.
     faults = [fault.replace("\n ", "") for fault in faults]
     if not faults and "it stands on" in status and path.replace("/", ".") not in status:
