@@ -5,8 +5,8 @@
 #
 # Warnings are errors everywhere. The examples are built and run. tests/c/calls.c makes the calls of
 # the vector files, and repeats each with each of its requests for memory failing in turn: built by gcc
-# and clang, alone, with AddressSanitizer, and under valgrind. AddressSanitizer sees what the caller
-# does, and valgrind the library too.
+# and clang, alone and with the sanitizers of addresses and of undefined behaviour, and by gcc under
+# valgrind. The sanitizers see what the caller does, and valgrind the library too.
 set -eu
 top=$(cd "$(dirname "$0")/.." && pwd)
 work=$(mktemp -d)

@@ -60,7 +60,7 @@ refused=0
 for crate in "$@"; do
     rm -rf "$room/crates/$crate/must-fail"
     cp -r "tests/edits/$crate" "$room/crates/$crate/must-fail"
-    # That an edit is refused tells something only where the crate is proved without it.
+    # That an edit is rejected tells something only where the crate is proved without it.
     if ! (cd "$room/crates/$crate" && rt check) >"$room/said" 2>&1; then
         tail -20 "$room/said"
         echo "$crate: not proved without its edits"
@@ -75,5 +75,5 @@ for crate in "$@"; do
     tried=$((tried + $(ls "tests/edits/$crate" | wc -l)))
     refused=$((refused + $(grep -c '^rt: must-fail .*: refused' "$room/said" || true)))
 done
-echo "$tried edits, $refused of them refused"
+echo "$tried edits, $refused of them rejected"
 [ "$failed" -eq 0 ] && [ "$tried" -eq "$refused" ]

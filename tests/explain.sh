@@ -3,7 +3,7 @@
 # differ in one byte 5 MiB in, keys with base directories, the calls of scripts, the line markers of a
 # text of gcc, the entry of a run, a pipe, and a full device. explain.py joins each listing's parts again
 # and compares their digest with the printed key, and compares the other listings with the reference.
-# Prints a line for each case.
+# The last case is of wrong words. Prints some lines for each case.
 #
 #     tests/explain.sh [PROGRAM]
 #

@@ -1,6 +1,6 @@
 #!/bin/sh
 # Lets one request for memory fail in each run of the program of vectors: the first one, then the second
-# one, and so on. A run has to end with status 2, for want of memory, with no difference printed, or
+# one, and so on. A run has to end with status 2, for lack of memory, with no difference printed, or
 # to print what the program prints with all its memory. Run by hand:
 # fail_alloc.sh FILE [RUNS [FIRST]], where FILE is one of crates/cck_vectors/data/ and FIRST the first
 # request that fails. A run builds the program, so there are 5 where no number is given.
@@ -27,7 +27,7 @@ while [ "$n" -lt $((first + runs)) ]; do
     0) ;;
     *) expected='a run that ends' ;;
     esac
-    [ "$text" = "$expected" ] || { echo "$1: allocation $n refused: $text"; cat "$log"; exit 1; }
+    [ "$text" = "$expected" ] || { echo "$1: allocation $n failed: $text"; cat "$log"; exit 1; }
     n=$((n + 1))
 done
-echo "$1: $runs runs from allocation $first on, $short of them ended for want of memory"
+echo "$1: $runs runs from allocation $first on, $short of them ended for lack of memory"

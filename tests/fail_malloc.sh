@@ -1,7 +1,7 @@
 #!/bin/sh
 # Lets each request for memory fail in turn in the program of vectors (`rt run` in its directory proves and
 # builds it): fail_malloc.sh FILE [on], where FILE is one of crates/cck_vectors/data/. Once, or with all
-# later requests too where `on` is given. A run has to end with status 2, for want of memory, with no
+# later requests too where `on` is given. A run has to end with status 2, for lack of memory, with no
 # difference printed, or to print what the program prints with all its memory. The last line counts the
 # runs. It needs a C compiler and the GNU C library.
 set -eu
@@ -42,4 +42,4 @@ while [ "$n" -le "$requests" ]; do
     [ "$text" = "$expected" ] || { echo "$file: request $n refused, $how: status $status: $text"; exit 1; }
     n=$((n + 1))
 done
-echo "$file: $requests requests refused in turn, $how; $short runs ended for want of memory, and the others printed all"
+echo "$file: $requests requests failed in turn, $how; $short runs ended for lack of memory, and the others printed all"

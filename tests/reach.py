@@ -1,5 +1,5 @@
-"""Lists the definitions that the statement of the headline reaches, and those of them that no example and
-no witness names or reaches: `python3 tests/reach.py`. It reads names alone, so what is reached by an
+"""Counts the definitions that the statement of the headline reaches, and lists those of them that no example
+and no witness names or reaches: `python3 tests/reach.py`. It reads names alone, so what is reached by an
 example is computed there only as far as the example's proof computes it."""
 import collections
 import pathlib

@@ -1,5 +1,5 @@
 #!/bin/sh
-# Each way in which a compiler cache may give a wrong object or a wrong dependency file, as a case: what
+# Each known way in which a compiler cache may give a wrong object or a wrong dependency file, as a case: what
 # the wrapper did, and whether its object and its dependency file are the plain compiler's. Where ccache is
 # installed, the same with it. Run by hand; needs gcc. Its last line is 'all passed'.
 set -u
