@@ -1,5 +1,5 @@
-"""Kills recordings, damages stores, changes files between two steps, makes two builds at once and fills a
-device: never a wrong object or a wrong dependency file. It also tests what `prune` removes. Run by
+"""Kills recordings, damages stores, changes files between two steps and while they are read, makes two builds at
+once and fills a device: never a wrong object or a wrong dependency file. It also tests what `prune` removes. Run by
 tests/real_faults.sh, in an empty directory, with the program's path in CCK_PROGRAM and the wrapper in
 PATH."""
 import os
@@ -80,17 +80,18 @@ def compile_(source, name="o"):
         subprocess.run(["gcc", *words_of(source), "-MF", name + ".d", "-o", name + ".o"], stderr=messages, check=False)
 
 
-def start_record(source, missed, store=STORE):
-    """Begins to record what was compiled after this look-up."""
+def start_record(source, missed, store=STORE, **variables):
+    """Begins to record what was compiled after this look-up, with more variables of the environment."""
     return subprocess.Popen(
         [PROGRAM, "record", store, "--since", missed[2], "--key", missed[1], "--object", "o.o",
          "--dependencies", "o.d", "--search", "search", "--messages", "messages", *REQUEST, source, "--",
          *words_of(source)],
-        stdin=open("text", "rb"), stdout=subprocess.PIPE, stderr=subprocess.DEVNULL, text=True)
+        stdin=open("text", "rb"), stdout=subprocess.PIPE, stderr=subprocess.DEVNULL, text=True,
+        env={**os.environ, **variables})
 
 
-def record(source, missed, store=STORE):
-    process = start_record(source, missed, store)
+def record(source, missed, store=STORE, **variables):
+    process = start_record(source, missed, store, **variables)
     return process.communicate()[0].strip()
 
 
@@ -256,6 +257,33 @@ def swapped():
         faults.append("input written before the recording")
 
 
+def swapped_while_read():
+    """The input, or a header, that changes while a recording reads it, its length the same."""
+    library = ROOM + "/swap.so"
+    subprocess.run(["gcc", "-shared", "-fPIC", "-O2", "-o", library, os.path.dirname(__file__) + "/swap.c", "-ldl"],
+                   check=True)
+    for name in ("w.c", "w.h"):
+        for how in ("move", "write"):
+            for before in ("open", "read", "end"):
+                shutil.rmtree(STORE, ignore_errors=True)
+                write("w.h", "int v = 1;\n")
+                write("w.c", '#include "w.h"\nint w = 1;\n')
+                changed = contents(name).replace(b"1", b"2")
+                write("with", changed.decode())
+                settle()
+                missed, _ = look("w.c")
+                preprocess("w.c")
+                compile_("w.c")
+                said = record("w.c", missed, LD_PRELOAD=library, SWAP_PATH=f"{ROOM}/{name}", SWAP_WITH=ROOM + "/with",
+                              SWAP_HOW=how, SWAP_BEFORE=before)
+                found, got = look("w.c")
+                right = is_right("w.c", found, got) and contents(name) == changed and said.startswith("refused")
+                print(f"{name}, {how} before the {before}: {said}, then {found[0] if found else 'error'},",
+                      "right" if right else "WRONG")
+                if not right:
+                    faults.append(f"{name} that changes before the {before}")
+
+
 def at_once(number):
     """Two builds at once that share a store, and the keys."""
     shutil.rmtree(STORE, ignore_errors=True)
@@ -348,6 +376,7 @@ def pruned():
 killed(int(os.environ.get("KILLS", "300")))
 damaged(int(os.environ.get("DAMAGES", "1000")))
 swapped()
+swapped_while_read()
 at_once(15)
 full()
 pruned()
