@@ -60,7 +60,7 @@ class Failure:
         return any(n == self.n or n > self.n and not self.is_once for n in made)
 
     def allows(self, plain, call_result):
-        """Whether a call that meets the failure may return this, where it call_results `plain` alone."""
+        """Whether a call that meets the failure may return this, where it returns `plain` alone."""
         if isinstance(call_result, CallResult):
             return isinstance(plain, CallResult) and call_result.key == plain.key
         if self.cause == "files" and call_result.name in ("Extra", "Input", "Preprocess") and is_fault(call_result):

@@ -74,8 +74,8 @@ def date_part(with_date, moment, zone, variables):
     return delimiter(b"date") + date_bytes(local_date(moment, zone)) + shown
 
 
-def stamp_part(with_timestamp, modified, zone):
-    """`stamp_part`: the bytes for a text with a timestamp; None where its time is missing or no instant."""
+def timestamp_part(with_timestamp, modified, zone):
+    """`timestamp_part`: the bytes for a text with a timestamp; None where its time is missing or no instant."""
     if not with_timestamp:
         return b""
     if modified is None or not is_instant(modified):
@@ -87,7 +87,7 @@ def stamp_part(with_timestamp, modified, zone):
 def time_part(with_date, with_timestamp, modified, moment, zone, variables):
     """`time_part`: the date part and the stamp part, or None where one of them is None."""
     date = date_part(with_date, moment, zone, variables)
-    stamp = stamp_part(with_timestamp, modified, zone)
+    stamp = timestamp_part(with_timestamp, modified, zone)
     if date is None or stamp is None:
         return None
     return date + stamp

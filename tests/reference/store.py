@@ -28,7 +28,7 @@ class MapStore:
         """The nth of the following calls and all after it fail; 0 disarms."""
         self.armed.onward = n
 
-    def set_back(self):
+    def count_failure(self):
         """`more`: one more store failure."""
         self.failures += 1
 
@@ -39,9 +39,9 @@ class MapStore:
         self.forgetting = max(self.forgetting - 1, 0)
         if forgets:
             self.pairs = {}
-            self.set_back()
+            self.count_failure()
         if fails:
-            self.set_back()
+            self.count_failure()
             raise Refused("Fault")
 
     def get(self, key):

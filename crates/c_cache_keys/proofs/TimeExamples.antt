@@ -9,7 +9,7 @@ use Rattle.cck_path.specs.Bytes.{Bytes}
 use Rattle.cck_path.specs.Timestamp.{Moment, nanos_of}
 use Rattle.cck_path.specs.Variables.{Variable}
 use Rattle.cck_time.proofs.PartLemmas.{day_is_determined, second_is_determined}
-use Rattle.cck_time.specs.TimePart.{date_part, local_day, local_second, stamp_part, time_part}
+use Rattle.cck_time.specs.TimePart.{date_part, local_day, local_second, timestamp_part, time_part}
 use Rattle.cck_time.specs.declared.config.PreprocessorCacheModeConfig.{PreprocessorCacheModeConfig}
 use Rattle.jiff.specs.Types.{Fixed, Offset, TimeZone}
 use Rattle.jiff.specs.Words.{offset_at}
@@ -70,13 +70,13 @@ module _ (offset : Offset) (hour : offset.seconds ≡ pos 3600) where
 
     -- on one day a date is recorded alike
     same_day_recorded : n.contents ≡ codes "__DATE__" → recorded (at (moment_at 5 0)) n ≡ recorded (at (moment_at 82799 0)) n
-    unfolding recorded has_time has_date has_timestamp time_part date_part stamp_part
+    unfolding recorded has_time has_date has_timestamp time_part date_part timestamp_part
     same_day_recorded is = rw (counts, is, early_day, late_day) refl
 
     -- within one second a timestamp is
     same_second_recorded : (m : FileNode) (moment : Moment) → n.contents ≡ codes "__TIMESTAMP__" → m.contents ≡ codes "__TIMESTAMP__"
         → n.modified ≡ Some (moment_at 1 0) → m.modified ≡ Some (moment_at 1 500_000_000) → recorded (at moment) n ≡ recorded (at moment) m
-    unfolding recorded has_time has_date has_timestamp time_part date_part stamp_part
+    unfolding recorded has_time has_date has_timestamp time_part date_part timestamp_part
     same_second_recorded m moment is same_text modified later = rw (counts, is, same_text, modified, later, first_second, within_first_second) refl
 
   -- and no two days, and no two seconds, have the same part

@@ -69,7 +69,7 @@ impl<I: CCompilerImpl> CCompiler<I> {
         })
     }
 
-    /// The family of the compiler. It takes no memory.
+    /// The family of the compiler. It allocates no memory.
     pub fn kind(&self) -> CCompilerKind
         ensures { result ≡ I.compiler.kind (I.value self.now.compiler) }
     {

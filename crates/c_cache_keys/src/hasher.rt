@@ -1,5 +1,5 @@
 //! The key of one compilation.
-ghost use Rattle.std.specs.Prelude.{◌≡◌, ◌++◌, ◌∷◌, IfErr, IfOk, IsOkUnless, string_bytes};
+ghost use Rattle.std.specs.Prelude.{◌≡◌, IfErr, IfOk, IsOkUnless, string_bytes};
 ghost use Rattle.cck_compiler.specs.Seen.{arguments_of};
 ghost use Rattle.cck_compiler.specs.Arguments.{output_name};
 ghost use Rattle.cck_path.specs.Bytes.{lists_of, variables_of};
@@ -126,14 +126,14 @@ impl<I: CCompilerImpl> CCompilerHasher<I> {
         })
     }
 
-    /// The language of the input. It takes no memory.
+    /// The language of the input. It allocates no memory.
     pub fn language(&self) -> Language
         ensures { result ≡ self.now.parsed_args.language }
     {
         self.parsed_args.language
     }
 
-    /// Whether diagnostics are coloured. It takes no memory.
+    /// Whether diagnostics are coloured. It allocates no memory.
     pub fn color_mode(&self) -> ColorMode
         ensures { result ≡ self.now.parsed_args.color_mode }
     {

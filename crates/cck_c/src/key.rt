@@ -160,7 +160,7 @@ fn are_utf8(all: &[Bytes<'_>]) -> bool
 fn copy_strings(alloc: Global, all: &[Bytes<'_>]) -> Result<Vec<String>, ParamsError>
     ensures { CopiesStrings all.now result }
 {
-    // So that it is not taken for a lack of memory if a text is not.
+    // All texts are tested before one is copied, so that lack of memory hides no text that is not UTF-8.
     if !are_utf8(all) {
         return Err(ParamsError::NoText);
     }

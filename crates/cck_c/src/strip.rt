@@ -1,5 +1,5 @@
 //! Base directories cut out of arguments and of texts.
-ghost use Rattle.std.specs.Prelude.{◌≡◌, ◌≢◌, ◌<◌, ◌++◌, ◌∷◌, ◌↔◌, [], pos, drop, length};
+ghost use Rattle.std.specs.Prelude.{◌≡◌, ◌≢◌, ◌<◌, ◌∷◌, ◌↔◌, [], pos, length};
 ghost use Rattle.cck_strip.specs.Argument.{stripped_argument};
 ghost use Rattle.cck_strip.specs.Text.{stripped_text};
 ghost use Rattle.cck_c.specs.Bytes.{texts_of};
@@ -14,7 +14,7 @@ use std::alloc::Global;
 /// Writes the argument without the base directories to the start of the buffer, and its length.
 ///
 /// It returns [`status::UNCHANGED`] if nothing is cut out, or [`status::LENGTH`] exactly if the
-/// buffer is shorter than the argument, and writes nothing then. It takes no memory.
+/// buffer is shorter than the argument, and writes nothing then. It allocates no memory.
 #[unsafe(no_mangle)]
 pub extern "C" fn cck_strip_argument(
     argument: &[u8],
@@ -45,7 +45,7 @@ pub extern "C" fn cck_strip_argument(
 ///
 /// It returns [`status::UNCHANGED`] if nothing is cut out, [`status::LENGTH`] exactly if the buffer
 /// is shorter than the text, or [`status::MEMORY`], and writes nothing then. Without base directories
-/// it takes no memory.
+/// it allocates no memory.
 #[unsafe(no_mangle)]
 pub extern "C" fn cck_strip_text(
     alloc: Global,

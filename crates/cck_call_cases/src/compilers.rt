@@ -1,7 +1,7 @@
 //! Compilers with their executables, and parsed command lines.
 use crate::fixed_compiler::FixedCompiler;
 use crate::request::GivenRequest;
-use crate::shown::{error_value, held, write_arguments, write_word, write_words};
+use crate::shown::{error_value, or_out_of_memory, write_arguments, write_word, write_words};
 use c_cache_keys::{CCompiler, CCompilerHasher, CCompilerImpl, CompilerArguments, ParsedArguments};
 use cck_cases::{CaseError, Given, Value};
 use cck_util::{MapFiles, Sha256State};
@@ -49,17 +49,17 @@ pub(crate) fn call<'a>(
         CompilerCall::LanguageColorOutput => language_color_output(request),
         CompilerCall::Archs => archs(alloc, args),
         CompilerCall::IsMultiarch => Ok(Value::Flag(args.is_multiarch())),
-        CompilerCall::OutputPretty => Ok(Value::Text(held(args.output_pretty(alloc))?)),
+        CompilerCall::OutputPretty => Ok(Value::Text(or_out_of_memory(args.output_pretty(alloc))?)),
     }
 }
 
 // The family of the compiler and the hex digest of its executable.
 fn new_compiler<'a>(request: &GivenRequest, files: &mut MapFiles) -> Result<Value<'a>, CaseError> {
     let alloc = request.alloc;
-    let compiler = held(request.hasher.compiler.copy(alloc))?;
+    let compiler = or_out_of_memory(request.hasher.compiler.copy(alloc))?;
     let executable = request.hasher.executable.to_vec(alloc)?;
     let made = CCompiler::new::<Sha256State, MapFiles>(alloc, compiler, executable, files)?;
-    let copy = held(made.copy(alloc))?;
+    let copy = or_out_of_memory(made.copy(alloc))?;
     let (kind, digest) = (copy.kind(), copy.executable_digest.as_str());
     Ok(Value::Text(format!(in alloc; "{kind:?} {digest}")?))
 }
@@ -67,12 +67,12 @@ fn new_compiler<'a>(request: &GivenRequest, files: &mut MapFiles) -> Result<Valu
 // The compiler that parses each command line into the arguments that are given.
 fn compiler_of(request: &mut GivenRequest) -> Result<CCompiler<FixedCompiler>, CaseError> {
     let alloc = request.alloc;
-    request.hasher.compiler.parsed = held(request.hasher.parsed_args.copy(alloc))?;
+    request.hasher.compiler.parsed = or_out_of_memory(request.hasher.parsed_args.copy(alloc))?;
     let executable = request.hasher.executable.to_vec(alloc)?;
     let digest = request.hasher.executable_digest.as_str();
     let executable_digest = String::from_str(alloc, digest)?;
     Ok(CCompiler {
-        compiler: held(request.hasher.compiler.copy(alloc))?,
+        compiler: or_out_of_memory(request.hasher.compiler.copy(alloc))?,
         executable,
         executable_digest,
     })
@@ -138,20 +138,20 @@ fn parsed_shown<'a>(request: &mut GivenRequest, given: &Given) -> Result<Value<'
     let parsed = compiler
         .compiler
         .parse_arguments(alloc, &given.arguments, &request.cwd, &given.variables);
-    let parsed = held(parsed)?;
+    let parsed = or_out_of_memory(parsed)?;
     Ok(Value::Text(format!(in alloc; "{parsed:?}")?))
 }
 
 // All that a copy of the compilation says.
 fn copy<'a>(request: &GivenRequest) -> Result<Value<'a>, CaseError> {
-    let copy = held(request.hasher.copy(request.alloc))?;
+    let copy = or_out_of_memory(request.hasher.copy(request.alloc))?;
     parsed_value(request.alloc, &copy, false)
 }
 
 // The language, the color mode and the name of the output of the compilation.
 fn language_color_output<'a>(request: &GivenRequest) -> Result<Value<'a>, CaseError> {
     let alloc = request.alloc;
-    let name = held(request.hasher.output_pretty(alloc))?;
+    let name = or_out_of_memory(request.hasher.output_pretty(alloc))?;
     let (language, color) = (request.hasher.language(), request.hasher.color_mode());
     Ok(Value::Text(format!(in alloc; "{language:?} {color:?} {name}")?))
 }
@@ -159,7 +159,7 @@ fn language_color_output<'a>(request: &GivenRequest) -> Result<Value<'a>, CaseEr
 fn archs<'a>(alloc: Global, args: &ParsedArguments) -> Result<Value<'a>, CaseError> {
     let mut out = Vec::new(alloc);
     out.extend_from_slice(b"archs")?;
-    for arch in held(args.archs(alloc))? {
+    for arch in or_out_of_memory(args.archs(alloc))? {
         out.push(b' ')?;
         write_word(&mut out, arch)?;
     }

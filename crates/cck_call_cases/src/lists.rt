@@ -2,7 +2,7 @@
 use crate::fixed_compiler::{FixedCompiler, PREPROCESSED};
 use crate::noting_files::NotingFiles;
 use crate::request::GivenRequest;
-use crate::shown::{held, write_result};
+use crate::shown::{or_out_of_memory, write_result};
 use c_cache_keys::{Call, HashResult, KeyError, PreprocessorStore, run_calls};
 use cck_cases::{CaseError, Given, Value, World, zone_of};
 use cck_script::copy_variables;
@@ -20,7 +20,7 @@ pub(crate) fn call_of(
 ) -> Result<FixedCall, CaseError> {
     let alloc = request.alloc;
     Ok(Call {
-        hasher: held(request.hasher.copy(alloc))?,
+        hasher: or_out_of_memory(request.hasher.copy(alloc))?,
         files: noting(alloc, world)?,
         cwd: request.cwd.to_vec(alloc)?,
         vars: copy_variables(alloc, &given.variables)?,

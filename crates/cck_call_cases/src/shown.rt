@@ -4,8 +4,8 @@ use cck_cases::{CaseError, Value};
 use cck_util::UtilError;
 use std::alloc::Global;
 
-/// What a call returned whose error is want of memory alone.
-pub(crate) fn held<T: Drop>(returned: Result<T, KeyError>) -> Result<T, CaseError> {
+/// What a call returned whose only error is lack of memory.
+pub(crate) fn or_out_of_memory<T: Drop>(returned: Result<T, KeyError>) -> Result<T, CaseError> {
     match returned {
         Ok(value) => Ok(value),
         Err(_) => Err(CaseError::Util(UtilError::Memory)),

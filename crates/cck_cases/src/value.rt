@@ -133,7 +133,8 @@ pub(crate) fn write_error(
         CaseError::Util(error) => format!(in alloc; "error {error:?}")?,
         CaseError::Entry(error) => format!(in alloc; "error {error:?}")?,
         CaseError::File(error) => format!(in alloc; "error {error:?}")?,
-        CaseError::Language | CaseError::Line => format!(in alloc; "error UnknownLanguage")?,
+        CaseError::Language => format!(in alloc; "error UnknownLanguage")?,
+        CaseError::Line => format!(in alloc; "error WrongLine")?,
     };
     out.extend_from_slice(text.as_bytes())
 }

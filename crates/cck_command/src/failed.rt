@@ -4,7 +4,7 @@ use cck_util::UtilError;
 use std::alloc::{AllocError, AllocFailed};
 use std::io;
 
-/// Input, output or memory failed.
+/// Input, output or memory failed, or the offset of a zone is out of range.
 #[derive(Debug, Drop)]
 pub struct Failed;
 

@@ -10,12 +10,12 @@ ghost use Rattle.jiff.specs.Types.{Offset as PlainOffset};
 ghost use Rattle.cck_script.specs.Calls.{call_after, call_of_command};
 ghost use Rattle.cck_script.specs.Lines.{Line};
 ghost use Rattle.cck_script.specs.Seen.{line_of, lines_of};
-ghost use Rattle.cck_script.specs.Surroundings.{AreAfter, ArePlacesOf};
+ghost use Rattle.cck_script.specs.Surroundings.{AreAfter};
 ghost use Rattle.cck_time.specs.Config.{activated};
 ghost use Rattle.c_cache_keys.specs.World.{world_of};
 ghost use Rattle.cck_command.specs.MiniCompiler.{mini_compiler};
 ghost use Rattle.cck_command.specs.Run.{Ran};
-ghost use Rattle.cck_command.specs.Made.{AreMade, IsReady, IsRunCompiler};
+ghost use Rattle.cck_command.specs.Made.{AreMade, IsRunCompiler};
 
 use crate::calls::{compiler_of, ready_call};
 use crate::failed::Failed;
@@ -34,6 +34,7 @@ use std::alloc::Global;
 ///
 /// One map of files and one list of variables follow the script line by line. Each call is made
 /// over them as they are at its line. What a line puts or sets is moved from the script to them.
+/// [`Failed`] is returned for lack of memory.
 ///
 /// The theorem [`laws::headline`](c_cache_keys::laws::headline) holds for all these calls together,
 /// since the store is empty at first. The contract of [`run_calls`] gives it only for the one call

@@ -30,4 +30,4 @@ pub use arguments::{ArtifactDescriptor, ColorMode, ParsedArguments};
 pub use cck_key_error::{KeyError, PreprocessError};
 pub use compiler::{CCompilerImpl, CCompilerKind, CompilerArguments};
 pub use extra_files::add_extra_files;
-pub use lists::{copy_lists, push_copies};
+pub use lists::{copy_lists, copy_text, push_copies};

@@ -1,11 +1,12 @@
-//! Lists of byte strings, copied.
-ghost use Rattle.std.specs.Prelude.{◌≡◌, ◌++◌, IfOk, OnOk};
+//! Lists of byte strings and optional texts, copied.
+ghost use Rattle.std.specs.Prelude.{◌≡◌, ◌++◌, IfOk, OnOk, string_bytes};
+ghost use Rattle.std.specs.Option.{option_map};
 ghost use Rattle.cck_path.specs.Bytes.{lists_of};
 
 use std::alloc::{AllocError, Global};
 
-/// Appends copies of these byte strings to a list. After an error some of them may have been
-/// appended.
+/// Appends copies of these byte strings to a list. The only error is lack of memory, after which some of
+/// them may have been appended.
 pub fn push_copies(
     alloc: Global,
     all: &mut Vec<Vec<u8>>,
@@ -19,10 +20,20 @@ pub fn push_copies(
     Ok(())
 }
 
-/// Returns copies of these byte strings, in memory of their own.
+/// Returns copies of these byte strings, in memory of their own. The only error is lack of memory.
 pub fn copy_lists(alloc: Global, lists: &[Vec<u8>]) -> Result<Vec<Vec<u8>>, AllocError>
     ensures { IfOk result (λ copies. lists_of copies.items ≡ lists_of lists.now) }
 {
     let copies = lists.to_vec(alloc)?;
     Ok(copies)
+}
+
+/// Returns a copy of this text, or none. The only error is lack of memory.
+pub fn copy_text(text: &Option<String>) -> Result<Option<String>, AllocError>
+    ensures { IfOk result (λ copy. option_map string_bytes copy ≡ option_map string_bytes text.now) }
+{
+    match text {
+        Some(text) => Ok(Some(text.clone()?)),
+        None => Ok(None),
+    }
 }

@@ -145,7 +145,8 @@ fn find_lent<'a, H: HashState, F: Files>(
     Ok(None)
 }
 
-// The error of an include that is read again: the includes of a view are whole, so memory is lacking.
+// The error of an include that is read again. It is never called: the includes of a view are whole, so each can be
+// read again, and no error of `read_include` meets the precondition.
 fn out_of_memory(error: Error) -> AllocError
     requires { error ≡ Error.Memory }
 {

@@ -11,7 +11,7 @@ const PRIME: u64 = 0x0000_0100_0000_01b3;
 /// Returns a checksum of these bytes, the 64-bit FNV-1a. Bytes of one length that differ in one place
 /// alone have different checksums; in general it is no digest, and others may have the same.
 ///
-/// Fowler, Noll and Vo's hash, as draft-eastlake-fnv describes it. It takes no memory.
+/// Fowler, Noll and Vo's hash, as draft-eastlake-fnv describes it. It allocates no memory.
 #[tactic(auto, unfolding(crate::specs::Checksum::checksum))]
 pub fn checksum(bytes: &[u8]) -> u64
     ensures { result ≡ checksum bytes.now }

@@ -5,7 +5,7 @@ use cck_cases::{CaseError, CaseLine, FailWriter, Value, number, words_of};
 use cck_entry::{
     EntryView, Error, JudgeContext, KnownFiles, PreprocessorCacheEntry, gather, includes_match,
 };
-use cck_util::{Digest, MapFiles, Sha256State, UtilError};
+use cck_util::{Digest, MapFiles, Sha256State};
 use std::alloc::Global;
 
 #[derive(Clone, Copy)]

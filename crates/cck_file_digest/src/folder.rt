@@ -1,5 +1,5 @@
 //! What is fed for a file or a directory.
-ghost use Rattle.std.specs.Prelude.{◌≡◌, ℕ, List, ◌++◌, ◌≤◌, length, map, vec_items, true, Ok, IfOk, OnOk, IsOkUnless, MatchResult, IsOkAnd};
+ghost use Rattle.std.specs.Prelude.{◌≡◌, ℕ, List, ◌++◌, ◌≤◌, map, vec_items, true, Ok, IfOk, OnOk, MatchResult, IsOkAnd};
 ghost use Rattle.std.specs.Option.{option_copied};
 ghost use Rattle.cck_digest.specs.Stream.{IsPiece};
 ghost use Rattle.cck_path.specs.Path.{components};

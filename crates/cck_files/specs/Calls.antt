@@ -28,7 +28,7 @@ IsErrorWhere found HasFault TakesMemory OtherKind = found ≡ Err OtherKind
 IsErrorWhere found HasFault TakesMemory Fault = HasFault
 IsErrorWhere found HasFault TakesMemory Memory = TakesMemory
 
--- the error of a call that takes no memory
+-- the error of a call that allocates no memory
 abbrev pub IsError : {X : Type 0} → Result X FileError → Type 0 → FileError → Type 0
 IsError found HasFault = IsErrorWhere found HasFault ⊥
 

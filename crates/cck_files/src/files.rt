@@ -1,5 +1,5 @@
 //! The interface to files.
-ghost use Rattle.std.specs.Prelude.{◌≡◌, ℕ, ◌^◌, ◌+◌, ◌<◌, ◌⊎◌, Ok, length, map, MatchResult, MatchBool, IsOkAnd, vec_items, true, false};
+ghost use Rattle.std.specs.Prelude.{◌≡◌, ℕ, ◌^◌, ◌+◌, ◌<◌, ◌⊎◌, Ok, map, MatchResult, MatchBool, IsOkAnd, vec_items, true, false};
 ghost use Rattle.cck_path.specs.Path.{Path, components};
 
 use cck_digest::FileError;
@@ -41,7 +41,7 @@ pub trait Files {
     // A call at this path leads from one state to another.
     ghost is_call: { Self → Path → Self → Type 0 };
 
-    /// Returns the metadata of the node at a path, of any kind. It takes no memory.
+    /// Returns the metadata of the node at a path, of any kind. It allocates no memory.
     fn metadata(&mut self, path: &[u8]) -> Result<Metadata, FileError>
         ensures keeps { Keeps file_map faults is_quiet self.old self.new }
         ensures call { is_call self.old (components path.now) self.new }
@@ -71,7 +71,7 @@ pub trait Files {
             (IsErrorOrMemory (folder_at (file_map self.old) (components path.now))
             (Rose (faults self.old) (faults self.new))) };
 
-    /// Whether a node is at a path. The result is `false` for a fault too. It takes no memory.
+    /// Whether a node is at a path. The result is `false` for a fault too. It allocates no memory.
     fn exists(&mut self, path: &[u8]) -> bool
         ensures keeps { Keeps file_map faults is_quiet self.old self.new }
         ensures call { is_call self.old (components path.now) self.new }

@@ -51,7 +51,7 @@ impl Model for MapFiles {
 }
 
 impl MapFiles {
-    /// No files, no fault so far, and no call armed. It keeps the allocator, and takes no memory.
+    /// No files, no fault so far, and no call armed. It keeps the allocator, and allocates no memory.
     pub fn new(alloc: Global) -> MapFiles
         ensures { result ≡ new_state }
     {

@@ -3,7 +3,7 @@ ghost use Rattle.std.specs.Prelude.{◌≡◌, IfOk, IsOkUnless};
 ghost use Rattle.cck_files.specs.Node.{node_of};
 
 use cck_digest::UtilError;
-use cck_path::{FileKind, Metadata, Timestamp};
+use cck_path::{FileKind, Timestamp};
 use std::alloc::Global;
 
 /// The node at a path of [`MapFiles`](crate::MapFiles).

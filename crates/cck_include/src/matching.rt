@@ -145,7 +145,8 @@ fn known_matches<H: HashState, F: Files>(
 }
 
 /// Whether this included file still matches, as [`includes_match`] says of several. Where there was
-/// a fault, the result may be `false` although it does. `known` is that of [`includes_match`].
+/// a fault, the result may be `false` although it does. `known` is that of [`includes_match`]. The only
+/// error is lack of memory.
 pub fn include_matches<H: HashState, F: Files>(
     alloc: Global,
     files: &mut F,
@@ -173,7 +174,7 @@ pub fn include_matches<H: HashState, F: Files>(
 /// same. The times do so only with
 /// [`file_stat_matches`](PreprocessorCacheModeConfig::file_stat_matches). A file that cannot be
 /// read, for any cause, does not match. Where there was a fault, the result may be `false` although
-/// all match.
+/// all match. The only error is lack of memory.
 ///
 /// `known` keeps the metadata and the recorded digests that were found, so that no file's metadata
 /// is asked for twice and no file is read twice. The result is right if what was known before is:

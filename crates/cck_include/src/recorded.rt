@@ -1,5 +1,5 @@
 //! The recorded digest of a file.
-ghost use Rattle.std.specs.Prelude.{◌≡◌, ◌||◌, IfOk, IsOkAnd, IsOkUnless, MatchResult, Ok, map, string_bytes};
+ghost use Rattle.std.specs.Prelude.{◌≡◌, ◌||◌, IfOk, IsOkAnd, IsOkUnless, MatchResult, Ok, string_bytes};
 ghost use Rattle.std.specs.Option.{option_map};
 ghost use Rattle.cck_digest.specs.Digest.{digest_text};
 ghost use Rattle.cck_files.specs.Calls.{AreCalls, IsErrorOrMemory, Keeps, Rose};

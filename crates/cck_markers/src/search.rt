@@ -1,5 +1,5 @@
 //! How many bytes from a place on are plain, found by searches for words.
-ghost use Rattle.std.specs.Prelude.{◌≡◌, ◌≤◌, ◌<◌, ◌-◌, ◌^◌, ◌∷◌, ℕ, List, [], length};
+ghost use Rattle.std.specs.Prelude.{◌≡◌, ◌≤◌, ◌<◌, ◌-◌, ◌^◌, ℕ, List, [], length};
 ghost use Rattle.memchr.specs.Find.{IsFirstByte, Nowhere, OccursAt, is_byte};
 ghost use Rattle.cck_markers.specs.Markers.{Yields};
 ghost use Rattle.cck_markers.specs.Searches.{AreSearched, ArePlain, EndsBeforeMarker, IsKnown};

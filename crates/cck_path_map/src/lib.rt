@@ -3,7 +3,7 @@
 //! [`PathMap`] maps paths to values. Two paths are the same key if their components are the same:
 //! `/a/x` and `//a/./x/` have one value, `x` and `./x` two. Its entries, each an [`Entry`], are
 //! kept in the order of their paths, in blocks. A look-up is a binary search for the block and one
-//! in it, and takes no memory.
+//! in it, and allocates no memory.
 //!
 //! Contracts treat a map as a finite map from lists of components to values.
 //!

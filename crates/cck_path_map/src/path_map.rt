@@ -52,7 +52,7 @@ impl<V> Model for PathMap<V> {
 }
 
 impl<V> PathMap<V> {
-    /// Returns a map in which no path has a value. It keeps the allocator, and takes no memory.
+    /// Returns a map in which no path has a value. It keeps the allocator, and allocates no memory.
     pub fn new(alloc: Global) -> PathMap<V>
         ensures { result ≡ finite.empty }
     {
@@ -78,7 +78,7 @@ impl<V> PathMap<V> {
     }
 
     /// Returns the paths and their values, in the order of the paths, which is that of
-    /// [`compare_paths`](cck_path::compare_paths). It takes no memory.
+    /// [`compare_paths`](cck_path::compare_paths). It allocates no memory.
     pub fn entries(&self) -> Entries<'_, V>
         ensures { map pair_of (entries_left result) ≡ finite.entries self.now }
     {
@@ -101,7 +101,7 @@ impl<V> PathMap<V> {
         }
     }
 
-    /// Returns the value of a path, if it has one. It takes no memory.
+    /// Returns the value of a path, if it has one. It allocates no memory.
     pub fn get(&self, path: &[u8]) -> Option<&V>
         ensures { option_copied result ≡ finite.get self.now (components path.now) }
     {
@@ -111,7 +111,7 @@ impl<V> PathMap<V> {
         }
     }
 
-    /// Returns whether a path has a value. It takes no memory.
+    /// Returns whether a path has a value. It allocates no memory.
     pub fn contains(&self, path: &[u8]) -> bool
         ensures { result ≡ finite.contains_key self.now (components path.now) }
     {
@@ -148,7 +148,7 @@ impl<V: Drop> PathMap<V> {
         Ok(())
     }
 
-    /// Removes a path and its value, and returns the value, if there is one. It takes no memory.
+    /// Removes a path and its value, and returns the value, if there is one. It allocates no memory.
     pub fn remove(&mut self, path: &[u8]) -> Option<V>
         ensures value { result ≡ finite.get self.old (components path.now) }
         ensures rest { self.new ≡ finite.remove self.old (components path.now) }

@@ -19,12 +19,12 @@
 //! | `preprocess WORD..` | `MiniCompiler::preprocess`, of this command line |
 //! | `compiler` | what else a `MiniCompiler` says of itself |
 //! | `plain_keys TEXT` | the result of each call of a script, made alone on an empty store |
-//! | `call_results TEXT` | `run_calls`, over all calls of a script as a list |
+//! | `results TEXT` | `run_calls`, over all calls of a script as a list |
 //! | `checked_results TEXT` | how many of these results are wrong, where a request for memory may have failed |
 //! | `fail_each CAUSE HOW` | each call of a cause fails in turn (`failures.rt`, `broken_streams.rt`) |
 //!
 //! The causes are `files`, `store`, `forget`, `reads`, `writes` and `flushes`; a call fails `once`, or
-//! with all later ones, `on`. `store_fail_after N` arms the store of `call_results`, and `other_results N
+//! with all later ones, `on`. `store_fail_after N` arms the store of `results`, and `other_results N
 //! PATH` has it hold an entry at first.
 //! `reader`, `writer`, `flush` and `written` are words of the streams of a run ([`Streams`]).
 //! After `digested` the results of the case are written as their digest texts.

@@ -9,7 +9,7 @@ use Rattle.std.proofs.lemmas.Bool.{false≢true}
 use Rattle.std.proofs.lemmas.Option.{none-some}
 use Rattle.cck_path.specs.Bytes.{Bytes}
 use Rattle.cck_path.specs.TextOrder.{text_cmp}
-use Rattle.cck_store.specs.MapStore.{IsGot, IsMapPut, State, call_begun, map_store, empty_state, set_back}
+use Rattle.cck_store.specs.MapStore.{IsGot, IsMapPut, State, call_begun, map_store, empty_state, count_failure}
 use Rattle.cck_store.specs.Store.{Returned, Store, Stored}
 use Rattle.cck_store.specs.declared.store.StoreError.TheVariants as store
 use Rattle.c_cache_keys.proofs.Stored.{not_both, not_failed}
@@ -70,7 +70,7 @@ module _ {V S : Type 0} (w : World V) (st : Store S) (c : Call V) (F : Type 0) w
   put_was : (key k bytes : Bytes) (p q : Bytes) (from_store : Stored) → IsMapPut empty_state p q from_store (one_pair k bytes) → (p ≡ k) × (q ≡ bytes)
   put_was key k bytes p q (Ok done) put = let same = same_pairs k p bytes q (put_one empty_state (one_pair k bytes) p q refl put.1) in (sym same.0, sym same.1)
   put_was key k bytes p q (Err store.Fault) put = absurd (false≢true put.0)
-  put_was key k bytes p q (Err store.Memory) put = absurd (holds_one k bytes (set_back (call_begun empty_state)) refl put.1)
+  put_was key k bytes p q (Err store.Memory) put = absurd (holds_one k bytes (count_failure (call_begun empty_state)) refl put.1)
 
   own_of : (key k bytes : Bytes) → Stores w map_store c F key empty_state (one_pair k bytes) → OwnPair w c key k bytes
   own_of key k bytes (inl p) =

@@ -1,10 +1,9 @@
 //! Compilers that the caller runs.
-ghost use Rattle.std.specs.Prelude.{◌≡◌, IfOk, IsOkUnless, string_bytes};
-ghost use Rattle.std.specs.Option.{option_map};
 
 use c_cache_keys::{
     CCompilerImpl, CCompilerKind, CompilerArguments, KeyError, ParsedArguments, PreprocessError,
 };
+use cck_compiler::copy_text;
 use cck_files::Files;
 use cck_path::Timestamp;
 use std::alloc::Global;
@@ -88,16 +87,5 @@ impl CCompilerImpl for ExternalCompiler {
             version,
             assembler_digest,
         })
-    }
-}
-
-// The same text, or none.
-fn copy_text(text: &Option<String>) -> Result<Option<String>, KeyError>
-    ensures same { IfOk result (λ copy. option_map string_bytes copy ≡ option_map string_bytes text.now) }
-    ensures errors { IsOkUnless result KeyError.Memory }
-{
-    match text {
-        Some(text) => Ok(Some(text.clone()?)),
-        None => Ok(None),
     }
 }

@@ -7,7 +7,7 @@ ghost use Rattle.cck_snapshot.specs.Recordings.{HasText, IsRecording, IsRecordin
 
 use crate::last_put::LastPut;
 use crate::requests::SnapshotRequest;
-use crate::text_compiler::{TextCompiler, text_hasher};
+use crate::text_compiler::text_hasher;
 use c_cache_keys::{CacheControl, HashResult, KeyError};
 use cck_digest::HashState;
 use cck_files::Files;

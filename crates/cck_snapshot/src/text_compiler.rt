@@ -1,5 +1,5 @@
 //! Compilers whose preprocessor printed a given text.
-ghost use Rattle.std.specs.Prelude.{◌≡◌, IfOk, IsOkUnless};
+ghost use Rattle.std.specs.Prelude.{IfOk, IsOkUnless};
 ghost use Rattle.cck_snapshot.specs.TextCompiler.{IsTextHasher};
 
 use crate::compiler::ExternalCompiler;

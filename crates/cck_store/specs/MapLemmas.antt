@@ -11,7 +11,7 @@ use Rattle.cck_files.specs.Calls.{Rose}
 use Rattle.cck_files.proofs.CallsLemmas.{rose_earlier}
 use Rattle.cck_path.specs.TextOrder.{text_cmp}
 use Rattle.cck_store.specs.Counts.{counted_fits, counted_higher, more_higher, more_rises}
-use Rattle.cck_store.specs.MapStore.{IsGot, IsMapPut, State, call_begun, map_store, set_back}
+use Rattle.cck_store.specs.MapStore.{IsGot, IsMapPut, State, call_begun, map_store, count_failure}
 use Rattle.cck_store.specs.Store.{Returned, StoreFailure, StoreLaws, Stored, counted, more}
 use Rattle.cck_store.specs.declared.store.StoreError.{StoreError}
 use Rattle.cck_store.specs.declared.store.StoreError.TheVariants as store
@@ -25,12 +25,12 @@ begun_higher s = by (s.forget == 1)
     by true = more_higher s.failures
     by false = omega arith
 
-set_back_rises : (s : State) → StoreFailure map_store s (set_back (call_begun s))
-set_back_rises s =
+count_failure_rises : (s : State) → StoreFailure map_store s (count_failure (call_begun s))
+count_failure_rises s =
     rose_earlier (counted s.failures) (counted (call_begun s).failures) (counted (more (call_begun s).failures)) (counted_higher _ _ (begun_higher s)) (more_rises (call_begun s).failures)
 
-set_back_higher : (s : State) → s.failures ≤ (set_back (call_begun s)).failures
-set_back_higher s = let up = begun_higher s in let on = more_higher (call_begun s).failures in omega (arith, up, on)
+count_failure_higher : (s : State) → s.failures ≤ (count_failure (call_begun s)).failures
+count_failure_higher s = let up = begun_higher s in let on = more_higher (call_begun s).failures in omega (arith, up, on)
 
 -- ---- what is held
 
@@ -76,8 +76,8 @@ found_apart k x key bytes ps apart h = find-put text_cmp nat_list_cmp_total k ke
 
 module _ (s t : State) where
   got_count : (key : Bytes) (a : Returned) → IsGot s key a t → counted s.failures ≤ counted t.failures
-  got_count key (Err store.Fault) g = rw (g.1) (counted_higher _ _ (set_back_higher s))
-  got_count key (Err store.Memory) g = rw (g.1) (counted_higher _ _ (set_back_higher s))
+  got_count key (Err store.Fault) g = rw (g.1) (counted_higher _ _ (count_failure_higher s))
+  got_count key (Err store.Memory) g = rw (g.1) (counted_higher _ _ (count_failure_higher s))
   got_count key (Ok found) g = rw (g.2) (counted_higher _ _ (begun_higher s))
 
   got_old : (key : Bytes) (a : Returned) → IsGot s key a t → (k x : Bytes) → find text_cmp k t.pairs ≡ Some x → find text_cmp k s.pairs ≡ Some x
@@ -86,13 +86,13 @@ module _ (s t : State) where
   got_old key (Ok found) g k x h = begun_held s k x (ap (λ v. find text_cmp k v.pairs) (sym g.2) ∙ h)
 
   got_calm : (key : Bytes) (a : Returned) → IsGot s key a t → (StoreFailure map_store s t → ⊥) → (k x : Bytes) → find text_cmp k s.pairs ≡ Some x → find text_cmp k t.pairs ≡ Some x
-  got_calm key (Err store.Fault) g calm k x h = absurd (calm (subst (StoreFailure map_store s) (sym g.1) (set_back_rises s)))
-  got_calm key (Err store.Memory) g calm k x h = absurd (calm (subst (StoreFailure map_store s) (sym g.1) (set_back_rises s)))
+  got_calm key (Err store.Fault) g calm k x h = absurd (calm (subst (StoreFailure map_store s) (sym g.1) (count_failure_rises s)))
+  got_calm key (Err store.Memory) g calm k x h = absurd (calm (subst (StoreFailure map_store s) (sym g.1) (count_failure_rises s)))
   got_calm key (Ok found) g calm k x h = ap (λ v. find text_cmp k v.pairs) g.2 ∙ ap (find text_cmp k) (begun_calm s t (ap (λ v. v.failures) g.2) calm) ∙ h
 
   put_count : (key bytes : Bytes) (a : Stored) → IsMapPut s key bytes a t → counted s.failures ≤ counted t.failures
-  put_count key bytes (Err store.Fault) p = rw (p.1) (counted_higher _ _ (set_back_higher s))
-  put_count key bytes (Err store.Memory) p = rw (p.1) (counted_higher _ _ (set_back_higher s))
+  put_count key bytes (Err store.Fault) p = rw (p.1) (counted_higher _ _ (count_failure_higher s))
+  put_count key bytes (Err store.Memory) p = rw (p.1) (counted_higher _ _ (count_failure_higher s))
   put_count key bytes (Ok done) p = rw (p.1) (counted_higher _ _ (begun_higher s))
 
   put_old : (key bytes : Bytes) (a : Stored) → IsMapPut s key bytes a t → (k x : Bytes) → find text_cmp k t.pairs ≡ Some x → (find text_cmp k s.pairs ≡ Some x) ⊎ ((k ≡ key) × (x ≡ bytes))
@@ -102,24 +102,24 @@ module _ (s t : State) where
       elim (found_other k x key bytes (call_begun s).pairs (ap (λ v. find text_cmp k v.pairs) (sym p.1) ∙ h)) [ inl old ↦ inl (begun_held s k x old) | inr own ↦ inr own ]
 
   put_calm : (key bytes : Bytes) (a : Stored) → IsMapPut s key bytes a t → (StoreFailure map_store s t → ⊥) → (k x : Bytes) → (k ≡ key → ⊥) → find text_cmp k s.pairs ≡ Some x → find text_cmp k t.pairs ≡ Some x
-  put_calm key bytes (Err store.Fault) p calm k x apart h = absurd (calm (subst (StoreFailure map_store s) (sym p.1) (set_back_rises s)))
-  put_calm key bytes (Err store.Memory) p calm k x apart h = absurd (calm (subst (StoreFailure map_store s) (sym p.1) (set_back_rises s)))
+  put_calm key bytes (Err store.Fault) p calm k x apart h = absurd (calm (subst (StoreFailure map_store s) (sym p.1) (count_failure_rises s)))
+  put_calm key bytes (Err store.Memory) p calm k x apart h = absurd (calm (subst (StoreFailure map_store s) (sym p.1) (count_failure_rises s)))
   put_calm key bytes (Ok done) p calm k x apart h =
       ap (λ v. find text_cmp k v.pairs) p.1
       ∙ found_apart k x key bytes (call_begun s).pairs apart (ap (find text_cmp k) (begun_calm s t (ap (λ v. v.failures) p.1) calm) ∙ h)
 
   put_new : (key bytes : Bytes) (a : Stored) → IsMapPut s key bytes a t → (StoreFailure map_store s t → ⊥) → find text_cmp key t.pairs ≡ Some bytes
-  put_new key bytes (Err store.Fault) p calm = absurd (calm (subst (StoreFailure map_store s) (sym p.1) (set_back_rises s)))
-  put_new key bytes (Err store.Memory) p calm = absurd (calm (subst (StoreFailure map_store s) (sym p.1) (set_back_rises s)))
+  put_new key bytes (Err store.Fault) p calm = absurd (calm (subst (StoreFailure map_store s) (sym p.1) (count_failure_rises s)))
+  put_new key bytes (Err store.Memory) p calm = absurd (calm (subst (StoreFailure map_store s) (sym p.1) (count_failure_rises s)))
   put_new key bytes (Ok done) p calm = ap (λ v. find text_cmp key v.pairs) p.1 ∙ found_own key bytes (call_begun s).pairs
 
   got_error : (key : Bytes) (e : StoreError) → IsGot s key (Err e) t → StoreFailure map_store s t
-  got_error key store.Fault g = subst (StoreFailure map_store s) (sym g.1) (set_back_rises s)
-  got_error key store.Memory g = subst (StoreFailure map_store s) (sym g.1) (set_back_rises s)
+  got_error key store.Fault g = subst (StoreFailure map_store s) (sym g.1) (count_failure_rises s)
+  got_error key store.Memory g = subst (StoreFailure map_store s) (sym g.1) (count_failure_rises s)
 
   put_error : (key bytes : Bytes) (e : StoreError) → IsMapPut s key bytes (Err e) t → StoreFailure map_store s t
-  put_error key bytes store.Fault p = subst (StoreFailure map_store s) (sym p.1) (set_back_rises s)
-  put_error key bytes store.Memory p = subst (StoreFailure map_store s) (sym p.1) (set_back_rises s)
+  put_error key bytes store.Fault p = subst (StoreFailure map_store s) (sym p.1) (count_failure_rises s)
+  put_error key bytes store.Memory p = subst (StoreFailure map_store s) (sym p.1) (count_failure_rises s)
 
 pub map_store_laws : StoreLaws map_store
 map_store_laws = record {

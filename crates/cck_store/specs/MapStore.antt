@@ -31,8 +31,8 @@ abbrev pub stored_pair : String Global × Vec ℕ → Bytes × Bytes
 stored_pair p = (string_bytes (p.0), p.1.items)
 
 -- after one more store failure
-abbrev pub set_back : State → State
-set_back s = record s { failures = more s.failures }
+abbrev pub count_failure : State → State
+count_failure s = record s { failures = more s.failures }
 
 -- a call begins: if it is armed to lose all that is held, nothing is held from here on, which is a store failure
 abbrev pub call_begun : State → State
@@ -45,14 +45,14 @@ call_begun s = record {
 
 -- A get fails exactly if it is armed to. Otherwise it returns what the key has, or memory is lacking. Either error is a store failure.
 abbrev pub IsGot : State → Bytes → Returned → State → Type 0
-IsGot s key (Err store.Fault) t = (fails s.armed ≡ true) × (t ≡ set_back (call_begun s))
-IsGot s key (Err store.Memory) t = (fails s.armed ≡ false) × (t ≡ set_back (call_begun s))
+IsGot s key (Err store.Fault) t = (fails s.armed ≡ true) × (t ≡ count_failure (call_begun s))
+IsGot s key (Err store.Memory) t = (fails s.armed ≡ false) × (t ≡ count_failure (call_begun s))
 IsGot s key (Ok found) t = (fails s.armed ≡ false) × (found ≡ find text_cmp key (call_begun s).pairs) × (t ≡ call_begun s)
 
 -- the same for a put, after which the key has the bytes
 abbrev pub IsMapPut : State → Bytes → Bytes → Stored → State → Type 0
-IsMapPut s key bytes (Err store.Fault) t = (fails s.armed ≡ true) × (t ≡ set_back (call_begun s))
-IsMapPut s key bytes (Err store.Memory) t = (fails s.armed ≡ false) × (t ≡ set_back (call_begun s))
+IsMapPut s key bytes (Err store.Fault) t = (fails s.armed ≡ true) × (t ≡ count_failure (call_begun s))
+IsMapPut s key bytes (Err store.Memory) t = (fails s.armed ≡ false) × (t ≡ count_failure (call_begun s))
 IsMapPut s key bytes (Ok done) t = (fails s.armed ≡ false) × (t ≡ record (call_begun s) { pairs = put text_cmp key bytes (call_begun s).pairs })
 
 abbrev pub map_store : Store State

@@ -4,7 +4,7 @@ ghost use Rattle.std.specs.FinMap.Entries.{find, put};
 ghost use Rattle.std.specs.Option.{option_map};
 ghost use Rattle.cck_files.specs.ArmedCalls.{fails};
 ghost use Rattle.cck_path.specs.TextOrder.{text_cmp};
-ghost use Rattle.cck_store.specs.MapStore.{call_begun, empty_state, set_back};
+ghost use Rattle.cck_store.specs.MapStore.{call_begun, empty_state, count_failure};
 ghost use Rattle.cck_store.specs.Store.{more};
 
 use crate::store::{PreprocessorStore, StoreError, one_more};
@@ -44,7 +44,7 @@ impl Model for MapStore {
 
 impl MapStore {
     /// A store that holds nothing, without a store failure so far, and with no call armed. It keeps
-    /// the allocator, and takes no memory.
+    /// the allocator, and allocates no memory.
     pub fn new(alloc: Global) -> MapStore
         ensures { result ≡ empty_state }
     {
@@ -57,7 +57,7 @@ impl MapStore {
         }
     }
 
-    /// The bytes that are held under a key, if there are any. This is no get, and takes no memory.
+    /// The bytes that are held under a key, if there are any. This is no get, and allocates no memory.
     pub fn held(&self, key: &str) -> Option<&[u8]>
         ensures { option_map (λ b. b.now) result ≡ find text_cmp key.now self.now.pairs }
     {
@@ -118,8 +118,8 @@ impl MapStore {
     }
 
     // Counts a store failure.
-    fn set_back(&mut self)
-        ensures { self.new ≡ set_back self.old }
+    fn count_failure(&mut self)
+        ensures { self.new ≡ count_failure self.old }
     {
         self.failures = one_more(self.failures);
     }
@@ -133,20 +133,20 @@ impl MapStore {
     {
         if self.forget == 1 {
             self.pairs.clear();
-            self.set_back();
+            self.count_failure();
         }
     }
 
     // Begins a get or a put, and returns whether it fails.
     fn begin(&mut self) -> bool
         ensures fails { result ≡ fails self.old.armed }
-        ensures after { self.new ≡ (if fails self.old.armed then set_back (call_begun self.old) else call_begun self.old) }
+        ensures after { self.new ≡ (if fails self.old.armed then count_failure (call_begun self.old) else call_begun self.old) }
     {
         self.forget_if_armed();
         self.forget = self.forget.saturating_sub(1);
         let fails = self.armed.begin();
         if fails {
-            self.set_back();
+            self.count_failure();
         }
         fails
     }
@@ -172,7 +172,7 @@ impl PreprocessorStore for MapStore {
         match bytes.to_vec(alloc) {
             Ok(copy) => Ok(Some(copy)),
             Err(_) => {
-                self.set_back();
+                self.count_failure();
                 Err(StoreError::Memory)
             }
         }
@@ -188,7 +188,7 @@ impl PreprocessorStore for MapStore {
             return Err(StoreError::Fault);
         }
         if self.keep(key, bytes).is_err() {
-            self.set_back();
+            self.count_failure();
             return Err(StoreError::Memory);
         }
         Ok(())

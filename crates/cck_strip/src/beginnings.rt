@@ -1,5 +1,5 @@
 //! What base directories begin with.
-ghost use Rattle.std.specs.Prelude.{◌≡◌, ◌≤◌, ◌<◌, ℕ, List, MatchOption, map, length, slice_index};
+ghost use Rattle.std.specs.Prelude.{◌≡◌, ◌≤◌, ◌<◌, ℕ, MatchOption, map, length, slice_index};
 ghost use Rattle.cck_strip.specs.Beginnings.{AllBegin, AllEmpty, FirstsMarked};
 
 // The byte with which this word begins: a place in a table of all bytes.

@@ -1,5 +1,5 @@
 //! The cuts of a text and of an argument, listed.
-ghost use Rattle.std.specs.Prelude.{◌≡◌, ◌+◌, ◌≤◌, ◌<◌, ℕ, List, IfOk, length, map};
+ghost use Rattle.std.specs.Prelude.{◌≡◌, ◌+◌, ◌<◌, IfOk, length, map};
 ghost use Rattle.cck_strip.specs.Argument.{argument_site};
 ghost use Rattle.cck_strip.specs.CutList.{cuts_of};
 ghost use Rattle.cck_strip.specs.Text.{text_site};

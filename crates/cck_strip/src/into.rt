@@ -89,7 +89,7 @@ pub fn strip_basedirs_into(
 /// to the start of the buffer, and returns its length in bytes. The rest of the buffer stays as it
 /// is. Returns `None` if nothing is cut out, and writes nothing then: the argument is its own result.
 ///
-/// It takes no memory.
+/// It allocates no memory.
 pub fn strip_basedirs_from_arg_into<B: AsSlice<u8>>(
     argument: &[u8],
     basedirs: &[B],

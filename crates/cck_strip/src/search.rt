@@ -1,5 +1,5 @@
 //! The choice of a search of a text for base directories.
-ghost use Rattle.std.specs.Prelude.{◌≡◌, MatchOption, map};
+ghost use Rattle.std.specs.Prelude.{MatchOption, map};
 ghost use Rattle.cck_strip.specs.Beginnings.{AllEmpty};
 ghost use Rattle.cck_strip.specs.Search.{Finds};
 

@@ -1,5 +1,5 @@
 //! Base directories in a trie, a byte in each node.
-ghost use Rattle.std.specs.Prelude.{◌≡◌, ◌++◌, ◌∷◌, [], ◌≤◌, ◌<◌, ◌↔◌, ℕ, List, Some, OnOk, IfOk, IsOkUnless, IsTrue, map, drop, length, nat_eq};
+ghost use Rattle.std.specs.Prelude.{◌≡◌, ◌++◌, ◌∷◌, [], ◌<◌, ◌↔◌, ℕ, List, Some, OnOk, IfOk, IsOkUnless, IsTrue, map, drop, length, nat_eq};
 ghost use Rattle.std.specs.List.{starts_with};
 ghost use Rattle.std.proofs.Common.{get_or};
 ghost use Rattle.cck_strip.specs.Text.{longest_prefix};
@@ -201,7 +201,7 @@ impl BasedirTrie {
 
     /// Returns the length in bytes of the longest base directory at this place of the text, and 0
     /// if there is none, as at its end and after it. The bytes before the place don't matter. It
-    /// takes no memory.
+    /// allocates no memory.
     // Inlined, it takes registers from the search of the text around it.
     #[inline(never)]
     pub fn longest_at(&self, text: &[u8], at: usize) -> usize

@@ -17,7 +17,7 @@ use Rattle.cck_path.specs.Timestamp.{Moment, nanos_of}
 use Rattle.cck_path.specs.Variables.{Variable}
 use Rattle.cck_path.proofs.TestLemmas.{from_and_then}
 use Rattle.cck_time.specs.Calendar.{CivilDate, IsInCalendar, day_number}
-use Rattle.cck_time.specs.TimePart.{AreOfOneSecond, is_instant, instant_nanos, local_day, local_second, local_date, delimiter, i64_bytes, date_bytes, source_date_epoch, date_part, stamp_part, time_part}
+use Rattle.cck_time.specs.TimePart.{AreOfOneSecond, is_instant, instant_nanos, local_day, local_second, local_date, delimiter, i64_bytes, date_bytes, source_date_epoch, date_part, timestamp_part, time_part}
 use Rattle.cck_time.proofs.CalendarLemmas.{date_has_day}
 use Rattle.cck_time.proofs.NumberLemmas.{i64_back, nested, date_reads_back}
 
@@ -73,21 +73,21 @@ from_date_part moment zone v part e =
     let is = date_has_day (local_day zone instant.0) date.0 instant.2 in
     (date.0, is.0, is.1 ∙ ap (λ (n : ℤ). local_day zone n) (sym at.1), at.0, date.2)
 
-pub from_stamp_part : (modified : Option Moment) (zone : TimeZone) (part : List ℕ) → stamp_part true modified zone ≡ Some part
+pub from_timestamp_part : (modified : Option Moment) (zone : TimeZone) (part : List ℕ) → timestamp_part true modified zone ≡ Some part
     → (t : Moment) × (modified ≡ Some t) × (is_instant (nanos_of t) ≡ true) × (delimiter (codes "timestamp") ++ i64_bytes (local_second zone (nanos_of t)) ≡ part)
-unfolding stamp_part
-from_stamp_part modified zone part e =
+unfolding timestamp_part
+from_timestamp_part modified zone part e =
     let second = from_map (λ n. delimiter (codes "timestamp") ++ i64_bytes (local_second zone n)) (option_and_then instant_nanos modified) part e in
     let instant = from_and_then instant_nanos modified second.0 second.1 in
     let at = from_instant instant.0 second.0 instant.2 in
     (instant.0, instant.1, at.0, ap (λ (n : ℤ). delimiter (codes "timestamp") ++ i64_bytes (local_second zone n)) at.1 ∙ second.2)
 
 pub from_time_part : (date timestamp : Bool) (modified : Option Moment) (moment : Moment) (zone : TimeZone) (v : List Variable) (part : List ℕ) → time_part date timestamp modified moment zone v ≡ Some part
-    → (d : List ℕ) × (s : List ℕ) × (date_part date moment zone v ≡ Some d) × (stamp_part timestamp modified zone ≡ Some s) × (d ++ s ≡ part)
+    → (d : List ℕ) × (s : List ℕ) × (date_part date moment zone v ≡ Some d) × (timestamp_part timestamp modified zone ≡ Some s) × (d ++ s ≡ part)
 unfolding time_part
 from_time_part date timestamp modified moment zone v part e =
-    let day = from_and_then (λ d. option_map (λ s. d ++ s) (stamp_part timestamp modified zone)) (date_part date moment zone v) part e in
-    let second = from_map (λ s. day.0 ++ s) (stamp_part timestamp modified zone) part day.2 in
+    let day = from_and_then (λ d. option_map (λ s. d ++ s) (timestamp_part timestamp modified zone)) (date_part date moment zone v) part e in
+    let second = from_map (λ s. day.0 ++ s) (timestamp_part timestamp modified zone) part day.2 in
     (day.0, second.0, day.1, second.1, second.2)
 
 i64_length : (a b : ℤ) → length (i64_bytes a) ≡ length (i64_bytes b)
@@ -95,12 +95,12 @@ unfolding i64_bytes
 i64_length a b = refl
 
 -- the seconds' parts for one flag have equal lengths
-stamp_length : (timestamp : Bool) (m n : Option Moment) (zone : TimeZone) (s t : List ℕ) → stamp_part timestamp m zone ≡ Some s → stamp_part timestamp n zone ≡ Some t → length s ≡ length t
-unfolding stamp_part
+stamp_length : (timestamp : Bool) (m n : Option Moment) (zone : TimeZone) (s t : List ℕ) → timestamp_part timestamp m zone ≡ Some s → timestamp_part timestamp n zone ≡ Some t → length s ≡ length t
+unfolding timestamp_part
 stamp_length false m n zone s t p q = ap (λ (o : Option (List ℕ)). length (unwrap_or o s)) (sym p ∙ q)
 stamp_length true m n zone s t p q =
-    let first = from_stamp_part m zone s p in
-    let second = from_stamp_part n zone t q in
+    let first = from_timestamp_part m zone s p in
+    let second = from_timestamp_part n zone t q in
     let i : List ℕ = i64_bytes (local_second zone (nanos_of first.0)) in
     let j : List ℕ = i64_bytes (local_second zone (nanos_of second.0)) in
     omega (arith, ap length first.3, ap length second.3, length-append (delimiter (codes "timestamp")) i, length-append (delimiter (codes "timestamp")) j, i64_length (local_second zone (nanos_of first.0)) (local_second zone (nanos_of second.0)))
@@ -130,7 +130,7 @@ second_is_determined zone date m n a b v w part p q =
     let y = from_time_part date true n b zone w part q in
     let long : length x.0 ≡ length y.0 = omega (arith, ap length x.4, ap length y.4, length-append x.0 x.1, length-append y.0 y.1, stamp_length true m n zone x.1 y.1 x.3 y.3) in
     let back = (bytes_read_back x.0 y.0 x.1 y.1 long (x.4 ∙ sym y.4)).1 in
-    let first = from_stamp_part m zone x.1 x.3 in
-    let second = from_stamp_part n zone y.1 y.3 in
+    let first = from_timestamp_part m zone x.1 x.3 in
+    let second = from_timestamp_part n zone y.1 y.3 in
     let bytes = append_cancel_left (delimiter (codes "timestamp")) _ _ (first.3 ∙ back ∙ sym second.3) in
     rw (first.1, second.1) (one_second_is zone (nanos_of first.0) (nanos_of second.0) first.2 second.2 bytes)

@@ -7,9 +7,9 @@ use Rattle.jiff.specs.Words.{IsTimestampNanos}
 use Rattle.cck_digest.specs.Frames.{framed_option}
 use Rattle.cck_path.specs.Timestamp.{Moment, nanos_of}
 use Rattle.cck_path.specs.Variables.{Variable}
-use Rattle.cck_time.specs.TimePart.{is_instant, instant_nanos, local_day, local_second, local_date, delimiter, i64_bytes, date_bytes, source_date_epoch, date_part, stamp_part, time_part}
+use Rattle.cck_time.specs.TimePart.{is_instant, instant_nanos, local_day, local_second, local_date, delimiter, i64_bytes, date_bytes, source_date_epoch, date_part, timestamp_part, time_part}
 use Rattle.cck_time.proofs.EveryDayLemmas.{every_day}
-use Rattle.cck_time.proofs.PartLemmas.{day_range, from_date_part, from_stamp_part, from_time_part, instant_range}
+use Rattle.cck_time.proofs.PartLemmas.{day_range, from_date_part, from_timestamp_part, from_time_part, instant_range}
 
 pub range_instant : (n : ℤ) → IsTimestampNanos n → is_instant n ≡ true
 range_instant n h =
@@ -33,8 +33,8 @@ date_there true moment zone v h =
     let d = every_day (local_day zone (nanos_of moment)) (day_range zone (nanos_of moment) (range_instant (nanos_of moment) (h refl))) in
     ((delimiter (codes "date") ++ date_bytes d.0) ++ framed_option (source_date_epoch v), ap (λ o. option_map (λ e. (delimiter (codes "date") ++ date_bytes e) ++ framed_option (source_date_epoch v)) (option_and_then (local_date zone) o)) n ∙ ap (λ o. option_map (λ e. (delimiter (codes "date") ++ date_bytes e) ++ framed_option (source_date_epoch v)) o) d.1)
 
-stamp_there : (timestamp : Bool) (modified : Option Moment) (zone : TimeZone) → (timestamp ≡ true → IsSomeAnd modified (λ t. IsTimestampNanos (nanos_of t))) → (part : List ℕ) × (stamp_part timestamp modified zone ≡ Some part)
-unfolding stamp_part
+stamp_there : (timestamp : Bool) (modified : Option Moment) (zone : TimeZone) → (timestamp ≡ true → IsSomeAnd modified (λ t. IsTimestampNanos (nanos_of t))) → (part : List ℕ) × (timestamp_part timestamp modified zone ≡ Some part)
+unfolding timestamp_part
 stamp_there false modified zone h = ([], refl)
 stamp_there true None zone h = absurd (h refl)
 stamp_there true (Some t) zone h =
@@ -53,9 +53,9 @@ part_there date timestamp modified moment zone v h =
 moment_in : (moment : Moment) (zone : TimeZone) (v : List Variable) (part : List ℕ) → date_part true moment zone v ≡ Some part → IsTimestampNanos (nanos_of moment)
 moment_in moment zone v part e = instant_range (nanos_of moment) (from_date_part moment zone v part e).3
 
-modified_in : (modified : Option Moment) (zone : TimeZone) (part : List ℕ) → stamp_part true modified zone ≡ Some part → IsSomeAnd modified (λ t. IsTimestampNanos (nanos_of t))
+modified_in : (modified : Option Moment) (zone : TimeZone) (part : List ℕ) → timestamp_part true modified zone ≡ Some part → IsSomeAnd modified (λ t. IsTimestampNanos (nanos_of t))
 modified_in modified zone part e =
-    let t = from_stamp_part modified zone part e in
+    let t = from_timestamp_part modified zone part e in
     subst (λ (o : Option Moment). IsSomeAnd o (λ t. IsTimestampNanos (nanos_of t))) (sym t.1) (instant_range (nanos_of t.0) t.2)
 
 pub there_part : (date timestamp : Bool) (modified : Option Moment) (moment : Moment) (zone : TimeZone) (v : List Variable)
@@ -64,4 +64,4 @@ pub there_part : (date timestamp : Bool) (modified : Option Moment) (moment : Mo
 there_part date timestamp modified moment zone v h =
     let some = some_of (time_part date timestamp modified moment zone v) h in
     let both = from_time_part date timestamp modified moment zone v some.0 some.1 in
-    (λ e. moment_in moment zone v both.0 (subst (λ (b : Bool). date_part b moment zone v ≡ Some both.0) e both.2), λ e. modified_in modified zone both.1 (subst (λ (b : Bool). stamp_part b modified zone ≡ Some both.1) e both.3))
+    (λ e. moment_in moment zone v both.0 (subst (λ (b : Bool). date_part b moment zone v ≡ Some both.0) e both.2), λ e. modified_in modified zone both.1 (subst (λ (b : Bool). timestamp_part b modified zone ≡ Some both.1) e both.3))

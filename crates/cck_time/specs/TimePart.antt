@@ -63,16 +63,16 @@ date_part true moment zone variables =
     (option_and_then (local_date zone) (instant_nanos moment))
 
 -- the second at which the file was modified, if the text shows it
-unfoldable pub stamp_part : Bool → Option Moment → TimeZone → Option (List ℕ)
-stamp_part false modified zone = Some []
-stamp_part true modified zone =
+unfoldable pub timestamp_part : Bool → Option Moment → TimeZone → Option (List ℕ)
+timestamp_part false modified zone = Some []
+timestamp_part true modified zone =
     option_map (λ n. delimiter (codes "timestamp") ++ i64_bytes (local_second zone n))
     (option_and_then instant_nanos modified)
 
 -- both, if there is a part for each
 unfoldable pub time_part : Bool → Bool → Option Moment → Moment → TimeZone → List Variable → Option (List ℕ)
 time_part date timestamp modified moment zone variables =
-    option_and_then (λ d. option_map (λ s. d ++ s) (stamp_part timestamp modified zone))
+    option_and_then (λ d. option_map (λ s. d ++ s) (timestamp_part timestamp modified zone))
     (date_part date moment zone variables)
 
 -- both are known, and of the same local second

@@ -1,16 +1,16 @@
 //! The time part of a file: what its time macros show at a call time, in a zone.
-ghost use Rattle.std.specs.Prelude.{◌≡◌, ◌++◌, codes, IfOk, IfErr, OnOk, Some, map, option_map};
+ghost use Rattle.std.specs.Prelude.{◌≡◌, ◌++◌, codes, IfOk, IfErr, OnOk, Some, option_map};
 ghost use Rattle.cck_digest.specs.Frames.{framed_option, length_bytes};
 ghost use Rattle.cck_path.specs.Bytes.{variables_of};
 ghost use Rattle.jiff.specs.Words.{plain_zone};
 ghost use Rattle.cck_time.specs.Calendar.{civil_date};
-ghost use Rattle.cck_time.specs.TimePart.{IsAppended, date_bytes, date_part, delimiter, i32_bytes, i64_bytes, instant_nanos, local_date, local_second, source_date_epoch, stamp_part, time_part, u32_bytes};
+ghost use Rattle.cck_time.specs.TimePart.{IsAppended, date_bytes, date_part, delimiter, i32_bytes, i64_bytes, instant_nanos, local_date, local_second, source_date_epoch, timestamp_part, time_part, u32_bytes};
 
 use crate::Error;
 use cck_path::{Timestamp, first_value};
 use jiff::civil::Date;
 use jiff::tz::TimeZone;
-use std::alloc::Global;
+use std::alloc::{AllocError, Global};
 
 // Returns the instant of the time `moment`, if it is in `jiff`'s range.
 fn instant_of(moment: Timestamp) -> Option<jiff::Timestamp>
@@ -35,10 +35,10 @@ fn second_at(zone: &TimeZone<'_>, instant: jiff::Timestamp) -> i64
     zone.to_datetime(instant).to_plain().to_second()
 }
 
+// Appends a delimiter with this name.
 #[tactic(auto, unfolding(crate::specs::TimePart::delimiter))]
-fn put_delimiter(part: &mut Vec<u8>, name: &[u8]) -> Result<(), Error>
-    ensures value { OnOk result (part.new.items ≡ part.old.items ++ delimiter name.now) }
-    ensures errors { IfErr result (λ e. e ≡ Error.Memory) }
+fn put_delimiter(part: &mut Vec<u8>, name: &[u8]) -> Result<(), AllocError>
+    ensures { OnOk result (part.new.items ≡ part.old.items ++ delimiter name.now) }
 {
     part.extend_from_slice(b"\0SCCACHE\0")?;
     part.extend_from_slice(name)?;
@@ -46,46 +46,46 @@ fn put_delimiter(part: &mut Vec<u8>, name: &[u8]) -> Result<(), Error>
     Ok(())
 }
 
+// Appends the 4 bytes of a number, the lowest first.
 #[tactic(auto, unfolding(crate::specs::TimePart::i32_bytes))]
-fn put_i32(part: &mut Vec<u8>, number: i32) -> Result<(), Error>
-    ensures value { OnOk result (part.new.items ≡ part.old.items ++ i32_bytes number) }
-    ensures errors { IfErr result (λ e. e ≡ Error.Memory) }
+fn put_i32(part: &mut Vec<u8>, number: i32) -> Result<(), AllocError>
+    ensures { OnOk result (part.new.items ≡ part.old.items ++ i32_bytes number) }
 {
     part.extend_from_slice(&number.to_le_bytes())?;
     Ok(())
 }
 
+// Appends the 4 bytes of a number, the lowest first.
 #[tactic(auto, unfolding(crate::specs::TimePart::u32_bytes))]
-fn put_u32(part: &mut Vec<u8>, number: u32) -> Result<(), Error>
-    ensures value { OnOk result (part.new.items ≡ part.old.items ++ u32_bytes number) }
-    ensures errors { IfErr result (λ e. e ≡ Error.Memory) }
+fn put_u32(part: &mut Vec<u8>, number: u32) -> Result<(), AllocError>
+    ensures { OnOk result (part.new.items ≡ part.old.items ++ u32_bytes number) }
 {
     part.extend_from_slice(&number.to_le_bytes())?;
     Ok(())
 }
 
+// Appends the 8 bytes of a number, the lowest first.
 #[tactic(auto, unfolding(crate::specs::TimePart::i64_bytes))]
-fn put_i64(part: &mut Vec<u8>, number: i64) -> Result<(), Error>
-    ensures value { OnOk result (part.new.items ≡ part.old.items ++ i64_bytes number) }
-    ensures errors { IfErr result (λ e. e ≡ Error.Memory) }
+fn put_i64(part: &mut Vec<u8>, number: i64) -> Result<(), AllocError>
+    ensures { OnOk result (part.new.items ≡ part.old.items ++ i64_bytes number) }
 {
     part.extend_from_slice(&number.to_le_bytes())?;
     Ok(())
 }
 
-fn put_length(part: &mut Vec<u8>, length: usize) -> Result<(), Error>
-    ensures value { OnOk result (part.new.items ≡ part.old.items ++ length_bytes length) }
-    ensures errors { IfErr result (λ e. e ≡ Error.Memory) }
+// Appends a length as 8 bytes, the lowest first.
+fn put_length(part: &mut Vec<u8>, length: usize) -> Result<(), AllocError>
+    ensures { OnOk result (part.new.items ≡ part.old.items ++ length_bytes length) }
 {
     let length = length as u64;
     part.extend_from_slice(&length.to_le_bytes())?;
     Ok(())
 }
 
-fn put_option(part: &mut Vec<u8>, bytes: Option<&[u8]>) -> Result<(), Error>
-    ensures value { OnOk result (part.new.items ≡ part.old.items
+// Appends the byte 0 for none; else the byte 1, the length and the bytes.
+fn put_option(part: &mut Vec<u8>, bytes: Option<&[u8]>) -> Result<(), AllocError>
+    ensures { OnOk result (part.new.items ≡ part.old.items
         ++ framed_option (option_map (λ b. b.now) bytes.entry)) }
-    ensures errors { IfErr result (λ e. e ≡ Error.Memory) }
 {
     match bytes {
         None => part.push(0)?,
@@ -98,10 +98,10 @@ fn put_option(part: &mut Vec<u8>, bytes: Option<&[u8]>) -> Result<(), Error>
     Ok(())
 }
 
-fn put_year_month_day(part: &mut Vec<u8>, date: Date) -> Result<(), Error>
-    ensures value { OnOk result (part.new.items ≡ part.old.items
+// Appends the year, the month and the day.
+fn put_year_month_day(part: &mut Vec<u8>, date: Date) -> Result<(), AllocError>
+    ensures { OnOk result (part.new.items ≡ part.old.items
         ++ date_bytes (civil_date date)) }
-    ensures errors { IfErr result (λ e. e ≡ Error.Memory) }
 {
     let date = date.to_plain();
     put_i32(part, i32::from(date.year))?;
@@ -110,11 +110,11 @@ fn put_year_month_day(part: &mut Vec<u8>, date: Date) -> Result<(), Error>
     Ok(())
 }
 
-fn put_date(part: &mut Vec<u8>, date: Date, vars: &[(Vec<u8>, Vec<u8>)]) -> Result<(), Error>
-    ensures value { OnOk result (part.new.items ≡ part.old.items ++ (delimiter (codes "date")
+// Appends the delimiter of a date, the date and the first `SOURCE_DATE_EPOCH`.
+fn put_date(part: &mut Vec<u8>, date: Date, vars: &[(Vec<u8>, Vec<u8>)]) -> Result<(), AllocError>
+    ensures { OnOk result (part.new.items ≡ part.old.items ++ (delimiter (codes "date")
         ++ date_bytes (civil_date date)
         ++ framed_option (source_date_epoch (variables_of vars.now)))) }
-    ensures errors { IfErr result (λ e. e ≡ Error.Memory) }
 {
     put_delimiter(part, b"date")?;
     put_year_month_day(part, date)?;
@@ -122,10 +122,10 @@ fn put_date(part: &mut Vec<u8>, date: Date, vars: &[(Vec<u8>, Vec<u8>)]) -> Resu
     Ok(())
 }
 
-fn put_second(part: &mut Vec<u8>, second: i64) -> Result<(), Error>
-    ensures value { OnOk result (part.new.items ≡ part.old.items
+// Appends the delimiter of a timestamp and the second.
+fn put_second(part: &mut Vec<u8>, second: i64) -> Result<(), AllocError>
+    ensures { OnOk result (part.new.items ≡ part.old.items
         ++ (delimiter (codes "timestamp") ++ i64_bytes second)) }
-    ensures errors { IfErr result (λ e. e ≡ Error.Memory) }
 {
     put_delimiter(part, b"timestamp")?;
     put_i64(part, second)?;
@@ -140,11 +140,10 @@ fn put_date_part(
     moment: Timestamp,
     zone: &TimeZone<'_>,
     vars: &[(Vec<u8>, Vec<u8>)],
-) -> Result<bool, Error>
-    ensures value { IfOk result (λ there. IsAppended part.old.items part.new.items there
+) -> Result<bool, AllocError>
+    ensures { IfOk result (λ there. IsAppended part.old.items part.new.items there
         (date_part date moment (plain_zone zone.now)
         (variables_of vars.now))) }
-    ensures errors { IfErr result (λ e. e ≡ Error.Memory) }
 {
     if !date {
         return Ok(true);
@@ -157,16 +156,15 @@ fn put_date_part(
 }
 
 // Appends the modification's part, and returns whether there is one.
-#[tactic(auto, unfolding(crate::specs::TimePart::stamp_part))]
-fn put_stamp_part(
+#[tactic(auto, unfolding(crate::specs::TimePart::timestamp_part))]
+fn put_timestamp_part(
     part: &mut Vec<u8>,
     timestamp: bool,
     modified: Option<Timestamp>,
     zone: &TimeZone<'_>,
-) -> Result<bool, Error>
-    ensures value { IfOk result (λ there. IsAppended part.old.items part.new.items there
-        (stamp_part timestamp modified (plain_zone zone.now))) }
-    ensures errors { IfErr result (λ e. e ≡ Error.Memory) }
+) -> Result<bool, AllocError>
+    ensures { IfOk result (λ there. IsAppended part.old.items part.new.items there
+        (timestamp_part timestamp modified (plain_zone zone.now))) }
 {
     if !timestamp {
         return Ok(true);
@@ -217,7 +215,7 @@ pub fn local_time_part(
     if !put_date_part(&mut part, date, moment, zone, vars)? {
         return Ok(None);
     }
-    if !put_stamp_part(&mut part, timestamp, modified, zone)? {
+    if !put_timestamp_part(&mut part, timestamp, modified, zone)? {
         return Ok(None);
     }
     Ok(Some(part))

@@ -1,5 +1,5 @@
 //! Lists and options as key material, from which the end of each part is known.
-ghost use Rattle.std.specs.Prelude.{◌≡◌, ℕ, List, ◌++◌, OnOk, map};
+ghost use Rattle.std.specs.Prelude.{ℕ, List, ◌++◌, OnOk, map};
 ghost use Rattle.std.specs.Option.{option_map};
 ghost use Rattle.cck_digest.specs.Frames.{framed_list, frame, framed_option};
 ghost use Rattle.cck_path.specs.Bytes.{lists_of};
@@ -10,7 +10,7 @@ use cck_strip::strip_basedirs_from_arg;
 use std::alloc::{AllocError, Global};
 use std::convert::AsSlice;
 
-/// Feeds the count of these texts, then a frame of each, in order. It takes no memory.
+/// Feeds the count of these texts, then a frame of each, in order. It allocates no memory.
 pub fn hash_text_list<H: HashState, T: AsSlice<u8>>(digest: &mut Digest<H>, texts: &[T])
     ensures { (fed : List ℕ) → H.holds digest.old fed →
         H.holds digest.new (fed ++ framed_list frame (map T.items texts.now)) }
@@ -21,7 +21,7 @@ pub fn hash_text_list<H: HashState, T: AsSlice<u8>>(digest: &mut Digest<H>, text
     }
 }
 
-/// Feeds a byte 0 for `None`, and otherwise a byte 1 and a frame of the text. It takes no memory.
+/// Feeds a byte 0 for `None`, and otherwise a byte 1 and a frame of the text. It allocates no memory.
 pub fn hash_option<H: HashState, T: AsSlice<u8> + Copy>(digest: &mut Digest<H>, text: Option<T>)
     ensures { (fed : List ℕ) → H.holds digest.old fed →
         H.holds digest.new (fed ++ framed_option (option_map T.items text)) }

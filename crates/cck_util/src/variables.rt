@@ -54,7 +54,7 @@ fn count_named(variables: &[(Vec<u8>, Vec<u8>)], names: &[&[u8]]) -> usize
 }
 
 /// Feeds the count of the variables that have one of these names, then for each, in order, a frame
-/// of its name and one of its value. A name that occurs twice is fed twice. It takes no memory.
+/// of its name and one of its value. A name that occurs twice is fed twice. It allocates no memory.
 pub fn hash_variable_list<H: HashState>(
     digest: &mut Digest<H>,
     variables: &[(Vec<u8>, Vec<u8>)],

@@ -1,4 +1,4 @@
-//! The macros of time in a stream.
+//! The time macros in a stream.
 use cck_cases::{CaseError, Value};
 use cck_util::{Digest, SeenMacros, Sha256State, TimeMacroFinder};
 use std::alloc::Global;

@@ -9,7 +9,7 @@ const SLOTS: usize = 2048;
 const FNV_PRIME: usize = 0x0100_0193;
 
 // The number of a name's last bytes that are hashed for its slot.
-const ORDERED_BY: usize = 8;
+const HASHED_BYTES: usize = 8;
 
 /// A name, and whether a system header has it.
 #[derive(Clone, Copy)]
@@ -63,7 +63,7 @@ fn slot_of(name: &[u8], is_system: bool) -> usize
     if is_system {
         hash = hash.wrapping_add(1);
     }
-    for byte in &name[name.len().saturating_sub(ORDERED_BY)..] {
+    for byte in &name[name.len().saturating_sub(HASHED_BYTES)..] {
         hash = hash.wrapping_mul(FNV_PRIME) ^ (*byte as usize);
     }
     hash % SLOTS
