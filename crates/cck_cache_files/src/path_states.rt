@@ -81,7 +81,7 @@ fn look_at<R: Files>(rt: &R, path: &[u8], since: Timestamp) -> PathState
     }
 }
 
-/// Whether there is nothing at a path. Where that can't be known it is not said.
+/// Whether there is nothing at a path. `false` where that can't be known.
 pub fn is_absent<R: Files>(rt: &R, path: &[u8]) -> bool
     ensures { IsTrue result → IsUtf8 path.now }
 {
@@ -143,15 +143,16 @@ impl PathStates {
         Ok((path, self.state_of(rt, path)?))
     }
 
-    /// Whether a link is on the way to an absolute path, or something in doubt.
+    /// Whether anything but a directory is on the way to an absolute path, the path itself not
+    /// included: a link, a file, nothing, or something in doubt.
     ///
     /// The only error is lack of memory.
-    pub fn has_link<R: Files + AllocGlobal>(
+    pub fn has_other<R: Files + AllocGlobal>(
         &mut self,
         rt: &R,
         path: &[u8],
     ) -> Result<bool, AllocError>
-        ensures link { IfOk result (λ found. MatchBool found (HasOther self.new path.now)
+        ensures other { IfOk result (λ found. MatchBool found (HasOther self.new path.now)
             (AreOnTheWay (λ state. state ≡ PathState.Directory) self.new path.now (length path.now))) }
         ensures kept { KeepsStates self.old self.new }
     {

@@ -111,7 +111,7 @@ fn leads_there<R: Files + AllocGlobal>(
     if joined == path {
         return Ok(true);
     }
-    Ok(!states.has_link(rt, joined)? && is_one_file(rt, joined, path))
+    Ok(!states.has_other(rt, joined)? && is_one_file(rt, joined, path))
 }
 
 // Puts what is at a path into the snapshot, as `add_file` does, if the snapshot has nothing there.

@@ -1,7 +1,7 @@
 use Rattle.std.proofs.Common.{◌≡◌}
 use Rattle.cck_cache_files.specs.declared.path_states.PathState.TheVariants.{Directory}
 use Rattle.cck_cache_files.proofs.StateLemmas.{OnTheWay}
-use Rattle.cck_cache_files.proofs.path_states.PathStates.has_link.Given as goal
+use Rattle.cck_cache_files.proofs.path_states.PathStates.has_other.Given as goal
 
 -- all paths so far are directories
 abbrev pub invariant-loop-place : goal.invariant-loop-place

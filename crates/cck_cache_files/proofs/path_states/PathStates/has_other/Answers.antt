@@ -2,8 +2,8 @@ use Rattle.std.proofs.Common.{◌≡◌, ◌+◌, sym, subst}
 use Rattle.cck_cache_files.specs.declared.path_states.PathState.TheVariants.{Directory}
 use Rattle.cck_cache_files.specs.declared.path_states.PathStates.{PathStates}
 use Rattle.cck_cache_files.proofs.StateLemmas.{OnTheWay, at_the_root, is_directory, kept_after, no_slash, way_goes_on, way_passes}
-use Rattle.cck_cache_files.proofs.path_states.PathStates.has_link.Goals as goal
-use Rattle.cck_cache_files.proofs.path_states.PathStates.has_link.Goals.{then-byte-eq47+then-place-gt0+in_ok-state+else-ne, else-byte-eq47, else-byte-eq47-via-then-byte-eq47+else-place-gt0, else-byte-eq47-via-else-byte-eq47}
+use Rattle.cck_cache_files.proofs.path_states.PathStates.has_other.Goals as goal
+use Rattle.cck_cache_files.proofs.path_states.PathStates.has_other.Goals.{then-byte-eq47+then-place-gt0+in_ok-state+else-ne, else-byte-eq47, else-byte-eq47-via-then-byte-eq47+else-place-gt0, else-byte-eq47-via-else-byte-eq47}
 
 pub returns-then-ne-clause-kept : goal.returns-then-ne-clause-kept
 returns-then-ne-clause-kept g c =
