@@ -14,7 +14,7 @@ use cck_files::{Files as FilesInMemory, MapFiles, Node};
 use cck_markers::{Mark, Markers};
 use cck_path::{FileKind, join_path, normalize_path};
 use std::fs;
-use std::fs::Metadata;
+use std::fs::{Metadata, OpenFile};
 use std::io::Read;
 use std::os::unix::fs::MetadataExt;
 use std::rt::Files;
@@ -32,7 +32,30 @@ fn node_of<R: AllocGlobal>(rt: &R, kind: FileKind, metadata: &Metadata) -> Node
     }
 }
 
-// The node at a path, links followed. `None` where it can't be read, or its length changed.
+// The node of the regular file at a path, with room for this many bytes before it is read. `None`
+// where it can't be read, is no regular file by now, or does not have the length of what was read.
+//
+// The status is taken after the contents: whatever is written after the status was taken is not in
+// the contents, and what is written before has the file's times. With a status from before, new
+// contents could have old times, and a later test of the times would not see the change.
+fn read_regular<R: Files + AllocGlobal>(rt: &R, path: &str, length: u64) -> Option<Node> {
+    // With room for one more byte the end is seen without a growth.
+    let room = usize::try_from(length).ok()?.saturating_add(1);
+    let mut contents = Vec::new(rt.alloc());
+    contents.reserve(room).ok()?;
+    let mut file = fs::open(rt, path).ok()?;
+    file.read_to_end(&mut contents).ok()?;
+    let metadata = file.metadata().ok()?;
+    if !metadata.is_file() || contents.len() as u64 != metadata.len() {
+        return None;
+    }
+    let mut node = node_of(rt, FileKind::File, &metadata);
+    node.contents = contents;
+    Some(node)
+}
+
+// The node at a path, links followed. `None` where it can't be read. Only a regular file is opened:
+// to open a pipe or a device may wait, or have an effect.
 fn read_node<R: Files + AllocGlobal>(rt: &R, path: &str) -> Option<Node> {
     let metadata = fs::metadata(rt, path).ok()?;
     if metadata.is_dir() {
@@ -41,16 +64,7 @@ fn read_node<R: Files + AllocGlobal>(rt: &R, path: &str) -> Option<Node> {
     if !metadata.is_file() {
         return Some(node_of(rt, FileKind::Other, &metadata));
     }
-    let mut file = fs::open(rt, path).ok()?;
-    let mut node = node_of(rt, FileKind::File, &metadata);
-    // With room for one more byte the end is seen without a growth.
-    let room = usize::try_from(metadata.len()).ok()?.saturating_add(1);
-    node.contents.reserve(room).ok()?;
-    file.read_to_end(&mut node.contents).ok()?;
-    if node.contents.len() as u64 != metadata.len() {
-        return None;
-    }
-    Some(node)
+    read_regular(rt, path, metadata.len())
 }
 
 /// Puts what is at a path into the snapshot, links followed. What can't be read is left out.
