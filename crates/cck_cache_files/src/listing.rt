@@ -24,7 +24,8 @@ pub struct StoredFile {
     pub is_new: bool,
 }
 
-// The names in a directory. A directory that is not there has none.
+// The names in a directory. What is not there, or is no directory, has none: a file that another
+// program left among the directories of a store is passed over.
 fn names_in<R: Files + AllocGlobal + Clone + Drop>(
     rt: &R,
     directory: &str,
@@ -36,6 +37,7 @@ fn names_in<R: Files + AllocGlobal + Clone + Drop>(
     let entries = match fs::read_dir(rt, directory) {
         Ok(entries) => entries,
         Err(error) if error.kind() == ErrorKind::NotFound => return Ok(names),
+        Err(error) if error.kind() == ErrorKind::NotADirectory => return Ok(names),
         Err(error) => return Err(error),
     };
     for entry in entries {
@@ -90,7 +92,9 @@ fn add_files<R: Files + AllocGlobal + Clone + Drop>(
     Ok(())
 }
 
-/// The files of this kind in a store, in no order.
+/// The files of this kind in a store, in no order. A file that can't be looked at is left out.
+///
+/// The error is of a directory that is there and can't be read, or lack of memory.
 pub fn list_files<R: Files + AllocGlobal + Clone + Drop>(
     rt: &R,
     store: &StoreDirectory,
@@ -111,7 +115,10 @@ pub fn list_files<R: Files + AllocGlobal + Clone + Drop>(
     Ok(files)
 }
 
-/// The files that count the events of a store, in no order: the size of each is its count.
+/// The files that count the events of a store, in no order: the size of each is its count. A file
+/// that can't be looked at is left out.
+///
+/// The error is of a directory that is there and can't be read, or lack of memory.
 pub fn list_counts<R: Files + AllocGlobal + Clone + Drop>(
     rt: &R,
     store: &StoreDirectory,

@@ -5,7 +5,7 @@ ghost use Rattle.cck_cache_files.specs.Paths.{IsStoreIn, digest_path, directory_
 use crate::times::{modified, system_time};
 use cck_path::Timestamp;
 use std::alloc::AllocError;
-use std::fs::{FileTimes, OpenFile, OpenOptions};
+use std::fs::{FileTimes, Metadata, OpenFile, OpenOptions};
 use std::io::{ErrorKind, Write};
 use std::rt::Files;
 use std::{fs, io};
@@ -34,9 +34,9 @@ impl Kind {
     }
 }
 
-/// A store directory: `VERSION`, and `entries` and `objects`, in each of which a file is in a
-/// directory that is named by the first two digits of its key. `counts` and `digests` are there once
-/// they have a file.
+/// A store directory: `VERSION`, and the directories `entries`, `objects`, `counts` and `digests`,
+/// each of which is there once it has a file. In `entries` and `objects` a file is in a directory that
+/// is named by the first two digits of its key.
 #[derive(Drop)]
 pub struct StoreDirectory {
     directory: String,
@@ -44,7 +44,7 @@ pub struct StoreDirectory {
     suffix: String,
 }
 
-// Makes a store directory whose `VERSION` is not there.
+// Makes a store directory whose `VERSION` is not there, with that file alone.
 fn make_store<R: Files + AllocGlobal>(rt: &R, store: &StoreDirectory) -> io::Result<()> {
     let directory = store.directory.as_str();
     fs::create_dir_all(rt, directory)?;
@@ -54,7 +54,8 @@ fn make_store<R: Files + AllocGlobal>(rt: &R, store: &StoreDirectory) -> io::Res
 
 /// The store in a directory, which is made if it is not there. `id` is the number of this process.
 ///
-/// The error [`ErrorKind::InvalidData`] is of a directory with another `VERSION`.
+/// The error [`ErrorKind::InvalidData`] is of a directory with another `VERSION`. Another error is of
+/// a `VERSION` that can't be read, of a directory or a `VERSION` that can't be made, or lack of memory.
 pub fn open_store<R: Files + AllocGlobal>(
     rt: &R,
     directory: &str,
@@ -77,6 +78,12 @@ pub fn open_store<R: Files + AllocGlobal>(
         }
         Err(error) => Err(error),
     }
+}
+
+// Writes a file that is no file of a store, and takes its status.
+fn write_mark<R: Files>(rt: &R, path: &str) -> io::Result<Metadata> {
+    fs::write(rt, path, b"x".as_slice())?;
+    fs::metadata(rt, path)
 }
 
 // The first two digits of a key, or two zeros where a character would be cut after them.
@@ -127,6 +134,8 @@ impl StoreDirectory {
     }
 
     /// The bytes of the file of a key. `None` where there is no such file.
+    ///
+    /// The error is of a file that is there and can't be read, or lack of memory.
     pub fn read<R: Files + AllocGlobal>(
         &self,
         rt: &R,
@@ -143,6 +152,9 @@ impl StoreDirectory {
 
     /// Writes bytes beside a path, and renames the new file to the path. A file that could not be
     /// written whole, or not be renamed, is removed.
+    ///
+    /// The error is of a file that can't be made, written or renamed, or lack of memory. The file at
+    /// the path is then as it was.
     pub fn replace<R: Files + AllocGlobal>(
         &self,
         rt: &R,
@@ -165,6 +177,9 @@ impl StoreDirectory {
     }
 
     /// Writes the file of a key, beside it and by a rename.
+    ///
+    /// The error is of a directory or a file that can't be made, of a file that can't be written or
+    /// renamed, or lack of memory. The file of the key is then as it was.
     pub fn write<R: Files + AllocGlobal>(
         &self,
         rt: &R,
@@ -194,6 +209,9 @@ impl StoreDirectory {
     }
 
     /// Writes the file that keeps the digest of a compiler of this name, beside it and by a rename.
+    ///
+    /// The error is of a directory or a file that can't be made, of a file that can't be written or
+    /// renamed, or lack of memory. The file of the name is then as it was.
     pub fn keep_digest<R: Files + AllocGlobal>(
         &self,
         rt: &R,
@@ -208,20 +226,30 @@ impl StoreDirectory {
 
     /// The time of now by the clock of the store's file system: when a file that is made now was
     /// modified. The system's own clock may be ahead of it.
+    ///
+    /// The error is of a file that can't be made, written, looked at or removed, or lack of memory;
+    /// [`ErrorKind::InvalidData`] is of a time that is no [`Timestamp`]. The file is removed in each
+    /// case, unless its removal is what failed.
     pub fn stamp<R: Files + AllocGlobal>(&self, rt: &R) -> io::Result<Timestamp> {
         let directory = self.directory.as_str();
         let suffix = self.suffix.as_str();
         let path = format!(in rt.alloc(); "{directory}/stamp.{suffix}")?;
-        fs::write(rt, path.as_str(), b"x".as_slice())?;
-        let metadata = fs::metadata(rt, path.as_str())?;
-        fs::remove_file(rt, path.as_str())?;
-        match modified(&metadata) {
+        let status = write_mark(rt, path.as_str());
+        // The file is removed before an error is returned: nothing else would remove it.
+        let removal = fs::remove_file(rt, path.as_str());
+        let status = status?;
+        removal?;
+        match modified(&status) {
             Some(time) => Ok(time),
             None => Err(io::Error::from(ErrorKind::InvalidData)),
         }
     }
 
-    /// Sets the time at which the file of a key was used. A time before 1970 is an error.
+    /// Sets the time at which the file of a key was used.
+    ///
+    /// The error is of a file that is not there or can't be opened, of a time that can't be set, or
+    /// lack of memory; [`ErrorKind::InvalidData`] is of a time that the system does not have, such as
+    /// one before 1970. The time is then as it was.
     pub fn touch<R: Files + AllocGlobal>(
         &self,
         rt: &R,
@@ -242,6 +270,9 @@ impl StoreDirectory {
     }
 
     /// Counts an event of this name: a byte is appended to the file `counts/NAME`.
+    ///
+    /// The error is of a directory or a file that can't be made, opened or written, or lack of memory.
+    /// The event is then not counted.
     pub fn count<R: Files + AllocGlobal>(&self, rt: &R, name: &str) -> io::Result<()> {
         let directory = self.directory.as_str();
         let path = format!(in rt.alloc(); "{directory}/counts/{name}")?;
