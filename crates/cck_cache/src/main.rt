@@ -1,8 +1,9 @@
 //! The program `cck_cache`: a cache of compilations over real files.
 //!
 //! `main` alone reads the clock, the zone and the environment, and passes them with the words and
-//! the standard streams to [`run`]. What fails is printed on standard output as `error: ..`, since
-//! standard error has the compiler's messages alone.
+//! the standard streams to [`run`]. What fails is printed on standard output as `error: ..`, with
+//! status 1, since standard error has the compiler's messages. What is wrong with the words is
+//! printed on standard error, with status 2.
 #![tactic(auto)]
 
 use anyhow::{Result, bail};

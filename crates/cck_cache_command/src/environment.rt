@@ -67,11 +67,14 @@ fn value_of<R: Env + AllocGlobal>(rt: &R, name: &str) -> Result<Option<String>> 
     match env::var(rt, name) {
         Ok(value) => Ok(Some(value)),
         Err(env::VarError::NotPresent) => Ok(None),
-        Err(_) => bail!("a variable can't be read"),
+        Err(env::VarError::NotUnicode) => bail!("the variable {name} is not UTF-8"),
+        Err(env::VarError::OutOfMemory) => bail!("out of memory"),
     }
 }
 
 /// The variables that keys depend on and that are set.
+///
+/// The error is of a variable that is not UTF-8, or lack of memory.
 pub fn variables<R: Env + AllocGlobal>(rt: &R) -> Result<Vec<(Vec<u8>, Vec<u8>)>> {
     let alloc = rt.alloc();
     let mut found = Vec::new(alloc);
@@ -87,6 +90,8 @@ pub fn variables<R: Env + AllocGlobal>(rt: &R) -> Result<Vec<(Vec<u8>, Vec<u8>)>
 }
 
 /// The variables of the locale that are set, a line each.
+///
+/// The error is of a variable that is not UTF-8, or lack of memory.
 pub fn locale<R: Env + AllocGlobal>(rt: &R) -> Result<Vec<u8>> {
     let mut all = Vec::new(rt.alloc());
     for name in LOCALE {

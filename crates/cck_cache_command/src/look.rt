@@ -16,7 +16,7 @@ use cck_cache_files::{Kind, StoreDirectory, add_file};
 use cck_cache_rules::{entry_in, object_in};
 use cck_cache_words::{Look, Outputs};
 use cck_digest::UtilError;
-use cck_entry::PreprocessorCacheEntry;
+use cck_entry::{Error, PreprocessorCacheEntry};
 use cck_files::MapFiles;
 use cck_include::IncludeEntry;
 use cck_path::Timestamp;
@@ -84,6 +84,9 @@ fn entry_bytes<R: Files + AllocGlobal>(
 
 /// Reads the entry file of a preprocessor key: that at this path, if one is given, and else the
 /// store's. A file at a path that is empty is no entry file.
+///
+/// The error is of a file that can't be read, which at a path includes one that is not there, or lack
+/// of memory.
 pub fn read_entry<R: Files + AllocGlobal>(
     rt: &R,
     store: &StoreDirectory,
@@ -117,8 +120,9 @@ fn add_includes<R: Files + AllocGlobal>(
     Ok(())
 }
 
-/// Puts the files that an entry names into the snapshot. `false` where the bytes are no entry, or memory
-/// is lacking to read it.
+/// Puts the files that an entry names into the snapshot. `false` where the bytes are no entry.
+///
+/// The error is lack of memory. Some of the files may then be in the snapshot.
 pub fn add_entry_files<R: Files + AllocGlobal>(
     rt: &R,
     files: &mut MapFiles,
@@ -127,8 +131,10 @@ pub fn add_entry_files<R: Files + AllocGlobal>(
     ensures put { OnOk result (ArePut (IsIncluded bytes.now) files.old.files files.new.files) }
     ensures calm { OnOk result (IsCalm files.old → IsCalm files.new) }
 {
-    let Ok(entry) = PreprocessorCacheEntry::read(rt.alloc(), bytes) else {
-        return Ok(false);
+    let entry = match PreprocessorCacheEntry::read(rt.alloc(), bytes) {
+        Ok(entry) => entry,
+        Err(Error::Deserialization | Error::UnknownFormat(_)) => return Ok(false),
+        Err(error) => return Err(error.into()),
     };
     for (_, includes) in entry.results().iter() {
         add_includes(rt, files, includes)?;
@@ -245,8 +251,9 @@ fn look_for<R: Files + AllocGlobal>(
 
 /// Looks for the object of a request.
 ///
-/// The error is of a program of the compiler, of the store or of the file at `wanted.entry` that can't
-/// be read, or lack of memory.
+/// The error is of an input that is no regular file that can be read, of a program of the compiler, of
+/// the store, of a store of digests or of the file at `wanted.entry` that can't be read, of a file that
+/// can't be made in the store after a miss, or lack of memory.
 ///
 /// No contract can say what a disk holds. So what is found is stated over snapshots that there are: one
 /// that has the input alone, and one that has the files that the entry names too.

@@ -14,6 +14,7 @@ use cck_cache_files::{Kind, StoreDirectory, open_store};
 use cck_cache_words::{Compilation, Look, Packed, Request, Task, task_of};
 use cck_path::Timestamp;
 use clap::Error;
+use clap::error::ErrorKind;
 use std::io;
 use std::io::{Read, Write};
 use std::rt::Files;
@@ -217,7 +218,7 @@ fn run_prune<R: Files + AllocGlobal + Clone + Drop, W: Write>(
     Ok(DONE)
 }
 
-// Prints why a look-up misses.
+// Prints why a look-up misses, or that the request has no preprocessor key.
 fn run_why<R: Files + AllocGlobal, W: Write>(
     rt: &R,
     environment: &Environment<'_>,
@@ -226,8 +227,8 @@ fn run_why<R: Files + AllocGlobal, W: Write>(
     writer: &mut W,
 ) -> Result<u8> {
     let store = open_store(rt, store, environment.id)?;
-    print_why(rt, environment, &store, request, writer)?;
-    Ok(DONE)
+    let has_key = print_why(rt, environment, &store, request, writer)?;
+    Ok(if has_key { DONE } else { MISS })
 }
 
 // Does what was asked for.
@@ -262,8 +263,11 @@ fn run_task<R: Files + AllocGlobal + Clone + Drop, I: Read, W: Write, E: Write>(
     }
 }
 
-// Writes what clap says of the words.
+// Writes what clap says of the words. The error is of a failed write, or lack of memory.
 fn explain<W: Write, E: Write>(error: &Error, writer: &mut W, errors: &mut E) -> Result<u8> {
+    if error.kind() == ErrorKind::OutOfMemory {
+        bail!("out of memory");
+    }
     if error.use_stderr() {
         write!(errors, "{error}")?;
         Ok(USAGE)
@@ -276,8 +280,8 @@ fn explain<W: Write, E: Write>(error: &Error, writer: &mut W, errors: &mut E) ->
 /// Does what these words ask for, of which the first is the program's name. Returns the exit
 /// status.
 ///
-/// The error is of what could not be read or written, of a stamp or size that is none, or lack of
-/// memory.
+/// The error is of what could not be read or written, of a stamp or a size that is no number, of an
+/// option that is missing or needs another one, of a malformed line marker, or lack of memory.
 pub fn run<R: Files + AllocGlobal + Clone + Drop, I: Read, W: Write, E: Write>(
     rt: &R,
     environment: &Environment<'_>,
@@ -288,7 +292,9 @@ pub fn run<R: Files + AllocGlobal + Clone + Drop, I: Read, W: Write, E: Write>(
 ) -> Result<u8> {
     match task_of(rt.alloc(), words) {
         Ok(Some(task)) => run_task(rt, environment, &task, reader, writer, errors),
-        Ok(None) => bail!("a stamp or a size is no number, or an option is missing"),
+        Ok(None) => bail!(
+            "a stamp or a size is no number, or an option is missing or needs another one"
+        ),
         Err(error) => explain(&error, writer, errors),
     }
 }

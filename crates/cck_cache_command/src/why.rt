@@ -97,19 +97,25 @@ fn print_kept<R: Files + AllocGlobal, W: Write>(
 /// Prints what the store has of a request and which paths keep it from matching, a line each:
 /// `key KEY`; `no entry` or `damaged PATH`; `present PATH`, for the first path that was absent when
 /// the entry was recorded and is there now; `result KEY`, and after it `changed PATH` for each
-/// included file that does not match.
+/// included file that does not match. `false` where the request has no preprocessor key: then a line
+/// says that.
+///
+/// The error is of an input that is no regular file that can be read, of a program of the compiler or
+/// of an entry file that can't be read, of an entry that is malformed, of a failed write, or lack of
+/// memory. Some lines may then be written.
 pub fn print_why<R: Files + AllocGlobal, W: Write>(
     rt: &R,
     environment: &Environment<'_>,
     store: &StoreDirectory,
     request: &Request<'_>,
     writer: &mut W,
-) -> Result<()> {
+) -> Result<bool> {
     let mut files = input_snapshot(rt, request)?.files;
     let Some(key) = request_key(rt, environment, request, &mut files)? else {
         writeln!(writer, "{NO_KEY}")?;
-        return Ok(());
+        return Ok(false);
     };
     writeln!(writer, "key {key}")?;
-    print_kept(rt, environment, store, &mut files, key.as_str(), writer)
+    print_kept(rt, environment, store, &mut files, key.as_str(), writer)?;
+    Ok(true)
 }

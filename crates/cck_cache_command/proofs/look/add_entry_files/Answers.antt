@@ -12,8 +12,8 @@ use Rattle.cck_cache_command.proofs.InputLemmas.{put_all}
 use Rattle.cck_cache_command.proofs.LookLemmas.{included_at}
 use Rattle.cck_cache_command.proofs.look.add_entry_files.Goals as goal
 
-pub returns-in_default-clause-put : goal.returns-in_default-clause-put
-returns-in_default-clause-put g c = none_put refl
+pub returns-in-Err-Deserialization-clause-put : goal.returns-in-Err-Deserialization-clause-put
+returns-in-Err-Deserialization-clause-put g c = none_put refl
 
 pub loop-includes-init : goal.loop-includes-init
 loop-includes-init g c = (none_put refl, λ calm. calm)
