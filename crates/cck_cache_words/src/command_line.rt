@@ -34,7 +34,7 @@ const REQUEST_EXTRA: [OptionWords<'static>; 2] = [
     (
         "base",
         "DIR",
-        "The base directory, which objects that do not depend on it are shared without",
+        "The base directory: an object that does not depend on it is shared with other base directories",
     ),
 ];
 
@@ -61,7 +61,7 @@ const RECORD_REQUIRED: [OptionWords<'static>; 3] = [
     ("since", "STAMP", "The time that the look-up printed"),
     (
         "key",
-        "KEY",
+        "PKEY",
         "The preprocessor key that the look-up printed",
     ),
     ("search", "FILE", "What `-E -v` printed on standard error"),
