@@ -2,7 +2,9 @@
 use Rattle.std.specs.Prelude.{◌≡◌, ℕ, Bool, true, false, ◌==◌, ◌||◌, List, [], ◌∷◌, ◌++◌, Option, Some, None, codes}
 use Rattle.std.specs.List.{list_any, slice_split, before_first, after_first}
 use Rattle.std.specs.Str.{bytes_eq}
-use Rattle.cck_cache_entry.specs.Reading.{AreRead, byte_lists}
+use Rattle.std.specs.Borrow.{Bor}
+use Rattle.std.specs.Option.{option_map}
+use Rattle.cck_cache_entry.specs.Reading.{AreRead, ReadsBack, byte_lists}
 use Rattle.cck_cache_entry.specs.declared.search_list.SearchList.{SearchList}
 
 -- the directories that are searched, and those that were left out because they do not exist
@@ -38,6 +40,14 @@ listed_line directory = 32 ∷ directory
 
 abbrev pub missing_line : List ℕ → List ℕ
 missing_line directory = codes "ignoring nonexistent directory \"" ++ directory ++ 34 ∷ []
+
+-- what a call returns for each line: what is written so
+abbrev pub ReadsLines : (Bor (List ℕ) → Option (Bor (List ℕ)) → Type 0) → (List ℕ → List ℕ) → Type 0
+ReadsLines Returns write = (line : Bor (List ℕ)) (found : Option (Bor (List ℕ))) → Returns line found → ReadsBack write line.now (option_map (λ d. d.now) found)
+
+-- what a call returns for each line: whether it passes this test
+abbrev pub TestsLines : (Bor (List ℕ) → Bool → Type 0) → (List ℕ → Bool) → Type 0
+TestsLines Returns test = (line : Bor (List ℕ)) (found : Bool) → Returns line found → found ≡ test line.now
 
 -- the list in a text: the directories of the lines up to the first that ends a list; those that are searched are after the first line that begins one
 abbrev pub IsSearchList : List ℕ → Option SearchFields → Type 0

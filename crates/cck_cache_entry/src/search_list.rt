@@ -1,9 +1,9 @@
 //! A compiler's list of directories for headers.
-ghost use Rattle.std.specs.Prelude.{◌≡◌, ◌≤◌, IfOk, length, map};
+ghost use Rattle.std.specs.Prelude.{◌≡◌, ◌≤◌, Bool, IfOk, List, length, map, ℕ};
 ghost use Rattle.std.specs.List.{position_or_len};
 ghost use Rattle.std.specs.Option.{option_map};
 ghost use Rattle.cck_cache_entry.specs.Reading.{AreRead, ReadsBack, byte_lists};
-ghost use Rattle.cck_cache_entry.specs.SearchList.{IsSearchList, begins_list, ends_list, text_lines, listed_line, missing_line, search_fields};
+ghost use Rattle.cck_cache_entry.specs.SearchList.{IsSearchList, ReadsLines, TestsLines, begins_list, ends_list, text_lines, listed_line, missing_line, search_fields};
 
 use std::alloc::{AllocError, Global};
 
@@ -53,71 +53,56 @@ fn text_lines<'a>(alloc: Global, text: &'a [u8]) -> Result<Vec<&'a [u8]>, AllocE
     text.split(|byte| *byte == b'\n').collect(alloc)
 }
 
-// The directories of these lines that do not exist.
-fn missing_in(alloc: Global, lines: &[&[u8]]) -> Result<Vec<Vec<u8>>, AllocError>
-    ensures { IfOk result (λ found.
-        AreRead missing_line (map (λ line. line.now) lines.now) (byte_lists found)) }
+// The directories that are read from these lines.
+fn directories_in<F: Fn(&[u8]) -> Option<&[u8]>>(
+    alloc: Global,
+    lines: &[&[u8]],
+    directory_of: F,
+) -> Result<Vec<Vec<u8>>, AllocError>
+    requires { F.IsAlwaysCallable directory_of }
+    ensures { (write : List ℕ → List ℕ) → ReadsLines (F.post directory_of) write
+        → IfOk result (λ found. AreRead write (map (λ line. line.now) lines.now) (byte_lists found)) }
 {
     let mut found = Vec::new(alloc);
     for line in lines {
-        if let Some(directory) = missing_directory(line) {
+        if let Some(directory) = directory_of(line) {
             found.push(directory.to_vec(alloc)?)?;
         }
     }
     Ok(found)
 }
 
-// The directories of these lines that are searched.
-fn listed_in(alloc: Global, lines: &[&[u8]]) -> Result<Vec<Vec<u8>>, AllocError>
-    ensures { IfOk result (λ found.
-        AreRead listed_line (map (λ line. line.now) lines.now) (byte_lists found)) }
-{
-    let mut found = Vec::new(alloc);
-    for line in lines {
-        if let Some(directory) = listed_directory(line) {
-            found.push(directory.to_vec(alloc)?)?;
-        }
-    }
-    Ok(found)
-}
-
-// The place of the first line that begins a list, or the number of lines.
-fn begin_of(lines: &[&[u8]]) -> usize
-    ensures place { result ≡ position_or_len begins_list (map (λ line. line.now) lines.now) }
+// The place of the first line that passes this test, or the number of lines.
+fn place_of<F: Fn(&[u8]) -> bool>(lines: &[&[u8]], is_wanted: F) -> usize
+    requires { (state : F) (line : _) → F.pre state line }
+    ensures place { (test : List ℕ → Bool) → TestsLines (F.post is_wanted) test
+        → result ≡ position_or_len test (map (λ line. line.now) lines.now) }
     ensures within { result ≤ length lines.now }
 {
     lines
         .iter()
-        .position(|line| begins_list(line))
-        .unwrap_or(lines.len())
-}
-
-// The place of the first line that ends a list, or the number of lines.
-fn end_of(lines: &[&[u8]]) -> usize
-    ensures { result ≡ position_or_len ends_list (map (λ line. line.now) lines.now) }
-{
-    lines
-        .iter()
-        .position(|line| ends_list(line))
+        .position(|line| is_wanted(line))
         .unwrap_or(lines.len())
 }
 
 impl SearchList {
     /// The list in what `gcc -v` printed in the locale `C`. `None` where it prints no whole list.
+    ///
+    /// The only error is lack of memory.
     pub fn read(alloc: Global, printed: &[u8]) -> Result<Option<SearchList>, AllocError>
         ensures { IfOk result (λ found. IsSearchList printed.now (option_map search_fields found)) }
     {
         let lines = text_lines(alloc, printed)?;
-        let end = end_of(&lines);
+        let end = place_of(&lines, ends_list);
         if end >= lines.len() {
             return Ok(None);
         }
         let front = &lines[..end];
-        let begin = begin_of(front);
+        let begin = place_of(front, begins_list);
         let listing = &front[(begin + 1).min(end)..];
         Ok(Some(SearchList {
-            directories: listed_in(alloc, listing)?,
-            missing: missing_in(alloc, front)?,
+            directories: directories_in(alloc, listing, listed_directory)?,
+            missing: directories_in(alloc, front, missing_directory)?,
         }))
     }
 }
