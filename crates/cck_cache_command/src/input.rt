@@ -18,7 +18,9 @@ pub struct InputSnapshot {
     pub tests_headers: bool,
 }
 
-/// A snapshot with the input of a request.
+/// A snapshot with the input of a request, or with nothing where that can't be read.
+///
+/// The only error is lack of memory.
 pub fn input_snapshot<R: Files + AllocGlobal>(
     rt: &R,
     request: &Request<'_>,

@@ -19,6 +19,9 @@ pub fn has_outputs(object: &ObjectFile, outputs: &Outputs<'_>) -> bool
 /// Writes the parts of an object file: the dependency file, if there is a path for it, the object, and
 /// the compiler's messages. The object is written after the dependency file, as a compiler does, so that
 /// an object that is there has its dependencies.
+///
+/// The error is of a file that can't be made, written or renamed, of a failed write of the messages, or
+/// lack of memory. What was written before it stays.
 pub fn write_outputs<R: Files + AllocGlobal, E: Write>(
     rt: &R,
     store: &StoreDirectory,

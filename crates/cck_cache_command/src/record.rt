@@ -253,8 +253,8 @@ fn object_shows_base(bases: &[Vec<u8>], object: Option<&ObjectFile>) -> bool
 /// The key of the object that is compiled from this preprocessed text. No file that the text names is
 /// part of that key, so a snapshot of the input is enough.
 ///
-/// The error is of a program of the compiler that can't be read, of an input that is no regular file, of
-/// a malformed line marker, or lack of memory.
+/// The error is of a program of the compiler that can't be read, of an input that is no regular file that
+/// can be read, of a malformed line marker, or lack of memory.
 pub fn object_key<R: Files + AllocGlobal>(
     rt: &R,
     environment: &Environment<'_>,

@@ -95,6 +95,9 @@ fn digest_of<R: Files + AllocGlobal>(
 }
 
 /// The compilation of a request, by gcc. Its digest is also that of its version and its assembler.
+///
+/// The error is of a program of the compiler that can't be read, of a store of digests that can't be
+/// opened, or lack of memory.
 pub fn hasher_of<R: Files + AllocGlobal>(
     rt: &R,
     environment: &Environment<'_>,
@@ -144,7 +147,8 @@ pub fn snapshot_request<'a>(
 
 /// The preprocessor key of a request over a snapshot of its input. `None` where it has none.
 ///
-/// The error is of a program of the compiler that can't be read, or lack of memory.
+/// The error is of an input that is no regular file that can be read, of a program of the compiler that
+/// can't be read, of a store of digests that can't be opened, or lack of memory.
 pub fn request_key<R: Files + AllocGlobal>(
     rt: &R,
     environment: &Environment<'_>,

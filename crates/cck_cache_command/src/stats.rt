@@ -22,6 +22,9 @@ fn name_of(path: &str) -> &str {
 }
 
 /// Prints the number and the size of the files of each kind, and each count.
+///
+/// The error is of a directory that can't be read, of a failed write, or lack of memory. Some lines may
+/// then be written.
 pub fn print_stats<R: Files + AllocGlobal + Clone + Drop, W: Write>(
     rt: &R,
     store: &StoreDirectory,

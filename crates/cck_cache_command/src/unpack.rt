@@ -12,6 +12,9 @@ use std::rt::Files;
 /// Writes the object that an object file has, the dependency file, if there is a path for it, and the
 /// compiler's messages. `false` where the file is none of this key, or has no dependencies for such a
 /// path: then nothing is written.
+///
+/// The error is of an object file that can't be read, lack of memory, or that of [`write_outputs`], which
+/// says what is then written.
 pub fn unpack<R: Files + AllocGlobal, E: Write>(
     rt: &R,
     store: &StoreDirectory,

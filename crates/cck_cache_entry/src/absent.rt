@@ -168,13 +168,13 @@ fn set_of(alloc: Global, all: &[Vec<u8>]) -> Result<BTreeSet<Vec<u8>>, AllocErro
 
 /// The paths at which a header that this preprocessed text names would have been found earlier, in
 /// order: for each name in a directory of the list, that name in the directory of each file of the
-/// text and in each directory before it in the list; beside each path and each name its
-/// precompiled header `NAME.gch`; and the directories that the compiler left out of the list. A
-/// path that the text names is not among them, unless it is a precompiled header or was left out.
-/// Paths may be relative to the working directory.
+/// text, in the working directory and in each directory before it in the list; beside each path and
+/// each name its precompiled header `NAME.gch`; and the directories that the compiler left out of
+/// the list. A path that the text names is not among them, unless it is a precompiled header or was
+/// left out. Paths may be relative to the working directory.
 ///
 /// `None` where a system header is in no directory of the list, so that it is not known where it
-/// was looked for.
+/// was looked for. The only error is lack of memory.
 pub fn absent_names(
     alloc: Global,
     text: &[u8],

@@ -123,6 +123,8 @@ fn is_found(place: SourcePlace, before: u8, byte: u8, string: &[u8]) -> bool
 /// assembler by `.macro`, `.irp` or `.altmacro`; or there is a raw string.
 ///
 /// An escape by number, such as `\x2e` for the dot, is not looked at.
+///
+/// The only error is lack of memory.
 pub fn may_include(alloc: Global, text: &[u8]) -> Result<bool, AllocError>
     ensures { IfOk result (λ found. found ≡ may_include text.now) }
 {

@@ -16,7 +16,8 @@ pub struct Named {
     pub names: BTreeSet<Vec<u8>>,
     /// Those of system headers.
     pub systems: BTreeSet<Vec<u8>>,
-    /// The directories of all names, each empty or ending in a slash.
+    /// The working directory, which is empty, and the directories of all names, each empty or ending
+    /// in a slash.
     pub directories: BTreeSet<Vec<u8>>,
 }
 
@@ -69,6 +70,8 @@ fn no_names(alloc: Global) -> Result<Named, AllocError>
 }
 
 /// The names in a text.
+///
+/// The only error is lack of memory.
 pub fn names_in(alloc: Global, text: &[u8]) -> Result<Named, AllocError>
     ensures { IfOk result (λ named.
         (marks : List spec.Mark) → Marks true text.now marks → AreNames marks named) }

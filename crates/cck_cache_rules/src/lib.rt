@@ -4,7 +4,8 @@
 //! All calls are on values: none reads a file.
 //!
 //! - [`entry_in`] and [`object_in`] return what the bytes of a file hold for a key.
-//! - [`refusal_of`] says why a compilation is not recorded, by what is known before its text is read.
+//! - [`refusal_of`] says why a compilation is not recorded, by what is known before the files of its
+//!   text are judged.
 //! - [`is_abandoned`] says whether a file was left by a recording that was killed.
 #![tactic(auto)]
 
