@@ -35,9 +35,9 @@ fn node_of<R: AllocGlobal>(rt: &R, kind: FileKind, metadata: &Metadata) -> Node
 // The node of the regular file at a path, with room for this many bytes before it is read. `None`
 // where it can't be read, is no regular file by now, or does not have the length of what was read.
 //
-// The status is taken after the contents: whatever is written after the status was taken is not in
-// the contents, and what is written before has the file's times. With a status from before, new
-// contents could have old times, and a later test of the times would not see the change.
+// The status is taken after the contents. What is in the contents was written before, so that the
+// times of the status are no earlier than its. A status from before the read could give new contents
+// old times, and a later test of the times would not see the change.
 fn read_regular<R: Files + AllocGlobal>(rt: &R, path: &str, length: u64) -> Option<Node> {
     // With room for one more byte the end is seen without a growth.
     let room = usize::try_from(length).ok()?.saturating_add(1);
