@@ -10,6 +10,7 @@ use cck_explain_text::push_quoted;
 use cck_files::Files;
 use cck_include::{IncludeEntry, JudgeContext, KnownFiles};
 use cck_store::StoreError;
+use cck_time::Error;
 use std::alloc::{AllocError, Global};
 
 // Appends these words as a line.
@@ -80,8 +81,12 @@ fn push_entry<H: HashState, F: Files>(
     files: &mut F,
     context: &JudgeContext<'_>,
 ) -> Result<(), AllocError> {
-    let Ok(entry) = PreprocessorCacheEntry::read(alloc, bytes) else {
-        return push_line(lines, &[b"store no entry"]);
+    let entry = match PreprocessorCacheEntry::read(alloc, bytes) {
+        Ok(entry) => entry,
+        Err(Error::Deserialization) | Err(Error::UnknownFormat(_)) => {
+            return push_line(lines, &[b"store no entry"]);
+        }
+        Err(Error::Memory) | Err(Error::Io(_)) => return Err(AllocError),
     };
     push_line(lines, &[b"store entry"])?;
     let mut known = KnownFiles::new(alloc);
