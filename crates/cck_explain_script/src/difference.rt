@@ -44,24 +44,14 @@ impl Difference {
     }
 }
 
-// Whether these contents have `__DATE__`.
-#[tactic(auto, unfolding(cck_include::specs::Recorded::has_date))]
-fn has_date(contents: &[u8]) -> bool
-    ensures { result ≡ has_date contents.now }
+// Whether these contents have `__DATE__`, and whether they have `__TIMESTAMP__`.
+fn found_macros(contents: &[u8]) -> (bool, bool)
+    ensures date { result.0 ≡ has_date contents.now }
+    ensures timestamp { result.1 ≡ has_timestamp contents.now }
 {
     let mut finder = TimeMacroFinder::new();
     finder.find_time_macros(contents);
-    finder.found_date()
-}
-
-// Whether these contents have `__TIMESTAMP__`.
-#[tactic(auto, unfolding(cck_include::specs::Recorded::has_timestamp))]
-fn has_timestamp(contents: &[u8]) -> bool
-    ensures { result ≡ has_timestamp contents.now }
-{
-    let mut finder = TimeMacroFinder::new();
-    finder.find_time_macros(contents);
-    finder.found_timestamp()
+    (finder.found_date(), finder.found_timestamp())
 }
 
 // How a file with these contents differs, by the digest that was recorded of it.
@@ -81,7 +71,7 @@ fn change_of<H: HashState>(
     if !recorded.as_bytes().starts_with(text.as_bytes()) {
         return Ok(Difference::Contents);
     }
-    match (has_date(contents), has_timestamp(contents)) {
+    match found_macros(contents) {
         (true, false) => Ok(Difference::Day),
         (false, true) => Ok(Difference::Second),
         (true, true) | (false, false) => Ok(Difference::DayOrSecond),

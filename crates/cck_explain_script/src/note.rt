@@ -1,7 +1,4 @@
 //! What a call did, but for its result.
-ghost use Rattle.std.specs.Prelude.{OnOk};
-ghost use Rattle.cck_files.specs.Calls.{Keeps};
-
 use crate::difference::difference_of;
 use crate::watched_store::WatchedCall;
 use cck_digest::HashState;
@@ -122,8 +119,7 @@ fn push_returned<H: HashState, F: Files>(
 // The key of the first of these calls.
 fn key_of<'a>(calls: &'a [WatchedCall]) -> &'a [u8] {
     match calls.first() {
-        Some(WatchedCall::Get { key, .. }) => key.as_bytes(),
-        Some(WatchedCall::Put { key, .. }) => key.as_bytes(),
+        Some(WatchedCall::Get { key, .. } | WatchedCall::Put { key, .. }) => key.as_bytes(),
         None => b"-",
     }
 }
