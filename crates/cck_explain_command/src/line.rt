@@ -47,7 +47,7 @@ fn push_line(
     Ok(())
 }
 
-// PutsWaiting the line of bytes with this name at this offset into the writer.
+// Puts the line of bytes with this name at this offset into the writer.
 fn put_line<W: Write>(
     alloc: Global,
     writer: &mut W,
@@ -65,7 +65,7 @@ fn put_line<W: Write>(
     spill(writer, buffer)
 }
 
-// PutsWaiting the lines of a part's rows into the writer.
+// Puts the lines of a part's rows into the writer.
 fn put_rows<W: Write>(
     alloc: Global,
     writer: &mut W,
@@ -91,7 +91,7 @@ fn put_rows<W: Write>(
     Ok(())
 }
 
-// PutsWaiting what is listed of a part into the writer.
+// Puts what is listed of a part into the writer.
 fn put_part<W: Write>(
     alloc: Global,
     writer: &mut W,
@@ -114,7 +114,7 @@ fn put_part<W: Write>(
     Ok(())
 }
 
-/// PutsWaiting the lines of these parts into the writer through the buffer, each with its offset in all of
+/// Puts the lines of these parts into the writer through the buffer, each with its offset in all of
 /// them. With `is_full` a part is listed in rows of 256 bytes; else a part of more than 256 bytes is
 /// listed by its checksum.
 ///

@@ -161,6 +161,7 @@ fn list<H: HashState, R: Read, W: Write, E: Write>(
 ///   written, and nothing to `errors`. [`Status::Refused`] is returned if a read, a write or an
 ///   allocation failed, the bytes are no entry, or a line of the script is wrong: a prefix of the
 ///   listing is then written, which may be empty or all of it.
+/// - `None`: [`Status::Usage`] is returned. Nothing is read or written.
 /// - Help and the version: the text is written, and [`Status::Done`] is returned.
 /// - Any other error: what is wrong with the words is written to `errors`, and [`Status::Usage`] is
 ///   returned. Nothing is read or written.

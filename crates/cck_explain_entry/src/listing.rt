@@ -61,9 +61,9 @@ fn format_line(alloc: Global, bytes: &[u8]) -> Result<Vec<u8>, AllocError>
 /// its key and the number of its includes; and a line for each include with its path, digest, size in
 /// bytes, and the times of its last modification and last change, or `-` for none.
 ///
-/// The error is [`EntryError::NotEntry`] exactly if the bytes are the text of no entry and there is at
-/// least one, with the place where they stop being an entry and the cause. It is
-/// [`EntryError::Memory`] for lack of memory.
+/// For lack of memory the error is [`EntryError::Memory`]. Otherwise it is [`EntryError::NotEntry`]
+/// exactly if there is at least one byte and the bytes are the text of no entry; it has the place
+/// where they stop being an entry, and the cause.
 pub fn entry_listing(alloc: Global, bytes: &[u8]) -> Result<Vec<u8>, EntryError>
     ensures listed { IfOk result (λ listing. IsEntryListing bytes.now listing.items) }
     ensures errors { IfErr result (λ error. IsErrorFor bytes.now error) }
