@@ -3,7 +3,7 @@ use cck_command::Failed;
 use cck_explain_entry::{EntryError, Fault};
 use cck_script::ScriptError;
 use cck_util::UtilError;
-use std::alloc::{AllocError, AllocFailed};
+use std::alloc::AllocError;
 use thiserror::Error;
 
 /// Why a listing is not complete.
@@ -87,12 +87,6 @@ impl From<AllocError> for ExplainError {
     ghost from_gives = { λ _ explained. explained ≡ Memory };
 
     fn from(_: AllocError) -> ExplainError {
-        ExplainError::Memory
-    }
-}
-
-impl<T: Drop> From<AllocFailed<T>> for ExplainError {
-    fn from(_: AllocFailed<T>) -> ExplainError {
         ExplainError::Memory
     }
 }

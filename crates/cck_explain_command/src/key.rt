@@ -15,11 +15,11 @@ use crate::request::ExplainKeyRequest;
 use cck_command::print;
 use cck_explain_cuts::{push_argument_cuts, push_text_cuts};
 use cck_util::{HashKeyParams, HashState, read_all};
-use std::alloc::Global;
+use std::alloc::{AllocError, Global};
 use std::io::{Read, Write};
 
 // Appends the line of the key.
-fn push_key(line: &mut Vec<u8>, key: &str) -> Result<(), ExplainError>
+fn push_key(line: &mut Vec<u8>, key: &str) -> Result<(), AllocError>
     ensures { OnOk result (line.new.items ≡ line.old.items ++ listed_key_line key.now) }
 {
     line.extend_from_slice(b"key ")?;
@@ -28,12 +28,12 @@ fn push_key(line: &mut Vec<u8>, key: &str) -> Result<(), ExplainError>
     Ok(())
 }
 
-// Returns the key of this request and text. The only error is [`ExplainError::Memory`].
+// Returns the key of this request and text.
 fn key_of<H: HashState>(
     alloc: Global,
     request: &ExplainKeyRequest<'_>,
     text: &[u8],
-) -> Result<String, ExplainError>
+) -> Result<String, AllocError>
     ensures { IfOk result (λ key. string_bytes key ≡ object_key H.hash (params_for request.now text.now)) }
 {
     let params = HashKeyParams::new(
@@ -43,7 +43,10 @@ fn key_of<H: HashState>(
         text,
     )
     .with_basedirs(&request.basedirs);
-    Ok(params.compute::<H>(alloc)?)
+    match params.compute::<H>(alloc) {
+        Ok(key) => Ok(key),
+        Err(_) => Err(AllocError),
+    }
 }
 
 // Appends a line for each base directory that is cut out of these arguments.
@@ -52,7 +55,7 @@ fn push_arguments_cuts(
     lines: &mut Vec<u8>,
     arguments: &[Vec<u8>],
     basedirs: &[Vec<u8>],
-) -> Result<(), ExplainError>
+) -> Result<(), AllocError>
     ensures { OnOk result (lines.new.items
         ≡ lines.old.items ++ arguments_cut_lines (lists_of basedirs.now) 0 (lists_of arguments.now)) }
 {
@@ -68,7 +71,7 @@ fn cuts_of(
     alloc: Global,
     request: &ExplainKeyRequest<'_>,
     text: &[u8],
-) -> Result<Vec<u8>, ExplainError>
+) -> Result<Vec<u8>, AllocError>
     ensures { IfOk result (λ lines. lines.items
         ≡ all_cut_lines (lists_of request.now.basedirs.items) (lists_of request.now.arguments.items) text.now) }
 {

@@ -8,7 +8,7 @@ use crate::buffer::spill;
 use crate::error::ExplainError;
 use crate::part::Part;
 use cck_explain_text::{checksum, push_quoted};
-use std::alloc::Global;
+use std::alloc::{AllocError, Global};
 use std::io::Write;
 
 /// The greatest number of bytes that a line shows.
@@ -16,7 +16,7 @@ const ROW_SIZE: usize = 256;
 
 // Appends what a line shows of bytes: up to 256 of them escaped and in quotation marks, or else
 // their checksum.
-fn push_shown(alloc: Global, line: &mut Vec<u8>, bytes: &[u8]) -> Result<(), ExplainError>
+fn push_shown(alloc: Global, line: &mut Vec<u8>, bytes: &[u8]) -> Result<(), AllocError>
     ensures { OnOk result (line.new.items ≡ line.old.items ++ shown bytes.now) }
 {
     if bytes.len() <= ROW_SIZE {
@@ -36,7 +36,7 @@ fn push_line(
     offset: usize,
     name: &str,
     bytes: &[u8],
-) -> Result<(), ExplainError>
+) -> Result<(), AllocError>
     ensures { OnOk result (line.new.items ≡ line.old.items ++ part_line offset name.now bytes.now) }
 {
     let length = bytes.len();

@@ -7,10 +7,9 @@ ghost use Rattle.cck_util.specs.Key.{key_parts};
 ghost use Rattle.cck_explain_command.specs.Key.{frame_parts, length_part, list_parts, material_parts, part};
 ghost use Rattle.cck_explain_command.specs.ExplainKeyRequest.{params_for};
 
-use crate::error::ExplainError;
 use crate::request::ExplainKeyRequest;
 use cck_util::{CACHE_VERSION, strip_basedirs, strip_basedirs_from_arg};
-use std::alloc::Global;
+use std::alloc::{AllocError, Global};
 use std::borrow::CowSlice;
 use std::marker::Model;
 
@@ -52,7 +51,7 @@ fn push_part<'a>(
     parts: &mut Vec<Part<'a>>,
     name: String,
     bytes: CowSlice<'a, u8>,
-) -> Result<(), ExplainError>
+) -> Result<(), AllocError>
     ensures { OnOk result (parts.new.items
         ≡ parts.old.items ++ part (string_bytes name) (cow_slice_items bytes.entry) ∷ []) }
 {
@@ -66,7 +65,7 @@ fn push_length<'a>(
     parts: &mut Vec<Part<'a>>,
     name: &str,
     length: usize,
-) -> Result<(), ExplainError>
+) -> Result<(), AllocError>
     ensures { OnOk result (parts.new.items ≡ parts.old.items ++ length_part name.now length ∷ []) }
 {
     let length = length as u64;
@@ -82,7 +81,7 @@ fn push_frame<'a>(
     parts: &mut Vec<Part<'a>>,
     name: &str,
     bytes: CowSlice<'a, u8>,
-) -> Result<(), ExplainError>
+) -> Result<(), AllocError>
     ensures { OnOk result (parts.new.items ≡ parts.old.items ++ frame_parts name.now (cow_slice_items bytes.entry)) }
 {
     push_length(alloc, parts, name, bytes.len())?;
@@ -97,17 +96,17 @@ fn push_arguments<'a>(
     parts: &mut Vec<Part<'a>>,
     arguments: &'a [Vec<u8>],
     basedirs: &[Vec<u8>],
-) -> Result<(), ExplainError>
+) -> Result<(), AllocError>
     ensures { OnOk result (parts.new.items ≡ parts.old.items
         ++ list_parts (codes "arguments") (map (stripped_argument (lists_of basedirs.now)) (lists_of arguments.now))) }
 {
     push_length(alloc, parts, "arguments", arguments.len())?;
-    let mut index: usize = 0;
-    for argument in arguments {
+    for (index, argument) in arguments.iter().enumerate() {
         let name = format!(in alloc; "arguments[{index}]")?;
-        let stripped = strip_basedirs_from_arg(alloc, argument, basedirs)?;
+        let Ok(stripped) = strip_basedirs_from_arg(alloc, argument, basedirs) else {
+            return Err(AllocError);
+        };
         push_frame(alloc, parts, name.as_str(), stripped)?;
-        index += 1;
     }
     Ok(())
 }
@@ -115,12 +114,12 @@ fn push_arguments<'a>(
 /// Returns the parts of the key material of this request and text, in their order. Of the text
 /// nothing is copied where no base directory is cut out of it.
 ///
-/// The only error is [`ExplainError::Memory`].
+/// The only error is lack of memory.
 pub fn material_parts<'a>(
     alloc: Global,
     request: &'a ExplainKeyRequest<'_>,
     text: &'a [u8],
-) -> Result<Vec<Part<'a>>, ExplainError>
+) -> Result<Vec<Part<'a>>, AllocError>
     ensures { IfOk result (λ parts. parts.items ≡ material_parts (key_parts (params_for request.now text.now))) }
 {
     let mut parts = Vec::new(alloc);
@@ -156,7 +155,9 @@ pub fn material_parts<'a>(
         CowSlice::Borrowed(&[0]),
     )?;
     push_length(alloc, &mut parts, "env_vars", 0)?;
-    let output = strip_basedirs(alloc, text, &request.basedirs)?;
+    let Ok(output) = strip_basedirs(alloc, text, &request.basedirs) else {
+        return Err(AllocError);
+    };
     push_frame(alloc, &mut parts, "preprocessor_output", output)?;
     Ok(parts)
 }

@@ -8,7 +8,7 @@ use std::alloc::{AllocError, Global};
 const VERSION: &str = "0.19.0";
 
 // The command `key`, whose language is one of these names.
-fn key_command<'a>(alloc: Global, languages: &'a [&'a str]) -> Result<Command<'a>, Error> {
+fn key_command<'a>(alloc: Global, languages: &'a [&'a str]) -> Result<Command<'a>, AllocError> {
     let full = Arg::new(alloc, "full")
         .long("full")
         .action(ArgAction::SetTrue)
@@ -30,14 +30,13 @@ fn key_command<'a>(alloc: Global, languages: &'a [&'a str]) -> Result<Command<'a
         .trailing_var_arg(true)
         .allow_hyphen_values(true)
         .help("The arguments that are part of the key");
-    let command = Command::new(alloc, "key")
+    Command::new(alloc, "key")
         .about("Lists the key material of a preprocessed text, which is read from standard input")
         .arg(full)?
         .arg(basedir)?
         .arg(digest)?
         .arg(language)?
-        .arg(arguments)?;
-    Ok(command)
+        .arg(arguments)
 }
 
 // The command `entry`.
@@ -48,18 +47,17 @@ fn entry_command<'a>(alloc: Global) -> Command<'a> {
 }
 
 // The command `markers`.
-fn markers_command<'a>(alloc: Global) -> Result<Command<'a>, Error> {
+fn markers_command<'a>(alloc: Global) -> Result<Command<'a>, AllocError> {
     let input = Arg::new(alloc, "INPUT")
         .required(true)
         .help("The path of the input");
     let cwd = Arg::new(alloc, "CWD")
         .required(true)
         .help("The working directory");
-    let command = Command::new(alloc, "markers")
+    Command::new(alloc, "markers")
         .about("Lists the line markers of a preprocessed text, which is read from standard input")
         .arg(input)?
-        .arg(cwd)?;
-    Ok(command)
+        .arg(cwd)
 }
 
 // The command `script`.
@@ -70,22 +68,25 @@ fn script_command<'a>(alloc: Global) -> Command<'a> {
 }
 
 // The whole command line.
-fn program<'a>(alloc: Global, languages: &'a [&'a str]) -> Result<Command<'a>, Error> {
+fn program<'a>(alloc: Global, languages: &'a [&'a str]) -> Result<Command<'a>, AllocError> {
     let key = key_command(alloc, languages)?;
     let markers = markers_command(alloc)?;
-    let command = Command::new(alloc, "cck_explain")
+    Command::new(alloc, "cck_explain")
         .version(VERSION)
         .about("Explains why two compilations did not share a key")
         .subcommand_required(true)
         .subcommand(key)?
         .subcommand(entry_command(alloc))?
         .subcommand(markers)?
-        .subcommand(script_command(alloc))?;
-    Ok(command)
+        .subcommand(script_command(alloc))
 }
 
 // The bytes of each value of this argument.
-fn values_of(alloc: Global, matches: &ArgMatches<'_>, id: &str) -> Result<Vec<Vec<u8>>, Error> {
+fn values_of(
+    alloc: Global,
+    matches: &ArgMatches<'_>,
+    id: &str,
+) -> Result<Vec<Vec<u8>>, AllocError> {
     let mut all = Vec::new(alloc);
     if let Some(values) = matches.get_strs(id) {
         for value in values {
@@ -99,7 +100,7 @@ fn values_of(alloc: Global, matches: &ArgMatches<'_>, id: &str) -> Result<Vec<Ve
 fn key_request<'a>(
     alloc: Global,
     key: &ArgMatches<'a>,
-) -> Result<Option<ExplainKeyRequest<'a>>, Error> {
+) -> Result<Option<ExplainKeyRequest<'a>>, AllocError> {
     let (Some(compiler_digest), Some(name)) = (key.get_str("DIGEST"), key.get_str("LANGUAGE"))
     else {
         return Ok(None);

@@ -24,4 +24,4 @@ returns c =
     let assembler = then _ _ _ _ _ c.in_ok-push_part-2.ensures extra (ap (λ n. part n (0 ∷ []) ∷ []) c.in_ok-from_str-2.ensures.ok) in
     let variables = then _ _ _ _ _ c.in_ok-push_length-2.ensures assembler refl in
     then _ _ _ _ _ c.in_ok-push_frame-4.ensures variables (ap (frame_parts (codes "preprocessor_output"))
-    (c.in_ok-output.ensures.value ∙ ap (λ d. stripped_text (lists_of d) c.args.text.now) c.deref-3.ensures.value))
+    (c.in-Ok.ensures.value ∙ ap (λ d. stripped_text (lists_of d) c.args.text.now) c.deref-3.ensures.value))

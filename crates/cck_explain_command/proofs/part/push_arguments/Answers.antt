@@ -1,4 +1,4 @@
-use Rattle.std.proofs.Common.{◌≡◌, ◌∷◌, ◌++◌, sym, ap, ◌∙◌, arith, codes, length, append_assoc}
+use Rattle.std.proofs.Common.{◌≡◌, ◌∷◌, ◌++◌, sym, ap, ◌∙◌, codes, length, append_assoc}
 use Rattle.std.specs.Cow.{cow_slice_items}
 use Rattle.cck_path.specs.Bytes.{lists_of}
 use Rattle.cck_strip.specs.Argument.{stripped_argument}
@@ -6,18 +6,14 @@ use Rattle.cck_explain_command.specs.Key.{frame_parts, item_name, length_part}
 use Rattle.cck_explain_command.proofs.ListingLemmas.{frames_more}
 use Rattle.cck_explain_command.proofs.part.push_arguments.Goals as goal
 
-pub loop-argument-preserved : goal.loop-argument-preserved
-loop-argument-preserved c =
-    let i = c.loop-argument.argument-index in
+pub loop-index-preserved : goal.loop-index-preserved
+loop-index-preserved c =
+    let i = c.loop-index.index-counter in
     let strip = stripped_argument (lists_of c.args.basedirs.now) in
-    let name : c.as_str.result.now ≡ item_name (codes "arguments") i =
-    c.as_str.ensures.value ∙ c.in_ok-name.ensures.ok ∙ ap (item_name (codes "arguments")) c.loop-argument.invariant.count in
-    let bytes = c.in_ok-stripped.ensures.value ∙ ap strip c.deref.ensures.value in
-    let more = frames_more (λ a. a.items) strip (codes "arguments") c.args.arguments.now i c.argument-item.result _ _ c.loop-argument-test.true c.argument-item.is name bytes in
-    record {
-      count = omega (arith, c.loop-argument.invariant.count);
-      parts = c.in_ok-push_frame.ensures
-          ∙ ap (λ l. l ++ frame_parts c.as_str.result.now (cow_slice_items c.in_ok-stripped.stripped)) c.loop-argument.invariant.parts
-          ∙ append_assoc c.args.parts.now.items _ _
-          ∙ ap (λ l. c.args.parts.now.items ++ length_part (codes "arguments") (length c.args.arguments.now) ∷ l) (sym more);
-    }
+    let name : c.as_str.result.now ≡ item_name (codes "arguments") i = c.as_str.ensures.value ∙ c.in_ok-name.ensures.ok in
+    let bytes = c.in-Ok.ensures.value ∙ ap strip c.deref.ensures.value in
+    let more = frames_more (λ a. a.items) strip (codes "arguments") c.args.arguments.now i c.index-arguments-index.result _ _ c.loop-index-test.true c.index-arguments-index.is name bytes in
+    c.in_ok-push_frame.ensures
+    ∙ ap (λ l. l ++ frame_parts c.as_str.result.now (cow_slice_items c.in-Ok.stripped)) c.loop-index.invariant
+    ∙ append_assoc c.args.parts.now.items _ _
+    ∙ ap (λ l. c.args.parts.now.items ++ length_part (codes "arguments") (length c.args.arguments.now) ∷ l) (sym more)

@@ -5,9 +5,7 @@ use Rattle.cck_explain_command.specs.Key.{frames_parts, length_part}
 use Rattle.cck_explain_command.proofs.part.push_arguments.Given as goal
 
 -- the count and the frames of the arguments so far
-abbrev pub invariant-loop-argument : goal.invariant-loop-argument
-invariant-loop-argument l = record {
-  count : l.index ≡ l.argument-index;
-  parts : l.parts.items ≡ l.fn.parts.items ++ length_part (codes "arguments") (length l.arguments)
-      ∷ frames_parts (codes "arguments") 0 (map (stripped_argument (lists_of l.basedirs)) (lists_of (take l.argument-index l.arguments)));
-}
+abbrev pub invariant-loop-index : goal.invariant-loop-index
+invariant-loop-index l =
+    l.parts.items ≡ l.fn.parts.items ++ length_part (codes "arguments") (length l.arguments)
+    ∷ frames_parts (codes "arguments") 0 (map (stripped_argument (lists_of l.basedirs)) (lists_of (take l.index-counter l.arguments)))
