@@ -137,8 +137,8 @@ pub fn language_names(alloc: Global) -> Result<Vec<&'static str>, AllocError> {
 /// Reads what these words ask for. The first is the program's name.
 ///
 /// The error is clap's: for wrong words, for `--help` and for `--version`, with the text to be
-/// printed, or for lack of memory. `None` is returned where clap accepts words without a command,
-/// or a language that has no such name; there are none.
+/// printed, or for lack of memory. `None` is returned where clap accepts words without one of the
+/// commands or of the required arguments, or with a language that has no such name; there are none.
 pub fn request_of<'a>(
     alloc: Global,
     languages: &'a [&'a str],
@@ -148,14 +148,11 @@ pub fn request_of<'a>(
     let Some((name, of_command)) = matches.subcommand() else {
         return Ok(None);
     };
-    if name == "key" {
-        return Ok(key_request(alloc, of_command)?.map(ExplainRequest::Key));
+    match name {
+        "key" => Ok(key_request(alloc, of_command)?.map(ExplainRequest::Key)),
+        "entry" => Ok(Some(ExplainRequest::Entry)),
+        "markers" => Ok(markers_request(of_command).map(ExplainRequest::Markers)),
+        "script" => Ok(Some(ExplainRequest::Script)),
+        _ => Ok(None),
     }
-    if name == "entry" {
-        return Ok(Some(ExplainRequest::Entry));
-    }
-    if name == "script" {
-        return Ok(Some(ExplainRequest::Script));
-    }
-    Ok(markers_request(of_command).map(ExplainRequest::Markers))
 }
