@@ -6,11 +6,14 @@ use cck_util::UtilError;
 use std::alloc::AllocError;
 use thiserror::Error;
 
+/// The text of [`ExplainError::Memory`], for where it has to be written without an allocation.
+pub(crate) const OUT_OF_MEMORY: &str = "out of memory";
+
 /// Why a listing is not complete.
 #[derive(Debug, Clone, Copy, PartialEq, Eq, Error)]
 pub enum ExplainError {
     /// An allocation failed, or what is listed has 2^64 bytes or more.
-    #[error("out of memory")]
+    #[error("{text}", text = OUT_OF_MEMORY)]
     Memory,
     /// A read failed.
     #[error("a read failed")]
@@ -19,7 +22,7 @@ pub enum ExplainError {
     #[error("a write failed")]
     Write,
     /// The bytes are no entry.
-    #[error("no entry")]
+    #[error("{0}")]
     NotEntry(Fault),
     /// The line of this number is the first wrong one of a script.
     #[error("line {0} is wrong")]

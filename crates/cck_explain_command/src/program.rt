@@ -6,13 +6,12 @@ ghost use Rattle.cck_explain_command.specs.Run.{HasOutcome, Lists, HasErrorLine,
 ghost use Rattle.cck_explain_command.specs.Written.{BeginsOf, WritesOf};
 
 use crate::entry::explain_entry;
-use crate::error::ExplainError;
+use crate::error::{ExplainError, OUT_OF_MEMORY};
 use crate::key::explain_key;
 use crate::markers::explain_markers;
 use crate::request::ExplainRequest;
 use crate::script::explain_script;
 use cck_command::{Failed, Status, print};
-use cck_explain_entry::Fault;
 use cck_util::HashState;
 use clap::Error;
 use clap::error::ErrorKind;
@@ -39,14 +38,14 @@ pub fn report<E: Write>(errors: &mut E, why: &[u8]) -> Status
 }
 
 // Writes this text, which was asked for in place of a listing.
-fn show<W: Write, E: Write>(text: &[u8], writer: &mut W, errors: &mut E) -> Status
+fn show<W: Write, E: Write>(alloc: Global, text: &[u8], writer: &mut W, errors: &mut E) -> Status
     ensures status { result ≢ Status.Usage }
     ensures done { result ≡ Status.Done → errors.new ≡ errors.old }
     ensures errors { result ≡ Status.Refused → HasErrorLine (E.contents errors.old) (E.contents errors.new) }
 {
     match print(writer, text) {
         Ok(()) => Status::Done,
-        Err(Failed) => report(errors, b"a write failed"),
+        Err(Failed) => report_error(alloc, errors, ExplainError::Write),
     }
 }
 
@@ -64,12 +63,12 @@ fn write_text_of<W: Write, E: Write>(
     ensures errors { result ≡ Status.Refused → HasErrorLine (E.contents errors.old) (E.contents errors.new) }
 {
     let Ok(text) = format!(in alloc; "{error}") else {
-        return report(errors, b"out of memory");
+        return report(errors, OUT_OF_MEMORY.as_bytes());
     };
     match error.kind() {
-        ErrorKind::OutOfMemory => report(errors, b"out of memory"),
+        ErrorKind::OutOfMemory => report(errors, OUT_OF_MEMORY.as_bytes()),
         ErrorKind::DisplayHelp | ErrorKind::DisplayVersion => {
-            show(text.as_bytes(), writer, errors)
+            show(alloc, text.as_bytes(), writer, errors)
         }
         _ => {
             let _ = print(errors, text.as_bytes());
@@ -83,36 +82,9 @@ fn report_error<E: Write>(alloc: Global, errors: &mut E, error: ExplainError) ->
     ensures status { result ≡ Status.Refused }
     ensures line { HasErrorLine (E.contents errors.old) (E.contents errors.new) }
 {
-    match error {
-        ExplainError::Memory => report(errors, b"out of memory"),
-        ExplainError::Read => report(errors, b"a read failed"),
-        ExplainError::Write => report(errors, b"a write failed"),
-        ExplainError::NotEntry(fault) => report_fault(alloc, errors, fault),
-        ExplainError::Line(number) => report_wrong_line(alloc, errors, number),
-    }
-}
-
-// Tries once to write where bytes stop being an entry, and why.
-fn report_fault<E: Write>(alloc: Global, errors: &mut E, fault: Fault) -> Status
-    ensures status { result ≡ Status.Refused }
-    ensures line { HasErrorLine (E.contents errors.old) (E.contents errors.new) }
-{
-    let offset = fault.offset;
-    let cause = fault.cause.as_str();
-    match format!(in alloc; "no entry from byte {offset} on: {cause}") {
+    match format!(in alloc; "{error}") {
         Ok(text) => report(errors, text.as_bytes()),
-        Err(_) => report(errors, b"out of memory"),
-    }
-}
-
-// Tries once to write which line of a script is wrong.
-fn report_wrong_line<E: Write>(alloc: Global, errors: &mut E, number: u64) -> Status
-    ensures status { result ≡ Status.Refused }
-    ensures line { HasErrorLine (E.contents errors.old) (E.contents errors.new) }
-{
-    match format!(in alloc; "line {number} is wrong") {
-        Ok(text) => report(errors, text.as_bytes()),
-        Err(_) => report(errors, b"out of memory"),
+        Err(_) => report(errors, OUT_OF_MEMORY.as_bytes()),
     }
 }
 

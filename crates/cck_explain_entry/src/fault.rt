@@ -4,6 +4,7 @@ ghost use Rattle.std.specs.Int.{w32, w64};
 ghost use Rattle.cck_explain_entry.specs.Fault.{Is, and_then, after_counted, after_include, after_includes, after_moment, after_results, after_time, bytes_in, comes_next, count_in, fault_at, number_in, text_in, wrong_in};
 
 use cck_preprocessor_key::FORMAT_VERSION;
+use std::fmt;
 use std::str::from_utf8;
 
 /// The least number of bytes of an include: two lengths, a size and two absent times.
@@ -59,6 +60,14 @@ pub struct Fault {
     pub offset: usize,
     /// What is wrong with it.
     pub cause: Cause,
+}
+
+impl fmt::Display for Fault {
+    fn fmt<W: fmt::Write>(&self, f: &mut fmt::Formatter<W>) -> fmt::Result {
+        let offset = self.offset;
+        let cause = self.cause.as_str();
+        write!(f, "no entry from byte {offset} on: {cause}")
+    }
 }
 
 // The bytes from the field that is wrong on, and what is wrong with it.
