@@ -1,10 +1,12 @@
 -- what is written of a listing
-use Rattle.std.specs.Prelude.{◌≡◌, ◌⊎◌, Option, Some}
+use Rattle.std.specs.Prelude.{◌≡◌, ◌↔◌, ◌⊎◌, Option, Some}
 use Rattle.std.specs.Io.KnownBytes.{Appends}
 use Rattle.cck_command.specs.Printing.{AppendsBeginning}
 use Rattle.cck_explain_entry.specs.Bytes as entry
 use Rattle.cck_explain_entry.specs.declared.listing.EntryError.{EntryError}
 use Rattle.cck_explain_entry.specs.declared.listing.EntryError.TheVariants as variants
+use Rattle.cck_digest.specs.declared.error.UtilError.{UtilError}
+use Rattle.cck_digest.specs.declared.error.UtilError.TheVariants as util
 use Rattle.cck_path.specs.Bytes.{Bytes}
 use Rattle.cck_script.specs.Script.{wrong_line}
 use Rattle.cck_script.specs.declared.error.ScriptError.{ScriptError}
@@ -29,6 +31,10 @@ explained_by (variants.NotEntry fault) = NotEntry fault
 abbrev pub explained_by_script : ScriptError → ExplainError
 explained_by_script script.Memory = Memory
 explained_by_script (script.Line number) = Line number
+
+-- the program's error for one of readers, files and memory: that of a failed read, and else lack of memory
+abbrev pub IsExplainedByUtil : UtilError → ExplainError → Type 0
+IsExplainedByUtil error explained = ((explained ≡ Read) ↔ (error ≡ util.Read)) × ((explained ≡ Read) ⊎ (explained ≡ Memory))
 
 -- bytes are called no entry only if they are none, and a line of a script wrong only if it is the first wrong one; nothing was written then
 abbrev pub IsExplainErrorFor : Bytes → ExplainError → Option Bytes → Option Bytes → Type 0

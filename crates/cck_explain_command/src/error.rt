@@ -58,10 +58,9 @@ impl From<ScriptError> for ExplainError {
 }
 
 impl From<UtilError> for ExplainError {
-    ghost use Rattle.std.specs.Prelude.{◌≡◌, ◌⊎◌};
-    ghost use Rattle.cck_explain_command.specs.declared.error.ExplainError.TheVariants.{Memory, Read};
+    ghost use Rattle.cck_explain_command.specs.Written.{IsExplainedByUtil};
 
-    ghost from_gives = { λ _ explained. (explained ≡ Read) ⊎ (explained ≡ Memory) };
+    ghost from_gives = { λ error explained. IsExplainedByUtil error explained };
 
     fn from(error: UtilError) -> ExplainError {
         if error == UtilError::Read {

@@ -13,7 +13,7 @@ returns-in_err-bytes-clause-begun g c = after_error c.from_residual.result _ (if
 pub returns-in_err-bytes-clause-errors : goal.returns-in_err-bytes-clause-errors
 returns-in_err-bytes-clause-errors g c =
     let p = err_from_is_err_and c.from_residual.result c.from_residual.ensures.1 in
-    err_with c.from_residual.result _ p.0 p.1 (read_error _ p.0 _ _ p.2)
+    err_with c.from_residual.result _ p.0 p.1 (read_error _ p.0 _ _ p.2.1)
 
 pub returns-clause-listed : goal.returns-clause-listed
 returns-clause-listed g c =
