@@ -1,5 +1,5 @@
 -- the places after more bytes of a text
-use Rattle.std.proofs.Common.{◌≡◌, ℕ, ◌+◌, ◌<◌, ◌==◌, not, Bool, true, false, cond, List, [], ◌∷◌, ◌++◌, length, take, get_or, count_by, reverse, refl, sym, ap, ap₂, ◌∙◌, add-zero, append_assoc, append-nil, arith, eq-eqb, map, subst, All, Option, Some, None, ◌≤◌}
+use Rattle.std.proofs.Common.{◌≡◌, ℕ, ◌+◌, ◌<◌, ◌==◌, not, Bool, true, false, cond, List, [], ◌∷◌, ◌++◌, length, take, get_or, count_by, reverse, sym, ap, ap₂, ◌∙◌, add-zero, append_assoc, append-nil, arith, eq-eqb, map, subst, All, Option, Some, None, ◌≤◌}
 use Rattle.std.proofs.lemmas.List.{length-reverse, map-append, reverse-append, take_more}
 use Rattle.std.proofs.lemmas.Bool.{ne_eqb}
 use Rattle.std.proofs.lemmas.List.Elements.{All-push}

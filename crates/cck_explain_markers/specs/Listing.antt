@@ -1,5 +1,5 @@
 -- the listing of the marks of a text
-use Rattle.std.specs.Prelude.{◌≡◌, ℕ, ◌&&◌, ◌==◌, ◌-◌, nat_le, Bool, List, [], ◌∷◌, ◌++◌, codes, length, slice_index, if◌then◌else◌}
+use Rattle.std.specs.Prelude.{◌≡◌, ◌&&◌, ◌==◌, ◌-◌, nat_le, Bool, List, [], ◌∷◌, ◌++◌, codes, length, slice_index, if◌then◌else◌}
 use Rattle.std.specs.Fmt.{decimal}
 use Rattle.std.specs.List.{flat_map}
 use Rattle.std.specs.Ordering.{eq_by_cmp}
@@ -11,7 +11,6 @@ use Rattle.cck_path.specs.Path.{Path, components, joined, normal, path_cmp}
 use Rattle.cck_path.specs.Text.{path_text}
 use Rattle.cck_explain_markers.specs.Place.{ArePlacedMarks}
 use Rattle.cck_explain_markers.specs.declared.place.PlacedMark.{PlacedMark}
-use Rattle.cck_explain_markers.specs.declared.place.Position.{Position}
 
 -- the path that a name means, joined to the working directory and normalised
 abbrev pub named_path : Bytes → Bytes → Path

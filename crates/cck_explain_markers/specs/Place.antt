@@ -3,7 +3,6 @@ use Rattle.std.specs.Prelude.{◌≡◌, ℕ, ◌+◌, ◌==◌, not, List, ◌+
 use Rattle.std.specs.List.{prefix_len}
 use Rattle.cck_markers.specs.Items.{IsHere}
 use Rattle.cck_markers.specs.Markers.{mark_of}
-use Rattle.cck_markers.specs.Marks as marks
 use Rattle.cck_markers.specs.Marks.{Marks}
 use Rattle.cck_markers.specs.declared.mark.Mark.{Mark}
 use Rattle.cck_explain_markers.specs.declared.place.PlacedMark.{PlacedMark}

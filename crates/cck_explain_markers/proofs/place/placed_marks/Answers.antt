@@ -1,4 +1,4 @@
-use Rattle.std.proofs.Common.{◌≡◌, ℕ, List, All, [], ◌∷◌, ◌++◌, ◌+◌, ◌<◌, ◌≤◌, length, map, sym, subst, ap, ap₂, ◌∙◌, append_assoc, length-append, arith, Some, None, Option}
+use Rattle.std.proofs.Common.{◌≡◌, ℕ, List, All, ◌++◌, length, map, sym, subst, ap, ap₂, ◌∙◌, append_assoc, length-append, arith}
 use Rattle.std.proofs.lemmas.List.{take-append-drop}
 use Rattle.cck_markers.specs.Items.{marks_of}
 use Rattle.cck_markers.specs.Markers.{Yields, Unread, mark_of, unread_text}
