@@ -1,5 +1,5 @@
 -- what a look-up finds
-use Rattle.std.specs.Prelude.{◌≡◌, List, Contains, Bool, true, Option, Some, None, Ok, IfSome, String, string_bytes}
+use Rattle.std.specs.Prelude.{◌≡◌, ◌⊎◌, List, Contains, Bool, true, false, Option, Some, None, Ok, Err, IfSome, String, string_bytes, ℕ}
 use Rattle.std.specs.FinMap.{entries}
 use Rattle.std.specs.declared.alloc.Global.{Global}
 use Rattle.cck_cache_command.specs.Input.{NoFault}
@@ -21,11 +21,17 @@ use Rattle.cck_include.specs.Include.{Include}
 use Rattle.cck_path.specs.Bytes.{Bytes}
 use Rattle.cck_snapshot.specs.Snapshot.{IsLookedUp}
 use Rattle.cck_snapshot.specs.declared.requests.SnapshotRequest.{SnapshotRequest}
+use Rattle.cck_time.specs.declared.error.Error.TheVariants.{Deserialization, UnknownFormat}
 use Rattle.sha2.specs.Sha256.{sha256}
 
 -- one of these files
 abbrev pub IsIncludeOf : List Include → Bytes → Bool → Type 0
 IsIncludeOf includes path tests = (include : Include) × Contains includes include × (include.path ≡ path)
+
+-- whether these bytes are read as an entry: else their first byte is another format, or they are the text of none
+abbrev pub IsEntryRead : Bytes → Bool → Type 0
+IsEntryRead bytes true = (entry : Entry) × Reads (Ok entry) bytes
+IsEntryRead bytes false = ((format : ℕ) × Reads (Err (UnknownFormat format)) bytes) ⊎ Reads (Err Deserialization) bytes
 
 -- a file that a result of the entry of these bytes included
 pub record IsIncluded (bytes : Bytes) (path : Bytes) (tests : Bool) : Type 0 where

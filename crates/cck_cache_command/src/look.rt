@@ -1,7 +1,7 @@
 //! Looks for an object in the store.
 ghost use Rattle.std.specs.Prelude.{IfOk, IfSome, OnOk};
 ghost use Rattle.cck_cache_command.specs.Input.{IsCalm};
-ghost use Rattle.cck_cache_command.specs.Look.{IsLookResult, IsFoundFor, IsIncluded, IsKeptObject, IsKeyEntry, IsMatch, IsLookMiss, IsIncludeOf};
+ghost use Rattle.cck_cache_command.specs.Look.{IsLookResult, IsFoundFor, IsIncluded, IsKeptObject, IsEntryRead, IsKeyEntry, IsMatch, IsLookMiss, IsIncludeOf};
 ghost use Rattle.cck_cache_files.specs.Snapshot.{ArePut};
 ghost use Rattle.cck_include.specs.Include.{includes_in};
 
@@ -120,7 +120,8 @@ fn add_includes<R: Files + AllocGlobal>(
     Ok(())
 }
 
-/// Puts the files that an entry names into the snapshot. `false` where the bytes are no entry.
+/// Puts the files that an entry names into the snapshot. `true` if the bytes are read as an entry, and
+/// `false` if they are none.
 ///
 /// The error is lack of memory. Some of the files may then be in the snapshot.
 pub fn add_entry_files<R: Files + AllocGlobal>(
@@ -128,6 +129,7 @@ pub fn add_entry_files<R: Files + AllocGlobal>(
     files: &mut MapFiles,
     bytes: &[u8],
 ) -> Result<bool>
+    ensures entry { IfOk result (IsEntryRead bytes.now) }
     ensures put { OnOk result (ArePut (IsIncluded bytes.now) files.old.files files.new.files) }
     ensures calm { OnOk result (IsCalm files.old → IsCalm files.new) }
 {
