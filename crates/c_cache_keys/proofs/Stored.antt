@@ -88,7 +88,7 @@ module _ {V : Type 0} (w : World V) where
   not_stopped c F k TextFault is-k no_fault cause = absurd cause
   not_stopped c F k Marker is-k no_fault cause = absurd cause
 
-  -- the result for bytes that are the text of an entry with a key that matches
+  -- the result for the bytes of an entry, where one of its keys matches
   reads_found : (c : Call V) (F : Type 0) (e : Entry) (bytes key : Bytes) (o : Asked) → (F → ⊥) → EntryText e bytes → found w c e ≡ Some key → ReadsAs w c F bytes o
       → (o ≡ Hit key) ⊎ (o ≡ Failed Memory)
   reads_found c F e bytes key (Hit other) no_fault text is (f, text', (list, at, all, which)) =

@@ -57,8 +57,8 @@ impl<I: CCompilerImpl> CCompilerHasher<I> {
     ///
     /// Otherwise the input is preprocessed, or read where its language needs no preprocessor. Its
     /// text, the compiler and the arguments give the key. If there is a preprocessor key, and the
-    /// walk accepts the text and records files, an entry of this one result is put into the store.
-    /// Whether the put succeeds doesn't change the result.
+    /// walk accepts the text and records files, an entry that has this result alone is put into the
+    /// store. Whether the put succeeds doesn't change the result.
     ///
     /// Errors:
     ///

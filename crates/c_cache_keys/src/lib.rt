@@ -23,8 +23,8 @@
 //!   of a request, and in the working directory;
 //! - the options that let a changed file count as unchanged are off;
 //! - the store returns only what was put, as its interface demands;
-//! - calls with one preprocessor key are of one request, if the option `hash_working_directory` is
-//!   off. If it is on, this is not asked.
+//! - with the option `hash_working_directory` off, no preprocessor key is that of two requests. If
+//!   it is on, this is not asked.
 //!
 //! The second half: on any store, a stored key that matches is returned by a call that may use the
 //! store and meets no fault and no lack of memory.

@@ -7,7 +7,7 @@
 //! | words | what is read | what is written |
 //! |---|---|---|
 //! | `key DIGEST LANGUAGE [ARG..]` | a preprocessed text | the key of the object that a compiler with this digest makes of the text |
-//! | `run` | a script ([`cck_script`]) | one line for each call, with its key or its error; or `cck: line N`, where N is the number of the first wrong line |
+//! | `run` | a script ([`cck_script`]) | one line for each call, with its key or its error; or `cck: line N` of the wrong line that comes first |
 //! | any others | nothing | the usage line |
 //!
 //! A key is computed by [`HashKeyParams::compute`](cck_util::HashKeyParams::compute) from the

@@ -4,7 +4,7 @@ use Rattle.std.specs.FinMap.{empty, entries, insert, len}
 use Rattle.cck_include.specs.Include.{Include}
 use Rattle.cck_entry.specs.Entry.{Entry, EntryText, added, include_count, is_over}
 
--- an entry has one text, and a text is of one entry
+-- texts of entries are equal exactly if the entries are
 abbrev pub OneTextOneEntry : Type 0
 OneTextOneEntry = (e f : Entry) (a b : List ℕ) → EntryText e a → EntryText f b → (a ≡ b) ↔ (e ≡ f)
 

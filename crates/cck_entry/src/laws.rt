@@ -9,14 +9,14 @@ pub use cck_include::laws::{equal_digests_tell, recorded_has_length};
 pub use cck_preprocessor_key::laws::preprocessor_material_tells_parts;
 pub use cck_time::laws::{dates_of_days, equal_parts_tell, one_day, one_second, parts_exist};
 
-/// Texts of entries are equal exactly if the entries are: an entry has at most one text, and bytes
-/// are the text of at most one entry.
+/// Texts of entries are equal exactly if the entries are: no entry has two texts, and no bytes are
+/// the text of two entries.
 pub fn one_text_one_entry()
     ensures { OneTextOneEntry }
 {}
 
-/// A result is added to the empty entry if the entry has more than 100 results, or if its includes
-/// and the new ones are more than 10000; otherwise it is added to the entry itself.
+/// A result is added to the empty entry if the entry has more than 100 results, or would have more
+/// than 10000 includes with the new ones; otherwise it is added to the entry itself.
 pub fn added_to_all_or_nothing()
     ensures { AddedToAllOrNothing }
 {}

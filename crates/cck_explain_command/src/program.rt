@@ -129,7 +129,7 @@ fn list<H: HashState, R: Read, W: Write, E: Write>(
 /// Runs the program on what the words ask for, as [`request_of`](crate::request_of) returned it, and
 /// writes its listing.
 ///
-/// - A request: the input is read to its end. [`Status::Done`] is returned after all of the listing was
+/// - A request: all of the input is read. [`Status::Done`] is returned after all of the listing was
 ///   written, and nothing to `errors`. [`Status::Refused`] is returned if a read, a write or an
 ///   allocation failed, the bytes are no entry, or a line of the script is wrong: a prefix of the
 ///   listing is then written, which may be empty or all of it.

@@ -56,7 +56,7 @@ fn first_escaped(bytes: &[u8]) -> Option<usize>
 
 /// Appends the escape of these bytes, which [`ascii_unescape_default`](cck_path::ascii_unescape_default)
 /// undoes: the bytes from 32 to 126 as themselves, but for a `\` before `'`, `"` and `\`; `\t`,
-/// `\r` and `\n`; and any other byte as `\x` and two hexadecimal digits.
+/// `\r` and `\n`; and all others as `\x` and their two hexadecimal digits.
 ///
 /// The only error is lack of memory. What was appended is then unspecified.
 pub fn push_escaped(line: &mut Vec<u8>, bytes: &[u8]) -> Result<(), AllocError>

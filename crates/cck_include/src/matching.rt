@@ -169,8 +169,8 @@ pub fn include_matches<H: HashState, F: Files>(
     known_matches::<H, F>(alloc, files, file, include, context)
 }
 
-/// Whether all of these included files still match what was recorded of them. A file matches if it
-/// is a regular file of the recorded size, and its times or its recorded digest show that it is the
+/// Whether all of these included files still match what was recorded of them. What
+/// matches is a regular file of the recorded size, if its times or its recorded digest show that it is the
 /// same. The times do so only with
 /// [`file_stat_matches`](PreprocessorCacheModeConfig::file_stat_matches). A file that cannot be
 /// read, for any cause, does not match. Where there was a fault, the result may be `false` although

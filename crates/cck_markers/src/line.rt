@@ -21,8 +21,8 @@ pub enum Line<'a> {
         end: usize,
         /// Its bytes.
         name: &'a [u8],
-        /// Whether there is a `3` between the closing quote and the line's end, by which a
-        /// preprocessor marks a system header.
+        /// Whether a `3` comes after the closing quote in its line, by which a preprocessor marks a
+        /// system header.
         is_system: bool,
     },
     /// There is neither a quote nor a line feed, or the first of them is a quote and the text's
@@ -32,8 +32,8 @@ pub enum Line<'a> {
 
 /// Returns what the line marker at the start of a text says.
 ///
-/// The first quote or line feed decides. A name runs from after the quote to the next quote, over
-/// line feeds too, or to the end. The text may begin with anything: what is before the quote has no
+/// The first quote or line feed decides. A name begins after the quote and ends before the next one,
+/// over line feeds too, or with the text. The text may begin with anything: what is before the quote has no
 /// effect. This is the reading part of upstream's `process_preprocessor_line`.
 pub fn read_line(text: &[u8]) -> Line<'_>
     ensures { IsLine text.now result }

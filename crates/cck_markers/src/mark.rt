@@ -14,7 +14,7 @@ pub enum Mark<'a> {
     Name {
         /// Its bytes, a slice of the text. It may be empty.
         name: &'a [u8],
-        /// Whether there is a `3` between the closing quote and the line's end.
+        /// Whether a `3` comes after the closing quote in its line.
         is_system: bool,
     },
     /// `.incbin` and then a quote, with nothing, a space, or a space and a backslash between them:

@@ -124,7 +124,7 @@ module _ (zone : ℤ) (moment : Moment) (map : FileMap) (folder path : Bytes) wh
   line_text m None line n = Some (expanded m line.0 ++ line.1)
   line_text m (Some name) line n = included (join_path folder name) n (file_text_at map (join_path folder name))
 
-  -- what lines are printed as, where n is the number of the line after the first of them
+  -- what lines are printed as; the line after the first of them has the number n
   abbrev pub lines_text : Macros → ℕ → List (Bytes × Bytes) → Option Bytes
   lines_text m n [] = Some []
   lines_text m n (line ∷ lines) = both (line_text m (include_name line.0) line n) (lines_text m (n + 1) lines)

@@ -27,7 +27,7 @@ const SHORT_CHUNK: usize = 8;
 pub enum Component<'a> {
     /// The root: a `/` that the path begins with.
     RootDir,
-    /// A `.` that is the first part of a path. Any other `.` is left out.
+    /// A `.` with which a path begins. Any other `.` is left out.
     CurDir,
     /// `..`.
     ParentDir,
@@ -37,8 +37,8 @@ pub enum Component<'a> {
 
 /// The components of a path, in order, as `std::path::Components` on Unix.
 ///
-/// `/` separates the parts of a path. Empty parts are left out, and so is a part `.` unless it is
-/// the first part of a path without root. Two paths are the same if their components are.
+/// `/` separates the parts of a path. Empty parts are left out, and so is a part `.`, but not one
+/// with which a path without root begins. Two paths are the same if their components are.
 ///
 /// ```rust
 /// Components::new(b"/a//./b/") // the root, `a`, `b`
@@ -321,7 +321,7 @@ fn ends_in_slash(path: &[u8]) -> bool
 }
 
 /// The path without `.`, `..` and doubled slashes: its root, if it has one, and the names that
-/// remain. A `..` removes the name before it, and does nothing where there is none.
+/// remain. A `..` removes the name before it, if there is one.
 ///
 /// Upstream's `util::normalize_path`. Symbolic links are not followed. The only error is
 /// [`UtilError::Memory`].

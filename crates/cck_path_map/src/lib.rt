@@ -12,7 +12,7 @@
 //! map.insert(b"/a-b", 2)?;
 //! map.insert(b"/a/x", 1)?;
 //! map.get(b"//a/./x/"); // `Some(&1)`
-//! map.entries(); // `/a/x` and `/a-b`: by components, `a` comes before `a-b`
+//! map.entries(); // `/a/x` and `/a-b`, since the component `a` is less than `a-b`
 //! ```
 #![tactic(auto)]
 

@@ -119,8 +119,8 @@ fn key_text<H: HashState>(
 /// frame of the recorded digest of the input. Frames, lists and options are those of the object's
 /// key.
 ///
-/// On success, returns `None` exactly if the input is a regular file without a [recorded
-/// digest](recorded_digest). The errors are [`Error::Io`] with
+/// On success, returns `None` exactly if a regular file without a [recorded
+/// digest](recorded_digest) is the input. The errors are [`Error::Io`] with
 ///
 /// - [`NotFound`](cck_digest::FileError::NotFound) where there is no node at the input's path,
 /// - [`OtherKind`](cck_digest::FileError::OtherKind) where the node at the input's path is no

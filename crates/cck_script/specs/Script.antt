@@ -11,14 +11,14 @@ use Rattle.cck_script.specs.declared.error.ScriptError.TheVariants as error
 abbrev pub readings : Bytes → List Reading
 readings text = map read (slice_split (λ b. b == 10) text)
 
--- the number of the first wrong line, counted from a number on
+-- which line is the first wrong one, counted from a number on
 abbrev pub wrong_from : ℕ → List Reading → Option ℕ
 wrong_from n [] = None
 wrong_from n (Wrong ∷ rest) = Some n
 wrong_from n (Skipped ∷ rest) = wrong_from (n + 1) rest
 wrong_from n (Says line ∷ rest) = wrong_from (n + 1) rest
 
--- the number of the first wrong line, where the first line has the number 1
+-- which line is the first wrong one, counted from 1
 unfoldable pub wrong_line : Bytes → Option ℕ
 wrong_line text = wrong_from 1 (readings text)
 

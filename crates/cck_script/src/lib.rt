@@ -2,7 +2,7 @@
 //!
 //! A script is a text of lines. Some lines put files or set variables, and a line `compile` or
 //! `recache` asks for a call over the files and variables as they then are. [`Script::parse`] reads
-//! a text once; its error has the number of the first wrong line. [`Script::options`] returns what
+//! a text once; its error says which line is the first wrong one. [`Script::options`] returns what
 //! holds for the whole run ([`RunOptions`]). [`Surroundings`] are files and variables that follow a
 //! script line by line. A call ([`Command::call`], a [`ScriptCall`]) is made over them as they are
 //! at its line, so one map of files is enough for all calls. They begin with [`first_files`], which
@@ -17,8 +17,8 @@
 //! | `file PATH MODIFIED CHANGED TEXT` | a regular file with this text and these times, or `-` for no time |
 //! | `dir PATH` | a directory without times |
 //! | `gone PATH` | nothing is at this path; other paths stay |
-//! | `var NAME TEXT` | a variable: a new name comes last, a known one keeps its place |
-//! | `clear` | no variables |
+//! | `var NAME TEXT` | the value of a variable, which comes after the others if it is new |
+//! | `clear` | there are no variables any more |
 //! | `compile MOMENT INPUT ARG..` | a call |
 //! | `recache MOMENT INPUT ARG..` | a call that may not return a stored key |
 //!

@@ -34,8 +34,8 @@ pub struct RunOptions {
 impl Script {
     /// Reads a script.
     ///
-    /// [`ScriptError::Line`] is returned only if a line is wrong, with the number of the first
-    /// wrong line. [`ScriptError::Memory`] is returned for lack of memory. A script that is
+    /// [`ScriptError::Line`] is returned only if a line is wrong, and says which one is the
+    /// first. [`ScriptError::Memory`] is returned for lack of memory. A script that is
     /// returned has no wrong line.
     pub fn parse(alloc: Global, text: &[u8]) -> Result<Script, ScriptError>
         ensures { MatchResult result

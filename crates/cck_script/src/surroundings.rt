@@ -163,7 +163,7 @@ fn put_node(files: &mut MapFiles, path: &[u8], node: Node) -> Result<(), AllocEr
     }
 }
 
-// Gives a variable a value: a new name comes last, a known one keeps its place. After an error
+// Gives a variable a value. One that is new comes after the others. After an error
 // neither the variables nor their places are changed.
 fn set_variable(
     alloc: Global,

@@ -13,7 +13,7 @@ use std::alloc::{AllocError, Global};
 use std::collections::BTreeMap;
 use std::marker::Model;
 
-/// A store in memory: it keeps the newest bytes of each key.
+/// A store in memory: under each key it keeps what was put last.
 ///
 /// One of its next gets and puts may be armed to lose all that is held when it begins. One, or all
 /// from one on, may be armed to fail. Each of these counts as a store failure, and so does lack of

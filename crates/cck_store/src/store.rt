@@ -26,8 +26,8 @@ pub enum StoreError {
 ///   what is put;
 /// - the count is below 2^64 and never falls, and an error raises it or finds it at its greatest
 ///   value;
-/// - if the count didn't rise, nothing is lost: after `None` nothing is held under the key, and
-///   after a put its bytes are held under its key, and no others.
+/// - if the count didn't rise, nothing is lost: nothing is held under a key for which `None`
+///   was returned, and a put leaves its bytes under its key, and no others.
 pub trait PreprocessorStore {
     ghost use Rattle.cck_store.specs.Store.{Store, StoreLaws, returned_by};
 

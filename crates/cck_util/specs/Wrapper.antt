@@ -61,7 +61,7 @@ places (Some name) (Some path) = map (λ part. join_path part name) (kept_parts 
 abbrev pub candidates : List ℕ → List Variable → List (List ℕ)
 candidates executable variables = places (file_name_of (components executable)) (first_value variables (codes "PATH"))
 
--- the path exists and doesn't lead to a wrapper
+-- there is a node at the path, and the path leads to no wrapper
 unfoldable pub is_compiler : FileMap → Path → Bool
 is_compiler m p = exists_at m p && not (leads_to_wrapper m p)
 

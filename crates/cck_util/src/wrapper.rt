@@ -18,15 +18,15 @@ use std::alloc::{AllocError, Global};
 
 /// Returns the path of the compiler that `executable` names, past a wrapper such as `ccache`.
 ///
-/// A path *leads to a wrapper* if the file name of its canonical path is `ccache` or `sccache`, or
-/// begins with one of these and a `.`, in any ASCII case. If there is no canonical path, or the
+/// A path *leads to a wrapper* where its canonical path has the file name `ccache` or `sccache`, or
+/// one that begins with either and a `.`, in any ASCII case. If there is no canonical path, or the
 /// call for it meets a fault, the path doesn't lead to a wrapper.
 ///
 /// The result is `executable` itself if it is absolute and doesn't lead to a wrapper. Otherwise its
-/// file name is looked up in the directories of the first variable `PATH`, in order, except those
-/// that have a component `ccache` or `sccache`. The value is split at each `:`; for an empty part
-/// the name is looked up alone. The result is the first of these paths that exists and doesn't lead
-/// to a wrapper. If there is none, or no file name, or no variable `PATH`, the result is
+/// file name is looked up in the directories of the first variable `PATH`, in order, except where
+/// `ccache` or `sccache` is a component. The value is split at each `:`; for an empty part the name
+/// is looked up alone. The result is the first of these paths at which something is, and which
+/// leads to no wrapper. If there is none, or no file name, or no variable `PATH`, the result is
 /// `executable` too. If the count of faults rose, the result may be another of these paths that
 /// exists, or `executable`.
 ///
@@ -157,7 +157,7 @@ fn first_compiler<F: Files>(
     Ok(None)
 }
 
-// Returns whether a path exists and doesn't lead to a wrapper.
+// Returns whether something is at a path, and the path leads to no wrapper.
 fn is_compiler<F: Files>(alloc: Global, files: &mut F, path: &[u8]) -> Result<bool, AllocError>
     ensures keeps { Keeps F.file_map F.faults F.is_quiet files.old files.new }
     ensures outcome { IfOk result (λ compiler.

@@ -13,7 +13,7 @@ use std::marker::Model;
 
 /// Files that were found, each with its recorded digest.
 ///
-/// Contracts describe it as a finite map from paths to digests. Paths are compared by components.
+/// In contracts it is a finite map, of a digest for each path. Paths are compared by components.
 /// Only [`process_preprocessor_line`](crate::process_preprocessor_line) adds to it.
 #[derive(Debug, Drop)]
 pub struct Records {
