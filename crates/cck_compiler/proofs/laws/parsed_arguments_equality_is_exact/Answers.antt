@@ -8,12 +8,11 @@ use Rattle.cck_util.specs.contracts.language.Language.{the_type as language}
 use Rattle.cck_compiler.specs.Arguments.{Arguments}
 use Rattle.cck_compiler.specs.Seen.{output_of}
 use Rattle.cck_compiler.specs.contracts.arguments.ColorMode.{the_type as mode}
-use Rattle.cck_compiler.specs.contracts.compiler.CCompilerKind.{the_type as family}
 use Rattle.cck_compiler.proofs.OutputEquality.{output_decides, same_output}
-use Rattle.cck_compiler.proofs.laws.equality_is_exact.Goals as goal
+use Rattle.cck_compiler.proofs.laws.parsed_arguments_equality_is_exact.Goals as goal
 
-pub returns-clause-arguments : goal.returns-clause-arguments
-returns-clause-arguments c = λ a b.
+pub returns : goal.returns
+returns c = λ a b.
     Decides-like _ (λ h. λ i. record { input = h.0 i; double_dash_input = h.1.0 i; language = h.1.1.0 i; compilation_flag = h.1.1.1.0 i; depfile = h.1.1.1.1.0 i; outputs = h.1.1.1.1.1.0 i; dependency_args = h.1.1.1.1.1.1.0 i; preprocessor_args = h.1.1.1.1.1.1.1.0 i; common_args = h.1.1.1.1.1.1.1.1.0 i; arch_args = h.1.1.1.1.1.1.1.1.1.0 i; unhashed_args = h.1.1.1.1.1.1.1.1.1.1.0 i; extra_dist_files = h.1.1.1.1.1.1.1.1.1.1.1.0 i; extra_hash_files = h.1.1.1.1.1.1.1.1.1.1.1.1.0 i; uses_external_assembler = h.1.1.1.1.1.1.1.1.1.1.1.1.1.0 i; msvc_show_includes = h.1.1.1.1.1.1.1.1.1.1.1.1.1.1.0 i; msvc_explicit_language = h.1.1.1.1.1.1.1.1.1.1.1.1.1.1.1.0 i; profile_generate = h.1.1.1.1.1.1.1.1.1.1.1.1.1.1.1.1.0 i; color_mode = h.1.1.1.1.1.1.1.1.1.1.1.1.1.1.1.1.1.0 i; suppress_rewrite_includes_only = h.1.1.1.1.1.1.1.1.1.1.1.1.1.1.1.1.1.1.0 i; too_hard_for_preprocessor_cache_mode = h.1.1.1.1.1.1.1.1.1.1.1.1.1.1.1.1.1.1.1 i })
     (λ e. (ap (λ (x : Arguments). x.input) e, (ap (λ (x : Arguments). x.double_dash_input) e, (ap (λ (x : Arguments). x.language) e, (ap (λ (x : Arguments). x.compilation_flag) e, (ap (λ (x : Arguments). x.depfile) e, (ap (λ (x : Arguments). x.outputs) e, (ap (λ (x : Arguments). x.dependency_args) e, (ap (λ (x : Arguments). x.preprocessor_args) e, (ap (λ (x : Arguments). x.common_args) e, (ap (λ (x : Arguments). x.arch_args) e, (ap (λ (x : Arguments). x.unhashed_args) e, (ap (λ (x : Arguments). x.extra_dist_files) e, (ap (λ (x : Arguments). x.extra_hash_files) e, (ap (λ (x : Arguments). x.uses_external_assembler) e, (ap (λ (x : Arguments). x.msvc_show_includes) e, (ap (λ (x : Arguments). x.msvc_explicit_language) e, (ap (λ (x : Arguments). x.profile_generate) e, (ap (λ (x : Arguments). x.color_mode) e, (ap (λ (x : Arguments). x.suppress_rewrite_includes_only) e, ap (λ (x : Arguments). x.too_hard_for_preprocessor_cache_mode) e))))))))))))))))))))
     (Decides-and _ _ (bytes_decides a.input.items b.input.items)
@@ -36,12 +35,3 @@ returns-clause-arguments c = λ a b.
     (Decides-and _ _ (same_true mode tt a.color_mode b.color_mode, true_same mode a.color_mode b.color_mode)
     (Decides-and _ _ (booleans_Decides a.suppress_rewrite_includes_only b.suppress_rewrite_includes_only)
     (text_decides a.too_hard_for_preprocessor_cache_mode b.too_hard_for_preprocessor_cache_mode))))))))))))))))))))
-
-pub returns-clause-outputs : goal.returns-clause-outputs
-returns-clause-outputs c = λ a b. Decides-and _ _ (bytes_decides a.path.items b.path.items) (booleans_Decides a.optional b.optional)
-
-pub returns-clause-families : goal.returns-clause-families
-returns-clause-families c = λ a b. (same_true family tt a b, true_same family a b)
-
-pub returns-clause-modes : goal.returns-clause-modes
-returns-clause-modes c = λ a b. (same_true mode tt a b, true_same mode a b)
