@@ -77,19 +77,19 @@ fn read<'a>(cases: &'a mut Cases, bytes: &[u8]) -> Result<Value<'a>, CaseError> 
 // Whether a result of a view has these includes, in this order.
 fn has_includes(
     alloc: Global,
-    result: &ResultRef<'_>,
+    viewed: &ResultRef<'_>,
     includes: &[IncludeEntry],
 ) -> Result<bool, Error> {
-    let mut viewed = result.includes();
+    let mut others = viewed.includes();
     for include in includes {
-        let Some(other) = viewed.next() else {
+        let Some(other) = others.next() else {
             return Ok(false);
         };
         if other.copy(alloc)? != *include {
             return Ok(false);
         }
     }
-    Ok(viewed.next().is_none())
+    Ok(others.next().is_none())
 }
 
 // Whether a view has the keys of the entry, in this order, and the includes of each.
@@ -98,16 +98,16 @@ fn has_results(
     view: &EntryView<'_>,
     entry: &PreprocessorCacheEntry,
 ) -> Result<bool, Error> {
-    let mut viewed = view.results().iter();
+    let mut others = view.results().iter();
     for (key, includes) in entry.results() {
-        let Some(result) = viewed.next() else {
+        let Some(viewed) = others.next() else {
             return Ok(false);
         };
-        if result.key() != key.as_str() || !has_includes(alloc, result, includes)? {
+        if viewed.key() != key.as_str() || !has_includes(alloc, viewed, includes)? {
             return Ok(false);
         }
     }
-    Ok(viewed.next().is_none())
+    Ok(others.next().is_none())
 }
 
 // Whether a view of these bytes has the same results and the same number of includes as the entry,
