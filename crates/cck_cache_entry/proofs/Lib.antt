@@ -1,5 +1,6 @@
 pub mod AbsentLemmas
 mod AssemblerExamples
+pub mod EqualityLemmas
 pub mod NameLemmas
 pub mod ReadingLemmas
 pub mod SearchLemmas

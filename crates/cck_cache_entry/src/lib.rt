@@ -8,6 +8,7 @@
 //! - [`absent_names`] lists the paths at which a named header would have been found earlier.
 //! - [`may_include`] and [`has_include_test`] say whether a text may depend on a file that no line
 //!   marker names.
+//! - [`laws`] states what `==` means for the types.
 #![tactic(auto)]
 
 mod absent;
@@ -15,6 +16,7 @@ mod assembler;
 mod entry_file;
 mod frames;
 mod has_include;
+pub mod laws;
 mod names;
 mod object_file;
 mod search_list;

@@ -1,6 +1,7 @@
 //! Real files, as they are now, in memory.
-ghost use Rattle.std.specs.Prelude.{◌≡◌, [], IfOk, IsOkUnless, IsTrue, List, OnErr, true};
+ghost use Rattle.std.specs.Prelude.{◌≡◌, [], IfOk, IfSome, IsOkUnless, IsTrue, List, OnErr, true};
 ghost use Rattle.cck_files.specs.Calls.{Keeps};
+ghost use Rattle.cck_files.specs.FileMap.{contents_of_kind};
 ghost use Rattle.cck_files.specs.FileState.{IsQuiet, fault_count};
 ghost use Rattle.cck_markers.specs.Marks.{Marks};
 ghost use Rattle.cck_markers.specs.Marks as marks;
@@ -38,7 +39,9 @@ fn node_of<R: AllocGlobal>(rt: &R, kind: FileKind, metadata: &Metadata) -> Node
 // The status is taken after the contents. What is in the contents was written before, so that the
 // times of the status are no earlier than its. A status from before the read could give new contents
 // old times, and a later test of the times would not see the change.
-fn read_regular<R: Files + AllocGlobal>(rt: &R, path: &str, length: u64) -> Option<Node> {
+fn read_regular<R: Files + AllocGlobal>(rt: &R, path: &str, length: u64) -> Option<Node>
+    ensures { IfSome result (λ node. node.kind ≡ FileKind.File) }
+{
     // With room for one more byte the end is seen without a growth.
     let room = usize::try_from(length).ok()?.saturating_add(1);
     let mut contents = Vec::new(rt.alloc());
@@ -54,9 +57,13 @@ fn read_regular<R: Files + AllocGlobal>(rt: &R, path: &str, length: u64) -> Opti
     Some(node)
 }
 
-// The node at a path, links followed. `None` where it can't be read. Only a regular file is opened:
-// to open a pipe or a device may wait, or have an effect.
-fn read_node<R: Files + AllocGlobal>(rt: &R, path: &str) -> Option<Node> {
+// The node at a path, links followed. It has contents only if it is a regular file. `None` where it
+// can't be read. Only a regular file is opened: to open a pipe or a device may wait, or have an
+// effect.
+fn read_node<R: Files + AllocGlobal>(rt: &R, path: &str) -> Option<Node>
+    ensures { IfSome result (λ node.
+        node.contents.items ≡ contents_of_kind node.kind node.contents.items) }
+{
     let metadata = fs::metadata(rt, path).ok()?;
     if metadata.is_dir() {
         return Some(node_of(rt, FileKind::Folder, &metadata));

@@ -7,10 +7,12 @@
 //! - [`refusal_of`] says why a compilation is not recorded, by what is known before the files of its
 //!   text are judged.
 //! - [`is_abandoned`] says whether a file was left by a recording that was killed.
+//! - [`laws`] states what `==` of a [`Refusal`] means.
 #![tactic(auto)]
 
 mod age;
 mod contents;
+pub mod laws;
 mod refusal;
 
 pub use age::is_abandoned;

@@ -10,11 +10,11 @@ use cck_util::{FileError, Timestamp};
 use std::alloc::Global;
 
 /// The path that [`FixedCompiler`] asks for each time it preprocesses.
-pub(crate) const PREPROCESSED: &[u8] = b"/preprocessed";
+pub const PREPROCESSED: &[u8] = b"/preprocessed";
 
 /// What a [`FixedCompiler`] parses each command line into.
 #[derive(Copy, Clone)]
-pub(crate) enum FixedReading {
+pub enum FixedReading {
     /// A compilation of its parsed arguments.
     Compilation,
     /// A compilation that can't be cached, because of `-E` and its detail.
@@ -29,23 +29,23 @@ pub(crate) enum FixedReading {
 /// Each time it preprocesses it asks first whether something is at [`PREPROCESSED`], and does
 /// nothing with the result.
 #[derive(Drop)]
-pub(crate) struct FixedCompiler {
+pub struct FixedCompiler {
     /// The text that is printed.
-    pub(crate) text: Vec<u8>,
+    pub text: Vec<u8>,
     /// The family.
-    pub(crate) kind: CCompilerKind,
+    pub kind: CCompilerKind,
     /// Whether it is a compiler of C++.
-    pub(crate) plusplus: bool,
+    pub plusplus: bool,
     /// The version, if there is one.
-    pub(crate) version: Option<String>,
+    pub version: Option<String>,
     /// The hex digest of the assembler, if there is one.
-    pub(crate) assembler: Option<String>,
+    pub assembler: Option<String>,
     /// What each command line is parsed into.
-    pub(crate) reading: FixedReading,
+    pub reading: FixedReading,
     /// The arguments of a compilation.
-    pub(crate) parsed: ParsedArguments,
+    pub parsed: ParsedArguments,
     /// The detail where the result can't be cached.
-    pub(crate) detail: Option<String>,
+    pub detail: Option<String>,
 }
 
 impl CCompilerImpl for FixedCompiler {

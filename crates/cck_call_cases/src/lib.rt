@@ -20,6 +20,10 @@
 //!   of a file gives one byte.
 //!
 //! The calls of each module are in its table `CALLS`.
+//!
+//! [`FixedCompiler`] is a compiler whose every result is given, with a [`FixedReading`] of each
+//! command line, and asks for [`PREPROCESSED`]. [`NotingFiles`] are files in memory that count the
+//! calls on one path. A test of another crate can use them in calls of its own.
 #![tactic(auto)]
 
 mod arguments;
@@ -35,6 +39,8 @@ mod shown;
 mod stores;
 
 use crate::calls::Calls;
+pub use fixed_compiler::{FixedCompiler, FixedReading, PREPROCESSED};
+pub use noting_files::NotingFiles;
 use std::io;
 
 /// Runs the cases of a file as [`cck_cases::run_file`] does.

@@ -15,15 +15,15 @@ use std::alloc::Global;
 /// A call counts where its path has the same components. The count is a `u64` and stays at
 /// `u64::MAX`. A read gives as many bytes as there are and fit, or one of them.
 #[derive(Drop)]
-pub(crate) struct NotingFiles {
+pub struct NotingFiles {
     /// The files.
-    pub(crate) files: MapFiles,
+    pub files: MapFiles,
     /// The path that calls are counted on.
-    pub(crate) path: Vec<u8>,
+    pub path: Vec<u8>,
     /// How many there were.
-    pub(crate) count: u64,
+    pub count: u64,
     /// Whether a read gives one byte at most.
-    pub(crate) is_bytewise: bool,
+    pub is_bytewise: bool,
 }
 
 impl NotingFiles {

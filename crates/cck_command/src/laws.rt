@@ -3,7 +3,7 @@ ghost use Rattle.std.specs.Prelude.{◌≡◌, ◌↔◌, IsTrue};
 
 use crate::Status;
 
-/// `==` of two statuses is true exactly if they are the same variant.
-pub fn equality_is_exact()
+/// Two [`Status`]es are equal exactly if they are the same.
+pub fn status_equality_is_exact()
     ensures { (a b : Status) → IsTrue (⟦<Status as PartialEq>⟧.eq a b) ↔ (a ≡ b) }
 {}

@@ -10,6 +10,9 @@ use std::io::{ErrorKind, Write};
 ///
 /// [`Failed`] is returned if a write or the flush failed, or if a write took no bytes. A prefix of
 /// the bytes is then written, which may be empty or all of them.
+///
+/// [`engine`](crate::engine) writes so, and it is public for the program `cck_explain`, which writes
+/// its listings and its messages so too.
 pub fn print<W: Write>(writer: &mut W, bytes: &[u8]) -> Result<(), Failed>
     ensures whole { OnOk result (Appends (W.contents writer.old) (W.contents writer.new) bytes.now) }
     ensures begun { AppendsBeginning (W.contents writer.old) (W.contents writer.new) bytes.now }

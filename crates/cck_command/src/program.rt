@@ -120,6 +120,9 @@ fn output_of<H: HashState, R: Read>(
 ///
 /// [`Status::Refused`] is returned whether or not the line could be written. A prefix of the line
 /// is written, which may be empty or the whole line.
+///
+/// [`engine`] ends so where it refuses. It is public for the `main` of the program `cck`, which ends
+/// so where it can't read its words and so can't call [`engine`].
 pub fn refuse<W: Write>(writer: &mut W) -> Status
     ensures status { result ≡ Status.Refused }
     ensures begun { AppendsBeginning (W.contents writer.old) (W.contents writer.new) failed_line }

@@ -4,15 +4,27 @@ ghost use Rattle.cck_compiler.specs.Seen.{arguments_of};
 
 use crate::{ArtifactDescriptor, CCompilerKind, ColorMode, ParsedArguments};
 
-/// Parsed arguments, and outputs, are equal exactly if all their fields say the same, byte for
-/// byte. Families and modes are equal exactly if they are the same.
-pub fn equality_is_exact()
-    ensures arguments { (a b : ParsedArguments) →
+/// Two values of [`ParsedArguments`] are equal exactly if all their fields say the same, byte for
+/// byte.
+pub fn parsed_arguments_equality_is_exact()
+    ensures { (a b : ParsedArguments) →
         IsTrue (⟦<ParsedArguments as PartialEq>⟧.eq a b) ↔ (arguments_of a ≡ arguments_of b) }
-    ensures outputs { (a b : ArtifactDescriptor) →
+{}
+
+/// Two [`ArtifactDescriptor`]s are equal exactly if both their fields are, the path byte for byte.
+pub fn artifact_descriptor_equality_is_exact()
+    ensures { (a b : ArtifactDescriptor) →
         IsTrue (⟦<ArtifactDescriptor as PartialEq>⟧.eq a b)
         ↔ ((a.path.items ≡ b.path.items) × (a.optional ≡ b.optional)) }
-    ensures families { (a b : CCompilerKind) →
+{}
+
+/// Two values of [`CCompilerKind`] are equal exactly if they are the same.
+pub fn c_compiler_kind_equality_is_exact()
+    ensures { (a b : CCompilerKind) →
         IsTrue (⟦<CCompilerKind as PartialEq>⟧.eq a b) ↔ (a ≡ b) }
-    ensures modes { (a b : ColorMode) → IsTrue (⟦<ColorMode as PartialEq>⟧.eq a b) ↔ (a ≡ b) }
+{}
+
+/// Two [`ColorMode`]s are equal exactly if they are the same.
+pub fn color_mode_equality_is_exact()
+    ensures { (a b : ColorMode) → IsTrue (⟦<ColorMode as PartialEq>⟧.eq a b) ↔ (a ≡ b) }
 {}

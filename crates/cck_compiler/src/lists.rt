@@ -7,6 +7,10 @@ use std::alloc::{AllocError, Global};
 
 /// Appends copies of these byte strings to a list. The only error is lack of memory, after which some of
 /// them may have been appended.
+///
+/// It is public for the key of an object, into which two lists of [`ParsedArguments`] go as one.
+///
+/// [`ParsedArguments`]: crate::ParsedArguments
 pub fn push_copies(
     alloc: Global,
     all: &mut Vec<Vec<u8>>,
@@ -21,6 +25,9 @@ pub fn push_copies(
 }
 
 /// Returns copies of these byte strings, in memory of their own. The only error is lack of memory.
+///
+/// It is public for implementations of [`CCompilerImpl`](crate::CCompilerImpl), which make lists of
+/// arguments out of those that they are given.
 pub fn copy_lists(alloc: Global, lists: &[Vec<u8>]) -> Result<Vec<Vec<u8>>, AllocError>
     ensures { IfOk result (λ copies. lists_of copies.items ≡ lists_of lists.now) }
 {
@@ -29,6 +36,9 @@ pub fn copy_lists(alloc: Global, lists: &[Vec<u8>]) -> Result<Vec<Vec<u8>>, Allo
 }
 
 /// Returns a copy of this text, or none. The only error is lack of memory.
+///
+/// It is public for implementations of [`CCompilerImpl`](crate::CCompilerImpl), whose copies have a
+/// copy of the optional version and of the optional digest of the assembler.
 pub fn copy_text(text: &Option<String>) -> Result<Option<String>, AllocError>
     ensures { IfOk result (λ copy. option_map string_bytes copy ≡ option_map string_bytes text.now) }
 {

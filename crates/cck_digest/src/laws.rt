@@ -28,10 +28,12 @@ pub fn has_is_tested()
     ensures { HasIsTested }
 {}
 
-/// Two errors compare as equal exactly if they are the same error with the same cause.
-pub fn equality_is_exact()
-    ensures file_errors { (a b : FileError) →
-        IsTrue (⟦<FileError as PartialEq>⟧.eq a b) ↔ (a ≡ b) }
-    ensures util_errors { (a b : UtilError) →
-        IsTrue (⟦<UtilError as PartialEq>⟧.eq a b) ↔ (a ≡ b) }
+/// Two [`FileError`]s are equal exactly if they are the same.
+pub fn file_error_equality_is_exact()
+    ensures { (a b : FileError) → IsTrue (⟦<FileError as PartialEq>⟧.eq a b) ↔ (a ≡ b) }
+{}
+
+/// Two [`UtilError`]s are equal exactly if they are the same error with the same cause.
+pub fn util_error_equality_is_exact()
+    ensures { (a b : UtilError) → IsTrue (⟦<UtilError as PartialEq>⟧.eq a b) ↔ (a ≡ b) }
 {}

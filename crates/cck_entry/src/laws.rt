@@ -5,9 +5,14 @@ ghost use Rattle.cck_entry.specs.Find.{GreatestIsFound};
 ghost use Rattle.cck_entry.specs.Laws.{AddedIsLimited, AddedToAllOrNothing, OneTextOneEntry};
 
 use crate::PreprocessorCacheEntry;
-pub use cck_include::laws::{equal_digests_tell, recorded_has_length};
+pub use cck_include::laws::{
+    equal_digests_tell, include_entry_equality_is_exact, recorded_has_length,
+};
 pub use cck_preprocessor_key::laws::preprocessor_material_tells_parts;
-pub use cck_time::laws::{dates_of_days, equal_parts_tell, one_day, one_second, parts_exist};
+pub use cck_time::laws::{
+    dates_of_days, equal_parts_tell, error_equality_is_exact, one_day, one_second, parts_exist,
+    preprocessor_cache_mode_config_equality_is_exact,
+};
 
 /// Texts of entries are equal exactly if the entries are: no entry has two texts, and no bytes are
 /// the text of two entries.
@@ -27,8 +32,8 @@ pub fn added_is_limited()
     ensures { AddedIsLimited }
 {}
 
-/// Entries are equal exactly if they are the same map.
-pub fn equality_is_exact()
+/// Two values of [`PreprocessorCacheEntry`] are equal exactly if they are the same map.
+pub fn preprocessor_cache_entry_equality_is_exact()
     ensures { (a b : Entry) → IsTrue (⟦<PreprocessorCacheEntry as PartialEq>⟧.eq a b) ↔ (a ≡ b) }
 {}
 

@@ -1,8 +1,9 @@
-//! Look-ups over files that count the calls on them, and over a directory with times.
+//! Look-ups over files that count the calls on them, and over a directory with times, and the copy
+//! of an include.
 use crate::files::{CountedFiles, files_of};
 use cck_entry::{
-    Error, FileKind, MapFiles, Node, PreprocessorCacheEntry, PreprocessorCacheModeConfig,
-    Sha256State, Timestamp, recorded_digest,
+    Error, FileKind, IncludeEntry, MapFiles, Node, PreprocessorCacheEntry,
+    PreprocessorCacheModeConfig, Sha256State, Timestamp, recorded_digest,
 };
 use cck_util::UtilError;
 use jiff::tz::TimeZone;
@@ -96,4 +97,34 @@ pub(crate) fn is_directory_found(alloc: Global) -> Option<bool> {
         },
     );
     Some(found.ok()?.is_some())
+}
+
+/// The copy of an include, whose original is then changed: its digest and its size, and whether the
+/// two were equal before the change and after it.
+pub(crate) struct CopiedInclude {
+    pub(crate) digest: String,
+    pub(crate) size: u64,
+    pub(crate) was_equal: bool,
+    pub(crate) is_equal: bool,
+}
+
+/// Copies an include of 3 bytes, and then appends to the digest of the original.
+pub(crate) fn copied_include(alloc: Global) -> Result<CopiedInclude, Error> {
+    let mut include = IncludeEntry {
+        path: b"/h".to_vec(alloc)?,
+        digest: String::from_str(alloc, "ab")?,
+        file_size: 3,
+        mtime: Some(Timestamp::new(5, 7)),
+        ctime: None,
+    };
+    let copy = include.copy(alloc)?;
+    let was_equal = copy == include;
+    include.digest.push('c')?;
+    let is_equal = copy == include;
+    Ok(CopiedInclude {
+        size: copy.file_size,
+        digest: copy.digest,
+        was_equal,
+        is_equal,
+    })
 }

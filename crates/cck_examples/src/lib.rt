@@ -21,6 +21,9 @@ pub fn results(alloc: Global) -> Option<String> {
     let (calls, reads) = (counts.calls, counts.reads);
     let (found, headers) = entries::look_up_over_counted_files(alloc)?;
     let is_found = entries::is_directory_found(alloc)?;
+    let copied = entries::copied_include(alloc).ok()?;
+    let (digest, copied_size) = (copied.digest, copied.size);
+    let (was_equal, is_equal) = (copied.was_equal, copied.is_equal);
     let key = calls::key_by_own_compiler(alloc).ok()?;
     let text = format!(in alloc;
         "{first}\n\
@@ -31,6 +34,7 @@ pub fn results(alloc: Global) -> Option<String> {
         {existing} exist: {calls} calls, {reads} reads\n\
         {found}: {headers} reads\n\
         directory found: {is_found}\n\
+        copied: {digest}, {copied_size} bytes, equal: {was_equal}, after a change: {is_equal}\n\
         {key}\n"
     );
     text.ok()

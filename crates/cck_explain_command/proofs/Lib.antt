@@ -1,4 +1,5 @@
 pub mod BufferLemmas
+pub mod EqualityLemmas
 pub mod ListingLemmas
 pub mod PutLemmas
 pub mod RunLemmas

@@ -4,7 +4,8 @@
 //!   [`language_names`] returns.
 //! - [`run`] does what an [`ExplainRequest`] asks for, by [`explain_key`], [`explain_entry`],
 //!   [`explain_markers`] or [`explain_script`]. [`report`] writes why it failed.
-//! - [`laws`] states that the listed parts, one after the other, are the key material.
+//! - [`laws`] states that the listed parts, one after the other, are the key material, and what `==`
+//!   of an [`ExplainError`] means.
 #![tactic(auto)]
 
 mod buffer;

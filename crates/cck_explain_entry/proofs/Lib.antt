@@ -1,3 +1,4 @@
+pub mod EqualityLemmas
 pub mod FaultLemmas
 pub mod NoEntryLemmas
 pub mod RestLemmas

@@ -1,1 +1,2 @@
+pub mod EqualityLemmas
 pub mod PlaceLemmas

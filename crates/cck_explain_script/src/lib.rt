@@ -3,10 +3,12 @@
 //! [`script_listing`] makes the calls of a script, as [`cck_command`] does, on a [`WatchedStore`],
 //! which keeps what is asked of it. For each call the listing has the preprocessor key, what the store
 //! returned, which included files of a stored result did not match and how, what was put, and the line
-//! that `cck run` prints. [`difference_of`] says how an included file differs.
+//! that `cck run` prints. [`difference_of`] says how an included file differs, and [`laws`] what `==`
+//! of two differences means.
 #![tactic(auto)]
 
 mod difference;
+pub mod laws;
 mod note;
 mod script;
 mod watched_store;

@@ -3,7 +3,8 @@ use crate::cases::Cases;
 use crate::shown::{write_counts, write_entry, write_includes};
 use cck_cases::{CaseError, CaseLine, FailWriter, Value, number, words_of};
 use cck_entry::{
-    EntryView, Error, JudgeContext, KnownFiles, PreprocessorCacheEntry, gather, includes_match,
+    EntryView, Error, IncludeEntry, JudgeContext, KnownFiles, PreprocessorCacheEntry, ResultRef,
+    gather, includes_match,
 };
 use cck_util::{Digest, MapFiles, Sha256State};
 use std::alloc::Global;
@@ -73,8 +74,44 @@ fn read<'a>(cases: &'a mut Cases, bytes: &[u8]) -> Result<Value<'a>, CaseError> 
     show(cases)
 }
 
-// Whether a view of these bytes has the same numbers of results and includes as the entry, or the
-// same error.
+// Whether a result of a view has these includes, in this order.
+fn has_includes(
+    alloc: Global,
+    viewed: &ResultRef<'_>,
+    includes: &[IncludeEntry],
+) -> Result<bool, Error> {
+    let mut others = viewed.includes();
+    for include in includes {
+        let Some(other) = others.next() else {
+            return Ok(false);
+        };
+        if other.copy(alloc)? != *include {
+            return Ok(false);
+        }
+    }
+    Ok(others.next().is_none())
+}
+
+// Whether a view has the keys of the entry, in this order, and the includes of each.
+fn has_results(
+    alloc: Global,
+    view: &EntryView<'_>,
+    entry: &PreprocessorCacheEntry,
+) -> Result<bool, Error> {
+    let mut others = view.results().iter();
+    for (key, includes) in entry.results() {
+        let Some(viewed) = others.next() else {
+            return Ok(false);
+        };
+        if viewed.key() != key.as_str() || !has_includes(alloc, viewed, includes)? {
+            return Ok(false);
+        }
+    }
+    Ok(others.next().is_none())
+}
+
+// Whether a view of these bytes has the same results and the same number of includes as the entry,
+// or the same error.
 fn is_viewed_alike(
     alloc: Global,
     bytes: &[u8],
@@ -83,8 +120,8 @@ fn is_viewed_alike(
     match (EntryView::read(alloc, bytes), entry) {
         (Err(Error::Memory), _) | (_, Err(Error::Memory)) => Err(Error::Memory),
         (Ok(view), Ok(entry)) => Ok(
-            view.result_count() == entry.result_count()
-                && view.number_of_entries() == entry.number_of_entries(),
+            view.number_of_entries() == entry.number_of_entries()
+                && has_results(alloc, &view, entry)?,
         ),
         (Err(viewed), Err(read)) => Ok(viewed == *read),
         _ => Ok(false),

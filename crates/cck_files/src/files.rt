@@ -6,14 +6,17 @@ use cck_digest::FileError;
 use cck_path::Metadata;
 use std::alloc::Global;
 
-/// Files, as one map that no call changes, and a count of faults.
+/// Files: maps that are the same after each call, and a count of faults.
 ///
-/// An implementation is described by a finite map from paths to nodes, a map of canonical paths,
-/// and a count of faults. The count has 64 bits and stays at its greatest value. Links are followed
-/// in the map. Each result is the map's own or, only where the count rose, a fault.
-/// An implementation also says which of its states are *quiet*: no call on them meets a fault or
-/// leaves quiet states. And it says which states a call at a path leads to. By that the contract of
-/// a function over all files can name the paths at which it makes calls.
+/// Two maps and a number describe an implementation. One map has a node for each of finitely many
+/// paths, with what a link leads to at the path of the link. The other map has their canonical
+/// paths. The number counts faults. A call returns what the maps say, or a fault. With each fault
+/// the number rises, and it stays where it is once it is `u64::MAX`.
+///
+/// Some states are *quiet*, as the implementation defines. On a quiet state every call ends without
+/// a fault and in another quiet state. The implementation also defines which states a call at a path
+/// leads to. By that the contract of a function over all files can name the paths at which it makes
+/// calls.
 ///
 /// Paths are compared by components. The errors of the calls:
 ///
@@ -61,8 +64,8 @@ pub trait Files {
             MatchResult result (λ n. IsOkAnd found (λ contents. IsRead contents offset n buffer.new))
             (IsError found (Rose (faults self.old) (faults self.new))) };
 
-    /// Returns the last names of a directory's direct children, each once, in any order. A child
-    /// whose last component is no name has none.
+    /// Returns the last names of a directory's direct children, in no order and none of them twice.
+    /// If the last component of a child is no name, the child has none.
     fn read_dir(&mut self, alloc: Global, path: &[u8]) -> Result<Vec<Vec<u8>>, FileError>
         ensures keeps { Keeps file_map faults is_quiet self.old self.new }
         ensures call { is_call self.old (components path.now) self.new }

@@ -1,14 +1,14 @@
 //! Laws about the definitions. Each is the contract of a function with an empty body.
 ghost use Rattle.std.specs.Prelude.{◌≡◌, ◌↔◌, IsTrue};
 ghost use Rattle.cck_files.specs.ArmedCalls.{FailsAsArmed};
-ghost use Rattle.cck_files.specs.Node.{node_of};
+ghost use Rattle.cck_files.specs.Node.{fields_of};
 
 use crate::Node;
 
-/// Nodes are equal exactly if all their fields are the same, the contents byte for byte.
-pub fn equality_is_exact()
+/// Two [`Node`]s are equal exactly if all their fields are the same, the contents byte for byte.
+pub fn node_equality_is_exact()
     ensures { (a b : Node) →
-        IsTrue (⟦<Node as PartialEq>⟧.eq a b) ↔ (node_of a ≡ node_of b) }
+        IsTrue (⟦<Node as PartialEq>⟧.eq a b) ↔ (fields_of a ≡ fields_of b) }
 {}
 
 /// After k calls the next one fails exactly if it is the one that [`fail_at`] armed, or if it is not

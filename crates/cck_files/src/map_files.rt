@@ -29,8 +29,8 @@ use places::Place;
 /// [`read_dir`](crate::Files::read_dir) also visits every path that begins with the directory's.
 /// One of the calls may be armed by [`fail_at`](MapFiles::fail_at), and all from one of them on by
 /// [`fail_after`](MapFiles::fail_after). An armed call is a fault and changes no file, and no other
-/// call is a fault. The count of faults is a `u64`, rises by one at each fault, and stays at
-/// `u64::MAX`. The files are quiet if no call is armed and the count is below `u64::MAX`.
+/// call is a fault. Each fault adds one to the count of faults, a `u64`, until that is `u64::MAX`.
+/// The files are quiet if no call is armed and the count is below `u64::MAX`.
 #[derive(Debug, Drop)]
 pub struct MapFiles {
     alloc: Global,
@@ -64,7 +64,8 @@ impl MapFiles {
     }
 
     /// Sets the node at a path, in place of the one that was there. Its canonical path is the path
-    /// as [`normalize_path`] returns it. No other path changes: no directory is made above it.
+    /// as [`normalize_path`] returns it. No other path changes: no directory is made above it. The
+    /// contents of a node that is no regular file aren't set.
     ///
     /// The only error is [`UtilError::Memory`], and then nothing is changed.
     pub fn put(&mut self, path: &[u8], node: Node) -> Result<(), UtilError>

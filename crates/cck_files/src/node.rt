@@ -1,6 +1,6 @@
 //! The node at a path.
 ghost use Rattle.std.specs.Prelude.{◌≡◌, IfOk, IsOkUnless};
-ghost use Rattle.cck_files.specs.Node.{node_of};
+ghost use Rattle.cck_files.specs.Node.{fields_of};
 
 use cck_digest::UtilError;
 use cck_path::{FileKind, Timestamp};
@@ -11,7 +11,8 @@ use std::alloc::Global;
 pub struct Node {
     /// Its kind.
     pub kind: FileKind,
-    /// The contents of a regular file. For any other kind they have no meaning.
+    /// The contents of a regular file. What a node of any other kind has here is in no map of files,
+    /// and no call of [`MapFiles`](crate::MapFiles) shows it.
     pub contents: Vec<u8>,
     /// When the contents were last modified, where that is known.
     pub modified: Option<Timestamp>,
@@ -21,11 +22,11 @@ pub struct Node {
 }
 
 impl Node {
-    /// A copy of the node.
+    /// A copy of the node, equal to it in all fields.
     ///
     /// The only error is [`UtilError::Memory`].
     pub fn copy(&self, alloc: Global) -> Result<Node, UtilError>
-        ensures same { IfOk result (λ copy. node_of copy ≡ node_of self.now) }
+        ensures same { IfOk result (λ copy. fields_of copy ≡ fields_of self.now) }
         ensures errors { IsOkUnless result UtilError.Memory }
     {
         Ok(Node {

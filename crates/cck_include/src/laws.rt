@@ -22,8 +22,8 @@ pub fn equal_digests_tell()
     ensures { EqualDigestsTell }
 {}
 
-/// Includes compare as equal exactly if all their fields are the same.
-pub fn equality_is_exact()
+/// Two values of [`IncludeEntry`] are equal exactly if all their fields are the same.
+pub fn include_entry_equality_is_exact()
     ensures { (a b : IncludeEntry) →
         IsTrue (⟦<IncludeEntry as PartialEq>⟧.eq a b) ↔ (include_in a ≡ include_in b) }
 {}

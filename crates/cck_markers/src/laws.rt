@@ -29,11 +29,14 @@ pub fn one_name_at_one_place()
         (a.front ≡ b.front) × (a.name ≡ b.name) × (a.rest ≡ b.rest) }
 {}
 
-/// Two marks, or two results of [`read_line`](crate::read_line), are equal exactly if they say the
-/// same. Names are compared byte for byte.
-pub fn equality_is_exact()
-    ensures marks { (a b : Mark) →
+/// Two [`Mark`]s are equal exactly if they say the same, with the same bytes of a name.
+pub fn mark_equality_is_exact()
+    ensures { (a b : Mark) →
         IsTrue (⟦<Mark<'static> as PartialEq>⟧.eq a b) ↔ (mark_of a ≡ mark_of b) }
-    ensures lines { (a b : Line) →
+{}
+
+/// Two [`Line`]s are equal exactly if they say the same, with the same bytes of a name.
+pub fn line_equality_is_exact()
+    ensures { (a b : Line) →
         IsTrue (⟦<Line<'static> as PartialEq>⟧.eq a b) ↔ (read_of a ≡ read_of b) }
 {}

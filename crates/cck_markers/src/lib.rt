@@ -10,15 +10,16 @@
 //!   them, so the assembler may include a file that no marker names;
 //! - a *malformed* marker, which neither has a name nor ends its line without one.
 //!
-//! [`Markers`] yields them in order, up to the first that is no name. [`read_line`] reads a single
-//! marker and returns its name and the place of the name, as a [`Line`]. [`read_item`] returns what
-//! a text begins with and the length of that, as an [`Item`], so a caller can find the place of each
-//! mark. None of them opens a file or allocates memory, and the time is linear in the length of the
-//! text. Text is bytes, in no encoding.
+//! [`Markers`] yields one after another, and ends with the first that is no name. [`read_line`]
+//! reads a single marker and returns its name and the place of the name, as a [`Line`].
+//! [`read_item`] returns what a text begins with and the length of that, as an [`Item`], so a caller
+//! can find the place of each mark. None of them opens a file or allocates memory, and the time is
+//! linear in the length of the text. Text is bytes, in no encoding.
 //!
-//! A place is looked at while at least 7 bytes are left from it on. A line starts at the text's
-//! start and after each line feed. A marker starts a line with `# ` and a digit, with `#line ` or
-//! with `#pragma GCC pch_preprocess`. A line that starts with ten underscores is skipped.
+//! Marks begin at least 7 bytes before the end of the text: the last 6 places are passed over. A
+//! line starts at the text's start and after each line feed. A marker starts a line with `# ` and a
+//! digit, with `#line ` or with `#pragma GCC pch_preprocess`. A line that starts with ten
+//! underscores is skipped.
 //!
 //! ```rust
 //! let mut names = Vec::new(alloc);

@@ -3,7 +3,7 @@ ghost use Rattle.std.specs.Prelude.{◌≡◌, ◌↔◌, IsTrue};
 
 use crate::PrintError;
 
-/// Errors are equal exactly if they are the same.
-pub fn equality_is_exact()
+/// Two [`PrintError`]s are equal exactly if they are the same.
+pub fn print_error_equality_is_exact()
     ensures { (a b : PrintError) → IsTrue (⟦<PrintError as PartialEq>⟧.eq a b) ↔ (a ≡ b) }
 {}

@@ -1,6 +1,7 @@
 pub mod ByteLemmas
 pub mod CaseLemmas
 pub mod CommonPrefixLemmas
+pub mod ComponentEquality
 pub mod ComponentLemmas
 pub mod DurationLemmas
 pub mod EqualityLemmas

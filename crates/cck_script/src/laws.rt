@@ -5,12 +5,15 @@ ghost use Rattle.cck_script.specs.Surroundings.{executable_path, working_directo
 
 use crate::{Command, EXECUTABLE, ScriptError, WORKING_DIRECTORY};
 
-/// Commands are equal exactly if they say the same, and errors exactly if they are the same.
-pub fn equality_is_exact()
-    ensures commands { (a b : Command) →
+/// Two [`Command`]s are equal exactly if they say the same.
+pub fn command_equality_is_exact()
+    ensures { (a b : Command) →
         IsTrue (⟦<Command as PartialEq>⟧.eq a b) ↔ (line_of a ≡ line_of b) }
-    ensures errors { (a b : ScriptError) →
-        IsTrue (⟦<ScriptError as PartialEq>⟧.eq a b) ↔ (a ≡ b) }
+{}
+
+/// Two [`ScriptError`]s are equal exactly if they are the same.
+pub fn script_error_equality_is_exact()
+    ensures { (a b : ScriptError) → IsTrue (⟦<ScriptError as PartialEq>⟧.eq a b) ↔ (a ≡ b) }
 {}
 
 /// [`EXECUTABLE`] and [`WORKING_DIRECTORY`] are the paths that the definition of a script's calls

@@ -3,7 +3,7 @@ ghost use Rattle.std.specs.Prelude.{◌≡◌, ◌↔◌, IsTrue};
 
 use crate::StoreError;
 
-/// Errors are equal exactly if they are the same.
-pub fn equality_is_exact()
+/// Two [`StoreError`]s are equal exactly if they are the same.
+pub fn store_error_equality_is_exact()
     ensures { (a b : StoreError) → IsTrue (⟦<StoreError as PartialEq>⟧.eq a b) ↔ (a ≡ b) }
 {}

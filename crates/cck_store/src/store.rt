@@ -64,7 +64,8 @@ pub trait PreprocessorStore {
 /// Returns a count plus one, and `u64::MAX` for `u64::MAX`.
 ///
 /// This is how the stores of this crate count a store failure, and a store of another crate can
-/// count its failures so too. It allocates no memory.
+/// count its failures so too. The number is that of `u64::saturating_add`, whose contract does not
+/// say it in the words of the laws of stores. It allocates no memory.
 #[tactic(auto, unfolding(crate::specs::Store::more))]
 pub fn one_more(count: u64) -> u64
     ensures { result ≡ more count }

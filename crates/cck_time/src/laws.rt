@@ -63,10 +63,13 @@ pub fn equal_parts_tell()
         AreOfOneSecond zone m n }
 {}
 
-/// `==` holds of options exactly if each of them is equal, and of errors exactly if they are the
-/// same, with the same cause.
-pub fn equality_is_exact()
-    ensures options { (a b : PreprocessorCacheModeConfig) →
+/// Two values of [`PreprocessorCacheModeConfig`] are equal exactly if each of their options is.
+pub fn preprocessor_cache_mode_config_equality_is_exact()
+    ensures { (a b : PreprocessorCacheModeConfig) →
         IsTrue (⟦<PreprocessorCacheModeConfig as PartialEq>⟧.eq a b) ↔ (a ≡ b) }
-    ensures errors { (a b : Error) → IsTrue (⟦<Error as PartialEq>⟧.eq a b) ↔ (a ≡ b) }
+{}
+
+/// Two [`Error`]s are equal exactly if they are the same error with the same cause.
+pub fn error_equality_is_exact()
+    ensures { (a b : Error) → IsTrue (⟦<Error as PartialEq>⟧.eq a b) ↔ (a ≡ b) }
 {}

@@ -28,7 +28,7 @@ fn date_at(zone: &TimeZone<'_>, instant: jiff::Timestamp) -> Date
     zone.to_datetime(instant).date()
 }
 
-// Returns the civil second in the zone at the instant, counted from 1970-01-01T00:00:00.
+// Returns the civil second in the zone at the instant. Second 0 is the first of 1970.
 fn second_at(zone: &TimeZone<'_>, instant: jiff::Timestamp) -> i64
     ensures { result ≡ local_second (plain_zone zone.now) instant.nanosecond }
 {
@@ -184,16 +184,16 @@ fn put_timestamp_part(
 /// `__TIMESTAMP__`.
 ///
 /// For a date the bytes are the delimiter `date`; the civil year (an `i32`), month and day (`u32`
-/// each, from 1) of the call time in the zone, lowest byte first; and the value of the first
-/// variable `SOURCE_DATE_EPOCH`, because compilers show it in place of the date. The value is
-/// written as a byte 1, its length in 8 bytes, lowest byte first, and the value; without such a
-/// variable a byte 0 is written. For a timestamp the bytes are the delimiter `timestamp` and the
-/// civil second in the zone at which the file was last modified (an `i64`), counted from
-/// 1970-01-01T00:00:00 without a zone and rounded down. With neither there are no bytes.
+/// each, from 1) of the call time in the zone, lowest byte first; and `SOURCE_DATE_EPOCH`, which
+/// compilers show in place of the date. Of several variables with this name the first counts: a byte
+/// 1, the length of its value in 8 bytes, lowest byte first, and the value. If no variable has the
+/// name, a byte 0 stands for it. For a timestamp the bytes are the delimiter `timestamp` and, as an
+/// `i64`, the clock's second in the zone when the file was last modified. Seconds are counted as if
+/// the zone were UTC, from the beginning of 1970, and rounded down. With neither there are no bytes.
 ///
-/// Returns `None` exactly if a time that is needed is missing or outside `jiff`'s range of
-/// instants, from -9999-01-02T01:59:59Z to 9999-12-30T22:00:00.999999999Z. The call time is needed
-/// for a date alone, the modification time for a timestamp alone.
+/// Returns `None` exactly if a needed time is unknown, or is not among the instants of `jiff`, from
+/// -9999-01-02T01:59:59Z to 9999-12-30T22:00:00.999999999Z. The call time is needed for a date
+/// alone, the modification time for a timestamp alone.
 ///
 /// The only error is [`Error::Memory`].
 #[tactic(auto, unfolding(crate::specs::TimePart::time_part))]

@@ -5,16 +5,20 @@ ghost use Rattle.cck_util.specs.Laws.{EqualWithoutBasedirs, MaterialTellsParts};
 
 use crate::{CACHE_VERSION, Language, UnknownLanguage};
 pub use cck_digest::laws::{
-    has_is_tested, hex_tells_bytes, lengths_are_little_endian, text_has_64_characters,
+    file_error_equality_is_exact, has_is_tested, hex_tells_bytes, lengths_are_little_endian,
+    text_has_64_characters, util_error_equality_is_exact,
 };
 pub use cck_file_digest::laws::{
     errors_tell_no_material, file_material, folder_material, reached_tells,
 };
+pub use cck_files::laws::{calls_fail_as_armed, node_equality_is_exact};
 pub use cck_path::laws::{
-    components_in_order, escape_is_undone, names_that_lead, timestamps_by_nanos,
+    component_equality_is_exact, components_in_order, escape_is_undone,
+    file_kind_equality_is_exact, metadata_equality_is_exact, names_that_lead, timestamps_by_nanos,
 };
 pub use cck_strip::laws::{
-    arguments_have_cuts, cuts_are_unique, cuts_exist, stripped_by_any_cuts, texts_have_cuts,
+    arguments_have_cuts, cut_equality_is_exact, cuts_are_unique, cuts_exist, stripped_by_any_cuts,
+    texts_have_cuts,
 };
 
 /// Two key materials are equal exactly if their parts are equal.
@@ -31,10 +35,14 @@ pub fn equal_without_basedirs()
     ensures { EqualWithoutBasedirs }
 {}
 
-/// `==` holds exactly if two languages are the same, and exactly if two [`UnknownLanguage`] are.
-pub fn equality_is_exact()
-    ensures languages { (a b : Language) → IsTrue (⟦<Language as PartialEq>⟧.eq a b) ↔ (a ≡ b) }
-    ensures unknown { (a b : UnknownLanguage) →
+/// Two [`Language`]s are equal exactly if they are the same.
+pub fn language_equality_is_exact()
+    ensures { (a b : Language) → IsTrue (⟦<Language as PartialEq>⟧.eq a b) ↔ (a ≡ b) }
+{}
+
+/// Two [`UnknownLanguage`]s are always equal, since the type has one value.
+pub fn unknown_language_equality_is_exact()
+    ensures { (a b : UnknownLanguage) →
         IsTrue (⟦<UnknownLanguage as PartialEq>⟧.eq a b) ↔ (a ≡ b) }
 {}
 

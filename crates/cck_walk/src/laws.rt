@@ -8,13 +8,16 @@ ghost use Rattle.cck_walk.specs.Walk.{accepted_of};
 use crate::{LineAction, Walk};
 use cck_files::Files;
 
-/// Two walks are equal exactly if both accepted a text with the same paths and digests, byte for
-/// byte and in the same order, or both texts are refused. Two actions after a line marker are equal
-/// exactly if all of their fields are.
-pub fn equality_is_exact()
-    ensures walks { (a b : Walk) →
+/// Two [`Walk`]s are equal exactly if both accepted a text with the same paths and digests, byte for
+/// byte and in the same order, or both texts are refused.
+pub fn walk_equality_is_exact()
+    ensures { (a b : Walk) →
         IsTrue (⟦<Walk as PartialEq>⟧.eq a b) ↔ (accepted_of a ≡ accepted_of b) }
-    ensures actions { (a b : LineAction) → IsTrue (⟦<LineAction as PartialEq>⟧.eq a b) ↔ (a ≡ b) }
+{}
+
+/// Two [`LineAction`]s are equal exactly if they are the same, with the same fields.
+pub fn line_action_equality_is_exact()
+    ensures { (a b : LineAction) → IsTrue (⟦<LineAction as PartialEq>⟧.eq a b) ↔ (a ≡ b) }
 {}
 
 /// If no file is looked for by a name of a text, then no path is, and a walk over the text leaves

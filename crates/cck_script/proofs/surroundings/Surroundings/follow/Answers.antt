@@ -1,4 +1,4 @@
-use Rattle.std.proofs.Common.{refl, sym, Some, None}
+use Rattle.std.proofs.Common.{refl, sym, Some, None, []}
 use Rattle.cck_path.specs.declared.metadata.FileKind.TheVariants as kind
 use Rattle.cck_script.specs.Surroundings.{file_node}
 use Rattle.cck_script.proofs.SurroundingsLemmas.{after_clear, after_gone, after_rest, put_ok, set_ok}
@@ -13,7 +13,7 @@ returns-in-File-clause-after c =
 pub returns-in-Folder-clause-after : goal.returns-in-Folder-clause-after
 returns-in-Folder-clause-after c =
     rw c.in-Folder.is (put_ok c.put_node-in-Folder.result _ c.args.self.now _ c.deref-in-Folder.result.now _
-    (λ i. Some (sym c.deref-in-Folder.ensures.value i, Some (record { kind = kind.Folder; contents = sym c.new.ensures.items i; modified = None; changed = None })))
+    (λ i. Some (sym c.deref-in-Folder.ensures.value i, Some (record { kind = kind.Folder; contents = []; modified = None; changed = None })))
     refl refl c.put_node-in-Folder.ensures.set refl refl)
 
 pub returns-in-Gone-clause-after : goal.returns-in-Gone-clause-after
