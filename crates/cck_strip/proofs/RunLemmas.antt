@@ -1,16 +1,16 @@
 -- Nodes that a walk passes one after the other.
-use Rattle.std.proofs.Common.{◌≡◌, ◌≢◌, inl, inr, ℕ, zero, suc, ◌+◌, ◌-◌, ◌<◌, ◌≤◌, List, ◌∷◌, Bool, true, false, ◌&&◌, Option, Some, map, length-take, nat_eq, length, get_or, set, take, drop, add-one, refl, sym, ap, subst, ◌∙◌, arith}
+use Rattle.std.proofs.Common.{◌≡◌, ◌≢◌, inl, inr, ℕ, zero, suc, ◌+◌, ◌-◌, ◌<◌, ◌≤◌, List, [], ◌∷◌, ◌++◌, cond, Bool, true, false, ◌&&◌, Option, Some, None, map, length-take, nat_eq, length, get_or, set, take, drop, take-take, add-one, refl, sym, ap, subst, ◌∙◌, arith}
 use Rattle.std.specs.List.{starts_with}
 use Rattle.std.proofs.Math.ListN.{get_or-map}
 use Rattle.std.proofs.Math.Seq.{drop-cons}
-use Rattle.std.proofs.lemmas.Bool.{cases_eq, cases_lt}
+use Rattle.std.proofs.lemmas.Bool.{cases_eq, cases_lt, false≢true}
 use Rattle.std.proofs.lemmas.Bool.Decides.{nat_tests}
-use Rattle.std.proofs.lemmas.List.{drop_all, get_or-take, get_or-set_other, get_or-set_same, get_or_default, length-map, take_rest}
+use Rattle.std.proofs.lemmas.List.{drop_all, get_or-take, get_or-set_other, get_or-set_same, get_or_default, length-map, take_all, take_more, take_rest}
 use Rattle.cck_strip.specs.Text.{longest_prefix}
 use Rattle.cck_strip.specs.declared.node.TrieNode.{TrieNode}
 use Rattle.cck_strip.specs.declared.node.NodeId.{NodeId}
-use Rattle.cck_strip.specs.Trie.{At, HasRun, HasRuns, IsForward, IsRun, IsStraight, IsTrie}
-use Rattle.cck_strip.proofs.WalkLemmas.{Pending, Pending-end, Pending-match, Pending-none, Pending-pass, Pending-some, Pending-start, begins}
+use Rattle.cck_strip.specs.Trie.{At, HasRun, HasRuns, IsForward, IsRun, IsStraight, IsTrie, IsWord, leaf_of}
+use Rattle.cck_strip.proofs.WalkLemmas.{Pending, Pending-end, Pending-match, Pending-none, Pending-pass, Pending-some, Pending-start, beginning, begins}
 use Rattle.cck_strip.proofs.LinkLemmas.{inner}
 
 -- a run lies in the vector
@@ -170,6 +170,27 @@ pub none_after : (nodes : List TrieNode) (text : List ℕ) (n : ℕ) (words : Li
 none_after nodes text n words f run t true e h = h refl
 none_after nodes text n words f run t false e h = Pending-run nodes text 0 n root 0 f run (Pending-start nodes text root refl f) false e words t
 
+-- no name at all
+no_name : (o : Option NodeId) → ((id : NodeId) → o ≡ Some id → ⊥) → o ≡ None
+no_name None h = refl
+no_name (Some id) h = absurd (h id refl)
+
+-- the last node names no node below it
+last_below : (nodes : List TrieNode) (n : ℕ) (node : TrieNode) → IsForward nodes → length nodes ≡ n + 1 → At nodes n node → node.below ≡ None
+last_below nodes n node f size at = no_name node.below (λ id e.
+    let named = f.below n node id at e in
+    let later = named.later in
+    let within = named.within in
+    omega arith)
+
+-- and none beside it
+last_beside : (nodes : List TrieNode) (n : ℕ) (node : TrieNode) → IsForward nodes → length nodes ≡ n + 1 → At nodes n node → node.beside ≡ None
+last_beside nodes n node f size at = no_name node.beside (λ id e.
+    let named = f.beside n node id at e in
+    let later = named.later in
+    let within = named.within in
+    omega arith)
+
 -- bytes with which a text begins are in the text
 begun : (text bytes : List ℕ) (k : ℕ) → k < length bytes → starts_with nat_eq text bytes ≡ true → (k < length text) × (get_or text k 0 ≡ get_or bytes k 0)
 begun text bytes k h e =
@@ -202,3 +223,69 @@ RunsFrom-set nodes runs at run h here each i low high = elim (cases_eq i at) [
   | inl e ↦ subst (λ k. IsRun (get_or (set runs at run) k 0) nodes k) (sym e) (subst (λ n. IsRun n nodes at) (sym (get_or-set_same runs at run 0 h)) here)
   | inr ne ↦ subst (λ n. IsRun n nodes i) (sym (get_or-set_other runs at i run 0 ne)) (each i (omega arith) high)
 ]
+
+-- a text that begins with the first n bytes of n + 1, and has the last one after them, begins with all
+begins_all : (text bytes : List ℕ) (n : ℕ) → length bytes ≡ n + 1 → n < length text → starts_with nat_eq text (take n bytes) ≡ true → get_or bytes n 0 ≡ get_or text n 0
+    → starts_with nat_eq text bytes ≡ true
+begins_all text bytes n size h e last = ap (starts_with nat_eq text) whole ∙ beginning text (n + 1)
+  where
+    same : take n bytes ≡ take n text
+    same = begins text (take n bytes) e ∙ ap (λ k. take k text) (omega (arith, length-take n bytes))
+
+    whole : bytes ≡ take (n + 1) text
+    whole =
+        sym (take_all (n + 1) bytes (omega arith))
+        ∙ (take_more bytes n 0 (omega arith)
+        ∙ (ap (λ x. x ++ get_or bytes n 0 ∷ []) same
+        ∙ (ap (λ b. take n text ++ b ∷ []) last ∙ sym (take_more text n 0 h))))
+
+-- a text that begins with some bytes begins with the first n of them
+begins_part : (text bytes : List ℕ) (n : ℕ) → n ≤ length bytes → starts_with nat_eq text bytes ≡ true → starts_with nat_eq text (take n bytes) ≡ true
+begins_part text bytes n h e =
+    ap (starts_with nat_eq text) (ap (take n) (begins text bytes e) ∙ take-take n (length bytes) text h) ∙ beginning text n
+
+-- the only word of a trie is found where the text begins with the bytes of all nodes
+pub only_word : (nodes : List TrieNode) (bytes runs text : List ℕ) (n : ℕ) (words : List (List ℕ)) → IsForward nodes → HasRuns nodes bytes runs → n ≡ get_or runs 0 0 → IsWord nodes n
+    → IsTrie nodes words → (b : Bool) → starts_with nat_eq text bytes ≡ b → cond b (length bytes) 0 ≡ longest_prefix words text
+only_word nodes bytes runs text n words f h kept w t b e = rw h.bytes_are (go b (sym (ap (starts_with nat_eq text) h.bytes_are) ∙ e))
+  where
+    own : List ℕ
+    own = map (λ (x : TrieNode). x.byte) nodes
+
+    size : length own ≡ n + 1
+    size = length-map nodes (λ (x : TrieNode). x.byte) ∙ w.size
+
+    run : IsRun n nodes 0
+    run = IsRun-kept nodes bytes runs 0 n h f.some (kept ∙ get_or_default runs 0 0 n (let some = f.some in omega (arith, h.size)))
+
+    last : TrieNode
+    last = get_or nodes n (leaf_of 0)
+
+    there : At nodes n last
+    there = At-get nodes n (leaf_of 0) (omega (arith, w.size))
+
+    byte : get_or own n 0 ≡ last.byte
+    byte = byte_at nodes n last there
+
+    name : NodeId
+    name = record { 0 = n }
+
+    at_last : starts_with nat_eq text (take n own) ≡ true → Pending nodes text (Some name) n 0
+    at_last begun = Pending-after nodes text n f run begun
+
+    go : (b : Bool) → starts_with nat_eq text own ≡ b → cond b (length own) 0 ≡ longest_prefix words text
+    go true e =
+        let (within, same) = begun text own n (omega (arith, size)) e in
+        size
+        ∙ Pending-none nodes text last.below (n + 1) (n + 1)
+        (Pending-match nodes text name last n 0 (n + 1) (at_last (begins_part text own n (omega (arith, size)) e)) f there within (sym byte ∙ sym same) (rw (w.ends last there) refl))
+        (last_below nodes n last f w.size there) words t
+    go false e = none_after nodes text n words f run t (starts_with nat_eq text (take n own)) refl (λ begun. elim (cases_lt n (length text)) [
+      | inl within ↦ elim (cases_eq last.byte (get_or text n 0)) [
+        | inl same ↦ absurd (false≢true (sym e ∙ begins_all text own n size within begun (byte ∙ same)))
+        | inr other ↦
+            Pending-none nodes text last.beside n 0 (Pending-pass nodes text name last n 0 (at_last begun) f there within other)
+            (last_beside nodes n last f w.size there) words t
+      ]
+      | inr past ↦ Pending-end nodes text (Some name) n 0 (at_last begun) past words t
+    ])

@@ -36,21 +36,11 @@ fn is_boundary(text: &[u8], at: usize) -> bool
     at == 0 || is_separator(text[at - 1])
 }
 
-// The length of this base directory if the text begins with it, else 0.
-fn length_at_start(text: &[u8], basedir: &[u8]) -> usize
-    ensures { result ≡ longest_prefix (basedir.now ∷ []) text.now }
-{
-    if text.starts_with(basedir) {
-        basedir.len()
-    } else {
-        0
-    }
-}
-
 // The sites of a text: base directories at its start or after a separator.
 #[derive(Drop)]
 pub(crate) struct TextSites<'a> {
     pub(crate) text: &'a [u8],
+    // What the trie is of. Only contracts read it.
     pub(crate) basedirs: &'a [Vec<u8>],
     pub(crate) trie: &'a BasedirTrie,
     ghost is_trie: { ∥ IsTrie trie.now (map (λ b. b.items) basedirs.now) ∥₁ },
@@ -64,10 +54,6 @@ impl<'a> Sites for TextSites<'a> {
     fn length_at(&self, at: usize) -> usize {
         if !is_boundary(self.text, at) {
             return 0;
-        }
-        // One base directory is compared faster than found in a trie.
-        if self.basedirs.len() == 1 {
-            return length_at_start(&self.text[at..], &self.basedirs[0]);
         }
         self.trie.longest_at(self.text, at)
     }

@@ -1,11 +1,12 @@
 //! Base directories in a trie, a byte in each node.
-ghost use Rattle.std.specs.Prelude.{◌≡◌, ◌++◌, ◌∷◌, [], ◌<◌, ◌↔◌, ℕ, List, Some, OnOk, IfOk, IsOkUnless, IsTrue, map, drop, length, nat_eq};
+ghost use Rattle.std.specs.Prelude.{◌≡◌, ◌++◌, ◌∷◌, [], ◌<◌, ◌≤◌, ◌↔◌, ℕ, List, Some, OnOk, IfOk, IsOkUnless, IsTrue, map, drop, length, nat_eq};
 ghost use Rattle.std.specs.List.{starts_with};
 ghost use Rattle.std.proofs.Common.{get_or};
 ghost use Rattle.cck_strip.specs.Text.{longest_prefix};
-ghost use Rattle.cck_strip.specs.Trie.{At, Found, Grows, HasRun, IsForward, IsRun, IsStraight, IsTrie, leaf_of};
+ghost use Rattle.cck_strip.specs.Trie.{At, Found, Grows, HasRun, IsForward, IsRun, IsStraight, IsTrie, IsWord, leaf_of};
 ghost use Rattle.cck_strip.specs.declared.node.TrieNode.{TrieNode};
 
+use crate::beginnings::common_beginning;
 use crate::node::{NodeId, TrieNode};
 use cck_digest::UtilError;
 use std::alloc::{AllocError, Global};
@@ -138,6 +139,15 @@ fn node_bytes(alloc: Global, nodes: &[TrieNode]) -> Result<Vec<u8>, AllocError>
     Ok(bytes)
 }
 
+// Whether these nodes are as many as this run has, and one more, which ends a word.
+fn is_word(nodes: &[TrieNode], run: usize) -> bool
+    requires some { 0 < length nodes.now }
+    ensures { IsTrue result ↔ IsWord nodes.now run }
+{
+    let last = nodes.len() - 1;
+    run == last && nodes[last].ends
+}
+
 // Whether the text begins with these bytes. The last one is compared first: paths of a text begin alike
 // more often than they end alike.
 #[inline(always)]
@@ -164,18 +174,22 @@ pub struct BasedirTrie {
     // for each node its byte, and how many nodes from it on are a run.
     bytes: Vec<u8>,
     runs: Vec<usize>,
+    // Whether the nodes spell one word alone, whose bytes are those of all nodes.
+    is_word: bool,
 }
 
 impl Model for BasedirTrie {
-    ghost use Rattle.std.specs.Prelude.{List};
+    ghost use Rattle.std.specs.Prelude.{List, IsTrue};
+    ghost use Rattle.std.proofs.Common.{get_or};
     ghost use Rattle.cck_strip.specs.declared.node.TrieNode.{TrieNode};
-    ghost use Rattle.cck_strip.specs.Trie.{HasRuns, IsForward};
+    ghost use Rattle.cck_strip.specs.Trie.{HasRuns, IsForward, IsWord};
 
     ghost Value = { List TrieNode };
 
     ghost view = { λ a. a.nodes.items };
 
-    ghost invariant = { λ a. IsForward a.nodes.items × HasRuns a.nodes.items a.bytes.items a.runs.items };
+    ghost invariant = { λ a. IsForward a.nodes.items × HasRuns a.nodes.items a.bytes.items a.runs.items
+        × (IsTrue a.is_word → IsWord a.nodes.items (get_or a.runs.items 0 0)) };
 }
 
 impl BasedirTrie {
@@ -187,8 +201,10 @@ impl BasedirTrie {
         ensures errors { IsOkUnless result UtilError.Memory }
     {
         let mut nodes = Vec::new(alloc);
-        // Nearly every base directory begins with this byte.
-        push_leaf(&mut nodes, b'/')?;
+        // The first node is for the byte with which base directories begin, mostly all of them. So the
+        // nodes of a single one are a run and its end.
+        let beginning = common_beginning(basedirs).unwrap_or(&[]);
+        push_leaf(&mut nodes, *beginning.first().unwrap_or(&b'/'))?;
         for basedir in basedirs {
             if !basedir.is_empty() {
                 insert(&mut nodes, basedir)?;
@@ -196,20 +212,43 @@ impl BasedirTrie {
         }
         let bytes = node_bytes(alloc, &nodes)?;
         let runs = run_lengths(alloc, &nodes)?;
-        Ok(BasedirTrie { nodes, bytes, runs })
+        let is_word = is_word(&nodes, runs[0]);
+        Ok(BasedirTrie {
+            nodes,
+            bytes,
+            runs,
+            is_word,
+        })
     }
 
     /// Returns the length in bytes of the longest base directory at this place of the text, and 0
     /// if there is none, as at its end and after it. The bytes before the place don't matter. It
     /// allocates no memory.
-    // Inlined, it takes registers from the search of the text around it.
-    #[inline(never)]
+    // Inlined, it compares a single word without a call of its own.
+    #[inline(always)]
     pub fn longest_at(&self, text: &[u8], at: usize) -> usize
         ensures { (words : List (List ℕ)) → IsTrie self.now words → result ≡ longest_prefix words (drop at text.now) }
     {
         if at > text.len() {
             return 0;
         }
+        if self.is_word {
+            return if text[at..].starts_with(&self.bytes) {
+                self.bytes.len()
+            } else {
+                0
+            };
+        }
+        self.longest_by_walk(text, at)
+    }
+
+    // The length of the longest base directory at this place of the text, by a walk along the nodes.
+    // Inlined, it takes registers from the search of the text around it.
+    #[inline(never)]
+    fn longest_by_walk(&self, text: &[u8], at: usize) -> usize
+        requires { at ≤ length text.now }
+        ensures { (words : List (List ℕ)) → IsTrie self.now words → result ≡ longest_prefix words (drop at text.now) }
+    {
         let rest = &text[at..];
         // All base directories begin with the first run. A search of the text has mostly found it at
         // this place, so it is compared only if one of them may follow.

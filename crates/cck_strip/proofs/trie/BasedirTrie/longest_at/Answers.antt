@@ -1,12 +1,10 @@
-use Rattle.std.proofs.Common.{◌∙◌, ℕ, List, ◌-◌, [], inl, length, nat_eq, take, drop, ap, refl, sym, arith, length-take}
+use Rattle.std.proofs.Common.{◌∙◌, ◌-◌, ℕ, List, [], true, false, inl, length, nat_eq, take, drop, ap, refl, sym, arith}
 use Rattle.std.specs.List.{starts_with}
-use Rattle.std.proofs.lemmas.Bool.{false≢true}
 use Rattle.std.proofs.lemmas.List.{drop_all, take_rest}
 use Rattle.cck_strip.specs.Text.{longest_prefix}
-use Rattle.cck_strip.proofs.RunLemmas.{IsRun-kept, none_after, run_ends}
+use Rattle.cck_strip.proofs.RunLemmas.{only_word}
 use Rattle.cck_strip.proofs.WalkLemmas.{longest_is}
 use Rattle.cck_strip.proofs.trie.BasedirTrie.longest_at.Goals as goal
-use Rattle.cck_strip.proofs.trie.BasedirTrie.longest_at.Goals.{else-longest-gt0-via-then-longest-gt0+else-starts_with, else-longest-gt0-via-else-longest-gt0}
 
 -- the text from a place on, as it is read
 abbrev rest : List ℕ → ℕ → List ℕ
@@ -16,21 +14,15 @@ pub returns-then-at-text : goal.returns-then-at-text
 returns-then-at-text c words t =
     longest_is words [] 0 (omega arith) (λ n le some c. le) (inl refl) ∙ ap (longest_prefix words) (sym (drop_all c.args.at c.args.text.now (omega (arith, c.if-at-text.true))))
 
-pub slice_bounds-starts_with-end : goal.slice_bounds-starts_with-end
-slice_bounds-starts_with-end c =
-    let some = c.self.invariant.0.some in
-    let ends = run_ends _ _ _ 0 _ c.self.invariant.1 some c.index-shared.ensures in
-    omega (arith, ap length c.deref.ensures.value, length-take c.index-shared.result.now c.deref.result.now)
+pub returns-then-starts_with : goal.returns-then-starts_with
+returns-then-starts_with c words t =
+    c.len.ensures ∙ c.self.inside.bytes.ok.0
+    ∙ only_word _ _ _ (rest c.args.text.now c.args.at) _ words c.self.invariant.0 c.self.invariant.1 refl (c.self.invariant.2 c.if-self.true) (rw c.self.view_is t) true
+    (ap (starts_with nat_eq (rest c.args.text.now c.args.at)) (sym c.deref.ensures.value) ∙ sym c.starts_with.ensures.value ∙ c.if-starts_with.true)
+    ∙ ap (longest_prefix words) (take_rest c.args.text.now c.args.at)
 
-pub returns : goal.returns
-returns c words t =
-    let run = IsRun-kept _ _ _ 0 _ c.self.invariant.1 c.self.invariant.0.some c.index-shared.ensures in
-    none_after _ (rest c.args.text.now c.args.at) _ words c.self.invariant.0 run (rw c.self.view_is t) _ refl (λ h.
-    elim c.else-longest-gt0.branch [
-      | else-longest-gt0-via-then-longest-gt0+else-starts_with w ↦
-          let same = w.deref.ensures.value ∙ c.self.invariant.1.bytes_are in
-          absurd (false≢true (sym w.if-starts_with.false ∙ (w.starts_with.ensures.value
-          ∙ (ap (λ bytes. starts_with nat_eq (rest c.args.text.now c.args.at) (take c.index-shared.result.now bytes)) same ∙ h))))
-      | else-longest-gt0-via-else-longest-gt0 w ↦ let none = w.if-longest-gt0.false in omega (arith, c.longest_after-longest.ensures words t (rw (← c.self.view_is) h))
-    ])
+pub returns-else-starts_with : goal.returns-else-starts_with
+returns-else-starts_with c words t =
+    only_word _ _ _ (rest c.args.text.now c.args.at) _ words c.self.invariant.0 c.self.invariant.1 refl (c.self.invariant.2 c.if-self.true) (rw c.self.view_is t) false
+    (ap (starts_with nat_eq (rest c.args.text.now c.args.at)) (sym c.deref.ensures.value) ∙ sym c.starts_with.ensures.value ∙ c.if-starts_with.false)
     ∙ ap (longest_prefix words) (take_rest c.args.text.now c.args.at)
