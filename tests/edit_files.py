@@ -60,7 +60,7 @@ def place_of(old, text, path):
 
 
 def functions_of(path, text):
-    """For each function of a source file, a pattern for the name that a check gives it, and where it begins and ends."""
+    """For each function of a source file a pattern for the name that a check gives it, and where it begins and ends."""
     module = "::".join(path.removeprefix("src/").removesuffix(".rt").split("/")) + "::"
     module = "" if module in ("lib::", "main::") else module
     owner, name, indent, first, start = "", None, "", 0, 0

@@ -1,27 +1,30 @@
-"""Checks without the prover that each edit applies, those of the gate and those of tests/edits/: `python3 tests/edits_apply.py`.
+"""Checks without the prover that each edit applies, of the gate and of tests/edits/: `python3 tests/edits_apply.py`.
 
 Each old text has to be in its file once, pair after pair. What a new text names has to be there after the edit: a
 local in the changed function, a function or a type in the file, a field or a method in a source of the repository.
-What an edit says outside functions is not looked at. It prints what is wrong, and ends with status 1 if anything is."""
+A method of std that edits alone call is in OF_STD. What an edit says outside functions is not looked at. It prints
+what is wrong, and ends with status 1 if anything is."""
 import re
 
-from edit_files import DoesNotApply, TREE, crate_of, functions_of, gate_edits, hand_edits, pairs_of, place_of, source, uses
+from edit_files import (DoesNotApply, TREE, crate_of, functions_of, gate_edits, hand_edits, pairs_of, place_of, source,
+                        uses)
 
 WORD = re.compile(r"(?<![\w'])[A-Za-z_]\w*")
 TEXT = re.compile(r'"(?:[^"\\]|\\.)*"|\'(?:[^\'\\]|\\[^\']+)\'|//.*')
 KEYWORDS = set("_ as b break const continue else enum false fn for if impl in let loop match mod move mut pub ref return"
                " self Self static struct super trait true type unsafe use where while crate dyn".split())
-# Of std: what every file has in scope, and methods that edits alone call.
-OF_STD = set("bool char f64 i8 i16 i32 i64 isize str u8 u16 u32 u64 u128 usize Box Clone Copy Drop Eq Err None Ok Option Ord"
-             " PartialEq Result Some String Vec std core alloc"
-             " first_key_value is_le leading_zeros reverse sort_unstable_by".split())
-BINDING = re.compile(r"\bconst (\w+)|\bfn (\w+)\(([^()]*)\)|\blet (.*?) ?=[^=]|\bfor (.*?) in\b|\|([\w\s,&():]*)\|(?!\|)")
+# What every file has of std, and methods of std that edits alone call.
+OF_STD = set("bool char f64 i8 i16 i32 i64 isize str u8 u16 u32 u64 u128 usize Box Clone Copy Drop Eq Err None Ok"
+             " Option Ord PartialEq Result Some String Vec std core alloc"
+             " first_key_value is_le leading_zeros reverse sort_unstable_by split_last".split())
+BINDING = re.compile(r"\bconst (\w+)|\bfn (\w+)\(([^()]*)\)|\blet (.*?) ?=[^=]"
+                     r"|\bfor (.*?) in\b|\|([\w\s,&():]*)\|(?!\|)")
 CLAUSE = re.compile(r"\b(?:ensures|requires)\b[^{]*\{(?:[^{}]|\{[^{}]*\})*\}")
 USE = re.compile(r"^(?:pub )?use .*?;|\b(?:fn|const) \w+", re.M | re.S)
 
 
 def changed_by(edit, folder):
-    """The files that an edit changes: for each its text afterwards, and the same with a 0 in place of each new character."""
+    """The files that an edit changes: for each its text afterwards, and this with zero bytes for what is new."""
     files = {}
     for path, old, new in pairs_of(edit):
         text, kept = files.get(path) or (source(folder, path),) * 2

@@ -77,6 +77,8 @@ def judged(name, status, said):
     if not faults and "it stands on" in status and path.replace("/", ".") not in status:
         return "proved", ""
     of_meaning = [fault for fault in faults if not GONE.search(fault)]
+    # What names a clause is shown before what names an invariant.
+    of_meaning.sort(key=lambda fault: "-clause-" not in fault)
     is_rejected = of_meaning or not faults and status != "not proved"
     return "rejected" if is_rejected else "undecided", (of_meaning or faults or [status])[0]
 
@@ -176,7 +178,10 @@ def named(names, edits_in):
     found = []
     for name in names:
         crate, _, edit = name.partition("/")
-        found += [one for one in edits_in(crate) if not edit or one.stem == edit.removesuffix(".edit")]
+        own = [one for one in edits_in(crate) if not edit or one.stem == edit.removesuffix(".edit")]
+        if not own:
+            raise SystemExit(f"no edit is named {name}")
+        found += own
     return list(dict.fromkeys(found))
 
 
