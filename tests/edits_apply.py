@@ -11,12 +11,12 @@ from edit_files import (DoesNotApply, TREE, crate_of, functions_of, gate_edits, 
 
 WORD = re.compile(r"(?<![\w'])[A-Za-z_]\w*")
 TEXT = re.compile(r'"(?:[^"\\]|\\.)*"|\'(?:[^\'\\]|\\[^\']+)\'|//.*')
-KEYWORDS = set("_ as b break const continue else enum false fn for if impl in let loop match mod move mut pub ref return"
-               " self Self static struct super trait true type unsafe use where while crate dyn".split())
+KEYWORDS = set("_ as b break const continue else enum false fn for if impl in let loop match mod move mut pub ref"
+               " return self Self static struct super trait true type unsafe use where while crate dyn".split())
 # What every file has of std, and methods of std that edits alone call.
 OF_STD = set("bool char f64 i8 i16 i32 i64 isize str u8 u16 u32 u64 u128 usize Box Clone Copy Drop Eq Err None Ok"
              " Option Ord PartialEq Result Some String Vec std core alloc"
-             " first_key_value is_le leading_zeros reverse sort_unstable_by split_last".split())
+             " first_key_value is_char_boundary is_le leading_zeros reverse sort_unstable_by split_last".split())
 BINDING = re.compile(r"\bconst (\w+)|\bfn (\w+)\(([^()]*)\)|\blet (.*?) ?=[^=]"
                      r"|\bfor (.*?) in\b|\|([\w\s,&():]*)\|(?!\|)")
 CLAUSE = re.compile(r"\b(?:ensures|requires)\b[^{]*\{(?:[^{}]|\{[^{}]*\})*\}")

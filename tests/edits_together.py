@@ -4,10 +4,10 @@ In a copy of the working tree it applies in each round as many edits of a crate 
 function, and runs `rt check --allow-holes` there. For each edit it prints whether the function that it changes
 is rejected, proved or undecided, and the line of the check that says so. The contracts of the functions that it
 calls hold there, changed or not. What is rejected only for a name that the edit took away, or before the prover is
-asked, is undecided. What is proved is tried once more by itself, and is proved only if the whole crate is. An edit of
-text outside functions has a round of its own. The crates below are proved once: `--built TREE` copies the
-directories crates/*/out of another checkout with the same sources, and `--room DIRECTORY` keeps the copy for
-the next run."""
+asked, is undecided. What is proved, or waits for another changed function, is tried once more by itself, and is proved
+only if the whole crate is. An edit of text outside functions has a round of its own. The crates below are proved once:
+`--built TREE` copies the directories crates/*/out of another checkout with the same sources, and `--room DIRECTORY`
+keeps the copy for the next run."""
 import argparse
 import contextlib
 import pathlib
@@ -20,7 +20,10 @@ from edit_files import DoesNotApply, TREE, apply, crate_of, hand_edits, uses
 
 STATUS = re.compile(r"(?:fn|impl|trait|struct|enum) (\S+): (.*)")
 # What a line says of a function that is proved but for what it calls.
-WAITS = re.compile(r"no holes|proved|no proof: it calls|not proved; it (?:calls|waits)|depends on a hole")
+WAITS = re.compile(r"no holes|proved|no proof: it calls|not proved; it (?:calls|waits)|depends on a hole"
+                   r"|no proof: the borrow checker's part in its proof is not made yet: a call of")
+# What a line says of a function that the prover was not asked about.
+NOT_TRIED = re.compile(r"could not tell|the borrow checker")
 # What an error says of a line of a proof by hand that names what an edit took away.
 GONE = re.compile(r"has no field|is not in scope|has no `|was not admitted")
 
@@ -62,7 +65,7 @@ def judged(name, status, said):
     """What a line of a check says of one function or type."""
     if WAITS.match(status):
         return "proved", ""
-    if "could not tell" in status:
+    if NOT_TRIED.search(status):
         return "undecided", status
     if "it stands on" not in status and status != "not proved":
         return "rejected", status
