@@ -1,83 +1,31 @@
-"""Tries many edits of tests/edits/ at once: `python3 tests/edits_together.py CRATE..`, or CRATE/EDIT for one.
+"""Tries many edits of tests/edits/ at once: `python3 tests/edits_together.py [CRATE..]`, or CRATE/EDIT for one.
 
 In a copy of the working tree it applies in each round as many edits of a crate as it can, at most one to a
 function, and runs `rt check --allow-holes` there. For each edit it prints whether the function that it changes
-is rejected, proved or undecided; the contracts of the functions that it calls hold there, changed or not. What
-is neither rejected nor undecided is tried once more by itself, and is proved only if the whole crate is. An edit
-of text outside functions has a round of its own. The crates below are proved once: `--built TREE` copies the
-directories crates/*/out of another checkout with the same sources, and `--room DIRECTORY` keeps the copy for
-the next run."""
+is rejected, proved or undecided, and the line of the check that says so. The contracts of the functions that it
+calls hold there, changed or not. What is rejected only for a name that the edit took away, or before the prover is
+asked, is undecided. What is proved, or waits for another changed function, is tried once more by itself, and is proved
+only if the whole crate is. An edit of text outside functions has a round of its own. The crates below are proved once:
+`--built TREE` copies the directories crates/*/out of another checkout with the same sources, and `--room DIRECTORY`
+keeps the copy for the next run."""
 import argparse
+import contextlib
 import pathlib
 import re
 import shutil
 import subprocess
 import tempfile
 
-TREE = pathlib.Path(__file__).resolve().parent.parent
-EDITS = TREE / "tests" / "edits"
-IMPL = re.compile(r"impl(?:<.*?>)? (?:(\w+)(?:<(\w\w+).*>)? for )?(?:&|\w+::)*(\w+)")
-FUNCTION = re.compile(r"( *)(?:[\w()\"]+ )*?fn (\w+)")
-NEXT_ITEM = re.compile(r"///|//|#\[|pub |fn |ghost |const |type |impl|trait |struct |enum |mod |use ")
+from edit_files import DoesNotApply, TREE, apply, crate_of, hand_edits, uses
+
 STATUS = re.compile(r"(?:fn|impl|trait|struct|enum) (\S+): (.*)")
 # What a line says of a function that is proved but for what it calls.
-WAITS = re.compile(r"no holes|proved|no proof: it calls|not proved; it (?:calls|waits)|depends on a hole")
+WAITS = re.compile(r"no holes|proved|no proof: it calls|not proved; it (?:calls|waits)|depends on a hole"
+                   r"|no proof: the borrow checker's part in its proof is not made yet: a call of")
+# What a line says of a function that the prover was not asked about.
+NOT_TRIED = re.compile(r"could not tell|the borrow checker")
 # What an error says of a line of a proof by hand that names what an edit took away.
 GONE = re.compile(r"has no field|is not in scope|has no `|was not admitted")
-
-
-def pairs_of(edit):
-    """The file, the old text and the new text of each pair of an edit."""
-    path = old = ""
-    for line in edit.read_text().split("\n"):
-        key, _, text = line.partition(":")
-        text = text.removeprefix(" ")
-        if key == "file":
-            path = text.strip()
-        elif key == "old":
-            old = text
-        elif key == "new":
-            yield path, old, text
-
-
-def function_at(path, text, place):
-    """A pattern for the name that a check gives the function with this place of a source file, if there is one."""
-    module = "::".join(path.removeprefix("src/").removesuffix(".rt").split("/")) + "::"
-    module = "" if module in ("lib::", "main::") else module
-    owner, name, indent, start = "", None, "", 0
-    for line in text.split("\n"):
-        end = start + len(line)
-        if name and line.startswith(indent) and NEXT_ITEM.match(line, len(indent)):
-            name = None
-        if line.startswith(("impl", "trait ", "pub trait ")):
-            head = IMPL.match(line)
-            owner = r"\w*".join(filter(None, (head[3], head[1], head[2]))) if head else r"\w+"
-            # A check names a type's own methods by the module of the type, whichever module their impl is in.
-            owner = (r"(?:\w+::)*" if head and not head[1] else module) + owner + "::"
-        elif line == "}":
-            owner = ""
-        if (head := FUNCTION.match(line)) and name is None:
-            indent, name = head[1], head[2]
-        if start <= place <= end:
-            return rf"\w+::{owner if owner and indent else module}{name}(?:::.*)?" if name else None
-        if name and line == indent + "}":
-            name = None
-        start = end + 1
-    return None
-
-
-def apply(edit, texts, folder):
-    """Applies an edit to these texts of files. Returns patterns of the functions that it changes, None among
-    them for text outside functions, or nothing if an old text is not there exactly once."""
-    changed, functions = dict(texts), set()
-    for path, old, new in pairs_of(edit):
-        text = changed.get(path) or (folder / path).read_text()
-        if text.count(old) != 1:
-            return None
-        functions.add(function_at(path, text, text.index(old)))
-        changed[path] = text.replace(old, new)
-    texts.update(changed)
-    return functions
 
 
 def next_round(edits, folder):
@@ -85,8 +33,11 @@ def next_round(edits, folder):
     texts, chosen, taken = {}, {}, set()
     for edit in edits:
         tried = dict(texts)
-        functions = apply(edit, tried, folder)
-        if functions is None or taken & functions or (None in functions and chosen):
+        try:
+            functions = apply(edit, tried, folder)
+        except DoesNotApply:
+            continue
+        if taken & functions or (None in functions and chosen):
             continue
         texts, chosen[edit] = tried, functions
         taken |= functions
@@ -114,10 +65,10 @@ def judged(name, status, said):
     """What a line of a check says of one function or type."""
     if WAITS.match(status):
         return "proved", ""
-    if "could not tell" in status:
+    if NOT_TRIED.search(status):
         return "undecided", status
     if "it stands on" not in status and status != "not proved":
-        return "rejected", f"{name}: {status}"
+        return "rejected", status
     # Its proof is by hand. If only the proof of another function is refused, it waits for that one.
     path = name.split("::", 1)[1].replace("::", "/")
     # Functions that call one another have one proof, in a directory whose name begins with `+`.
@@ -129,20 +80,22 @@ def judged(name, status, said):
     if not faults and "it stands on" in status and path.replace("/", ".") not in status:
         return "proved", ""
     of_meaning = [fault for fault in faults if not GONE.search(fault)]
+    # What names a clause is shown before what names an invariant.
+    of_meaning.sort(key=lambda fault: "-clause-" not in fault)
     is_rejected = of_meaning or not faults and status != "not proved"
     return "rejected" if is_rejected else "undecided", (of_meaning or faults or [status])[0]
 
 
 def verdict(functions, said):
-    """What a check says of these functions, or of all functions and types if None is among them."""
+    """What a check says of these functions, or of all functions and types if None is among them, with its name."""
     lines = [(found[1], found[2]) for found in map(STATUS.fullmatch, said.split("\n")) if found]
-    found = [judged(name, status, said) for name, status in lines
+    found = [(name, *judged(name, status, said)) for name, status in lines
              if None in functions or any(re.fullmatch(one, name) for one in functions)]
     for kind in ("rejected", "undecided"):
-        for one in found:
-            if one[0] == kind:
-                return one
-    return found[0] if found else ("undecided", "the check has no line for its function")
+        for name, one, line in found:
+            if one == kind:
+                return kind, f"{name}: {line}"
+    return ("proved", "") if found else ("undecided", "the check has no line for its function")
 
 
 def try_alone(room, crate, edit):
@@ -158,10 +111,11 @@ def try_together(room, crate, edits):
     """Yields each of these edits with its verdict, and what the check said of it."""
     folder, left = room / "crates" / crate, []
     for edit in edits:
-        if apply(edit, {}, folder) is None:
-            yield edit, "undecided", "it does not apply"
-        else:
+        try:
+            apply(edit, {}, folder)
             left.append(edit)
+        except DoesNotApply as fault:
+            yield edit, "undecided", f"it does not apply: {fault}"
     most = len(left)
     while left:
         chosen, texts = next_round(left[:most], folder)
@@ -182,17 +136,12 @@ def try_together(room, crate, edits):
 
 def below(crate):
     """A crate and all crates of the repository that it stands on."""
-    uses = {}
-    for line in (TREE / "crates.txt").read_text().split("\n"):
-        name, _, words = line.partition("#")[0].partition(":")
-        if name.split():
-            uses[name.split()[0]] = words.split()
-    found, left = set(), [crate]
+    uses_of, found, left = uses(), set(), [crate]
     while left:
         name = left.pop()
-        if name in uses and name not in found:
+        if name in uses_of and name not in found:
             found.add(name)
-            left += uses[name]
+            left += uses_of[name]
     return found
 
 
@@ -209,42 +158,50 @@ def copy_tree(room, crate, built):
             shutil.copytree(left, kept, symlinks=True)
 
 
-def run(room, names, built):
-    """Tries the edits of these names, and prints what comes of each."""
-    wanted = {}
-    for name in names:
-        crate, _, edit = name.partition("/")
-        pattern = edit.removesuffix(".edit") if edit else "*"
-        wanted.setdefault(crate, []).extend(sorted((EDITS / crate).glob(f"{pattern}.edit")))
+def run(room, edits, built):
+    """Tries these edits, and prints what comes of each. Returns whether all are rejected."""
     counts = dict.fromkeys(("rejected", "proved", "undecided"), 0)
-    for crate, edits in wanted.items():
+    for crate in dict.fromkeys(map(crate_of, edits)):
+        own = [edit for edit in edits if crate_of(edit) == crate]
         copy_tree(room, crate, built)
         said, status = check(room, crate, {}, [])
         if status != 0:
             print(said[-2000:], f"{crate}: not proved without its edits", sep="\n", flush=True)
-            counts["undecided"] += len(edits)
+            counts["undecided"] += len(own)
             continue
-        for edit, found, line in try_together(room, crate, edits):
+        for edit, found, line in try_together(room, crate, own):
             counts[found] += 1
             print(f"{crate}/{edit.stem}: {found}{line and ': '}{line[:300]}", flush=True)
     print(*(f"{count} {found}" for found, count in counts.items()), sep=", ")
-    return counts["rejected"] == sum(counts.values())
+    return counts["rejected"] == len(edits)
 
 
-def main():
-    parser = argparse.ArgumentParser(description=__doc__, formatter_class=argparse.RawDescriptionHelpFormatter)
-    parser.add_argument("names", nargs="+", metavar="CRATE or CRATE/EDIT")
+def named(names, edits_in):
+    """The edits of these names, each CRATE or CRATE/EDIT, of those that a crate has."""
+    found = []
+    for name in names:
+        crate, _, edit = name.partition("/")
+        own = [one for one in edits_in(crate) if not edit or one.stem == edit.removesuffix(".edit")]
+        if not own:
+            raise SystemExit(f"no edit is named {name}")
+        found += own
+    return list(dict.fromkeys(found))
+
+
+def main(what, edits_in):
+    """Tries those of the edits of each crate that the command line names. `what` is what its help says."""
+    parser = argparse.ArgumentParser(description=what, formatter_class=argparse.RawDescriptionHelpFormatter)
+    parser.add_argument("names", nargs="*", metavar="CRATE or CRATE/EDIT")
     parser.add_argument("--room", type=pathlib.Path, help="the copy, kept for the next run")
     parser.add_argument("--built", type=pathlib.Path, default=TREE, help="the checkout whose crates/*/out are copied")
     given = parser.parse_args()
-    if given.room:
-        given.room.mkdir(parents=True, exist_ok=True)
-        done = run(given.room.resolve(), given.names, given.built)
-    else:
-        with tempfile.TemporaryDirectory() as room:
-            done = run(pathlib.Path(room), given.names, given.built)
+    edits = named(given.names or map(crate_of, edits_in()), edits_in)
+    with contextlib.ExitStack() as kept:
+        room = given.room or pathlib.Path(kept.enter_context(tempfile.TemporaryDirectory()))
+        room.mkdir(parents=True, exist_ok=True)
+        done = run(room.resolve(), edits, given.built)
     raise SystemExit(not done)
 
 
 if __name__ == "__main__":
-    main()
+    main(__doc__, hand_edits)
