@@ -7,12 +7,12 @@ use Rattle.cck_files.proofs.CallsLemmas.{rose_earlier, rose_later}
 use Rattle.cck_files.specs.Calls.{Rose}
 use Rattle.cck_key_error.specs.declared.key_error.KeyError.{KeyError}
 use Rattle.cck_store.specs.Store.{Store}
-use Rattle.c_cache_keys.proofs.Widen.{wide_asks, wide_makes}
+use Rattle.c_cache_keys.proofs.Widen.{wide_gives, wide_makes}
 use Rattle.c_cache_keys.specs.Asking.{IsFound, IsFoundBy, asked_of}
 use Rattle.c_cache_keys.specs.Call.{CallResult, Call, Keyed, ReturnsError, Why, Memory}
 use Rattle.c_cache_keys.specs.Opening.{IsOpening}
 use Rattle.c_cache_keys.specs.Seen.{why_of}
-use Rattle.c_cache_keys.specs.Step.{Asked, Failed, Hit, Makes, Miss, Step, StopsOpening, asked, made, matching, stopped}
+use Rattle.c_cache_keys.specs.Step.{Asked, Failed, Hit, Makes, Miss, Step, StopsOpening, asked, made, matching, opening_lacks, stopped}
 use Rattle.c_cache_keys.specs.World.{World}
 use Rattle.c_cache_keys.specs.declared.hasher.opening.Opening.{Opening}
 
@@ -29,7 +29,7 @@ module _ {V S : Type 0} (w : World V) (st : Store S) (c : Call V) (F : Type 0) w
 
   -- memory runs out before that
   pub step_starved : (s : S) → Step w st c F s (ReturnsError Memory) s
-  step_starved s = stopped Memory tt refl refl
+  step_starved s = stopped Memory opening_lacks refl refl
 
 module _ {V S : Type 0} (w : World V) (st : Store S) (c : Call V) (o : Opening) (opens : IsOpening w c o) where
   -- what is found under the preprocessor key of the first part is found under the call's key
@@ -49,7 +49,8 @@ module _ {V S : Type 0} (w : World V) (st : Store S) (c : Call V) (o : Opening) 
         by : IsFound w st c (Rose second last) s (Hit (string_bytes key)) t → Step w st c (Rose first last) s (Keyed (string_bytes key) false) t
         by (inl not) = absurd (hit_miss not.1)
         by (inr (k, is-k, control, asks)) =
-            asked opens.opened k is-k control (Hit (string_bytes key)) t (wide_asks w c (Rose second last) (Rose first last) (rose_earlier first second last up) st k s (Hit (string_bytes key)) t asks) (refl, refl)
+            asked opens.opened k is-k control asks.from_store t asks.got (Hit (string_bytes key))
+            (wide_gives (matching w c) (Rose second last) (Rose first last) (rose_earlier first second last up) asks.from_store (Hit (string_bytes key)) asks.gives) (refl, refl)
 
     -- asking the store fails
     pub step_failed : (e : KeyError) → IsFoundBy st (option_map string_bytes o.key) c.control (matching w c) (Rose second last) s (asked_of (Err e)) t
@@ -59,7 +60,8 @@ module _ {V S : Type 0} (w : World V) (st : Store S) (c : Call V) (o : Opening) 
         by : IsFound w st c (Rose second last) s (Failed (why_of e)) t → Step w st c (Rose first last) s (ReturnsError (why_of e)) t
         by (inl not) = absurd (failed_miss not.1)
         by (inr (k, is-k, control, asks)) =
-            asked opens.opened k is-k control (Failed (why_of e)) t (wide_asks w c (Rose second last) (Rose first last) (rose_earlier first second last up) st k s (Failed (why_of e)) t asks) (refl, refl)
+            asked opens.opened k is-k control asks.from_store t asks.got (Failed (why_of e))
+            (wide_gives (matching w c) (Rose second last) (Rose first last) (rose_earlier first second last up) asks.from_store (Failed (why_of e)) asks.gives) (refl, refl)
 
     -- the key is computed
     pub step_made : (third : ℕ) → second ≤ third → third ≤ last → (mid : S) (found : Option (String Global)) → found ≡ None
@@ -71,5 +73,5 @@ module _ {V S : Type 0} (w : World V) (st : Store S) (c : Call V) (o : Opening) 
         by : IsFound w st c (Rose second third) s Miss mid → Makes w st c (Rose first last) mid r t → Step w st c (Rose first last) s r t
         by (inl not) wide = made opens.opened not.0 (subst (λ m. Makes w st c (Rose first last) m r t) not.2 wide)
         by (inr (k, is-k, control, asks)) wide =
-            asked opens.opened k is-k control Miss mid
-            (wide_asks w c (Rose second third) (Rose first last) (λ rose. rose_earlier first second last up (rose_later second third last rest rose)) st k s Miss mid asks) wide
+            asked opens.opened k is-k control asks.from_store mid asks.got Miss
+            (wide_gives (matching w c) (Rose second third) (Rose first last) (λ rose. rose_earlier first second last up (rose_later second third last rest rose)) asks.from_store Miss asks.gives) wide

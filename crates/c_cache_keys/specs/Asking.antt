@@ -4,11 +4,11 @@ use Rattle.std.specs.declared.alloc.Global.{Global}
 use Rattle.cck_include.specs.Include.{Include}
 use Rattle.cck_key_error.specs.declared.key_error.KeyError.{KeyError}
 use Rattle.cck_path.specs.Bytes.{Bytes}
-use Rattle.cck_store.specs.Store.{Store}
+use Rattle.cck_store.specs.Store.{Returned, Store}
 use Rattle.c_cache_keys.specs.Call.{Call}
 use Rattle.c_cache_keys.specs.Keys.{preprocessor_key_of}
 use Rattle.c_cache_keys.specs.Seen.{why_of}
-use Rattle.c_cache_keys.specs.Step.{Asked, AsksBy, Failed, Hit, Miss, matching}
+use Rattle.c_cache_keys.specs.Step.{Asked, Failed, Gives, Hit, Miss, matching}
 use Rattle.c_cache_keys.specs.World.{World}
 use Rattle.c_cache_keys.specs.declared.call.CacheControl.{CacheControl}
 use Rattle.c_cache_keys.specs.declared.call.CacheControl.TheVariants.{Default, ForceRecache}
@@ -18,6 +18,12 @@ abbrev pub asked_of : Result (Option (String Global)) KeyError → Asked
 asked_of (Ok None) = Miss
 asked_of (Ok (Some key)) = Hit (string_bytes key)
 asked_of (Err e) = Failed (why_of e)
+
+-- the store is asked once, under this key
+pub record AsksBy {S : Type 0} (st : Store S) (test : Include → Bool) (F : Type 0) (k : Bytes) (s : S) (o : Asked) (t : S) : Type 0 where
+  pub from_store : Returned
+  pub got : st.got s k from_store t
+  pub gives : Gives test F from_store o
 
 -- The store is asked under this key; or it isn't, where there is no key or no stored key may be returned.
 abbrev pub IsFoundBy : {S : Type 0} → Store S → Option Bytes → CacheControl → (Include → Bool) → Type 0 → S → Asked → S → Type 0
