@@ -21,7 +21,7 @@ use Rattle.cck_util.specs.Key.{KeyParts, material}
 use Rattle.cck_util.specs.Language.{is_preprocessed_first}
 use Rattle.cck_util.specs.Variables.{include_path_names, object_variable_names, object_variables, request_variables}
 use Rattle.c_cache_keys.specs.Call.{Call, Request}
-use Rattle.c_cache_keys.specs.Keys.{extra_texts, input_file, input_recorded, is_preprocessed, key_material, plain_key, plain_parts, preprocessor_key_of, printed, request_parts, text_of, uses_cache}
+use Rattle.c_cache_keys.specs.Keys.{extra_texts, input_file, input_recorded, key_material, plain_key, plain_parts, preprocessor_key_of, printed, request_parts, text_of, uses_cache}
 use Rattle.c_cache_keys.specs.Premises.{Agree}
 use Rattle.c_cache_keys.specs.Walk.{input_path}
 use Rattle.c_cache_keys.specs.World.{World, setting}
@@ -98,9 +98,9 @@ module _ {V : Type 0} (w : World V) where
       (n, ok_of_some (file_at c.files (components (input_path c))) n is, digest)
 
   -- where a cache is used, a preprocessor is needed
-  pub used_prints : (q : Request V) → uses_cache w q ≡ true → is_preprocessed q ≡ true
+  pub used_prints : (q : Request V) → uses_cache w q ≡ true → is_preprocessed_first q.arguments.language ≡ true
   unfolding uses_cache
-  used_prints q e = (and_parts (is_preprocessed q) _ e).0
+  used_prints q e = (and_parts (is_preprocessed_first q.arguments.language) _ e).0
 
   -- equal key material is of equal parts, equal hex digests of the extra files, and one recorded digest of the input
   pub material_same : (c d : Call V) (m : Bytes) → key_material w c ≡ Some m → key_material w d ≡ Some m
@@ -125,7 +125,7 @@ module _ {V : Type 0} (w : World V) where
       same_Some p.cwd q.cwd
       (ap (λ b. cond b (Some p.cwd) None) (sym on) ∙ ap (λ parts. parts.directory) same ∙ ap (λ b. cond b (Some q.cwd) None) on)
 
-  needs_is_determined : (p q : Request V) (i j : Bytes) → request_parts w p i ≡ request_parts w q j → is_preprocessed p ≡ is_preprocessed q
+  needs_is_determined : (p q : Request V) (i j : Bytes) → request_parts w p i ≡ request_parts w q j → is_preprocessed_first p.arguments.language ≡ is_preprocessed_first q.arguments.language
   unfolding request_parts
   needs_is_determined p q i j same = ap (λ parts. is_preprocessed_first parts.language) same
 
@@ -149,7 +149,7 @@ module _ {V : Type 0} (w : World V) where
       ap (λ variables. digest_text w.hash (material (record (parts_of_key extra_hashes text (request_parts w q input)) { variables = variables })))
       (sym (object_among_request q.env_vars))
 
-  text_printed : (c : Call V) (text : Bytes) → is_preprocessed c.request ≡ true → printed w c ≡ Some text → text_of w c ≡ Some text
+  text_printed : (c : Call V) (text : Bytes) → is_preprocessed_first c.request.arguments.language ≡ true → printed w c ≡ Some text → text_of w c ≡ Some text
   unfolding text_of
   text_printed c text needs is = ap (λ b. cond b (printed w c) (option_map (λ n. n.contents) (input_file w c))) needs ∙ is
 
@@ -161,7 +161,7 @@ module _ {V : Type 0} (w : World V) where
       ∙ sym (key_from_parts d.request (input_path d) extra_hashes text)
 
   -- calls that agree, for which the same is printed, have one plain key
-  pub plain_same : (c d : Call V) (text : Bytes) → is_preprocessed c.request ≡ true → Agree w c d text
+  pub plain_same : (c d : Call V) (text : Bytes) → is_preprocessed_first c.request.arguments.language ≡ true → Agree w c d text
       → printed w c ≡ Some text → printed w d ≡ Some text → plain_key w c ≡ plain_key w d
   unfolding plain_key
   plain_same c d text needs agree is is' =

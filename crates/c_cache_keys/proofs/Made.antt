@@ -32,7 +32,8 @@ use Rattle.c_cache_keys.proofs.Includes.{added_alone}
 use Rattle.c_cache_keys.proofs.Opened.{some_none}
 use Rattle.c_cache_keys.specs.Call.{Call, Memory}
 use Rattle.c_cache_keys.specs.Included.{digested_of}
-use Rattle.c_cache_keys.specs.Keys.{extra_texts, input_file, is_preprocessed, key_material, plain_key, plain_parts, preprocessor_key_of, printed, text_of, uses_cache}
+use Rattle.cck_util.specs.Language.{is_preprocessed_first}
+use Rattle.c_cache_keys.specs.Keys.{extra_texts, input_file, key_material, plain_key, plain_parts, preprocessor_key_of, printed, text_of, uses_cache}
 use Rattle.c_cache_keys.specs.Making.{IsPreprocessed, made_of}
 use Rattle.c_cache_keys.specs.Errors.{input_error, text_error}
 use Rattle.c_cache_keys.specs.Seen.{why_of}
@@ -87,11 +88,11 @@ module _ {V : Type 0} (w : World V) (c : Call V) (text : Bytes) (F : Type 0) whe
       by (walk, includes, are, same, gathers) = (walk, (includes, are, same, gathers))
 
 module _ {V S : Type 0} (w : World V) (st : Store S) (c : Call V) (F : Type 0) where
-  prints_text : (text : Bytes) → is_preprocessed c.request ≡ true → printed w c ≡ Some text → text_of w c ≡ Some text
+  prints_text : (text : Bytes) → is_preprocessed_first c.request.arguments.language ≡ true → printed w c ≡ Some text → text_of w c ≡ Some text
   unfolding text_of
   prints_text text needs is = ap (λ b. cond b (printed w c) (option_map (λ n. n.contents) (input_file w c))) needs ∙ is
 
-  no_preprocessor : (bytes : Bytes) (n : FileNode) → is_preprocessed c.request ≡ false → input_file w c ≡ Some n → n.contents ≡ bytes → text_of w c ≡ Some bytes
+  no_preprocessor : (bytes : Bytes) (n : FileNode) → is_preprocessed_first c.request.arguments.language ≡ false → input_file w c ≡ Some n → n.contents ≡ bytes → text_of w c ≡ Some bytes
   unfolding text_of
   no_preprocessor bytes n needs is same =
       ap (λ b. cond b (printed w c) (option_map (λ n. n.contents) (input_file w c))) needs ∙ ap (option_map (λ (n : FileNode). n.contents)) is ∙ ap Some same
@@ -102,7 +103,7 @@ module _ {V S : Type 0} (w : World V) (st : Store S) (c : Call V) (F : Type 0) w
   is_plain xs text extra is = rw (extra, is) refl
 
   -- a language that needs no preprocessor has no preprocessor key
-  without_cache : is_preprocessed c.request ≡ false → preprocessor_key_of w c ≡ None
+  without_cache : is_preprocessed_first c.request.arguments.language ≡ false → preprocessor_key_of w c ≡ None
   unfolding preprocessor_key_of key_material uses_cache
   without_cache needs = rw needs refl
 
@@ -116,7 +117,7 @@ module _ {V S : Type 0} (w : World V) (st : Store S) (c : Call V) (F : Type 0) w
   finished s found bytes plain stores is = gives (string_bytes found) (plain ∙ ap Some (sym is)) refl (stores (string_bytes found))
 
   -- the input is read where no preprocessor is needed
-  pub from_input : (s : S) (found : String Global) (xs : List Bytes) (contents : Bytes) → is_preprocessed c.request ≡ false → extra_texts w c ≡ Some xs
+  pub from_input : (s : S) (found : String Global) (xs : List Bytes) (contents : Bytes) → is_preprocessed_first c.request.arguments.language ≡ false → extra_texts w c ≡ Some xs
       → contents_at c.files (components (input_path c)) ≡ Ok contents → string_bytes found ≡ digest_text w.hash (material (plain_parts w c.request xs contents))
       → Makes w st c F s (made_of (Ok found)) s
   unfolding contents_at input_file file_at
@@ -125,7 +126,7 @@ module _ {V S : Type 0} (w : World V) (st : Store S) (c : Call V) (F : Type 0) w
       finished s found (digest_text w.hash (material (plain_parts w c.request xs contents))) (is_plain xs contents extra (no_preprocessor contents n needs (ap result_ok file) same))
       (λ key. no_key (without_cache needs) refl) is
 
-  pub stop_input : (s : S) (e : FileError) → is_preprocessed c.request ≡ false → IsErrorOrMemory (contents_at c.files (components (input_path c))) F e
+  pub stop_input : (s : S) (e : FileError) → is_preprocessed_first c.request.arguments.language ≡ false → IsErrorOrMemory (contents_at c.files (components (input_path c))) F e
       → Makes w st c F s (made_of (Err (input_error e))) s
   unfolding contents_at input_file file_at
   stop_input s e needs h = stops (why_of (input_error e)) (why e h) refl refl
@@ -139,14 +140,14 @@ module _ {V S : Type 0} (w : World V) (st : Store S) (c : Call V) (F : Type 0) w
       why file.Fault h = input_fault needs h
       why file.Memory h = making_lacks
 
-  pub stop_text : (s : S) (e : PreprocessError) (prints : Option Bytes) → is_preprocessed c.request ≡ true → prints ≡ printed w c → IsPrinted prints F (Err e)
+  pub stop_text : (s : S) (e : PreprocessError) (prints : Option Bytes) → is_preprocessed_first c.request.arguments.language ≡ true → prints ≡ printed w c → IsPrinted prints F (Err e)
       → Makes w st c F s (made_of (Err (text_error e))) s
   stop_text s text.Fault prints needs same h = stops _ (text_fault needs h) refl refl
   stop_text s text.Failed prints needs same h = stops _ (no_text needs (sym same ∙ h)) refl refl
   stop_text s text.Memory prints needs same h = stop_memory s s refl
 
   -- a text is printed, and there is no preprocessor key
-  pub without_key : (s : S) (found : String Global) (xs : List Bytes) (text : Bytes) → is_preprocessed c.request ≡ true → extra_texts w c ≡ Some xs → printed w c ≡ Some text
+  pub without_key : (s : S) (found : String Global) (xs : List Bytes) (text : Bytes) → is_preprocessed_first c.request.arguments.language ≡ true → extra_texts w c ≡ Some xs → printed w c ≡ Some text
       → preprocessor_key_of w c ≡ None → string_bytes found ≡ digest_text w.hash (material (plain_parts w c.request xs text)) → Makes w st c F s (made_of (Ok found)) s
   without_key s found xs text needs extra prints none is =
       finished s found (digest_text w.hash (material (plain_parts w c.request xs text))) (is_plain xs text extra (prints_text text needs prints)) (λ key. no_key none refl) is

@@ -27,7 +27,8 @@ use Rattle.cck_path.specs.Path.{Path, components}
 use Rattle.cck_preprocessor_key.specs.PreprocessorKey.{preprocessor_material}
 use Rattle.cck_time.specs.declared.error.Error.{Error}
 use Rattle.c_cache_keys.specs.Call.{Call}
-use Rattle.c_cache_keys.specs.Keys.{extra_texts, input_file, input_recorded, is_direct, is_preprocessed, key_material, preprocessor_key_of, request_parts, uses_cache}
+use Rattle.cck_util.specs.Language.{is_preprocessed_first}
+use Rattle.c_cache_keys.specs.Keys.{extra_texts, input_file, input_recorded, is_direct, key_material, preprocessor_key_of, request_parts, uses_cache}
 use Rattle.c_cache_keys.specs.Opening.{IsInputError, IsKeyOfInput, IsOpening}
 use Rattle.c_cache_keys.specs.Errors.{key_error_of}
 use Rattle.c_cache_keys.specs.Seen.{why_of}
@@ -132,7 +133,7 @@ module _ {V : Type 0} (w : World V) (c : Call V) where
   unfolding extra_texts
   texts_here xs e = e
 
-  pub used : (is_preprocessed c.request && (w.config.use_preprocessor_cache_mode && (is_none c.request.arguments.too_hard_for_preprocessor_cache_mode && is_direct c.request.env_vars))) ≡ uses_cache w c.request
+  pub used : (is_preprocessed_first c.request.arguments.language && (w.config.use_preprocessor_cache_mode && (is_none c.request.arguments.too_hard_for_preprocessor_cache_mode && is_direct c.request.env_vars))) ≡ uses_cache w c.request
   unfolding uses_cache
   used = refl
 

@@ -1,5 +1,5 @@
 -- The laws of runs.
-use Rattle.std.proofs.Common.{◌≡◌, ◌⊎◌, inl, inr, Bool, true, false, List, [], ◌∷◌, ◌++◌, refl, sym, ap, ◌∙◌, subst, append_assoc, Some}
+use Rattle.std.proofs.Common.{◌≡◌, ◌⊎◌, inl, inr, Bool, true, false, List, [], ◌∷◌, ◌++◌, refl, sym, ap, ◌∙◌, subst, append_assoc, Option, None, Some}
 use Rattle.std.specs.Prelude.{Contains}
 use Rattle.std.specs.FinMap.{entries}
 use Rattle.std.specs.List.{AllZip, list_all}
@@ -10,12 +10,12 @@ use Rattle.cck_include.specs.Include.{Include}
 use Rattle.cck_store.specs.Store.{Returned, Store, StoreLaws}
 use Rattle.c_cache_keys.proofs.Elements.{first_in}
 use Rattle.c_cache_keys.proofs.HitPlain.{hit_plain}
-use Rattle.c_cache_keys.proofs.Stored.{run_returns_stored}
+use Rattle.c_cache_keys.proofs.Stored.{none_computed, run_returns_stored}
 use Rattle.c_cache_keys.specs.Call.{CallResult, Call, Damaged, Done, Fault, Keyed, ReturnsError, Why, calls_of}
 use Rattle.c_cache_keys.specs.Keys.{plain_key}
 use Rattle.c_cache_keys.specs.Laws.{FreshIsPlain, Headline, HitIsPlain, IsTransparent, KeepsOldOrOwn, NothingDamaged, Runs, RunsHeadline, RunsJoin, StaysSound, joined_lists}
 use Rattle.c_cache_keys.specs.Premises.{IsBefore, Premises}
-use Rattle.c_cache_keys.specs.Step.{Asked, Ends, Failed, Gives, Hit, IsEmpty, Makes, Miss, OwnPair, Run, Sound, Step, StopsMaking, StopsOpening, Stores, asked, damaged, extra_fault, faulted, gives, input_fault, lacked, made, making_lacks, marker, matched, matching, no_extra, no_input, no_key, no_text, no_used_input, none_recorded, opening_lacks, puts, refused, stopped, stops, store_failed, store_lacked, text_fault, used_input_fault}
+use Rattle.c_cache_keys.specs.Step.{Ends, Gives, IsEmpty, Makes, OwnPair, Run, Sound, Step, StopsMaking, StopsOpening, Stores, asked, damaged, extra_fault, faulted, gives, input_fault, lacked, made, making_lacks, marker, matched, matching, no_bytes, no_extra, no_input, no_key, no_text, no_used_input, none_recorded, nothing, opening_lacks, puts, refused, stopped, stops, store_failed, store_lacked, text_fault, unmatched, used_input_fault}
 use Rattle.c_cache_keys.specs.World.{HasSize, World}
 
 module _ {V S : Type 0} (w : World V) (st : Store S) where
@@ -38,6 +38,15 @@ module _ {V S : Type 0} (w : World V) (st : Store S) where
     run_parted s t first second call_results,
     λ parts. let (mid, before, after, is, front, back) = parts in subst (λ rs. Run w st s (first ++ second) rs t) (sym is) (run_joined s mid t first second before after front back),
   )
+
+error_key : {why : Why} {key : Bytes} → Some (ReturnsError why) ≡ Some (Keyed key false) → ⊥
+error_key e = cc
+
+none_key : {key : Bytes} → None ≡ Some (Keyed key false) → ⊥
+none_key e = cc
+
+one_key : {key other : Bytes} → Some (Keyed key false) ≡ Some (Keyed other false) → key ≡ other
+one_key e = cc
 
 module _ {V S : Type 0} (w : World V) (st : Store S) (size : HasSize w.hash) (laws : StoreLaws st) where
   -- what is held after a step was held before it, or is the own pair of a call that returned a computed key
@@ -62,10 +71,9 @@ module _ {V S : Type 0} (w : World V) (st : Store S) (size : HasSize w.hash) (la
   makes_kept c F s t r (stops why cause is same) = same_kept c r s t same
   makes_kept c F s t r (gives key is-plain is stores) = stores_kept c F key r s t is stores
 
-  ends_kept : (c : Call V) (F : Type 0) (o : Asked) (s t : S) (r : CallResult) → Ends w st c F o s r t → IsKept c r s t
-  ends_kept c F (Hit key) s t r e = same_kept c r s t e.1
-  ends_kept c F (Failed why) s t r e = same_kept c r s t e.1
-  ends_kept c F Miss s t r e = makes_kept c F s t r e
+  ends_kept : (c : Call V) (F : Type 0) (o : Option CallResult) (s t : S) (r : CallResult) → Ends w st c F o s r t → IsKept c r s t
+  ends_kept c F (Some x) s t r e = same_kept c r s t e.1
+  ends_kept c F None s t r e = makes_kept c F s t r e
 
   pub step_kept : (c : Call V) (F : Type 0) (s t : S) (r : CallResult) → Step w st c F s r t → IsKept c r s t
   step_kept c F s t r (stopped why cause is same) = same_kept c r s t same
@@ -90,15 +98,14 @@ module _ {V S : Type 0} (w : World V) (st : Store S) (size : HasSize w.hash) (la
   makes_plain c F s t key fresh (stops why cause is same) = cc
   makes_plain c F s t key fresh (gives key' is-plain is stores) = let same : key ≡ key' = cc in (is-plain ∙ ap Some (sym same), cc)
 
-  ends_plain : (c : Call V) (F : Type 0) (o : Asked) (s t : S) (key : Bytes) → Ends w st c F o s (Keyed key true) t → plain_key w c ≡ Some key
-  ends_plain c F (Hit key') s t key e = let is = e.0 in cc
-  ends_plain c F (Failed why) s t key e = let is = e.0 in cc
-  ends_plain c F Miss s t key e = (makes_plain c F s t key true e).0
+  ends_plain : (c : Call V) (F : Type 0) (a : Returned) (o : Option CallResult) (s t : S) (key : Bytes) → Gives (matching w c) F a o → Ends w st c F o s (Keyed key true) t → plain_key w c ≡ Some key
+  ends_plain c F a (Some x) s t key given e = absurd (none_computed (matching w c) F a key (Some x) (ap (λ v. Some v) (sym e.0)) given)
+  ends_plain c F a None s t key given e = (makes_plain c F s t key true e).0
 
   fresh_any : (c : Call V) (F : Type 0) (s t : S) (key : Bytes) → Step w st c F s (Keyed key true) t → plain_key w c ≡ Some key
   fresh_any c F s t key (stopped why cause is same) = cc
   fresh_any c F s t key (made opened not makes) = (makes_plain c F s t key true makes).0
-  fresh_any c F s t key (asked opened k is-k control a mid got o given ends) = ends_plain c F o mid t key ends
+  fresh_any c F s t key (asked opened k is-k control a mid got o given ends) = ends_plain c F a o mid t key given ends
 
   pub fresh_is_plain : FreshIsPlain w st
   fresh_is_plain d s t key step = fresh_any d.call (Fault d) s t key step
@@ -107,9 +114,16 @@ module _ {V S : Type 0} (w : World V) (st : Store S) (size : HasSize w.hash) (la
   abbrev Known : Call V → S → Bytes → Bytes → Type 0
   Known c s k key = (b : Bytes) × st.held s k b × (e : Entry) × EntryText e b × (list : List Include) × Contains (entries e) (key, list) × (list_all (matching w c) list ≡ true)
 
-  hit_known : (c : Call V) (F : Type 0) (k key : Bytes) (s mid : S) (a : Returned) → st.got s k a mid → Gives (matching w c) F a (Hit key) → Known c s k key
-  hit_known c F k key s mid a got (matched bytes key' e list is text present all which) =
-      (bytes, laws.got_some s mid k bytes (subst (λ v. st.got s k v mid) is got), e, text, list, present, all)
+  hit_known : (c : Call V) (F : Type 0) (k key : Bytes) (s mid : S) (a : Returned) (o : Option CallResult) → o ≡ Some (Keyed key false) → st.got s k a mid → Gives (matching w c) F a o → Known c s k key
+  hit_known c F k key s mid a o same got (store_failed is) = absurd (error_key same)
+  hit_known c F k key s mid a o same got (store_lacked is) = absurd (error_key same)
+  hit_known c F k key s mid a o same got (nothing is) = absurd (none_key same)
+  hit_known c F k key s mid a o same got (no_bytes is) = absurd (none_key same)
+  hit_known c F k key s mid a o same got (matched bytes other e list is text present all which) =
+      subst (Known c s k) (one_key same) (bytes, laws.got_some s mid k bytes (subst (λ v. st.got s k v mid) is got), e, text, list, present, all)
+  hit_known c F k key s mid a o same got (unmatched bytes e is text which) = absurd (none_key same)
+  hit_known c F k key s mid a o same got (damaged bytes is some none) = absurd (error_key same)
+  hit_known c F k key s mid a o same got (lacked bytes is) = absurd (error_key same)
 
   second_any : (earlier later : List (Call V)) (c : Call V) (F : Type 0) (s t : S) (key : Bytes) → Premises w (earlier ++ c ∷ later) → Sound w st s earlier → Step w st c F s (Keyed key false) t → plain_key w c ≡ Some key
   second_any earlier later c F s t key premises sound (stopped why cause is same) = cc
@@ -119,16 +133,12 @@ module _ {V S : Type 0} (w : World V) (st : Store S) (size : HasSize w.hash) (la
       before : (c' : Call V) → Contains earlier c' → IsBefore w (earlier ++ c ∷ later) c' c
       before c' at = (earlier, c ∷ later, refl, at, Contains-append_left (c ∷ []) later c (first_in c []))
 
-      at_hit : (key' : Bytes) → key' ≡ key → Gives (matching w c) F a (Hit key') → plain_key w c ≡ Some key
-      at_hit key' is given =
-          let (b, held, e, text, list, present, all_match) = hit_known c F k key' s mid a got given in
+      go : (o : Option CallResult) → Gives (matching w c) F a o → Ends w st c F o mid (Keyed key false) t → plain_key w c ≡ Some key
+      go (Some x) given ends =
+          let (b, held, e, text, list, present, all_match) = hit_known c F k key s mid a (Some x) (ap (λ v. Some v) (sym ends.0)) got given in
           let (c', at, own-key, own) = sound k b held in
-          hit_plain w size (earlier ++ c ∷ later) premises c' c (before c' at) own-key k b own is-k e key' list text present all_match ∙ ap Some is
-
-      go : (o : Asked) → Gives (matching w c) F a o → Ends w st c F o mid (Keyed key false) t → plain_key w c ≡ Some key
-      go (Hit key') given ends = let is = ends.0 in at_hit key' (cc) given
-      go (Failed why) given ends = let is = ends.0 in cc
-      go Miss given ends = (makes_plain c F mid t key false ends).0
+          hit_plain w size (earlier ++ c ∷ later) premises c' c (before c' at) own-key k b own is-k e key list text present all_match
+      go None given ends = (makes_plain c F mid t key false ends).0
 
   pub hit_is_plain : HitIsPlain w st
   hit_is_plain earlier later d s t key premises sound step = second_any earlier later d.call (Fault d) s t key premises sound step
@@ -158,16 +168,19 @@ module _ {V S : Type 0} (w : World V) (st : Store S) (size : HasSize w.hash) (la
   entry_any earlier c F s t sound (made opened not makes) = not_made c F s t makes
   entry_any earlier c F s t sound (asked opened k is-k control a mid got o given ends) = go o given ends
     where
-      at_bytes : (why : Why) → why ≡ Damaged → Gives (matching w c) F a (Failed why) → ⊥
-      at_bytes why e (store_failed is) = cc
-      at_bytes why e (store_lacked is) = cc
-      at_bytes why e (damaged bytes is some none) = let (c', at, key, own) = sound k bytes (laws.got_some s mid k bytes (subst (λ v. st.got s k v mid) is got)) in none _ own.is_entry
-      at_bytes why e (lacked bytes is) = cc
+      at_bytes : (o : Option CallResult) → o ≡ Some (ReturnsError Damaged) → Gives (matching w c) F a o → ⊥
+      at_bytes o e (store_failed is) = cc
+      at_bytes o e (store_lacked is) = cc
+      at_bytes o e (nothing is) = cc
+      at_bytes o e (no_bytes is) = cc
+      at_bytes o e (matched bytes key f list is text present all which) = cc
+      at_bytes o e (unmatched bytes f is text which) = cc
+      at_bytes o e (damaged bytes is some none) = let (c', at, key, own) = sound k bytes (laws.got_some s mid k bytes (subst (λ v. st.got s k v mid) is got)) in none _ own.is_entry
+      at_bytes o e (lacked bytes is) = cc
 
-      go : (o : Asked) → Gives (matching w c) F a o → Ends w st c F o mid (ReturnsError Damaged) t → ⊥
-      go (Hit key) given ends = let is = ends.0 in cc
-      go (Failed why) given ends = let is = ends.0 in at_bytes why (cc) given
-      go Miss given ends = not_made c F mid t ends
+      go : (o : Option CallResult) → Gives (matching w c) F a o → Ends w st c F o mid (ReturnsError Damaged) t → ⊥
+      go (Some x) given ends = at_bytes (Some x) (ap (λ v. Some v) (sym ends.0)) given
+      go None given ends = not_made c F mid t ends
 
   pub nothing_damaged : NothingDamaged w st
   nothing_damaged earlier d s t sound step = entry_any earlier d.call (Fault d) s t sound step

@@ -27,7 +27,7 @@ use Rattle.c_cache_keys.specs.Call.{CallResult, Call, Done, Fault, Keyed, Return
 use Rattle.c_cache_keys.specs.Hits.{CanStore, FreshIsHeld, HeldKeyIsReturned, IsUnrelated, MapStoreReturnsStored, SameRecords, StoredIsHit}
 use Rattle.c_cache_keys.specs.Keys.{input_file, input_recorded, preprocessor_key_of}
 use Rattle.c_cache_keys.specs.Laws.{CanHit, StoredKeyIsReturned, RecacheIsFresh, RunReturnsStored}
-use Rattle.c_cache_keys.specs.Step.{Asked, Ends, Failed, Gives, Hit, Makes, Miss, OwnPair, Run, Step, Stores, StopsOpening, asked, damaged, extra_fault, faulted, found, gives, lacked, made, matched, matching, no_bytes, no_extra, no_key, no_used_input, none_recorded, nothing, opening_lacks, puts, refused, stopped, stops, store_failed, store_lacked, unmatched, used_input_fault}
+use Rattle.c_cache_keys.specs.Step.{Ends, Gives, Makes, OwnPair, Run, Step, Stores, StopsOpening, asked, damaged, extra_fault, faulted, found, gives, lacked, made, matched, matching, no_bytes, no_extra, no_key, no_used_input, none_recorded, nothing, opening_lacks, puts, refused, stopped, stops, store_failed, store_lacked, unmatched, used_input_fault}
 use Rattle.c_cache_keys.specs.Walk.{Accepted, AreRecorded, IsNamed, NotAccepted}
 use Rattle.c_cache_keys.specs.World.{World, setting}
 use Rattle.c_cache_keys.specs.declared.call.CacheControl.{CacheControl}
@@ -65,6 +65,17 @@ same_bytes e = cc
 nothing_written : (x : ℕ) (bytes : Bytes) → [] ≡ x ∷ bytes → ⊥
 nothing_written x bytes e = cc
 
+-- what the store returned determines no computed key
+pub none_computed : (test : Include → Bool) (F : Type 0) (returned : Returned) (key : Bytes) (o : Option CallResult) → o ≡ Some (Keyed key true) → Gives test F returned o → ⊥
+none_computed test F returned key o is (store_failed at) = cc
+none_computed test F returned key o is (store_lacked at) = cc
+none_computed test F returned key o is (nothing at) = cc
+none_computed test F returned key o is (no_bytes at) = cc
+none_computed test F returned key o is (matched bytes other e includes at text present all which) = cc
+none_computed test F returned key o is (unmatched bytes e at text which) = cc
+none_computed test F returned key o is (damaged bytes at some none) = cc
+none_computed test F returned key o is (lacked bytes at) = cc
+
 -- the same bytes are of one entry
 same_entry : (e f : Entry) (bytes : Bytes) → EntryText e bytes → EntryText f bytes → e ≡ f
 same_entry e f bytes s t = (one_text_one_entry e f bytes bytes s t).0 refl
@@ -93,8 +104,8 @@ module _ {V : Type 0} (w : World V) where
   not_stopped c F k why is-k no_fault (used_input_fault used fault) = absurd (no_fault fault)
 
   -- the result for bytes that are the text of an entry with a key that matches
-  gives_found : (c : Call V) (F : Type 0) (returned : Returned) (e : Entry) (bytes key : Bytes) (o : Asked) → (F → ⊥) → returned ≡ Ok (Some bytes) → EntryText e bytes → found w c e ≡ Some key
-      → Gives (matching w c) F returned o → (o ≡ Hit key) ⊎ (o ≡ Failed Memory)
+  gives_found : (c : Call V) (F : Type 0) (returned : Returned) (e : Entry) (bytes key : Bytes) (o : Option CallResult) → (F → ⊥) → returned ≡ Ok (Some bytes) → EntryText e bytes → found w c e ≡ Some key
+      → Gives (matching w c) F returned o → (o ≡ Some (Keyed key false)) ⊎ (o ≡ Some (ReturnsError Memory))
   gives_found c F returned e bytes key o no_fault at text is (store_failed failed) = absurd (err_ok (sym failed ∙ at))
   gives_found c F returned e bytes key o no_fault at text is (store_lacked failed) = absurd (err_ok (sym failed ∙ at))
   gives_found c F returned e bytes key o no_fault at text is (nothing none) = absurd (none_bytes (sym none ∙ at))
@@ -102,7 +113,7 @@ module _ {V : Type 0} (w : World V) where
   gives_found c F returned e bytes key o no_fault at text is (matched bytes' other f list at' text' present all which) =
       let same : f ≡ e = same_entry f e bytes (subst (EntryText f) (same_bytes (sym at' ∙ at)) text') text in
       elim which [
-        | inl exact ↦ inl (ap Hit (same_Some other key (sym (found_by c f (Some (other, list)) exact) ∙ ap (found w c) same ∙ is)))
+        | inl exact ↦ inl (ap (λ v. Some (Keyed v false)) (same_Some other key (sym (found_by c f (Some (other, list)) exact) ∙ ap (found w c) same ∙ is)))
         | inr fault ↦ absurd (no_fault fault)
       ]
   gives_found c F returned e bytes key o no_fault at text is (unmatched bytes' f at' text' which) =
@@ -122,17 +133,17 @@ module _ {V S : Type 0} (w : World V) (st : Store S) where
   recache_is_fresh d s t key again (asked opened k is-k control returned mid got o given ends) = absurd (not_both (sym control ∙ again))
 
   -- the result of a call after such a look-up
-  ends_found : (c : Call V) (F : Type 0) (mid t : S) (r : CallResult) (key : Bytes) (o : Asked) → r ≢ ReturnsError Memory → Ends w st c F o mid r t → (o ≡ Hit key) ⊎ (o ≡ Failed Memory) → (r ≡ Keyed key false) × (t ≡ mid)
+  ends_found : (c : Call V) (F : Type 0) (mid t : S) (r : CallResult) (key : Bytes) (o : Option CallResult) → r ≢ ReturnsError Memory → Ends w st c F o mid r t → (o ≡ Some (Keyed key false)) ⊎ (o ≡ Some (ReturnsError Memory)) → (r ≡ Keyed key false) × (t ≡ mid)
   ends_found c F mid t r key o enough ends (inl is) = subst (λ v. Ends w st c F v mid r t) is ends
   ends_found c F mid t r key o enough ends (inr is) = absurd (enough (subst (λ v. Ends w st c F v mid r t) is ends).0)
 
-  returned_found : (c : Call V) (F : Type 0) (mid t : S) (r : CallResult) (o : Asked) (returned : Returned) (bytes key : Bytes) (e : Entry) → (F → ⊥) → r ≢ ReturnsError Memory → Gives (matching w c) F returned o → Ends w st c F o mid r t
+  returned_found : (c : Call V) (F : Type 0) (mid t : S) (r : CallResult) (o : Option CallResult) (returned : Returned) (bytes key : Bytes) (e : Entry) → (F → ⊥) → r ≢ ReturnsError Memory → Gives (matching w c) F returned o → Ends w st c F o mid r t
       → returned ≡ Ok (Some bytes) → EntryText e bytes → found w c e ≡ Some key → (r ≡ Keyed key false) × (t ≡ mid)
   returned_found c F mid t r o returned bytes key e no_fault enough given ends is text finds =
       ends_found c F mid t r key o enough ends (gives_found w c F returned e bytes key o no_fault is text finds given)
 
   returned_any : (c : Call V) (F : Type 0) (s t : S) (k : Bytes) (r : CallResult) → c.control ≡ Default → preprocessor_key_of w c ≡ Some k → (F → ⊥) → r ≢ ReturnsError Memory → Step w st c F s r t
-      → (returned : Returned) × (mid : S) × st.got s k returned mid × (o : Asked) × Gives (matching w c) F returned o × Ends w st c F o mid r t
+      → (returned : Returned) × (mid : S) × st.got s k returned mid × (o : Option CallResult) × Gives (matching w c) F returned o × Ends w st c F o mid r t
   returned_any c F s t k r control is-k no_fault enough (stopped why cause is same) = absurd (enough (is ∙ ap ReturnsError (not_stopped w c F k why is-k no_fault cause)))
   returned_any c F s t k r control is-k no_fault enough (made opened not makes) =
       absurd (elim not [ inl none ↦ none_some none is-k | inr again ↦ not_both (sym control ∙ again) ])
@@ -167,10 +178,9 @@ module _ {V S : Type 0} (w : World V) (st : Store S) (laws : StoreLaws st) where
   makes_count c F s t r (stops why cause is same) = rw same (le_refl _)
   makes_count c F s t r (gives key is-plain is stores) = stores_count c F key s t stores
 
-  ends_count : (c : Call V) (F : Type 0) (o : Asked) (s t : S) (r : CallResult) → Ends w st c F o s r t → st.failures s ≤ st.failures t
-  ends_count c F (Hit key) s t r e = rw (e.1) (le_refl _)
-  ends_count c F (Failed why) s t r e = rw (e.1) (le_refl _)
-  ends_count c F Miss s t r e = makes_count c F s t r e
+  ends_count : (c : Call V) (F : Type 0) (o : Option CallResult) (s t : S) (r : CallResult) → Ends w st c F o s r t → st.failures s ≤ st.failures t
+  ends_count c F (Some x) s t r e = rw (e.1) (le_refl _)
+  ends_count c F None s t r e = makes_count c F s t r e
 
   step_count : (c : Call V) (F : Type 0) (s t : S) (r : CallResult) → Step w st c F s r t → st.failures s ≤ st.failures t
   step_count c F s t r (stopped why cause is same) = rw same (le_refl _)
@@ -207,12 +217,11 @@ module _ {V S : Type 0} (w : World V) (st : Store S) (laws : StoreLaws st) where
   held_any : (d : Done V) (s t : S) (k text key : Bytes) → CanStore w d k text → Calm s t → Step w st d.call (Fault d) s (Keyed key true) t → HeldSo d.call t k key
   held_any d s t k text key can calm (stopped why cause is same) = absurd (not_failed is)
   held_any d s t k text key can calm (made opened not makes) = makes_held d s t k text key can calm makes
-  held_any d s t k text key can calm (asked opened k' is-k' control returned mid got o given ends) = go o ends
+  held_any d s t k text key can calm (asked opened k' is-k' control returned mid got o given ends) = go o given ends
     where
-      go : (o : Asked) → Ends w st d.call (Fault d) o mid (Keyed key true) t → HeldSo d.call t k key
-      go (Hit other) e = absurd (not_fresh e.0)
-      go (Failed why) e = absurd (not_failed e.0)
-      go Miss e = makes_held d mid t k text key can
+      go : (o : Option CallResult) → Gives (matching w d.call) (Fault d) returned o → Ends w st d.call (Fault d) o mid (Keyed key true) t → HeldSo d.call t k key
+      go (Some x) given e = absurd (none_computed (matching w d.call) (Fault d) returned key (Some x) (ap (λ v. Some v) (sym e.0)) given)
+      go None given e = makes_held d mid t k text key can
           (calm_part _ _ _ _ (laws.got_count s mid k' returned got) (makes_count d.call (Fault d) mid t _ e) (le_refl _) calm) e
 
   pub fresh_is_held : FreshIsHeld w st
@@ -220,7 +229,7 @@ module _ {V S : Type 0} (w : World V) (st : Store S) (laws : StoreLaws st) where
 
   -- ---- what is returned of what is held
 
-  returned_held : (c : Call V) (F : Type 0) (s mid t : S) (r : CallResult) (k bytes : Bytes) (o : Asked) (returned : Returned) → (F → ⊥) → r ≢ ReturnsError Memory → Calm s mid → st.held s k bytes
+  returned_held : (c : Call V) (F : Type 0) (s mid t : S) (r : CallResult) (k bytes : Bytes) (o : Option CallResult) (returned : Returned) → (F → ⊥) → r ≢ ReturnsError Memory → Calm s mid → st.held s k bytes
       → ((x : Bytes) → st.held s k x → (e : Entry) × EntryText e x × (key : Bytes) × (found w c e ≡ Some key))
       → st.got s k returned mid → Gives (matching w c) F returned o → Ends w st c F o mid r t
       → (key : Bytes) × (x : Bytes) × (e : Entry) × st.held s k x × EntryText e x × (found w c e ≡ Some key) × (r ≡ Keyed key false)
@@ -260,10 +269,9 @@ module _ {V S : Type 0} (w : World V) (st : Store S) (laws : StoreLaws st) where
   makes_only c F s t r k b calm saved (stops why cause is same) = same_only s t k b same
   makes_only c F s t r k b calm saved (gives key is-plain is stores) = stores_only c F key s t k b calm (saved key is) stores
 
-  ends_only : (c : Call V) (F : Type 0) (o : Asked) (s t : S) (r : CallResult) (k b : Bytes) → Calm s t → IsUnrelated w k c r → Ends w st c F o s r t → Kept s t k b
-  ends_only c F (Hit key) s t r k b calm saved e = same_only s t k b e.1
-  ends_only c F (Failed why) s t r k b calm saved e = same_only s t k b e.1
-  ends_only c F Miss s t r k b calm saved e = makes_only c F s t r k b calm saved e
+  ends_only : (c : Call V) (F : Type 0) (o : Option CallResult) (s t : S) (r : CallResult) (k b : Bytes) → Calm s t → IsUnrelated w k c r → Ends w st c F o s r t → Kept s t k b
+  ends_only c F (Some x) s t r k b calm saved e = same_only s t k b e.1
+  ends_only c F None s t r k b calm saved e = makes_only c F s t r k b calm saved e
 
   step_only : (c : Call V) (F : Type 0) (s t : S) (r : CallResult) (k b : Bytes) → Calm s t → IsUnrelated w k c r → Step w st c F s r t → Kept s t k b
   step_only c F s t r k b calm saved (stopped why cause is same) = same_only s t k b same
@@ -323,7 +331,7 @@ module _ {V S : Type 0} (w : World V) (st : Store S) (laws : StoreLaws st) where
 -- ---- a store in memory
 
 module _ {V : Type 0} (w : World V) (d : Done V) (s : State) (r : CallResult) (k bytes key : Bytes) (e : Entry) (can : CanHit w d k r) (held : map_store.held s k bytes) (text : EntryText e bytes) (finds : found w d.call e ≡ Some key) where
-  from_map : (mid t : State) (o : Asked) (returned : Returned) → (StoreFailure map_store s mid → ⊥) → map_store.got s k returned mid → Gives (matching w d.call) (Fault d) returned o → Ends w map_store d.call (Fault d) o mid r t
+  from_map : (mid t : State) (o : Option CallResult) (returned : Returned) → (StoreFailure map_store s mid → ⊥) → map_store.got s k returned mid → Gives (matching w d.call) (Fault d) returned o → Ends w map_store d.call (Fault d) o mid r t
       → (r ≡ Keyed key false) × (t ≡ call_begun s)
   from_map mid t o (Err failure) calm got given ends = absurd (calm (map_store_laws.got_error s mid k failure got))
   from_map mid t o (Ok None) calm got given ends = absurd (map_store_laws.got_none s mid k got calm bytes held)

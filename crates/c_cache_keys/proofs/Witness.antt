@@ -45,7 +45,7 @@ use Rattle.c_cache_keys.specs.Call.{Call, Fault, Keyed, calls_of}
 use Rattle.c_cache_keys.specs.Keys.{extra_texts, input_file, input_recorded, is_direct, key_material, plain_key, plain_parts, preprocessor_key_of, printed, request_parts, text_of, uses_cache}
 use Rattle.c_cache_keys.specs.Hits.{CanStore}
 use Rattle.c_cache_keys.specs.Premises.{IsHashed, CollisionFree, Premises, DeterministicPreprocessor, of_file, of_folder, of_key, of_time}
-use Rattle.c_cache_keys.specs.Step.{Hit, Miss, Opened, OwnPair, Step, asked, gives, matched, matching, nothing, puts}
+use Rattle.c_cache_keys.specs.Step.{Opened, OwnPair, Step, asked, gives, matched, matching, nothing, puts}
 use Rattle.c_cache_keys.specs.Walk.{Accepted, AreRecorded, IsRecorded, Walk, input_path}
 use Rattle.c_cache_keys.specs.Witness.{PremisesCanHold, file_of, first_call, header_text, witness_input_text, path_in_w, printed_text, second, second_call, sized, witness_call, witness_done, witness_files, witness_hash, witness_nodes, witness_run, witness_world}
 use Rattle.c_cache_keys.specs.World.{HasSize, setting}
@@ -369,7 +369,7 @@ opened object = record {
 module _ (F : Type 0) where
   pub first_step : Step witness_world map_store first_call F empty_state (Keyed witness_object_key true) holds_entry
   first_step =
-      asked (opened (codes "a.o")) witness_key (key_is (codes "a.o")) refl (Ok None) (after_calls 1 []) (refl, refl, refl) Miss (nothing refl)
+      asked (opened (codes "a.o")) witness_key (key_is (codes "a.o")) refl (Ok None) (after_calls 1 []) (refl, refl, refl) None (nothing refl)
       (gives witness_object_key plain_is refl (puts witness_key witness_bytes own_pair (Ok tt) (refl, refl)))
 
   pub found_again : Some witness_bytes ≡ find text_cmp witness_key holds_entry.pairs
@@ -378,7 +378,7 @@ module _ (F : Type 0) where
   pub second_step : Step witness_world map_store second_call F holds_entry (Keyed witness_object_key false) asked_again
   second_step =
       let all : list_all (matching witness_world second_call) (witness_include ∷ []) ≡ true = ap (λ b. b && true) (matches_again (codes "b.o")) in
-      asked (opened (codes "b.o")) witness_key (key_is (codes "b.o")) refl (Ok (Some witness_bytes)) asked_again (refl, found_again, refl) (Hit witness_object_key)
+      asked (opened (codes "b.o")) witness_key (key_is (codes "b.o")) refl (Ok (Some witness_bytes)) asked_again (refl, found_again, refl) (Some (Keyed witness_object_key false))
       (matched witness_bytes witness_object_key witness_entry (witness_include ∷ []) refl entry_text
       (subst (λ (rs : List KeyResult). Contains rs only_result) (sym entry_is) (first_in only_result [])) all
       (inl (ap (found_in (matching witness_world second_call)) entry_is ∙ ap (λ b. cond b (Some only_result) None) all))) (refl, refl)

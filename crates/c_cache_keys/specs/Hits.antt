@@ -9,7 +9,8 @@ use Rattle.cck_path.specs.Path.{Path}
 use Rattle.cck_store.specs.MapStore.{State, call_begun, map_store}
 use Rattle.cck_store.specs.Store.{HoldsOnly, StoreFailure, Store}
 use Rattle.c_cache_keys.specs.Call.{CallResult, Call, Done, Fault, Keyed, ReturnsError, calls_of, Why, Memory, Extra, Input, Store as StoreFails, Damaged, NoText, Marker}
-use Rattle.c_cache_keys.specs.Keys.{extra_texts, input_file, is_preprocessed, preprocessor_key_of, printed, uses_cache}
+use Rattle.cck_util.specs.Language.{is_preprocessed_first}
+use Rattle.c_cache_keys.specs.Keys.{extra_texts, input_file, preprocessor_key_of, printed, uses_cache}
 use Rattle.c_cache_keys.specs.Laws.{CanHit}
 use Rattle.c_cache_keys.specs.Step.{OwnPair, Run, Step, found}
 use Rattle.c_cache_keys.specs.Walk.{Accepted, Errs, IsNamed, Walk}
@@ -77,10 +78,10 @@ module _ {V S : Type 0} (w : World V) (st : Store S) where
   pub data Cause (c : Call V) (s t : S) : Why → Type 0 where
     of_memory : Cause c s t Memory
     of_extra : extra_texts w c ≡ None → Cause c s t Extra
-    of_input : input_file w c ≡ None → (uses_cache w c.request ≡ true) ⊎ (is_preprocessed c.request ≡ false) → Cause c s t Input
+    of_input : input_file w c ≡ None → (uses_cache w c.request ≡ true) ⊎ (is_preprocessed_first c.request.arguments.language ≡ false) → Cause c s t Input
     of_store : StoreFailure st s t → Cause c s t StoreFails
     of_damage : (k bytes : Bytes) → preprocessor_key_of w c ≡ Some k → st.held s k bytes → bytes ≢ [] → ((e : Entry) → EntryText e bytes → ⊥) → Cause c s t Damaged
-    of_text : is_preprocessed c.request ≡ true → printed w c ≡ None → Cause c s t NoText
+    of_text : is_preprocessed_first c.request.arguments.language ≡ true → printed w c ≡ None → Cause c s t NoText
     of_marker : preprocessor_key_of w c ≢ None → (text : Bytes) → printed w c ≡ Some text → Walk w c text Errs → Cause c s t Marker
 
   -- each error has its cause

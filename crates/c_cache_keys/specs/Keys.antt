@@ -29,15 +29,11 @@ is_off value = str_eq_ignore_ascii_case value (codes "false") || str_eq_ignore_a
 unfoldable pub is_direct : List Variable → Bool
 is_direct env_vars = option_map_or (λ value. not (is_off value)) (first_value env_vars (codes "SCCACHE_DIRECT")) true
 
--- the input needs a preprocessor first
-abbrev pub is_preprocessed : {V : Type 0} → Request V → Bool
-is_preprocessed q = is_preprocessed_first q.arguments.language
-
 module _ {V : Type 0} (w : World V) where
   -- the preprocessor cache is used
   unfoldable pub uses_cache : Request V → Bool
   uses_cache q =
-      is_preprocessed q && (w.config.use_preprocessor_cache_mode
+      is_preprocessed_first q.arguments.language && (w.config.use_preprocessor_cache_mode
       && (is_none q.arguments.too_hard_for_preprocessor_cache_mode && is_direct q.env_vars))
 
   -- the hex digests of the extra files, if each has one
@@ -88,7 +84,7 @@ module _ {V : Type 0} (w : World V) where
 
   -- the text of the plain key: what is printed, or the input itself where no preprocessor is needed
   unfoldable pub text_of : Call V → Option Bytes
-  text_of c = if is_preprocessed c.request then printed c else option_map (λ n. n.contents) (input_file c)
+  text_of c = if is_preprocessed_first c.request.arguments.language then printed c else option_map (λ n. n.contents) (input_file c)
 
   -- the parts of the material of the plain key, from a request, the hex digests of the extra files and the text
   unfoldable pub plain_parts : Request V → List Bytes → Bytes → KeyParts

@@ -1,5 +1,5 @@
 -- statements about runs
-use Rattle.std.specs.Prelude.{◌≡◌, ◌≢◌, ◌⊎◌, ◌↔◌, List, [], ◌∷◌, ◌++◌, true, false, Some, Ok}
+use Rattle.std.specs.Prelude.{◌≡◌, ◌≢◌, ◌⊎◌, ◌↔◌, List, [], ◌∷◌, ◌++◌, true, false, Option, Some, Ok}
 use Rattle.std.specs.FinMap.{entries}
 use Rattle.std.specs.List.{AllZip}
 use Rattle.cck_path.specs.Bytes.{Bytes}
@@ -10,7 +10,7 @@ use Rattle.cck_store.specs.Store.{Returned, Store}
 use Rattle.c_cache_keys.specs.Call.{CallResult, Call, Damaged, Done, Fault, Keyed, Memory, ReturnsError, calls_of}
 use Rattle.c_cache_keys.specs.Keys.{plain_key, preprocessor_key_of}
 use Rattle.c_cache_keys.specs.Premises.{Premises}
-use Rattle.c_cache_keys.specs.Step.{Asked, Chain, Ends, Gives, IsEmpty, OwnPair, Run, Sound, Step, matching}
+use Rattle.c_cache_keys.specs.Step.{Chain, Ends, Gives, IsEmpty, OwnPair, Run, Sound, Step, matching}
 use Rattle.c_cache_keys.specs.World.{World}
 use Rattle.c_cache_keys.specs.declared.call.CacheControl.TheVariants.{Default, ForceRecache}
 
@@ -65,7 +65,7 @@ module _ {V S : Type 0} (w : World V) (st : Store S) where
       (k : Bytes) → CanHit w d k r → (returned : Returned) × (mid : S) × st.got s k returned mid
       × ((bytes key : Bytes) (e : Entry) (includes : List Include) → returned ≡ Ok (Some bytes) → EntryText e bytes
       → found_in (matching w d.call) (entries e) ≡ Some (key, includes) → (r ≡ Keyed key false) × (t ≡ mid))
-      × (o : Asked) × Gives (matching w d.call) (Fault d) returned o × Ends w st d.call (Fault d) o mid r t
+      × (o : Option CallResult) × Gives (matching w d.call) (Fault d) returned o × Ends w st d.call (Fault d) o mid r t
 
   abbrev pub StoredKeyIsReturned : Type 0
   StoredKeyIsReturned = (d : Done V) (s t : S) (r : CallResult) → Step w st d.call (Fault d) s r t → ReturnsStored d s r t

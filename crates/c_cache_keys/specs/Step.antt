@@ -11,30 +11,25 @@ use Rattle.cck_include.specs.Matching.{matches}
 use Rattle.cck_store.specs.Store.{Returned, Store, Stored}
 use Rattle.cck_store.specs.declared.store.StoreError.TheVariants as store
 use Rattle.c_cache_keys.specs.Call.{CallResult, Call, Done, Fault, Keyed, ReturnsError, Why, Memory, Extra, ExtraFault, Input, InputFault, Store as StoreFails, Damaged, NoText, TextFault, Marker}
-use Rattle.c_cache_keys.specs.Keys.{extra_texts, input_file, is_preprocessed, plain_key, preprocessor_key_of, printed, uses_cache}
+use Rattle.cck_util.specs.Language.{is_preprocessed_first}
+use Rattle.c_cache_keys.specs.Keys.{extra_texts, input_file, plain_key, preprocessor_key_of, printed, uses_cache}
 use Rattle.c_cache_keys.specs.Walk.{Accepted, AreRecorded, Errs, NotAccepted, Walk}
 use Rattle.c_cache_keys.specs.World.{World, setting}
 use Rattle.c_cache_keys.specs.declared.call.CacheControl.TheVariants.{Default, ForceRecache}
 
--- the result of asking the store: a key to return, none, or an error
-pub data Asked : Type 0 where
-  Hit : Bytes → Asked
-  Miss : Asked
-  Failed : Why → Asked
-
--- The result for what a get returned: the greatest key of the entry whose included files are all unchanged, or none. After a fault it may
--- be none, or another such key. Memory may be lacking once there are bytes. The test says which included files are unchanged; nothing else of
--- a call is used. Here and below F says that there was a fault.
-pub data Gives (test : Include → Bool) (F : Type 0) (returned : Returned) : Asked → Type 0 where
-  store_failed : returned ≡ Err store.Fault → Gives test F returned (Failed StoreFails)
-  store_lacked : returned ≡ Err store.Memory → Gives test F returned (Failed Memory)
-  nothing : returned ≡ Ok None → Gives test F returned Miss
-  no_bytes : returned ≡ Ok (Some []) → Gives test F returned Miss
+-- What a get returned, and the result of the call where that determines it; with none the key is computed. A stored key is the greatest key
+-- of the entry whose included files are all unchanged. After a fault it may be another such key, or none is found. Once there are bytes memory
+-- may be lacking. The test says which included files are unchanged; nothing else of a call is used. Here and below F says that there was a fault.
+pub data Gives (test : Include → Bool) (F : Type 0) (returned : Returned) : Option CallResult → Type 0 where
+  store_failed : returned ≡ Err store.Fault → Gives test F returned (Some (ReturnsError StoreFails))
+  store_lacked : returned ≡ Err store.Memory → Gives test F returned (Some (ReturnsError Memory))
+  nothing : returned ≡ Ok None → Gives test F returned None
+  no_bytes : returned ≡ Ok (Some []) → Gives test F returned None
   matched : (bytes key : Bytes) (e : Entry) (includes : List Include) → returned ≡ Ok (Some bytes) → EntryText e bytes → Contains (entries e) (key, includes)
-      → list_all test includes ≡ true → (found_in test (entries e) ≡ Some (key, includes)) ⊎ F → Gives test F returned (Hit key)
-  unmatched : (bytes : Bytes) (e : Entry) → returned ≡ Ok (Some bytes) → EntryText e bytes → (found_in test (entries e) ≡ None) ⊎ F → Gives test F returned Miss
-  damaged : (bytes : Bytes) → returned ≡ Ok (Some bytes) → bytes ≢ [] → ((e : Entry) → EntryText e bytes → ⊥) → Gives test F returned (Failed Damaged)
-  lacked : (bytes : Bytes) → returned ≡ Ok (Some bytes) → Gives test F returned (Failed Memory)
+      → list_all test includes ≡ true → (found_in test (entries e) ≡ Some (key, includes)) ⊎ F → Gives test F returned (Some (Keyed key false))
+  unmatched : (bytes : Bytes) (e : Entry) → returned ≡ Ok (Some bytes) → EntryText e bytes → (found_in test (entries e) ≡ None) ⊎ F → Gives test F returned None
+  damaged : (bytes : Bytes) → returned ≡ Ok (Some bytes) → bytes ≢ [] → ((e : Entry) → EntryText e bytes → ⊥) → Gives test F returned (Some (ReturnsError Damaged))
+  lacked : (bytes : Bytes) → returned ≡ Ok (Some bytes) → Gives test F returned (Some (ReturnsError Memory))
 
 -- pairs from two lists, each leading from the state that the one before it left
 abbrev pub Chain : {D R S : Type 0} → (D → S → R → S → Type 0) → S → List D → List R → S → Type 0
@@ -80,10 +75,10 @@ module _ {V : Type 0} (w : World V) where
   -- why a call returns an error while its key is computed
   pub data StopsMaking (c : Call V) (F : Type 0) : Why → Type 0 where
     making_lacks : StopsMaking c F Memory
-    no_text : is_preprocessed c.request ≡ true → printed w c ≡ None → StopsMaking c F NoText
-    text_fault : is_preprocessed c.request ≡ true → F → StopsMaking c F TextFault
-    no_input : is_preprocessed c.request ≡ false → input_file w c ≡ None → StopsMaking c F Input
-    input_fault : is_preprocessed c.request ≡ false → F → StopsMaking c F InputFault
+    no_text : is_preprocessed_first c.request.arguments.language ≡ true → printed w c ≡ None → StopsMaking c F NoText
+    text_fault : is_preprocessed_first c.request.arguments.language ≡ true → F → StopsMaking c F TextFault
+    no_input : is_preprocessed_first c.request.arguments.language ≡ false → input_file w c ≡ None → StopsMaking c F Input
+    input_fault : is_preprocessed_first c.request.arguments.language ≡ false → F → StopsMaking c F InputFault
     marker : preprocessor_key_of w c ≢ None → (text : Bytes) → printed w c ≡ Some text → Walk w c text Errs → StopsMaking c F Marker
 
 module _ {V S : Type 0} (w : World V) (st : Store S) where
@@ -102,18 +97,18 @@ module _ {V S : Type 0} (w : World V) (st : Store S) where
     stops : (why : Why) → StopsMaking w c F why → r ≡ ReturnsError why → t ≡ s → Makes c F s r t
     gives : (key : Bytes) → plain_key w c ≡ Some key → r ≡ Keyed key true → Stores c F key s t → Makes c F s r t
 
-  abbrev pub Ends : Call V → Type 0 → Asked → S → CallResult → S → Type 0
-  Ends c F (Hit key) mid r t = (r ≡ Keyed key false) × (t ≡ mid)
-  Ends c F (Failed why) mid r t = (r ≡ ReturnsError why) × (t ≡ mid)
-  Ends c F Miss mid r t = Makes c F mid r t
+  -- what follows that result, and what follows where there is none
+  abbrev pub Ends : Call V → Type 0 → Option CallResult → S → CallResult → S → Type 0
+  Ends c F (Some result) mid r t = (r ≡ result) × (t ≡ mid)
+  Ends c F None mid r t = Makes c F mid r t
 
   -- One call. It may return an error before the store is asked. If it has no preprocessor key or may not ask, it computes its key.
-  -- Otherwise it asks, and computes its key after a miss.
+  -- Otherwise it asks once, and computes its key if what the store returned determines no result.
   pub data Step (c : Call V) (F : Type 0) (s : S) (r : CallResult) (t : S) : Type 0 where
     stopped : (why : Why) → StopsOpening w c F why → r ≡ ReturnsError why → t ≡ s → Step c F s r t
     made : Opened w c → (preprocessor_key_of w c ≡ None) ⊎ (c.control ≡ ForceRecache) → Makes c F s r t → Step c F s r t
     asked : Opened w c → (k : Bytes) → preprocessor_key_of w c ≡ Some k → c.control ≡ Default → (returned : Returned) (mid : S) → st.got s k returned mid
-        → (o : Asked) → Gives (matching w c) F returned o → Ends c F o mid r t → Step c F s r t
+        → (o : Option CallResult) → Gives (matching w c) F returned o → Ends c F o mid r t → Step c F s r t
 
   -- calls in order, each starting where the one before it ended
   abbrev pub Run : S → List (Done V) → List CallResult → S → Type 0

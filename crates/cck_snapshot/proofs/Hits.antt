@@ -1,13 +1,13 @@
 -- A hit doesn't depend on what is printed.
-use Rattle.std.proofs.Common.{◌≡◌, List, true, false, refl, sym, ◌∙◌}
+use Rattle.std.proofs.Common.{◌≡◌, List, true, false, refl, sym, ◌∙◌, Option, None, Some}
 use Rattle.cck_path.specs.Bytes.{Bytes}
 use Rattle.cck_store.specs.Store.{Store}
 use Rattle.cck_time.specs.declared.config.PreprocessorCacheModeConfig.{PreprocessorCacheModeConfig}
 use Rattle.jiff.specs.Types.{TimeZone}
 use Rattle.c_cache_keys.proofs.Stored.{not_failed}
-use Rattle.c_cache_keys.specs.Call.{Call, Keyed, Why}
+use Rattle.c_cache_keys.specs.Call.{Call, CallResult, Keyed, Why}
 use Rattle.c_cache_keys.specs.Keys.{extra_texts, input_file, input_recorded, key_material, preprocessor_key_of, request_parts, uses_cache}
-use Rattle.c_cache_keys.specs.Step.{Asked, Ends, Failed, Gives, Hit, Makes, Miss, Opened, Step, StopsOpening, asked, extra_fault, gives, made, matching, no_extra, no_used_input, opening_lacks, stopped, stops, used_input_fault}
+use Rattle.c_cache_keys.specs.Step.{Ends, Gives, Makes, Opened, Step, StopsOpening, asked, extra_fault, gives, made, matching, no_extra, no_used_input, opening_lacks, stopped, stops, used_input_fault}
 use Rattle.c_cache_keys.specs.World.{World, world_of}
 use Rattle.c_cache_keys.specs.declared.call.CacheControl.{CacheControl}
 use Rattle.cck_snapshot.specs.External.{External, Prints, external_compiler}
@@ -49,10 +49,9 @@ module _ (hash : Bytes → Bytes) (zone : TimeZone) (config : PreprocessorCacheM
     hit_any st F s t key (made o not makes) = absurd (made_fresh (in_world p) st c F s t key makes)
     hit_any {S} st F s t key (asked o k is-k control from_store mid got a given ends) = go a given ends
       where
-        go : (a : Asked) → Gives (matching (in_world p) c) F from_store a → Ends (in_world p) st c F a mid (Keyed key false) t → Step (in_world q) st c F s (Keyed key false) t
-        go (Hit other) given ends = asked (opened o) k (sym key_same ∙ is-k) control from_store mid got (Hit other) given ends
-        go (Failed why) given ends = absurd (not_failed ends.0)
-        go Miss given ends = absurd (made_fresh (in_world p) st c F mid t key ends)
+        go : (a : Option CallResult) → Gives (matching (in_world p) c) F from_store a → Ends (in_world p) st c F a mid (Keyed key false) t → Step (in_world q) st c F s (Keyed key false) t
+        go (Some x) given ends = asked (opened o) k (sym key_same ∙ is-k) control from_store mid got (Some x) given ends
+        go None given ends = absurd (made_fresh (in_world p) st c F mid t key ends)
 
     -- an error before the store is asked doesn't depend on it either, nor on whether the store may be asked
     pub stops_any : (control : CacheControl) (F G : Type 0) → (F → G) → (why : Why) → StopsOpening (in_world p) c F why → StopsOpening (in_world q) (record c { control = control }) G why

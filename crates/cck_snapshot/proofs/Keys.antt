@@ -13,8 +13,9 @@ use Rattle.cck_store.specs.declared.store.StoreError.TheVariants as store
 use Rattle.c_cache_keys.proofs.Stored.{not_both, not_failed}
 use Rattle.c_cache_keys.specs.Call.{CallResult, Call, Memory, NoText, ReturnsError, TextFault, Why}
 use Rattle.c_cache_keys.proofs.KeySame.{of_both}
-use Rattle.c_cache_keys.specs.Keys.{extra_texts, input_recorded, is_direct, is_preprocessed, key_material, preprocessor_key_of, request_parts, uses_cache}
-use Rattle.c_cache_keys.specs.Step.{Asked, Ends, Gives, Makes, Step, Stores, StopsMaking, StopsOpening, asked, damaged, extra_fault, faulted, gives, input_fault, lacked, made, making_lacks, marker, matched, matching, no_bytes, no_extra, no_input, no_key as keyless, no_text, no_used_input, none_recorded, nothing, opening_lacks, puts, refused, stopped, stops, store_failed, store_lacked, text_fault, unmatched, used_input_fault}
+use Rattle.cck_util.specs.Language.{is_preprocessed_first}
+use Rattle.c_cache_keys.specs.Keys.{extra_texts, input_recorded, is_direct, key_material, preprocessor_key_of, request_parts, uses_cache}
+use Rattle.c_cache_keys.specs.Step.{Ends, Gives, Makes, Step, Stores, StopsMaking, StopsOpening, asked, damaged, extra_fault, faulted, gives, input_fault, lacked, made, making_lacks, marker, matched, matching, no_bytes, no_extra, no_input, no_key as keyless, no_text, no_used_input, none_recorded, nothing, opening_lacks, puts, refused, stopped, stops, store_failed, store_lacked, text_fault, unmatched, used_input_fault}
 use Rattle.c_cache_keys.specs.Walk.{input_path}
 use Rattle.c_cache_keys.specs.World.{World}
 use Rattle.c_cache_keys.specs.declared.call.CacheControl.TheVariants.{Default}
@@ -66,7 +67,7 @@ module _ {V : Type 0} (w : World V) (c : Call V) (F : Type 0) (control : c.contr
   what_is_noted r t (made o (inr recache) makes) = absurd (not_both (sym control ∙ recache))
   what_is_noted r t (asked o k is-k default from_store mid got a given ends) = go from_store a got given ends
     where
-      go : (from_store : Returned) (a : Asked) → NotesKey None k from_store mid → Gives (matching w c) F from_store a → Ends w requested_key c F a mid r t → Noted r t
+      go : (from_store : Returned) (a : Option CallResult) → NotesKey None k from_store mid → Gives (matching w c) F from_store a → Ends w requested_key c F a mid r t → Noted r t
       go (Ok None) a got (nothing is) ends = noted k is-k (makes_nothing mid t r ends ∙ got)
       go (Ok None) a got (store_failed is) ends = absurd (ok_err is)
       go (Ok None) a got (store_lacked is) ends = absurd (ok_err is)
@@ -103,7 +104,7 @@ module _ {V : Type 0} (w : World V) (c : Call V) (F : Type 0) (control : c.contr
   abbrev pub NotTextless : Why → Type 0
   NotTextless why = (why ≢ NoText) × (why ≢ TextFault)
 
-  no_making : (why : Why) → is_preprocessed c.request ≡ true → preprocessor_key_of w c ≡ None → NotTextless why → StopsMaking w c F why → StopsOpening w c F why
+  no_making : (why : Why) → is_preprocessed_first c.request.arguments.language ≡ true → preprocessor_key_of w c ≡ None → NotTextless why → StopsMaking w c F why → StopsOpening w c F why
   no_making why needs none other making_lacks = opening_lacks
   no_making why needs none other (no_text needs' none') = absurd (other.0 refl)
   no_making why needs none other (text_fault needs' fault) = absurd (other.1 refl)
@@ -112,7 +113,7 @@ module _ {V : Type 0} (w : World V) (c : Call V) (F : Type 0) (control : c.contr
   no_making why needs none other (marker key text prints errs) = absurd (key none)
 
   -- no key was noted, and the call returned an error
-  pub why_not_noted : (why : Why) → is_preprocessed c.request ≡ true → NotTextless why → Noted (ReturnsError why) None → StopsOpening w c F why
+  pub why_not_noted : (why : Why) → is_preprocessed_first c.request.arguments.language ≡ true → NotTextless why → Noted (ReturnsError why) None → StopsOpening w c F why
   why_not_noted why needs other (noted k is same) = absurd (none-some _ same)
   why_not_noted why needs other (early why' cause is none) = subst (StopsOpening w c F) (sym (same_why is)) cause
   why_not_noted why needs other (no_key none (stops why' cause is same) t) =
@@ -120,12 +121,12 @@ module _ {V : Type 0} (w : World V) (c : Call V) (F : Type 0) (control : c.contr
   why_not_noted why needs other (no_key none (gives key plain is stores) t) = absurd (not_failed (sym is))
 
 -- where no preprocessor is needed there is no preprocessor key
-unused : {V : Type 0} (w : World V) (c : Call V) → is_preprocessed c.request ≡ false → uses_cache w c.request ≡ false
+unused : {V : Type 0} (w : World V) (c : Call V) → is_preprocessed_first c.request.arguments.language ≡ false → uses_cache w c.request ≡ false
 unfolding uses_cache
 unused w c h =
     ap (λ b. b && (w.config.use_preprocessor_cache_mode && (is_none c.request.arguments.too_hard_for_preprocessor_cache_mode && is_direct c.request.env_vars))) h
 
-pub none_needed : {V : Type 0} (w : World V) (c : Call V) → is_preprocessed c.request ≡ false → preprocessor_key_of w c ≡ None
+pub none_needed : {V : Type 0} (w : World V) (c : Call V) → is_preprocessed_first c.request.arguments.language ≡ false → preprocessor_key_of w c ≡ None
 unfolding preprocessor_key_of key_material
 none_needed w c h =
     ap (λ b. option_map (digest_text w.hash) (cond b (of_both (preprocessor_material (request_parts w c.request (input_path c))) (extra_texts w c) (input_recorded w c)) None)) (unused w c h)
@@ -141,5 +142,5 @@ module _ {V : Type 0} (w : World V) (c : Call V) (F : Type 0) (control : c.contr
   pub asked_none : (o : Option (String Global)) → IsStoredKey r o → None ≡ t → preprocessor_key_of w c ≡ None
   asked_none o stored at = none_noted w c F control r o stored (from_new None at)
 
-  pub asked_error : (why : Why) → is_preprocessed c.request ≡ true → r ≡ ReturnsError why → NotTextless w c F control why → None ≡ t → StopsOpening w c F why
+  pub asked_error : (why : Why) → is_preprocessed_first c.request.arguments.language ≡ true → r ≡ ReturnsError why → NotTextless w c F control why → None ≡ t → StopsOpening w c F why
   asked_error why needs is other at = why_not_noted w c F control why needs other (subst (λ v. Noted w c F control v None) is (from_new None at))

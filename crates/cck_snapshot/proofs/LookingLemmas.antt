@@ -14,10 +14,10 @@ use Rattle.cck_store.specs.MapStore.{IsGot, State, map_store}
 use Rattle.cck_store.specs.Store.{Returned}
 use Rattle.jiff.specs.Words.{plain_zone}
 use Rattle.c_cache_keys.proofs.Stored.{not_both}
-use Rattle.c_cache_keys.specs.Call.{CallResult, Call, Memory, ReturnsError, Why}
+use Rattle.c_cache_keys.specs.Call.{CallResult, Call, Memory, ReturnsError}
 use Rattle.c_cache_keys.specs.Keys.{preprocessor_key_of}
 use Rattle.c_cache_keys.specs.Seen.{why_of}
-use Rattle.c_cache_keys.specs.Step.{Asked, Ends, Failed, Gives, Hit, Miss, Step, asked, damaged, lacked, made, matching, no_bytes, nothing, opening_lacks, stopped, store_failed, store_lacked, unmatched}
+use Rattle.c_cache_keys.specs.Step.{Ends, Gives, Step, asked, damaged, lacked, made, matched, matching, no_bytes, nothing, opening_lacks, stopped, store_failed, store_lacked, unmatched}
 use Rattle.c_cache_keys.specs.World.{World}
 use Rattle.c_cache_keys.specs.declared.call.CacheControl.TheVariants.{Default}
 use Rattle.cck_snapshot.proofs.Hits.{hit_any, key_same}
@@ -28,17 +28,24 @@ use Rattle.cck_snapshot.specs.Requests.{call_for, world_for}
 use Rattle.cck_snapshot.specs.Snapshot.{IsLookUpError, IsLookedUp, IsMiss, IsStoredKey, one_pair}
 use Rattle.cck_snapshot.specs.declared.requests.SnapshotRequest.{SnapshotRequest}
 
+same_some : {x y : CallResult} → Some x ≡ Some y → x ≡ y
+same_some e = cc
+
 module _ {V : Type 0} (w : World V) (c : Call V) (F : Type 0) where
-  -- no error of asking a store is a miss
-  not_given : (from_store : Returned) (why : Why) → IsMiss (ReturnsError why) → Gives (matching w c) F from_store (Failed why) → ⊥
-  not_given from_store why m (store_failed is) = m
-  not_given from_store why m (store_lacked is) = m
-  not_given from_store why m (damaged bytes is some none) = m
-  not_given from_store why m (lacked bytes is) = m
+  -- no result that the store determines is a miss
+  not_given : (from_store : Returned) (o : Option CallResult) (x : CallResult) → o ≡ Some x → IsMiss x → Gives (matching w c) F from_store o → ⊥
+  not_given from_store o x same m (store_failed is) = subst IsMiss (sym (same_some same)) m
+  not_given from_store o x same m (store_lacked is) = subst IsMiss (sym (same_some same)) m
+  not_given from_store o x same m (nothing is) = none-some _ same
+  not_given from_store o x same m (no_bytes is) = none-some _ same
+  not_given from_store o x same m (matched bytes key e list is text present all which) = false≢true (subst IsMiss (sym (same_some same)) m)
+  not_given from_store o x same m (unmatched bytes e is text which) = none-some _ same
+  not_given from_store o x same m (damaged bytes is some none) = subst IsMiss (sym (same_some same)) m
+  not_given from_store o x same m (lacked bytes is) = subst IsMiss (sym (same_some same)) m
 
   -- what a miss says of the pair
   abbrev pub IsMissOf : Bytes → Bytes → Type 0
-  IsMissOf k bytes = (preprocessor_key_of w c ≢ Some k) ⊎ Gives (matching w c) F (Ok (Some bytes)) Miss
+  IsMissOf k bytes = (preprocessor_key_of w c ≢ Some k) ⊎ Gives (matching w c) F (Ok (Some bytes)) None
 
   not_held : (k other bytes : Bytes) → preprocessor_key_of w c ≡ Some other → find text_cmp other ((k, bytes) ∷ []) ≡ None → preprocessor_key_of w c ≡ Some k → ⊥
   not_held k other bytes is none own =
@@ -48,12 +55,12 @@ module _ {V : Type 0} (w : World V) (c : Call V) (F : Type 0) where
       other_is = let e : Some other ≡ Some k = sym is ∙ own in cc
 
   asked_missed : (k other bytes : Bytes) (from_store : Returned) (mid : State) → preprocessor_key_of w c ≡ Some other → IsGot (one_pair k bytes) other from_store mid
-      → Gives (matching w c) F from_store Miss → IsMissOf k bytes
+      → Gives (matching w c) F from_store None → IsMissOf k bytes
   asked_missed k other bytes from_store mid is got (nothing at) = inl (not_held k other bytes is (sym (subst (λ v. IsGot (one_pair k bytes) other v mid) at got).1))
   asked_missed k other bytes from_store mid is got (no_bytes at) =
-      inr (subst (λ b. Gives (matching w c) F (Ok (Some b)) Miss) (find_one k other bytes [] (sym (subst (λ v. IsGot (one_pair k bytes) other v mid) at got).1)) (no_bytes refl))
+      inr (subst (λ b. Gives (matching w c) F (Ok (Some b)) None) (find_one k other bytes [] (sym (subst (λ v. IsGot (one_pair k bytes) other v mid) at got).1)) (no_bytes refl))
   asked_missed k other bytes from_store mid is got (unmatched found e at text which) =
-      inr (subst (λ b. Gives (matching w c) F (Ok (Some b)) Miss) (find_one k other bytes found (sym (subst (λ v. IsGot (one_pair k bytes) other v mid) at got).1)) (unmatched found e refl text which))
+      inr (subst (λ b. Gives (matching w c) F (Ok (Some b)) None) (find_one k other bytes found (sym (subst (λ v. IsGot (one_pair k bytes) other v mid) at got).1)) (unmatched found e refl text which))
 
   pub missed : (k bytes : Bytes) (t : State) (r : CallResult) → c.control ≡ Default → IsMiss r → Step w map_store c F (one_pair k bytes) r t → IsMissOf k bytes
   missed k bytes t r control m (stopped why cause is same) = absurd (not_opening w c F why (subst IsMiss is m) cause)
@@ -61,10 +68,9 @@ module _ {V : Type 0} (w : World V) (c : Call V) (F : Type 0) where
   missed k bytes t r control m (made o (inr recache) makes) = absurd (not_both (sym control ∙ recache))
   missed k bytes t r control m (asked o other is default from_store mid got a given ends) = go a given ends
     where
-      go : (a : Asked) → Gives (matching w c) F from_store a → Ends w map_store c F a mid r t → IsMissOf k bytes
-      go (Hit key) given ends = absurd (false≢true (subst IsMiss ends.0 m))
-      go (Failed why) given ends = absurd (not_given from_store why (subst IsMiss ends.0 m) given)
-      go Miss given ends = asked_missed k other bytes from_store mid is got given
+      go : (a : Option CallResult) → Gives (matching w c) F from_store a → Ends w map_store c F a mid r t → IsMissOf k bytes
+      go (Some x) given ends = absurd (not_given from_store (Some x) x refl (subst IsMiss ends.0 m) given)
+      go None given ends = asked_missed k other bytes from_store mid is got given
 
 module _ (hash : Bytes → Bytes) (files : FileMap) (r : SnapshotRequest) (F : Type 0) (k bytes : Bytes) where
   abbrev pub Looked : CallResult → State → Type 0

@@ -1,11 +1,11 @@
 -- What holds over a snapshot of files holds over all of them.
-use Rattle.std.proofs.Common.{◌≡◌, ◌≢◌, inl, inr, ◌∷◌, [], List, map, Bool, false, true, cond, None, Option, Some, Ok, Err, Result, refl, sym, ap, ◌∙◌, subst}
+use Rattle.std.proofs.Common.{◌≡◌, ◌≢◌, inl, inr, ◌∷◌, [], List, Bool, false, true, cond, None, Option, Some, Ok, Err, Result, refl, sym, ap, ◌∙◌, subst}
 use Rattle.std.specs.FinMap.{empty, entries, get, insert}
 use Rattle.std.specs.List.{list_all}
 use Rattle.std.specs.Option.{option_and_then, option_map}
 use Rattle.std.specs.Result.{result_ok}
 use Rattle.std.specs.Prelude.{Contains}
-use Rattle.std.proofs.lemmas.Option.{none-some, same_Some}
+use Rattle.std.proofs.lemmas.Option.{none-some}
 use Rattle.cck_digest.specs.Digest.{digest_text}
 use Rattle.cck_digest.specs.declared.error.FileError.{FileError}
 use Rattle.cck_entry.proofs.LawLemmas.{one_text_one_entry}
@@ -31,9 +31,10 @@ use Rattle.c_cache_keys.proofs.Includes.{entries-alone, same_ok}
 use Rattle.c_cache_keys.proofs.Judgements.{folder_or_file}
 use Rattle.c_cache_keys.proofs.KeySame.{input_known, key_known, material_known, of_both, used_prints}
 use Rattle.c_cache_keys.proofs.Stored.{not_both, not_failed}
-use Rattle.c_cache_keys.specs.Call.{Call, Fault, Keyed}
-use Rattle.c_cache_keys.specs.Keys.{extra_texts, input_file, input_recorded, is_preprocessed, key_material, plain_key, plain_parts, preprocessor_key_of, printed, request_parts, text_of, uses_cache}
-use Rattle.c_cache_keys.specs.Step.{Asked, Ends, Failed, Gives, Hit, Miss, Opened, OwnPair, Step, asked, faulted, gives, made, matched, matching, no_key, none_recorded, puts, refused, stopped, stops}
+use Rattle.c_cache_keys.specs.Call.{Call, CallResult, Fault, Keyed}
+use Rattle.cck_util.specs.Language.{is_preprocessed_first}
+use Rattle.c_cache_keys.specs.Keys.{extra_texts, input_file, input_recorded, key_material, plain_key, plain_parts, preprocessor_key_of, printed, request_parts, text_of, uses_cache}
+use Rattle.c_cache_keys.specs.Step.{Ends, Gives, Opened, OwnPair, Step, asked, damaged, faulted, gives, lacked, made, matched, matching, no_bytes, no_key, none_recorded, nothing, puts, refused, stopped, stops, store_failed, store_lacked, unmatched}
 use Rattle.c_cache_keys.specs.Walk.{Accepted, Errs, IsGood, IsLooked, IsNamed, MarksDecide, NotAccepted, Walk, input_path, meant_path}
 use Rattle.c_cache_keys.specs.World.{World, setting}
 use Rattle.c_cache_keys.specs.declared.call.CacheControl.TheVariants.{ForceRecache}
@@ -149,12 +150,19 @@ module _ {V : Type 0} (w : World V) (c : Call V) (whole : FileMap) (snapshot : I
       let all' = list_here list all in
       (list, at, all', inl (ap (found_in (matching w d)) one ∙ found_one (matching w d) (key, list) all'))
 
-  gives_here : (F : Type 0) (k other bytes key : Bytes) (from_store : Returned) (mid : State) → HasOneResult bytes → IsGot (one_pair k bytes) other from_store mid
-      → Gives (matching w c) F from_store (Hit key) → Gives (matching w d) F from_store (Hit key)
-  gives_here F k other bytes key from_store mid one got (matched found key' e list is text present all which) =
-      let own = find_one k other bytes found (sym (subst (λ v. IsGot (one_pair k bytes) other v mid) is got).1) in
-      let (list', present', all', which') = lookup_here F e found key' (subst HasOneResult (sym own) one) text (list, present, all, which) in
-      matched found key' e list' is text present' all' which'
+  gives_here : (F : Type 0) (k other bytes key : Bytes) (from_store : Returned) (mid : State) (o : Option CallResult) → o ≡ Some (Keyed key false) → HasOneResult bytes → IsGot (one_pair k bytes) other from_store mid
+      → Gives (matching w c) F from_store o → Gives (matching w d) F from_store o
+  gives_here F k other bytes key from_store mid o same one got (store_failed is) = store_failed is
+  gives_here F k other bytes key from_store mid o same one got (store_lacked is) = store_lacked is
+  gives_here F k other bytes key from_store mid o same one got (nothing is) = nothing is
+  gives_here F k other bytes key from_store mid o same one got (no_bytes is) = no_bytes is
+  gives_here F k other bytes key from_store mid o same one got (matched found own e list is text present all which) =
+      let held = find_one k other bytes found (sym (subst (λ v. IsGot (one_pair k bytes) other v mid) is got).1) in
+      let (list', present', all', which') = lookup_here F e found own (subst HasOneResult (sym held) one) text (list, present, all, which) in
+      matched found own e list' is text present' all' which'
+  gives_here F k other bytes key from_store mid o same one got (unmatched bytes' e is text which) = absurd (none-some _ same)
+  gives_here F k other bytes key from_store mid o same one got (damaged bytes' is some none) = damaged bytes' is some none
+  gives_here F k other bytes key from_store mid o same one got (lacked bytes' is) = lacked bytes' is
 
   pub hit_here : (F : Type 0) (k bytes key : Bytes) (t : State) → HasOneResult bytes → Step w map_store c F (one_pair k bytes) (Keyed key false) t
       → Step w map_store d F (one_pair k bytes) (Keyed key false) t
@@ -162,10 +170,11 @@ module _ {V : Type 0} (w : World V) (c : Call V) (whole : FileMap) (snapshot : I
   hit_here F k bytes key t one (made o not makes) = absurd (made_fresh w map_store c F (one_pair k bytes) t key makes)
   hit_here F k bytes key t one (asked o other is control from_store mid got a given ends) = go a given ends
     where
-      go : (a : Asked) → Gives (matching w c) F from_store a → Ends w map_store c F a mid (Keyed key false) t → Step w map_store d F (one_pair k bytes) (Keyed key false) t
-      go (Hit found) given ends = asked (opened_here o) other (key_here other is) control from_store mid got (Hit found) (gives_here F k other bytes found from_store mid one got given) ends
-      go (Failed why) given ends = absurd (not_failed ends.0)
-      go Miss given ends = absurd (made_fresh w map_store c F mid t key ends)
+      go : (a : Option CallResult) → Gives (matching w c) F from_store a → Ends w map_store c F a mid (Keyed key false) t → Step w map_store d F (one_pair k bytes) (Keyed key false) t
+      go (Some x) given ends =
+          asked (opened_here o) other (key_here other is) control from_store mid got (Some x)
+          (gives_here F k other bytes key from_store mid (Some x) (ap (λ v. Some v) (sym ends.0)) one got given) ends
+      go None given ends = absurd (made_fresh w map_store c F mid t key ends)
 
   -- ---- recordings
 
@@ -198,7 +207,7 @@ module _ {V : Type 0} (w : World V) (c : Call V) (whole : FileMap) (snapshot : I
       by (inr (o, own, old, digest)) = own ∙ ap Ok (same_ok o n (sym (files p o own) ∙ file))
 
   module _ (text_same : printed w d ≡ printed w c) where
-    plain_here : (key : Bytes) → is_preprocessed c.request ≡ true → plain_key w c ≡ Some key → plain_key w d ≡ Some key
+    plain_here : (key : Bytes) → is_preprocessed_first c.request.arguments.language ≡ true → plain_key w c ≡ Some key → plain_key w d ≡ Some key
     unfolding plain_key text_of
     plain_here key needs is =
         ap (λ o. of_both (λ extra_hashes text. digest_text w.hash (material (plain_parts w c.request extra_hashes text))) o (text_of w d)) snapshot.extra

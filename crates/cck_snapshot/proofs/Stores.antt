@@ -1,5 +1,5 @@
 -- A step on one pair is a step on each store.
-use Rattle.std.proofs.Common.{◌≡◌, ◌⊎◌, ℕ, inl, inr, ◌∷◌, [], List, Bool, false, true, cond, None, Some, Ok, Err, refl, sym, ap, ◌∙◌, subst, arith}
+use Rattle.std.proofs.Common.{◌≡◌, ℕ, ◌∷◌, [], List, Bool, false, true, cond, Option, None, Some, Ok, Err, refl, sym, ap, ◌∙◌, subst, arith}
 use Rattle.std.specs.Cmp.{Equal-is}
 use Rattle.std.specs.Cmp.Lexicographic.{nat_list_cmp_total}
 use Rattle.std.specs.FinMap.{nat_cmp-IsAntisymmetric, slice_cmp-IsAntisymmetric}
@@ -13,9 +13,9 @@ use Rattle.cck_store.specs.MapStore.{IsGot, IsMapPut, State, call_begun, map_sto
 use Rattle.cck_store.specs.Store.{Returned, Store, Stored}
 use Rattle.cck_store.specs.declared.store.StoreError.TheVariants as store
 use Rattle.c_cache_keys.proofs.Stored.{not_both, not_failed}
-use Rattle.c_cache_keys.specs.Call.{Call, Fault, Keyed}
+use Rattle.c_cache_keys.specs.Call.{Call, CallResult, Fault, Keyed, ReturnsError, Why}
 use Rattle.c_cache_keys.specs.Keys.{preprocessor_key_of}
-use Rattle.c_cache_keys.specs.Step.{Asked, Ends, Failed, Gives, Hit, Miss, OwnPair, Step, Stores, asked, faulted, gives, made, matched, matching, no_key, none_recorded, puts, refused, stopped, stops}
+use Rattle.c_cache_keys.specs.Step.{Ends, Gives, OwnPair, Step, Stores, asked, damaged, faulted, gives, lacked, made, matched, matching, no_bytes, no_key, none_recorded, nothing, puts, refused, stopped, stops, store_failed, store_lacked, unmatched}
 use Rattle.c_cache_keys.specs.World.{World}
 use Rattle.c_cache_keys.specs.declared.call.CacheControl.TheVariants.{ForceRecache}
 use Rattle.cck_snapshot.proofs.Hits.{made_fresh}
@@ -31,6 +31,12 @@ find_key k other bytes x h = by (is_eq (text_cmp other k)) refl (sym (find-put t
     by true tied e = slice_cmp-IsAntisymmetric nat_cmp-IsAntisymmetric other k ((Equal-is (text_cmp other k)).0 tied)
     by false tied e = absurd (none-some _ e)
 
+error_key : {why : Why} {key : Bytes} → Some (ReturnsError why) ≡ Some (Keyed key false) → ⊥
+error_key e = cc
+
+none_key : {key : Bytes} → None ≡ Some (Keyed key false) → ⊥
+none_key e = cc
+
 same_head : (x y : Bytes × Bytes) (xs ys : List (Bytes × Bytes)) → x ∷ xs ≡ y ∷ ys → x ≡ y
 same_head x y xs ys e = cc
 
@@ -40,23 +46,32 @@ same_pairs k l a b e = let pair = same_head (k, a) (l, b) [] [] (ap (λ (v : Sta
 
 module _ {V S : Type 0} (w : World V) (st : Store S) (c : Call V) (F : Type 0) where
   -- what a get of one pair returned for a hit is the pair's bytes, under its key
-  got_hit : (k other bytes key : Bytes) (from_store : Returned) (mid : State) → IsGot (one_pair k bytes) other from_store mid → Gives (matching w c) F from_store (Hit key)
-      → (other ≡ k) × Gives (matching w c) F (Ok (Some bytes)) (Hit key)
-  got_hit k other bytes key from_store mid got (matched found key' e list is text present all which) =
-      let own = sym (subst (λ v. IsGot (one_pair k bytes) other v mid) is got).1 in
-      (find_key k other bytes found own, subst (λ b. Gives (matching w c) F (Ok (Some b)) (Hit key')) (find_one k other bytes found own) (matched found key' e list refl text present all which))
+  got_hit : (k other bytes key : Bytes) (from_store : Returned) (mid : State) (o : Option CallResult) → o ≡ Some (Keyed key false) → IsGot (one_pair k bytes) other from_store mid → Gives (matching w c) F from_store o
+      → (other ≡ k) × Gives (matching w c) F (Ok (Some bytes)) (Some (Keyed key false))
+  got_hit k other bytes key from_store mid o same got (store_failed is) = absurd (error_key same)
+  got_hit k other bytes key from_store mid o same got (store_lacked is) = absurd (error_key same)
+  got_hit k other bytes key from_store mid o same got (nothing is) = absurd (none_key same)
+  got_hit k other bytes key from_store mid o same got (no_bytes is) = absurd (none_key same)
+  got_hit k other bytes key from_store mid o same got (matched found own e list is text present all which) =
+      let held = sym (subst (λ v. IsGot (one_pair k bytes) other v mid) is got).1 in (
+        find_key k other bytes found held,
+        subst (λ v. Gives (matching w c) F (Ok (Some bytes)) v) same
+            (subst (λ b. Gives (matching w c) F (Ok (Some b)) (Some (Keyed own false))) (find_one k other bytes found held) (matched found own e list refl text present all which)),
+      )
+  got_hit k other bytes key from_store mid o same got (unmatched bytes' e is text which) = absurd (none_key same)
+  got_hit k other bytes key from_store mid o same got (damaged bytes' is some none) = absurd (error_key same)
+  got_hit k other bytes key from_store mid o same got (lacked bytes' is) = absurd (error_key same)
 
   hit_there : (k bytes key : Bytes) (t : State) (s u : S) → Step w map_store c F (one_pair k bytes) (Keyed key false) t → st.got s k (Ok (Some bytes)) u → Step w st c F s (Keyed key false) u
   hit_there k bytes key t s u (stopped why cause is same) got = absurd (not_failed is)
   hit_there k bytes key t s u (made o not makes) got = absurd (made_fresh w map_store c F (one_pair k bytes) t key makes)
   hit_there k bytes key t s u (asked o other is control from_store mid got_pair a given ends) got = go a given ends
     where
-      go : (a : Asked) → Gives (matching w c) F from_store a → Ends w map_store c F a mid (Keyed key false) t → Step w st c F s (Keyed key false) u
-      go (Hit found) given ends =
-          let parts = got_hit k other bytes found from_store mid got_pair given in
-          asked o k (subst (λ v. preprocessor_key_of w c ≡ Some v) parts.0 is) control (Ok (Some bytes)) u got (Hit found) parts.1 (ends.0, refl)
-      go (Failed why) given ends = absurd (not_failed ends.0)
-      go Miss given ends = absurd (made_fresh w map_store c F mid t key ends)
+      go : (a : Option CallResult) → Gives (matching w c) F from_store a → Ends w map_store c F a mid (Keyed key false) t → Step w st c F s (Keyed key false) u
+      go (Some x) given ends =
+          let parts = got_hit k other bytes key from_store mid (Some x) (ap (λ v. Some v) (sym ends.0)) got_pair given in
+          asked o k (subst (λ v. preprocessor_key_of w c ≡ Some v) parts.0 is) control (Ok (Some bytes)) u got (Some (Keyed key false)) parts.1 (refl, refl)
+      go None given ends = absurd (made_fresh w map_store c F mid t key ends)
 
   -- a put that left one pair is the put of this pair
   put_was : (key k bytes : Bytes) (p q : Bytes) (from_store : Stored) → IsMapPut empty_state p q from_store (one_pair k bytes) → (p ≡ k) × (q ≡ bytes)

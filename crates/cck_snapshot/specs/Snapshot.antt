@@ -8,7 +8,7 @@ use Rattle.cck_store.specs.MapStore.{State, map_store, empty_state}
 use Rattle.c_cache_keys.specs.Call.{CallResult, Damaged, Extra, ExtraFault, Input, InputFault, Keyed, Marker, Memory, NoText, ReturnsError, Store as StoreFails, TextFault}
 use Rattle.c_cache_keys.specs.Keys.{preprocessor_key_of}
 use Rattle.c_cache_keys.specs.Seen.{why_of}
-use Rattle.c_cache_keys.specs.Step.{Gives, Miss, Step, matching}
+use Rattle.c_cache_keys.specs.Step.{Gives, Step, matching}
 use Rattle.c_cache_keys.specs.declared.call.CacheControl.TheVariants.{Default}
 use Rattle.cck_snapshot.specs.External.{Prints, no_text}
 use Rattle.cck_snapshot.specs.Requests.{call_for, world_for}
@@ -47,7 +47,7 @@ module _ (hash : Bytes → Bytes) (files : FileMap) (r : SnapshotRequest) (F : T
   IsLookedUp k bytes None =
       (prints : Prints)
       → (preprocessor_key_of (world_for hash prints r) (call_for Default files r) ≢ Some k)
-      ⊎ Gives (matching (world_for hash prints r) (call_for Default files r)) F (Ok (Some bytes)) Miss
+      ⊎ Gives (matching (world_for hash prints r) (call_for Default files r)) F (Ok (Some bytes)) None
 
   -- the error of a look-up
   abbrev pub IsLookUpError : Bytes → Bytes → KeyError → Type 0
