@@ -1,80 +1,70 @@
 -- Each error has its cause.
-use Rattle.std.proofs.Common.{◌≡◌, inl, inr, sym, subst, Some, None, Ok, Err}
+use Rattle.std.proofs.Common.{◌≡◌, inl, inr, false, sym, ap, subst, Option, None, Some}
 use Rattle.cck_path.specs.Bytes.{Bytes}
 use Rattle.cck_store.specs.Store.{Returned, Store, StoreLaws}
 use Rattle.cck_store.specs.declared.store.StoreError.TheVariants as store
-use Rattle.c_cache_keys.proofs.Stepped.{failed_miss}
 use Rattle.c_cache_keys.proofs.Stored.{not_failed}
-use Rattle.c_cache_keys.specs.Call.{Call, Fault, ReturnsError, Why, Memory, Extra, ExtraFault, Input, InputFault, Store as StoreFails, Damaged, NoText, TextFault, Marker}
-use Rattle.c_cache_keys.specs.Hits.{Cause, ErrorsHaveCauses}
+use Rattle.c_cache_keys.specs.Call.{Call, CallResult, Fault, Keyed, ReturnsError, Why}
+use Rattle.c_cache_keys.specs.Hits.{Cause, ErrorsHaveCauses, of_damage, of_extra, of_input, of_marker, of_memory, of_store, of_text}
 use Rattle.c_cache_keys.specs.Keys.{preprocessor_key_of}
-use Rattle.c_cache_keys.specs.Step.{Asked, Asks, Ends, Failed, Gives, Hit, Makes, Miss, ReadsAs, Step, StopsMaking, StopsOpening, asked, gives, made, stopped, stops}
+use Rattle.c_cache_keys.specs.Step.{Ends, Gives, Makes, Step, StopsMaking, StopsOpening, asked, damaged, extra_fault, gives, input_fault, lacked, made, making_lacks, marker, matched, matching, no_bytes, no_extra, no_input, no_text, no_used_input, nothing, opening_lacks, stopped, stops, store_failed, store_lacked, text_fault, unmatched, used_input_fault}
 use Rattle.c_cache_keys.specs.World.{World}
 
 same_why : {v w : Why} → ReturnsError v ≡ ReturnsError w → v ≡ w
 same_why e = cc
 
-failed_same : {v w : Why} → Failed v ≡ Failed w → v ≡ w
-failed_same e = cc
+some_why : {v w : Why} → Some (ReturnsError v) ≡ Some (ReturnsError w) → v ≡ w
+some_why e = cc
+
+none_why : {v : Why} → None ≡ Some (ReturnsError v) → ⊥
+none_why e = cc
+
+keyed_why : {key : Bytes} {v : Why} → Some (Keyed key false) ≡ Some (ReturnsError v) → ⊥
+keyed_why e = cc
 
 module _ {V S : Type 0} (w : World V) (st : Store S) (laws : StoreLaws st) where
   opening_cause : (c : Call V) (F : Type 0) (s t : S) (why : Why) → (F → ⊥) → StopsOpening w c F why → Cause w st c s t why
-  opening_cause c F s t Memory no_fault h = tt
-  opening_cause c F s t Extra no_fault h = h
-  opening_cause c F s t ExtraFault no_fault h = no_fault h
-  opening_cause c F s t Input no_fault h = (h.2, inl h.1)
-  opening_cause c F s t InputFault no_fault h = no_fault h.1
-  opening_cause c F s t StoreFails no_fault h = absurd h
-  opening_cause c F s t Damaged no_fault h = absurd h
-  opening_cause c F s t NoText no_fault h = absurd h
-  opening_cause c F s t TextFault no_fault h = h
-  opening_cause c F s t Marker no_fault h = absurd h
+  opening_cause c F s t why no_fault opening_lacks = of_memory
+  opening_cause c F s t why no_fault (no_extra none) = of_extra none
+  opening_cause c F s t why no_fault (extra_fault fault) = absurd (no_fault fault)
+  opening_cause c F s t why no_fault (no_used_input extra used none) = of_input none (inl used)
+  opening_cause c F s t why no_fault (used_input_fault used fault) = absurd (no_fault fault)
 
   making_cause : (c : Call V) (F : Type 0) (s t : S) (why : Why) → (F → ⊥) → StopsMaking w c F why → Cause w st c s t why
-  making_cause c F s t Memory no_fault h = tt
-  making_cause c F s t Extra no_fault h = absurd h
-  making_cause c F s t ExtraFault no_fault h = h
-  making_cause c F s t Input no_fault h = (h.1, inr h.0)
-  making_cause c F s t InputFault no_fault h = no_fault h.1
-  making_cause c F s t StoreFails no_fault h = absurd h
-  making_cause c F s t Damaged no_fault h = absurd h
-  making_cause c F s t NoText no_fault h = h
-  making_cause c F s t TextFault no_fault h = no_fault h.1
-  making_cause c F s t Marker no_fault h = h
+  making_cause c F s t why no_fault making_lacks = of_memory
+  making_cause c F s t why no_fault (no_text needs none) = of_text needs none
+  making_cause c F s t why no_fault (text_fault needs fault) = absurd (no_fault fault)
+  making_cause c F s t why no_fault (no_input needs none) = of_input none (inr needs)
+  making_cause c F s t why no_fault (input_fault needs fault) = absurd (no_fault fault)
+  making_cause c F s t why no_fault (marker key text prints errs) = of_marker key text prints errs
 
   -- the cause of an error while a key is computed doesn't depend on the state of the store
   makes_cause : (c : Call V) (F : Type 0) (z s t : S) (why : Why) → (F → ⊥) → Makes w st c F s (ReturnsError why) t → Cause w st c z t why
   makes_cause c F z s t why no_fault (stops v cause is same) = subst (Cause w st c z t) (same_why (sym is)) (making_cause c F z t v no_fault cause)
-  makes_cause c F z s t why no_fault (gives key is-plain quiet is stores) = absurd (not_failed (sym is))
+  makes_cause c F z s t why no_fault (gives key is-plain is stores) = absurd (not_failed (sym is))
 
-  bytes_cause : (c : Call V) (F : Type 0) (s t : S) (k x : Bytes) (why : Why) → preprocessor_key_of w c ≡ Some k → st.held s k x → ReadsAs w c F x (Failed why) → Cause w st c s t why
-  bytes_cause c F s t k x Memory is-k held h = tt
-  bytes_cause c F s t k x Damaged is-k held h = (k, x, is-k, held, h.0, h.1)
-  bytes_cause c F s t k x Extra is-k held h = absurd h
-  bytes_cause c F s t k x ExtraFault is-k held h = h
-  bytes_cause c F s t k x Input is-k held h = absurd h
-  bytes_cause c F s t k x InputFault is-k held h = h
-  bytes_cause c F s t k x StoreFails is-k held h = absurd h
-  bytes_cause c F s t k x NoText is-k held h = absurd h
-  bytes_cause c F s t k x TextFault is-k held h = h
-  bytes_cause c F s t k x Marker is-k held h = absurd h
+  given_cause : (c : Call V) (F : Type 0) (s t : S) (k : Bytes) (why : Why) (a : Returned) (o : Option CallResult) → o ≡ Some (ReturnsError why) → preprocessor_key_of w c ≡ Some k → st.got s k a t → Gives (matching w c) F a o
+      → Cause w st c s t why
+  given_cause c F s t k why a o same is-k got (store_failed is) = subst (Cause w st c s t) (some_why same) (of_store (laws.got_error s t k store.Fault (subst (λ v. st.got s k v t) is got)))
+  given_cause c F s t k why a o same is-k got (store_lacked is) = subst (Cause w st c s t) (some_why same) of_memory
+  given_cause c F s t k why a o same is-k got (nothing is) = absurd (none_why same)
+  given_cause c F s t k why a o same is-k got (no_bytes is) = absurd (none_why same)
+  given_cause c F s t k why a o same is-k got (matched bytes key e list is text present all which) = absurd (keyed_why same)
+  given_cause c F s t k why a o same is-k got (unmatched bytes e is text which) = absurd (none_why same)
+  given_cause c F s t k why a o same is-k got (damaged bytes is some none) =
+      subst (Cause w st c s t) (some_why same) (of_damage k bytes is-k (laws.got_some s t k bytes (subst (λ v. st.got s k v t) is got)) some none)
+  given_cause c F s t k why a o same is-k got (lacked bytes is) = subst (Cause w st c s t) (some_why same) of_memory
 
-  returned_cause : (c : Call V) (F : Type 0) (s t : S) (k : Bytes) (why : Why) (a : Returned) → preprocessor_key_of w c ≡ Some k → st.got s k a t → Gives w c F a (Failed why) → Cause w st c s t why
-  returned_cause c F s t k why (Err store.Fault) is-k got given = subst (Cause w st c s t) (sym (failed_same given)) (laws.got_error s t k store.Fault got)
-  returned_cause c F s t k why (Err store.Memory) is-k got given = subst (Cause w st c s t) (sym (failed_same given)) tt
-  returned_cause c F s t k why (Ok None) is-k got given = absurd (failed_miss given)
-  returned_cause c F s t k why (Ok (Some x)) is-k got given = bytes_cause c F s t k x why is-k (laws.got_some s t k x got) given
-
-  ends_cause : (c : Call V) (F : Type 0) (s t mid : S) (k : Bytes) (why : Why) (o : Asked) → (F → ⊥) → preprocessor_key_of w c ≡ Some k → Asks w st c F k s o mid → Ends w st c F o mid (ReturnsError why) t → Cause w st c s t why
-  ends_cause c F s t mid k why (Hit key) no_fault is-k asks ends = absurd (not_failed (sym ends.0))
-  ends_cause c F s t mid k why (Failed v) no_fault is-k asks ends =
-      subst (λ z. Cause w st c s z why) (sym ends.1) (subst (Cause w st c s mid) (same_why (sym ends.0)) (returned_cause c F s mid k v asks.from_store is-k asks.got asks.gives))
-  ends_cause c F s t mid k why Miss no_fault is-k asks ends = makes_cause c F s mid t why no_fault ends
+  ends_cause : (c : Call V) (F : Type 0) (s t mid : S) (k : Bytes) (why : Why) (a : Returned) (o : Option CallResult) → (F → ⊥) → preprocessor_key_of w c ≡ Some k → st.got s k a mid → Gives (matching w c) F a o
+      → Ends w st c F o mid (ReturnsError why) t → Cause w st c s t why
+  ends_cause c F s t mid k why a (Some x) no_fault is-k got given ends =
+      subst (λ z. Cause w st c s z why) (sym ends.1) (given_cause c F s mid k why a (Some x) (ap (λ v. Some v) (sym ends.0)) is-k got given)
+  ends_cause c F s t mid k why a None no_fault is-k got given ends = makes_cause c F s mid t why no_fault ends
 
   cause_any : (c : Call V) (F : Type 0) (s t : S) (why : Why) → (F → ⊥) → Step w st c F s (ReturnsError why) t → Cause w st c s t why
   cause_any c F s t why no_fault (stopped v cause is same) = subst (Cause w st c s t) (same_why (sym is)) (opening_cause c F s t v no_fault cause)
   cause_any c F s t why no_fault (made opened not makes) = makes_cause c F s s t why no_fault makes
-  cause_any c F s t why no_fault (asked opened k is-k control o mid asks ends) = ends_cause c F s t mid k why o no_fault is-k asks ends
+  cause_any c F s t why no_fault (asked opened k is-k control a mid got o given ends) = ends_cause c F s t mid k why a o no_fault is-k got given ends
 
   pub errors_have_causes : ErrorsHaveCauses w st
   errors_have_causes d s t why no_fault step = cause_any d.call (Fault d) s t why no_fault step

@@ -63,7 +63,7 @@ module _ {V : Type 0} (w : World V) (c : Call V) where
         by_judgement
         (record {
           some = some;
-          not_angled = angled;
+          not_angled = λ inner is. angled (inner, is);
           wanted = wanted;
           other = λ e. false≢true (sym parts.1 ∙ ap (eq_by_cmp path_cmp p) (sym e) ∙ path_itself p);
         })
@@ -71,7 +71,7 @@ module _ {V : Type 0} (w : World V) (c : Call V) where
 
     by_test : (b : Bool) → is_passed w.config.skip_system_headers name system ≡ b
         → (o : Outcome) → o ≡ (if b then Passes else path_outcome (walk_context w c) held (meant_path c name)) → Does held name system o
-    by_test true is o does = unlooked (λ looked. passed_for w.config.skip_system_headers name system is looked.some looked.not_angled looked.wanted) does
+    by_test true is o does = unlooked (λ looked. passed_for w.config.skip_system_headers name system is looked.some (λ (inner, is). looked.not_angled inner is) looked.wanted) does
     by_test false is o does = by_path (is_known (walk_context w c) held (meant_path c name)) refl is o does
 
     pub happens : Does held name system (outcome (walk_context w c) held name system)

@@ -1,12 +1,12 @@
 -- What is recorded of a call's files, and the entry of one result.
-use Rattle.std.proofs.Common.{◌≡◌, inl, inr, Bool, true, false, ◌&&◌, ◌||◌, List, [], ◌∷◌, length, map, refl, sym, ap, ◌∙◌, subst, Option, Some, None, Result, Ok, Err}
-use Rattle.std.proofs.lemmas.Bool.{eq-eqb, and_parts, and_left, or_right}
+use Rattle.std.proofs.Common.{◌≡◌, Bool, true, false, ◌&&◌, ◌||◌, List, [], ◌∷◌, length, refl, sym, ap, ◌∙◌, Option, Some, None, Result, Ok, Err}
+use Rattle.std.proofs.lemmas.Bool.{eq-eqb, and_from, and_parts, and_left, or_right}
 use Rattle.std.proofs.lemmas.Slice.Eq.{bytes_eq-Decides}
 use Rattle.std.specs.Cmp.Lexicographic.{nat_list_cmp_total}
 use Rattle.std.specs.FinMap.{empty, entries, entries-insert, get, insert}
 use Rattle.std.specs.FinMap.Entries.{put}
-use Rattle.std.specs.Option.{option_map}
-use Rattle.std.specs.Prelude.{Contains, MatchBool, nat_eq}
+use Rattle.std.specs.Option.{option_and}
+use Rattle.std.specs.Prelude.{IfSome, MatchBool, nat_eq}
 use Rattle.std.specs.Str.{bytes_eq}
 use Rattle.std.proofs.lemmas.Option.{same_Some}
 use Rattle.cck_digest.specs.declared.error.FileError.{FileError}
@@ -15,7 +15,7 @@ use Rattle.cck_entry.proofs.LawLemmas.{added_to_all_or_nothing}
 use Rattle.cck_entry.specs.Entry.{added, is_over}
 use Rattle.cck_files.proofs.FileLemmas.{kind_of_file}
 use Rattle.cck_files.specs.FileMap.{FileMap, FileNode, contents_of_kind, file_at, file_in, metadata_at, metadata_in, metadata_of}
-use Rattle.cck_include.specs.Gathered.{Digested, all_of, gathered, gathered_include, include_of, include_of_metadata}
+use Rattle.cck_include.specs.Gathered.{Digested, are_before, gathered_include, include_of, include_of_metadata, is_before, kept}
 use Rattle.cck_include.specs.Include.{Include}
 use Rattle.cck_include.specs.Matching.{file_matches, is_digest, matches, times_accept}
 use Rattle.cck_include.specs.Recorded.{recorded}
@@ -29,7 +29,6 @@ use Rattle.cck_path.specs.TextOrder.{text_cmp}
 use Rattle.cck_path.specs.Timestamp.{Moment}
 use Rattle.cck_path.specs.declared.metadata.FileKind.{FileKind}
 use Rattle.cck_path.specs.declared.metadata.FileKind.TheVariants.{File, Folder, Other}
-use Rattle.c_cache_keys.proofs.Elements.{first_in, later_in, none_in, one_of}
 
 pub same_ok : {A E : Type 0} (x y : A) → ◌≡◌ {A = Result A E} (Ok x) (Ok y) → x ≡ y
 same_ok x y e = cc
@@ -59,45 +58,22 @@ include_here files moment d p n is file =
     let (said, kind) = days_and_seconds_of (get files.nodes p) n file in
     (ap (λ q. include_of_metadata moment d (metadata_in (get files.nodes q))) is ∙ ap (include_of_metadata moment d) said, size_of n n.kind refl kind)
 
--- ---- lists of what is recorded
+-- the times of a file that has none after a moment are both recorded, if it has both
+module _ (moment : Moment) where
+  abbrev IsEarlier : Option Moment → Type 0
+  IsEarlier time = IfSome time (λ t. is_before t moment ≡ true)
 
-one_more : {A : Type 0} (x : A) (o : Option (List A)) (xs : List A) → option_map (λ ys. x ∷ ys) o ≡ Some xs → (ys : List A) × (o ≡ Some ys) × (x ∷ ys ≡ xs)
-one_more x None xs e = absurd cc
-one_more x (Some ys) xs e = (ys, refl, same_Some (x ∷ ys) xs e)
+  pub kept_modified : (m c : Option Moment) → IsEarlier m → IsEarlier c → kept (are_before m c moment) m ≡ option_and c m
+  kept_modified None None old older = refl
+  kept_modified None (Some c) old older = refl
+  kept_modified (Some m) None old older = refl
+  kept_modified (Some m) (Some c) old older = ap (λ b. kept b (Some m)) (and_from (is_before m moment) (is_before c moment) old older)
 
-module _ {D A : Type 0} (f : D → Option A) where
-  split : (d : D) (ds : List D) (o : Option A) (xs : List A) → f d ≡ o → all_of (o ∷ map f ds) ≡ Some xs
-      → (x : A) × (ys : List A) × (f d ≡ Some x) × (all_of (map f ds) ≡ Some ys) × (x ∷ ys ≡ xs)
-  split d ds None xs is e = absurd cc
-  split d ds (Some x) xs is e = let (ys, rest, same) = one_more x (all_of (map f ds)) xs e in (x, ys, is, rest, same)
-
-  pub of_each : (ds : List D) (xs : List A) → all_of (map f ds) ≡ Some xs → (d : D) → Contains ds d → (x : A) × Contains xs x × (f d ≡ Some x)
-  of_each [] xs e d at = absurd (none_in d at)
-  of_each (c ∷ ds) xs e d at =
-      let (x, ys, first, rest, same) = split c ds (f c) xs refl e in
-      elim (one_of c d ds at) [
-        | inl is ↦ (x, subst (λ l. Contains l x) same (first_in x ys), ap f (sym is) ∙ first)
-        | inr more ↦ (let (y, at-y, is-y) = of_each ds ys rest d more in (y, subst (λ l. Contains l y) same (later_in x y ys at-y), is-y))
-      ]
-
-  pub from_each : (ds : List D) (xs : List A) → all_of (map f ds) ≡ Some xs → (x : A) → Contains xs x → (d : D) × Contains ds d × (f d ≡ Some x)
-  from_each [] xs e x at = absurd (none_in x (subst (λ l. Contains l x) (sym (same_Some [] xs e)) at))
-  from_each (c ∷ ds) xs e x at =
-      let (y, ys, first, rest, same) = split c ds (f c) xs refl e in
-      elim (one_of y x ys (subst (λ l. Contains l x) (sym same) at)) [
-        | inl is ↦ (c, first_in c ds, first ∙ ap Some is)
-        | inr more ↦ (let (d, at-d, is-d) = from_each ds ys rest x more in (d, later_in c d ds at-d, is-d))
-      ]
-
-pub gathered_each : (files : FileMap) (moment : Moment) (ds : List Digested) (xs : List Include) → gathered files moment ds ≡ Some xs
-    → (d : Digested) → Contains ds d → (x : Include) × Contains xs x × (gathered_include files moment d ≡ Some x)
-unfolding gathered
-gathered_each files moment ds xs e = of_each (gathered_include files moment) ds xs e
-
-pub gathered_from : (files : FileMap) (moment : Moment) (ds : List Digested) (xs : List Include) → gathered files moment ds ≡ Some xs
-    → (x : Include) → Contains xs x → (d : Digested) × Contains ds d × (gathered_include files moment d ≡ Some x)
-unfolding gathered
-gathered_from files moment ds xs e = from_each (gathered_include files moment) ds xs e
+  pub kept_changed : (m c : Option Moment) → IsEarlier m → IsEarlier c → kept (are_before m c moment) c ≡ option_and m c
+  kept_changed None None old older = refl
+  kept_changed None (Some c) old older = refl
+  kept_changed (Some m) None old older = refl
+  kept_changed (Some m) (Some c) old older = ap (λ b. kept b (Some c)) (and_from (is_before m moment) (is_before c moment) old older)
 
 -- ---- matches
 
@@ -139,7 +115,10 @@ either_way : {X : Type 0} (b : Bool) (x y z : X) → y ≡ z → MatchBool b (x 
 either_way true x y z e h = h
 either_way false x y z e h = h ∙ sym e
 
-pub entries-added : (key : Bytes) (includes : List Include) → entries (added empty key includes) ≡ (key, includes) ∷ []
-entries-added key includes =
-    ap entries (either_way (is_over empty (length includes)) (added empty key includes) (insert empty key includes) (insert empty key includes) refl (added_to_all_or_nothing empty key includes))
-    ∙ entries-insert nat_list_cmp_total empty key includes ∙ ap (put text_cmp key includes) entries_of_empty
+-- to the empty entry a result is added whatever its size
+pub added_alone : (key : Bytes) (includes : List Include) → added empty key includes ≡ insert empty key includes
+added_alone key includes =
+    either_way (is_over empty (length includes)) (added empty key includes) (insert empty key includes) (insert empty key includes) refl (added_to_all_or_nothing empty key includes)
+
+pub entries-alone : (key : Bytes) (includes : List Include) → entries {R = text_cmp} (insert empty key includes) ≡ (key, includes) ∷ []
+entries-alone key includes = entries-insert nat_list_cmp_total empty key includes ∙ ap (put text_cmp key includes) entries_of_empty

@@ -1,12 +1,12 @@
 -- What follows from the preprocessor key of one call, and from two calls that have the same.
 use Rattle.std.proofs.Common.{◌≡◌, ◌≢◌, Bool, true, false, ◌||◌, cond, List, [], ◌∷◌, ◌++◌, map, filter, refl, sym, ap, ap₂, ◌∙◌, Option, Some, None, Result, Ok, Err}
 use Rattle.std.specs.List.{list_any}
-use Rattle.std.specs.Option.{option_map}
+use Rattle.std.specs.Option.{option_and_then, option_map}
+use Rattle.std.specs.Result.{result_ok}
 use Rattle.std.specs.Str.{bytes_eq}
 use Rattle.std.proofs.lemmas.Option.{same_Some, none-some}
 use Rattle.std.proofs.lemmas.Bool.{and_parts, false≢true}
 use Rattle.cck_digest.specs.Digest.{digest_text}
-use Rattle.cck_digest.specs.declared.error.FileError.{FileError}
 use Rattle.cck_files.specs.FileMap.{FileNode, file_at}
 use Rattle.cck_include.specs.Recorded.{recorded}
 use Rattle.cck_path.specs.Bytes.{Bytes}
@@ -17,11 +17,11 @@ use Rattle.cck_preprocessor_key.proofs.MaterialLemmas.{preprocessor_material_tel
 use Rattle.cck_preprocessor_key.specs.PreprocessorKey.{RequestParts, preprocessor_material}
 use Rattle.cck_strip.specs.Argument.{stripped_argument}
 use Rattle.cck_strip.specs.Text.{stripped_text}
-use Rattle.cck_util.specs.Key.{KeyParts, material, object_key}
+use Rattle.cck_util.specs.Key.{KeyParts, material}
 use Rattle.cck_util.specs.Language.{is_preprocessed_first}
 use Rattle.cck_util.specs.Variables.{include_path_names, object_variable_names, object_variables, request_variables}
 use Rattle.c_cache_keys.specs.Call.{Call, Request}
-use Rattle.c_cache_keys.specs.Keys.{extra_texts, input_file, input_recorded, is_preprocessed, key_material, of_both, params, plain_key, preprocessor_key_of, printed, request_parts, text_of, ok_value, uses_cache}
+use Rattle.c_cache_keys.specs.Keys.{extra_texts, input_file, input_recorded, key_material, plain_key, plain_parts, preprocessor_key_of, printed, request_parts, text_of, uses_cache}
 use Rattle.c_cache_keys.specs.Premises.{Agree}
 use Rattle.c_cache_keys.specs.Walk.{input_path}
 use Rattle.c_cache_keys.specs.World.{World, setting}
@@ -30,11 +30,15 @@ mapped_some : {A B : Type 0} (f : A → B) (o : Option A) (b : B) → option_map
 mapped_some f None b e = absurd (none-some _ e)
 mapped_some f (Some a) b e = (a, refl, sym (same_Some (f a) b e))
 
+-- a function of two values, if both are there
+abbrev pub of_both : {A B C : Type 0} → (A → B → C) → Option A → Option B → Option C
+of_both f o p = option_and_then (λ a. option_map (f a) p) o
+
 both_some : {A B C : Type 0} (f : A → B → C) (o : Option A) (p : Option B) (c : C) → of_both f o p ≡ Some c → (a : A) × (b : B) × (o ≡ Some a) × (p ≡ Some b) × (c ≡ f a b)
 both_some f None p c e = absurd (none-some _ e)
 both_some f (Some a) p c e = let (b, is, same) = mapped_some (f a) p c e in (a, b, refl, is, same)
 
-ok_of_some : {X : Type 0} (r : Result X FileError) (x : X) → ok_value r ≡ Some x → r ≡ Ok x
+ok_of_some : {X E : Type 0} (r : Result X E) (x : X) → result_ok r ≡ Some x → r ≡ Ok x
 ok_of_some (Ok y) x e = ap (λ v. Ok v) (same_Some y x e)
 ok_of_some (Err v) x e = absurd (none-some _ e)
 
@@ -94,9 +98,9 @@ module _ {V : Type 0} (w : World V) where
       (n, ok_of_some (file_at c.files (components (input_path c))) n is, digest)
 
   -- where a cache is used, a preprocessor is needed
-  pub used_prints : (q : Request V) → uses_cache w q ≡ true → is_preprocessed q ≡ true
+  pub used_prints : (q : Request V) → uses_cache w q ≡ true → is_preprocessed_first q.arguments.language ≡ true
   unfolding uses_cache
-  used_prints q e = (and_parts (is_preprocessed q) _ e).0
+  used_prints q e = (and_parts (is_preprocessed_first q.arguments.language) _ e).0
 
   -- equal key material is of equal parts, equal hex digests of the extra files, and one recorded digest of the input
   pub material_same : (c d : Call V) (m : Bytes) → key_material w c ≡ Some m → key_material w d ≡ Some m
@@ -121,7 +125,7 @@ module _ {V : Type 0} (w : World V) where
       same_Some p.cwd q.cwd
       (ap (λ b. cond b (Some p.cwd) None) (sym on) ∙ ap (λ parts. parts.directory) same ∙ ap (λ b. cond b (Some q.cwd) None) on)
 
-  needs_is_determined : (p q : Request V) (i j : Bytes) → request_parts w p i ≡ request_parts w q j → is_preprocessed p ≡ is_preprocessed q
+  needs_is_determined : (p q : Request V) (i j : Bytes) → request_parts w p i ≡ request_parts w q j → is_preprocessed_first p.arguments.language ≡ is_preprocessed_first q.arguments.language
   unfolding request_parts
   needs_is_determined p q i j same = ap (λ parts. is_preprocessed_first parts.language) same
 
@@ -139,30 +143,30 @@ module _ {V : Type 0} (w : World V) where
   }
 
   key_from_parts : (q : Request V) (input : Bytes) (extra_hashes : List Bytes) (text : Bytes)
-      → object_key w.hash (params w q extra_hashes text) ≡ digest_text w.hash (material (parts_of_key extra_hashes text (request_parts w q input)))
-  unfolding params request_parts
+      → digest_text w.hash (material (plain_parts w q extra_hashes text)) ≡ digest_text w.hash (material (parts_of_key extra_hashes text (request_parts w q input)))
+  unfolding plain_parts request_parts
   key_from_parts q input extra_hashes text =
       ap (λ variables. digest_text w.hash (material (record (parts_of_key extra_hashes text (request_parts w q input)) { variables = variables })))
       (sym (object_among_request q.env_vars))
 
-  text_printed : (c : Call V) (text : Bytes) → is_preprocessed c.request ≡ true → printed w c ≡ Some text → text_of w c ≡ Some text
+  text_printed : (c : Call V) (text : Bytes) → is_preprocessed_first c.request.arguments.language ≡ true → printed w c ≡ Some text → text_of w c ≡ Some text
   unfolding text_of
   text_printed c text needs is = ap (λ b. cond b (printed w c) (option_map (λ n. n.contents) (input_file w c))) needs ∙ is
 
   same_key : (c d : Call V) (extra_hashes : List Bytes) (text : Bytes) → request_parts w c.request (input_path c) ≡ request_parts w d.request (input_path d)
-      → object_key w.hash (params w c.request extra_hashes text) ≡ object_key w.hash (params w d.request extra_hashes text)
+      → digest_text w.hash (material (plain_parts w c.request extra_hashes text)) ≡ digest_text w.hash (material (plain_parts w d.request extra_hashes text))
   same_key c d extra_hashes text same =
       key_from_parts c.request (input_path c) extra_hashes text
       ∙ ap (λ p. digest_text w.hash (material (parts_of_key extra_hashes text p))) same
       ∙ sym (key_from_parts d.request (input_path d) extra_hashes text)
 
   -- calls that agree, for which the same is printed, have one plain key
-  pub plain_same : (c d : Call V) (text : Bytes) → is_preprocessed c.request ≡ true → Agree w c d
+  pub plain_same : (c d : Call V) (text : Bytes) → is_preprocessed_first c.request.arguments.language ≡ true → Agree w c d text
       → printed w c ≡ Some text → printed w d ≡ Some text → plain_key w c ≡ plain_key w d
   unfolding plain_key
   plain_same c d text needs agree is is' =
       let here : text_of w c ≡ Some text = text_printed c text needs is in
       let there : text_of w d ≡ Some text = text_printed d text (sym (needs_is_determined c.request d.request (input_path c) (input_path d) agree.parts) ∙ needs) is' in
-      ap₂ (of_both (λ es t. object_key w.hash (params w c.request es t))) agree.extra (here ∙ sym there)
-      ∙ of_both_same (λ es t. object_key w.hash (params w c.request es t)) (λ es t. object_key w.hash (params w d.request es t))
+      ap₂ (of_both (λ es t. digest_text w.hash (material (plain_parts w c.request es t)))) agree.extra (here ∙ sym there)
+      ∙ of_both_same (λ es t. digest_text w.hash (material (plain_parts w c.request es t))) (λ es t. digest_text w.hash (material (plain_parts w d.request es t)))
       (λ es t. same_key c d es t agree.parts) (extra_texts w d) (text_of w d)

@@ -19,12 +19,14 @@ pub mod Ran
 pub mod ReasonExamples
 pub mod Reasons
 pub mod RecordedSame
+pub mod ReturnedExamples
 pub mod Runs
 pub mod Judgements
 pub mod Stepped
 pub mod Stored
 pub mod TimeExamples
 pub mod WalkExamples
+pub mod Verdicts
 pub mod Walked
 pub mod Widen
 pub mod Witness

@@ -6,7 +6,10 @@ use Rattle.std.proofs.lemmas.List.{length-append, take_all, take_more}
 use Rattle.std.specs.Prelude.{slice_index}
 use Rattle.cck_path.specs.Bytes.{Bytes}
 use Rattle.cck_walk.specs.Decided.{is_angled, is_passed}
-use Rattle.c_cache_keys.specs.Walk.{IsAngled}
+
+-- `<` and `>` with nothing or something between
+abbrev pub IsAngled : Bytes → Type 0
+IsAngled name = (inner : Bytes) × (name ≡ 60 ∷ inner ++ 62 ∷ [])
 
 -- the last byte of a text that ends with it
 last_byte : (front : Bytes) (byte : ℕ) → slice_index (front ++ byte ∷ []) (length (front ++ byte ∷ []) - 1) ≡ byte

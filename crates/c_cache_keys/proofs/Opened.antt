@@ -3,6 +3,7 @@ use Rattle.std.proofs.Common.{◌≡◌, ℕ, zero, suc, ◌<◌, Bool, true, fa
 use Rattle.std.specs.Prelude.{IsOkAnd, is_none, slice_index_or, string_bytes}
 use Rattle.std.specs.Global.{Vec}
 use Rattle.std.specs.Option.{option_map}
+use Rattle.std.specs.Result.{result_ok}
 use Rattle.std.proofs.lemmas.Option.{none-some}
 use Rattle.cck_digest.specs.Digest.{digest_text}
 use Rattle.cck_digest.specs.declared.error.FileError.{FileError}
@@ -26,11 +27,12 @@ use Rattle.cck_path.specs.Path.{Path, components}
 use Rattle.cck_preprocessor_key.specs.PreprocessorKey.{preprocessor_material}
 use Rattle.cck_time.specs.declared.error.Error.{Error}
 use Rattle.c_cache_keys.specs.Call.{Call}
-use Rattle.c_cache_keys.specs.Keys.{extra_texts, input_file, input_recorded, is_direct, is_preprocessed, key_material, preprocessor_key_of, request_parts, ok_value, uses_cache}
+use Rattle.cck_util.specs.Language.{is_preprocessed_first}
+use Rattle.c_cache_keys.specs.Keys.{extra_texts, input_file, input_recorded, is_direct, key_material, preprocessor_key_of, request_parts, uses_cache}
 use Rattle.c_cache_keys.specs.Opening.{IsInputError, IsKeyOfInput, IsOpening}
 use Rattle.c_cache_keys.specs.Errors.{key_error_of}
 use Rattle.c_cache_keys.specs.Seen.{why_of}
-use Rattle.c_cache_keys.specs.Step.{StopsOpening}
+use Rattle.c_cache_keys.specs.Step.{StopsOpening, extra_fault, no_extra, no_used_input, opening_lacks, used_input_fault}
 use Rattle.c_cache_keys.specs.Walk.{input_path}
 use Rattle.c_cache_keys.specs.World.{World, setting}
 use Rattle.c_cache_keys.specs.declared.hasher.opening.Opening.{Opening}
@@ -70,13 +72,13 @@ module _ (hash : Bytes → Bytes) (files : FileMap) (F : Type 0) where
 
 module _ {V : Type 0} (w : World V) (c : Call V) (F : Type 0) where
   stop_extra : (e : UtilError) (p : Path) → (digest_text_at w.hash c.files p ≡ None → extra_texts w c ≡ None) → IsDigestError c.files p F e → StopsOpening w c F (why_of (extra_error e))
-  stop_extra util.Memory p none h = tt
+  stop_extra util.Memory p none h = opening_lacks
   stop_extra util.Read p none h = absurd h
-  stop_extra (util.File file.NotFound) p none h = none (no_text w.hash c.files F p (no_material_of_error c.files p (util.File file.NotFound) (λ same. cc) h))
-  stop_extra (util.File file.OtherKind) p none h = none (no_text w.hash c.files F p (no_material_of_error c.files p (util.File file.OtherKind) (λ same. cc) h))
-  stop_extra (util.File file.Fault) p none h = h
+  stop_extra (util.File file.NotFound) p none h = no_extra (none (no_text w.hash c.files F p (no_material_of_error c.files p (util.File file.NotFound) (λ same. cc) h)))
+  stop_extra (util.File file.OtherKind) p none h = no_extra (none (no_text w.hash c.files F p (no_material_of_error c.files p (util.File file.OtherKind) (λ same. cc) h)))
+  stop_extra (util.File file.Fault) p none h = extra_fault h
   stop_extra (util.File file.Memory) p none h = absurd h
-  stop_extra util.TooDeep p none h = none (no_text w.hash c.files F p (no_material_of_error c.files p util.TooDeep (λ same. cc) h))
+  stop_extra util.TooDeep p none h = no_extra (none (no_text w.hash c.files F p (no_material_of_error c.files p util.TooDeep (λ same. cc) h)))
   stop_extra util.TooLong p none h = absurd h
   stop_extra util.Write p none h = absurd h
   stop_extra util.IncompleteEscape p none h = absurd h
@@ -95,7 +97,7 @@ module _ {V : Type 0} (w : World V) (c : Call V) (F : Type 0) where
       → IsOkAnd found (λ n. k ≡ option_map (λ r. digest_text w.hash (preprocessor_material (request_parts w c.request (input_path c)) xs r)) (recorded (setting w c) n))
       → IsKeyOfInput w c xs k
   unfolding input_file
-  key_of_input xs k (Ok n) is h = (n, ap ok_value (sym is), h)
+  key_of_input xs k (Ok n) is h = (n, ap result_ok (sym is), h)
   key_of_input xs k (Err e) is h = absurd h
 
   pub input_failed : (e : Error) → IsIoError (file_at c.files (components (input_path c))) F e → IsInputError w c F (key_error_of e)
@@ -103,14 +105,14 @@ module _ {V : Type 0} (w : World V) (c : Call V) (F : Type 0) where
 
   no_input : (e : FileError) → file_at c.files (components (input_path c)) ≡ Err e → input_file w c ≡ None
   unfolding input_file
-  no_input e is = ap ok_value is
+  no_input e is = ap result_ok is
 
   pub stop_input : (e : KeyError) (xs : List Bytes) → uses_cache w c.request ≡ true → extra_texts w c ≡ Some xs → IsInputError w c F e → StopsOpening w c F (why_of e)
-  stop_input key.Memory xs used extra h = tt
+  stop_input key.Memory xs used extra h = opening_lacks
   stop_input (key.Extra e) xs used extra h = absurd h
-  stop_input (key.Input (util.File file.NotFound)) xs used extra h = (some_none extra, used, no_input file.NotFound h)
-  stop_input (key.Input (util.File file.OtherKind)) xs used extra h = (some_none extra, used, no_input file.OtherKind h)
-  stop_input (key.Input (util.File file.Fault)) xs used extra h = (used, h)
+  stop_input (key.Input (util.File file.NotFound)) xs used extra h = no_used_input (some_none extra) used (no_input file.NotFound h)
+  stop_input (key.Input (util.File file.OtherKind)) xs used extra h = no_used_input (some_none extra) used (no_input file.OtherKind h)
+  stop_input (key.Input (util.File file.Fault)) xs used extra h = used_input_fault used h
   stop_input (key.Input (util.File file.Memory)) xs used extra h = absurd h
   stop_input (key.Input util.Memory) xs used extra h = absurd h
   stop_input (key.Input util.Read) xs used extra h = absurd h
@@ -131,7 +133,7 @@ module _ {V : Type 0} (w : World V) (c : Call V) where
   unfolding extra_texts
   texts_here xs e = e
 
-  pub used : (is_preprocessed c.request && (w.config.use_preprocessor_cache_mode && (is_none c.request.arguments.too_hard_for_preprocessor_cache_mode && is_direct c.request.env_vars))) ≡ uses_cache w c.request
+  pub used : (is_preprocessed_first c.request.arguments.language && (w.config.use_preprocessor_cache_mode && (is_none c.request.arguments.too_hard_for_preprocessor_cache_mode && is_direct c.request.env_vars))) ≡ uses_cache w c.request
   unfolding uses_cache
   used = refl
 

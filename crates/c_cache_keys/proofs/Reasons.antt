@@ -1,5 +1,5 @@
 -- Each error gives its reason.
-use Rattle.std.proofs.Common.{◌≡◌, Ok, Err, map, List, Result}
+use Rattle.std.proofs.Common.{Ok, Err, map, List, Result}
 use Rattle.std.specs.Prelude.{IfErr}
 use Rattle.std.specs.FinMap.{get}
 use Rattle.cck_digest.specs.declared.error.FileError.{FileError}

@@ -1,13 +1,14 @@
 -- Files with equal recorded digests are equal as far as a text can show.
-use Rattle.std.proofs.Common.{◌≡◌, Bool, true, false, ◌||◌, [], ◌++◌, length, refl, sym, ap, ◌∙◌, Option, Some, None, not, ◌&&◌}
+use Rattle.std.proofs.Common.{◌≡◌, Bool, true, false, ◌||◌, [], ◌++◌, length, refl, sym, ap, ◌∙◌, Ok, Option, Some, None, not, ◌&&◌}
 use Rattle.std.proofs.lemmas.List.{append-nil}
 use Rattle.std.proofs.lemmas.Bool.{or_right}
 use Rattle.cck_digest.proofs.HexLemmas.{text_length}
 use Rattle.cck_digest.proofs.ReadsBack.{bytes_read_back}
 use Rattle.cck_digest.specs.Digest.{digest_text}
-use Rattle.cck_files.specs.FileMap.{FileNode}
+use Rattle.cck_files.specs.FileMap.{FileNode, file_at}
 use Rattle.cck_include.specs.Recorded.{file_time_part, has_date, has_time, has_timestamp, is_timed, recorded, recorded_by}
 use Rattle.cck_path.specs.Bytes.{Bytes}
+use Rattle.cck_path.specs.Path.{Path}
 use Rattle.cck_path.specs.Timestamp.{nanos_of}
 use Rattle.cck_time.specs.TimePart.{AreOfOneSecond, local_day, source_date_epoch, time_part}
 use Rattle.cck_time.proofs.PartLemmas.{day_is_determined, second_is_determined}
@@ -65,13 +66,13 @@ module _ {V : Type 0} (w : World V) (size : HasSize w.hash) where
       second false e f h = absurd cc
 
   -- two files with equal recorded digests, where no two of the strings that are hashed share a digest
-  pub recorded_same : w.config.ignore_time_macros ≡ false → (c d : Call V) (n o : FileNode) (r : Bytes)
-      → recorded (setting w c) n ≡ Some r → recorded (setting w d) o ≡ Some r
+  pub recorded_same : w.config.ignore_time_macros ≡ false → (c d : Call V) (path : Path) (n o : FileNode) (r : Bytes)
+      → file_at c.files path ≡ Ok n → file_at d.files path ≡ Ok o → recorded (setting w c) n ≡ Some r → recorded (setting w d) o ≡ Some r
       → (digest_text w.hash n.contents ≡ digest_text w.hash o.contents → n.contents ≡ o.contents)
       → ((p q : Bytes) → is_timed n.contents ≡ true → is_timed o.contents ≡ true → file_time_part (setting w c) n ≡ Some p → file_time_part (setting w d) o ≡ Some q
       → digest_text w.hash p ≡ digest_text w.hash q → p ≡ q)
-      → IsSameFile w c d n o × (has_time n.contents ≡ false)
-  recorded_same off c d n o r e f one_file one_time =
+      → (same : IsSameFile w c d path) × (has_time same.earlier.contents ≡ false)
+  recorded_same off c d path n o r file file' e f one_file one_time =
       let (clear, rest, is, part) = made_of off c n r e in
       let (clear', rest', is', part') = made_of off d o r f in
       let cut = bytes_read_back (digest_text w.hash n.contents) (digest_text w.hash o.contents) rest rest'
@@ -87,6 +88,10 @@ module _ {V : Type 0} (w : World V) (size : HasSize w.hash) where
       (ap (λ s. time_part (has_date s) (has_timestamp s) o.modified d.moment w.zone d.request.env_vars) contents ∙ is-q ∙ ap Some (sym same))
       in (
         record {
+          earlier = n;
+          later = o;
+          is_earlier = file;
+          is_later = file';
           contents = contents;
           day = λ h. ((facts (ap (λ b. b || has_timestamp n.contents) h)).0 h).0;
           epoch = λ h. ((facts (ap (λ b. b || has_timestamp n.contents) h)).0 h).1;

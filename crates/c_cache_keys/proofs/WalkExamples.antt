@@ -1,5 +1,5 @@
 -- The paths that written texts name in a directory `/w`, and the verdicts on them.
-use Rattle.std.proofs.Common.{◌≡◌, ◌≢◌, inl, inr, Bool, true, false, List, [], ◌∷◌, Option, Some, None, Ok, Err, codes, refl, sym, ap, ap₂, ◌∙◌, subst, ℕ, arith, pos}
+use Rattle.std.proofs.Common.{◌≡◌, ◌≢◌, inl, inr, Bool, true, false, List, [], ◌∷◌, ◌++◌, Option, Some, None, Ok, Err, codes, refl, sym, ap, ap₂, ◌∙◌, subst, ℕ, arith, pos}
 use Rattle.std.specs.FinMap.{get}
 use Rattle.std.specs.Prelude.{Contains, IfSome}
 use Rattle.std.specs.Ordering.{eq_by_cmp}
@@ -19,7 +19,7 @@ use Rattle.c_cache_keys.proofs.Elements.{first_in, later_in, one_of, only_one}
 use Rattle.c_cache_keys.proofs.MarkExamples.{header_mark, header_marks, header_text, header_text_marks, hidden_line_marks, inclusion_marks, input_mark, last_quote_marks, missing_header_marks, no_quote_marks, one_name_marks, short_text_marks, timed_text, timed_text_marks}
 use Rattle.c_cache_keys.proofs.TimeExamples.{time_of_day_not_recorded}
 use Rattle.c_cache_keys.specs.Call.{Call}
-use Rattle.c_cache_keys.specs.Walk.{Accepted, Errs, IsAngled, IsGood, IsLooked, IsNamed, IsOld, NotAccepted, Walk, input_path, meant_path}
+use Rattle.c_cache_keys.specs.Walk.{Accepted, Errs, IsGood, IsLooked, IsNamed, IsOld, NotAccepted, Walk, input_path, meant_path}
 use Rattle.c_cache_keys.specs.Witness.{path_in_w as in_w}
 use Rattle.c_cache_keys.specs.World.{World, setting}
 
@@ -29,8 +29,8 @@ true_false : true ≡ false → ⊥
 true_false e = cc
 
 -- a name that begins with something else than `<`
-not_angled : (x : ℕ) (name : Bytes) → x ≢ 60 → IsAngled (x ∷ name) → ⊥
-not_angled x name apart angled = apart (first_same angled.1)
+not_angled : (x : ℕ) (name : Bytes) → x ≢ 60 → (inner : Bytes) → x ∷ name ≢ 60 ∷ inner ++ 62 ∷ []
+not_angled x name apart inner is = apart (first_same is)
   where
     first_same : {a b : ℕ} {s t : Bytes} → a ∷ s ≡ b ∷ t → a ≡ b
     first_same e = cc

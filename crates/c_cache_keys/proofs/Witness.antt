@@ -1,12 +1,13 @@
 -- The calls of the witness: what is hashed for them, their keys, what is recorded of them, and their steps.
 use Rattle.std.proofs.Common.{◌≡◌, ◌≢◌, ◌⊎◌, inl, inr, ◌<◌, ◌^◌, lit<, nat_lt, pos, w64, Bool, true, false, cond, List, [], ◌∷◌, length, refl, sym, ap, ap₂, ◌∙◌, ◌&&◌, subst, arith, ℕ, map, option_map, Some, None, Ok, codes}
 use Rattle.std.specs.Prelude.{All, Contains}
-use Rattle.std.specs.FinMap.{empty, entries, get, get-from_sorted}
+use Rattle.std.specs.FinMap.{empty, entries, get, get-from_sorted, insert}
 use Rattle.std.specs.FinMap.Entries.{find}
 use Rattle.std.specs.Cmp.{tied_itself}
 use Rattle.std.specs.Cmp.Lexicographic.{nat_list_cmp_total}
 use Rattle.std.specs.List.{AllByRecursion, list_all}
 use Rattle.std.specs.Option.{option_and_then}
+use Rattle.std.specs.Result.{result_ok}
 use Rattle.std.specs.Ordering.{eq_by_cmp, is_eq}
 use Rattle.std.specs.Str.{bytes_eq, is_utf8}
 use Rattle.std.proofs.lemmas.Bool.{and_parts, false≢true, ltb-true}
@@ -18,17 +19,15 @@ use Rattle.std.proofs.lemmas.Option.{same_Some, none-some}
 use Rattle.cck_compiler.specs.Arguments.{archs, is_multiarch}
 use Rattle.cck_digest.specs.Digest.{digest_text, hex_text}
 use Rattle.cck_digest.specs.Frames.{length_bytes}
-use Rattle.cck_entry.specs.Entry.{Entry, EntryText, added}
+use Rattle.cck_entry.specs.Entry.{Entry, EntryText}
 use Rattle.cck_entry.specs.Find.{found_in}
 use Rattle.cck_entry.specs.Results.{Fits, FitsMoment, FitsResult, KeyResult}
 use Rattle.cck_entry.specs.Writing.{entry_bytes}
 use Rattle.cck_files.specs.ArmedCalls.{new_armed}
 use Rattle.cck_files.specs.FileMap.{FileNode, file_at, file_in, folder_at, folder_in, metadata_of}
-use Rattle.cck_include.specs.Gathered.{Digested, all_of, gathered, include_of}
+use Rattle.cck_include.specs.Gathered.{Digested, include_of}
 use Rattle.cck_include.specs.Include.{Include}
 use Rattle.cck_include.specs.Recorded.{has_date, has_time, has_timestamp, is_timed, recorded}
-use Rattle.cck_markers.proofs.OneList.{one_list}
-use Rattle.cck_markers.specs.Marks.{Marks}
 use Rattle.cck_path.specs.Bytes.{Bytes}
 use Rattle.cck_path.specs.Path.{Path, components, path_cmp}
 use Rattle.cck_path.specs.Text.{join_path, path_text}
@@ -37,16 +36,17 @@ use Rattle.cck_preprocessor_key.specs.PreprocessorKey.{RequestParts, compiler_ma
 use Rattle.cck_store.specs.MapStore.{State, map_store, empty_state}
 use Rattle.cck_strip.specs.Cuts.{stripped}
 use Rattle.cck_strip.specs.Text.{longest_prefix, text_site}
-use Rattle.cck_util.specs.Key.{key_parts, material, object_key}
-use Rattle.c_cache_keys.proofs.Decisions.{one_decision}
+use Rattle.cck_util.specs.Key.{material}
 use Rattle.c_cache_keys.proofs.Elements.{first_in, one_of, only_one}
-use Rattle.c_cache_keys.proofs.Includes.{entries-added, include_here, match_by_digest, same_ok}
+use Rattle.c_cache_keys.proofs.Includes.{entries-alone, match_by_digest, same_ok}
+use Rattle.c_cache_keys.proofs.KeySame.{of_both}
 use Rattle.c_cache_keys.proofs.WalkExamples.{header_accepted, header_alone, header_named, input_meant}
 use Rattle.c_cache_keys.specs.Call.{Call, Fault, Keyed, calls_of}
-use Rattle.c_cache_keys.specs.Keys.{extra_texts, input_file, input_recorded, is_direct, key_material, of_both, params, plain_key, preprocessor_key_of, printed, request_parts, text_of, ok_value, uses_cache}
+use Rattle.c_cache_keys.specs.Keys.{extra_texts, input_file, input_recorded, is_direct, key_material, plain_key, plain_parts, preprocessor_key_of, printed, request_parts, text_of, uses_cache}
+use Rattle.c_cache_keys.specs.Hits.{CanStore}
 use Rattle.c_cache_keys.specs.Premises.{IsHashed, CollisionFree, Premises, DeterministicPreprocessor, of_file, of_folder, of_key, of_time}
-use Rattle.c_cache_keys.specs.Step.{AreOwnIncludes, Hit, Miss, Opened, OwnPair, Step, asked, gives, matching}
-use Rattle.c_cache_keys.specs.Walk.{Accepted, AreRecorded, Errs, IsRecorded, MarksDecide, Walk, input_path}
+use Rattle.c_cache_keys.specs.Step.{Opened, OwnPair, Step, asked, gives, matched, matching, nothing, puts}
+use Rattle.c_cache_keys.specs.Walk.{Accepted, AreRecorded, IsRecorded, Walk, input_path}
 use Rattle.c_cache_keys.specs.Witness.{PremisesCanHold, file_of, first_call, header_text, witness_input_text, path_in_w, printed_text, second, second_call, sized, witness_call, witness_done, witness_files, witness_hash, witness_nodes, witness_run, witness_world}
 use Rattle.c_cache_keys.specs.World.{HasSize, setting}
 
@@ -128,7 +128,7 @@ used object = refl
 
 input_is : (object : Bytes) → input_file witness_world (witness_call object) ≡ Some input_node
 unfolding input_file
-input_is object = ap ok_value (input_read object)
+input_is object = ap result_ok (input_read object)
 
 recorded_is : (object : Bytes) → input_recorded witness_world (witness_call object) ≡ Some (digest_text witness_hash witness_input_text)
 unfolding input_recorded
@@ -155,11 +155,11 @@ unfolding printed
 prints = refl
 
 abbrev pub witness_object_key : Bytes
-witness_object_key = object_key witness_hash (params witness_world first_call.request [] printed_text)
+witness_object_key = digest_text witness_hash (material (plain_parts witness_world first_call.request [] printed_text))
 
 plain_is : plain_key witness_world first_call ≡ Some witness_object_key
 unfolding plain_key text_of
-plain_is = ap₂ (of_both (λ extra text. object_key witness_hash (params witness_world first_call.request extra text))) (extra_is (codes "a.o")) prints
+plain_is = ap₂ (of_both (λ extra text. digest_text witness_hash (material (plain_parts witness_world first_call.request extra text)))) (extra_is (codes "a.o")) prints
 
 -- ---- what is hashed
 
@@ -224,7 +224,7 @@ no_shared_digest c d x y at-c at-d of-c of-d same =
 
 prints_again : DeterministicPreprocessor witness_world both_calls
 unfolding printed
-prints_again c d text before is no_time walk agree same = is
+prints_again c d text before is walk agree = is
 
 pub premises : Premises witness_world both_calls
 premises = record {
@@ -249,53 +249,41 @@ include_path : components (codes "/w/h.h") ≡ included_in_w
 unfolding components
 include_path = refl
 
-gathered_is : gathered witness_files (second 5) (witness_digested ∷ []) ≡ Some (witness_include ∷ [])
-unfolding gathered
-gathered_is = ap (λ o. all_of (o ∷ [])) (include_here witness_files (second 5) witness_digested included_in_w included_node include_path included_at).0
-
 accepted : Walk witness_world first_call printed_text Accepted
 accepted = header_accepted witness_world first_call refl refl included_node included_at (refl, refl) (λ none. (none-some _ (sym none ∙ included_digest)))
 
-are_recorded : AreRecorded witness_world first_call printed_text (witness_digested ∷ [])
+are_recorded : AreRecorded witness_world first_call printed_text (witness_include ∷ [])
 unfolding path_text
 are_recorded = record {
   ordered = λ i j d less within. absurd (omega (arith, less, within));
-  each = λ d at.
-      let is : witness_digested ≡ d = only_one witness_digested d at in
+  each = λ i at.
+      let is : witness_include ≡ i = only_one witness_include i at in
       subst (IsRecorded witness_world first_call printed_text) is (record {
         path = included_in_w;
-        written = refl;
         named = header_named witness_world first_call refl refl;
         node = included_node;
         file = included_at;
+        written = refl;
         digest = included_digest;
+        size = refl;
+        modified = refl;
+        changed = refl;
       });
   all = λ p n named file.
       let is : p ≡ included_in_w = header_alone witness_world first_call refl refl p named in
-      subst (λ q. (digest : Bytes) × Contains (witness_digested ∷ []) (digest, path_text q)) (sym is) (digest_text witness_hash header_text, first_in witness_digested []);
-}
-
-pub own_includes : AreOwnIncludes witness_world first_call (witness_include ∷ [])
-own_includes = record {
-  text = printed_text;
-  is_text = prints;
-  accepted = accepted;
-  digested = witness_digested ∷ [];
-  recorded = are_recorded;
-  some = λ e. cc;
-  includes_are = gathered_is;
+      (witness_include, first_in witness_include [], ap path_text (sym is));
 }
 
 -- ---- the entry
 
 abbrev pub witness_entry : Entry
-witness_entry = added empty witness_object_key (witness_include ∷ [])
+witness_entry = insert empty witness_object_key (witness_include ∷ [])
 
 abbrev pub only_result : KeyResult
 only_result = (witness_object_key, witness_include ∷ [])
 
 pub entry_is : entries witness_entry ≡ only_result ∷ []
-entry_is = entries-added witness_object_key (witness_include ∷ [])
+entry_is = entries-alone witness_object_key (witness_include ∷ [])
 
 abbrev pub witness_bytes : Bytes
 witness_bytes = entry_bytes (only_result ∷ [])
@@ -322,8 +310,8 @@ fits_include = record {
   changed = fits_second;
 }
 
-key_size : length (material (key_parts (params witness_world first_call.request [] printed_text))) ≡ 121
-unfolding params stripped text_site longest_prefix material length_bytes
+key_size : length (material (plain_parts witness_world first_call.request [] printed_text)) ≡ 121
+unfolding plain_parts stripped text_site longest_prefix material length_bytes
 key_size = refl
 
 key_is_text : is_utf8 witness_object_key ≡ true
@@ -345,10 +333,20 @@ entry_text = record {
 }
 
 pub own_pair : OwnPair witness_world first_call witness_object_key witness_key witness_bytes
-own_pair = record { is_key = key_is (codes "a.o"); is_plain = plain_is; includes = witness_include ∷ []; keeps = own_includes; is_text = entry_text }
+own_pair = record {
+  is_key = key_is (codes "a.o");
+  is_plain = plain_is;
+  text = printed_text;
+  is_text = prints;
+  accepted = accepted;
+  includes = witness_include ∷ [];
+  recorded = are_recorded;
+  some = λ e. cc;
+  is_entry = entry_text;
+}
 
-pub matched : (object : Bytes) → matching witness_world (witness_call object) witness_include ≡ true
-matched object = match_by_digest (setting witness_world first_call) witness_files witness_include included_in_w included_node include_path included_at refl included_digest
+pub matches_again : (object : Bytes) → matching witness_world (witness_call object) witness_include ≡ true
+matches_again object = match_by_digest (setting witness_world first_call) witness_files witness_include included_in_w included_node include_path included_at refl included_digest
 
 -- ---- the steps
 
@@ -368,50 +366,39 @@ opened object = record {
   input = λ _ none. (none-some _ (sym none ∙ input_is object));
 }
 
-not_erring : (text : Bytes) → printed witness_world first_call ≡ Some text → Walk witness_world first_call text Errs → ⊥
-not_erring text is (marks, are, decide) =
-    let (own, own-are, own-decide) = accepted in
-    let same_text : printed_text ≡ text = same_Some printed_text text (sym prints ∙ is) in
-    let same_marks : marks ≡ own = one_list true text marks own are (subst (λ t. Marks true t own) same_text own-are) in
-    let one : Accepted ≡ Errs = one_decision witness_world first_call own Accepted Errs own-decide (subst (λ ms. MarksDecide witness_world first_call ms Errs) same_marks decide) in
-    cc
-
 module _ (F : Type 0) where
   pub first_step : Step witness_world map_store first_call F empty_state (Keyed witness_object_key true) holds_entry
   first_step =
-      asked (opened (codes "a.o")) witness_key (key_is (codes "a.o")) refl Miss (after_calls 1 []) (record { from_store = Ok None; got = (refl, refl, refl); gives = refl })
-      (gives witness_object_key plain_is (λ text asks is errs. absurd (not_erring text is errs)) refl (inl (record {
-        k = witness_key;
-        bytes = witness_bytes;
-        own = own_pair;
-        from_store = Ok tt;
-        put = (refl, refl);
-      })))
+      asked (opened (codes "a.o")) witness_key (key_is (codes "a.o")) refl (Ok None) (after_calls 1 []) (refl, refl, refl) None (nothing refl)
+      (gives witness_object_key plain_is refl (puts witness_key witness_bytes own_pair (Ok tt) (refl, refl)))
 
   pub found_again : Some witness_bytes ≡ find text_cmp witness_key holds_entry.pairs
   found_again = sym (ap (λ o. cond (is_eq o) (Some witness_bytes) None) (tied_itself nat_list_cmp_total witness_key))
 
   pub second_step : Step witness_world map_store second_call F holds_entry (Keyed witness_object_key false) asked_again
   second_step =
-      let all : list_all (matching witness_world second_call) (witness_include ∷ []) ≡ true = ap (λ b. b && true) (matched (codes "b.o")) in
-      asked (opened (codes "b.o")) witness_key (key_is (codes "b.o")) refl (Hit witness_object_key) asked_again (record {
-        from_store = Ok (Some witness_bytes);
-        got = (refl, found_again, refl);
-        gives = (
-          witness_entry,
-          entry_text,
-          (
-            witness_include ∷ [],
-            subst (λ (rs : List KeyResult). Contains rs only_result) (sym entry_is) (first_in only_result []),
-            all,
-            inl (ap (found_in (matching witness_world second_call)) entry_is ∙ ap (λ b. cond b (Some only_result) None) all),
-          ),
-        );
-      }) (refl, refl)
+      let all : list_all (matching witness_world second_call) (witness_include ∷ []) ≡ true = ap (λ b. b && true) (matches_again (codes "b.o")) in
+      asked (opened (codes "b.o")) witness_key (key_is (codes "b.o")) refl (Ok (Some witness_bytes)) asked_again (refl, found_again, refl) (Some (Keyed witness_object_key false))
+      (matched witness_bytes witness_object_key witness_entry (witness_include ∷ []) refl entry_text
+      (subst (λ (rs : List KeyResult). Contains rs only_result) (sym entry_is) (first_in only_result [])) all
+      (inl (ap (found_in (matching witness_world second_call)) entry_is ∙ ap (λ b. cond b (Some only_result) None) all))) (refl, refl)
 
 pub no_fault : (c : Call (Unit {0})) → Fault (witness_done c) → ⊥
 no_fault c (inl less) = omega (arith, less)
 no_fault c (inr top) = omega (arith, top)
+
+-- the key of the first call can be stored
+pub can_store : CanStore witness_world (witness_done first_call) witness_key printed_text
+can_store = record {
+  key = key_is (codes "a.o");
+  is_text = prints;
+  accepted = accepted;
+  path = included_in_w;
+  named = header_named witness_world first_call refl refl;
+  node = included_node;
+  file = included_at;
+  no_fault = no_fault first_call;
+}
 
 two_requests : first_call.request ≢ second_call.request
 two_requests same =

@@ -1,23 +1,33 @@
 -- The conditions of the laws of stored results, for the two calls of the witness.
-use Rattle.std.proofs.Common.{◌≡◌, ◌&&◌, false, true, [], ◌∷◌, codes, cond, refl, sym, ap, ◌∙◌, Some, None}
+use Rattle.std.proofs.Common.{◌≡◌, ◌&&◌, false, true, [], ◌∷◌, codes, cond, refl, sym, ap, ◌∙◌, Ok, Some, None}
 use Rattle.std.specs.List.{AllZip, list_all}
 use Rattle.std.specs.Option.{option_map}
 use Rattle.std.proofs.lemmas.Option.{none-some}
 use Rattle.cck_entry.specs.Find.{found_in}
 use Rattle.cck_entry.specs.Results.{KeyResult}
-use Rattle.cck_include.specs.Recorded.{has_timestamp}
+use Rattle.cck_files.specs.FileMap.{FileNode, file_at}
+use Rattle.cck_include.specs.Recorded.{has_time, has_timestamp}
+use Rattle.cck_path.specs.Path.{Path, components}
 use Rattle.cck_store.specs.MapLemmas.{map_store_laws}
 use Rattle.cck_store.specs.MapStore.{State, call_begun, map_store, empty_state}
-use Rattle.cck_store.specs.Store.{StoreFailure}
+use Rattle.cck_path.specs.Bytes.{Bytes}
+use Rattle.cck_store.specs.Store.{HoldsOnly, StoreFailure}
 use Rattle.c_cache_keys.proofs.Runs.{headline, hit_is_plain, stays_sound}
-use Rattle.c_cache_keys.proofs.Stored.{map_store_returns_stored, stored_key_is_returned}
-use Rattle.c_cache_keys.proofs.Witness.{entry_is, entry_text, extra_is, first_step, found_again, matched, only_result, witness_bytes, witness_entry, witness_include, holds_entry, input_node, input_read, key_is, no_fault, plain_stamp, premises, same_parts, second_step, witness_object_key, witness_key, witness_size, asked_again}
+use Rattle.c_cache_keys.proofs.Stored.{fresh_is_held, map_store_returns_stored, stored_key_is_returned}
+use Rattle.c_cache_keys.proofs.Witness.{can_store, entry_is, entry_text, extra_is, first_step, found_again, matches_again, only_result, witness_bytes, witness_entry, witness_include, holds_entry, input_node, input_read, key_is, no_fault, plain_stamp, premises, same_parts, second_step, witness_object_key, witness_key, witness_size, asked_again}
 use Rattle.c_cache_keys.specs.Call.{CallResult, Fault, Keyed, calls_of}
 use Rattle.c_cache_keys.specs.Hits.{IsUnrelated, SameRecords}
 use Rattle.c_cache_keys.specs.Laws.{AllReturnStored, CanHit, Headline, IsTransparent, ReturnsStored}
-use Rattle.c_cache_keys.specs.Premises.{Agree, SameFiles}
-use Rattle.c_cache_keys.specs.Step.{Run, Sound, Step, found, matching}
-use Rattle.c_cache_keys.specs.Witness.{first_call, printed_text, second_call, witness_done, witness_run, witness_world}
+use Rattle.c_cache_keys.specs.Premises.{Agree, IsSameFile}
+use Rattle.c_cache_keys.specs.Step.{OwnPair, Run, Sound, Step, found, matching}
+use Rattle.c_cache_keys.specs.Walk.{input_path}
+use Rattle.c_cache_keys.specs.Witness.{first_call, printed_text, second_call, witness_done, witness_files, witness_run, witness_world}
+
+-- after the first call the store holds its own pair, and nothing else under its key,
+first_is_held : (bytes : Bytes) × OwnPair witness_world first_call witness_object_key witness_key bytes × HoldsOnly map_store holds_entry witness_key bytes
+first_is_held =
+    fresh_is_held witness_world map_store map_store_laws (witness_done first_call) empty_state holds_entry witness_key printed_text witness_object_key can_store (no_fault first_call)
+    (first_step (Fault (witness_done first_call)))
 
 -- the second call can hit,
 can_hit : CanHit witness_world (witness_done second_call) witness_key (Keyed witness_object_key false)
@@ -31,32 +41,33 @@ same_records p n named file = (n, file, refl, refl)
 is_unrelated : IsUnrelated witness_world witness_key second_call (Keyed witness_object_key false)
 is_unrelated key e = absurd cc
 
--- both agree, on the same files
-agree : Agree witness_world first_call second_call
+-- a file is the same for both,
+same_file : (p : Path) (n : FileNode) → file_at witness_files p ≡ Ok n → IsSameFile witness_world first_call second_call p
+same_file p n file = record {
+  earlier = n;
+  later = n;
+  is_earlier = file;
+  is_later = file;
+  contents = refl;
+  day = λ dated. refl;
+  epoch = λ dated. refl;
+  second = λ stamped.
+      let plain : has_timestamp n.contents ≡ false = plain_stamp p n file in
+      let both : true ≡ false = sym stamped ∙ plain in
+      absurd cc;
+}
+
+-- and both agree
+agree : Agree witness_world first_call second_call printed_text
+unfolding has_time same_file
 agree = record {
   parts = sym (same_parts (codes "b.o"));
   cwd = refl;
   extra = extra_is (codes "a.o") ∙ sym (extra_is (codes "b.o"));
   some_extra = λ none. (none-some _ (sym none ∙ extra_is (codes "a.o")));
-}
-
-same_files : SameFiles witness_world first_call second_call printed_text
-same_files = record {
-  input = input_node;
-  is_input = input_read (codes "a.o");
-  same = λ p n named file. (
-    n,
-    file,
-    record {
-      contents = refl;
-      day = λ dated. refl;
-      epoch = λ dated. refl;
-      second = λ stamped.
-          let plain : has_timestamp n.contents ≡ false = plain_stamp p n file in
-          let both : true ≡ false = sym stamped ∙ plain in
-          absurd cc;
-    },
-  );
+  input = same_file (components (input_path first_call)) input_node (input_read (codes "a.o"));
+  no_time = refl;
+  included = λ p n named file. same_file p n file;
 }
 
 -- what the store holds between them is the first one's own pair
@@ -75,7 +86,7 @@ second_is_transparent =
 second_finds : found witness_world second_call witness_entry ≡ Some witness_object_key
 unfolding found
 second_finds =
-    let all : list_all (matching witness_world second_call) (witness_include ∷ []) ≡ true = ap (λ b. b && true) (matched (codes "b.o")) in
+    let all : list_all (matching witness_world second_call) (witness_include ∷ []) ≡ true = ap (λ b. b && true) (matches_again (codes "b.o")) in
     ap (option_map (λ (r : KeyResult). r.0)) (ap (found_in (matching witness_world second_call)) entry_is ∙ ap (λ b. cond b (Some only_result) None) all)
 
 -- so the second call, if it can hit and there is no store failure, has no other result,

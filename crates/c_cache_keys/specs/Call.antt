@@ -1,5 +1,5 @@
 -- calls: what is asked for, and on which files
-use Rattle.std.specs.Prelude.{ℕ, List, [], ◌∷◌, Bool}
+use Rattle.std.specs.Prelude.{ℕ, List, Bool, map}
 use Rattle.cck_compiler.specs.Arguments.{Arguments}
 use Rattle.cck_files.specs.Calls.{Rose}
 use Rattle.cck_files.specs.FileMap.{FileMap}
@@ -36,8 +36,7 @@ Fault d = Rose d.faults_before d.faults_after
 
 -- the calls alone
 abbrev pub calls_of : {V : Type 0} → List (Done V) → List (Call V)
-calls_of [] = []
-calls_of (d ∷ ds) = d.call ∷ calls_of ds
+calls_of ds = map (λ d. d.call) ds
 
 -- Why a call returns an error. Memory is lacking, or the store failed, or what it returned is no entry. Or an extra file has no digest, the
 -- input is no regular file, or there is no preprocessed text; for each of these three the cause may be a fault. Or a line marker of the

@@ -15,7 +15,7 @@ use Rattle.c_cache_keys.specs.World.{World}
 use Rattle.c_cache_keys.specs.declared.call.HashResult.{HashResult}
 use Rattle.c_cache_keys.specs.declared.calls.Call.{Call}
 
--- of a call only the state of its files changes, as by calls on files
+-- a call that came back as it was passed, but for its files, which are in the state that calls on them left
 pub record IsAfter {I F : Type 0} (file_map : F → FileMap) (faults : F → ℕ) (is_quiet : F → Type 0) (before after : Call I F) : Type 0 where
   pub same : after ≡ record before { files = after.files }
   pub keeps : Keeps file_map faults is_quiet before.files after.files

@@ -1,13 +1,16 @@
 -- statements about runs
-use Rattle.std.specs.Prelude.{◌≡◌, ◌≢◌, ◌⊎◌, ◌↔◌, List, [], ◌∷◌, ◌++◌, true, false, Some, Ok}
+use Rattle.std.specs.Prelude.{◌≡◌, ◌≢◌, ◌⊎◌, ◌↔◌, List, [], ◌∷◌, ◌++◌, true, false, Option, Some, Ok}
+use Rattle.std.specs.FinMap.{entries}
 use Rattle.std.specs.List.{AllZip}
 use Rattle.cck_path.specs.Bytes.{Bytes}
 use Rattle.cck_entry.specs.Entry.{Entry, EntryText}
+use Rattle.cck_entry.specs.Find.{found_in}
+use Rattle.cck_include.specs.Include.{Include}
 use Rattle.cck_store.specs.Store.{Returned, Store}
 use Rattle.c_cache_keys.specs.Call.{CallResult, Call, Damaged, Done, Fault, Keyed, Memory, ReturnsError, calls_of}
 use Rattle.c_cache_keys.specs.Keys.{plain_key, preprocessor_key_of}
 use Rattle.c_cache_keys.specs.Premises.{Premises}
-use Rattle.c_cache_keys.specs.Step.{Asked, Ends, Gives, IsEmpty, OwnPair, Run, Sound, Step, found}
+use Rattle.c_cache_keys.specs.Step.{Chain, Ends, Gives, IsEmpty, OwnPair, Run, Sound, Step, matching}
 use Rattle.c_cache_keys.specs.World.{World}
 use Rattle.c_cache_keys.specs.declared.call.CacheControl.TheVariants.{Default, ForceRecache}
 
@@ -53,25 +56,23 @@ module _ {V S : Type 0} (w : World V) (st : Store S) where
   abbrev pub NothingDamaged : Type 0
   NothingDamaged = (earlier : List (Call V)) (d : Done V) (s t : S) → Sound w st s earlier → Step w st d.call (Fault d) s (ReturnsError Damaged) t → ⊥
 
-  -- A call that can hit asks the store once, under its key, and what the store returned determines what the call does next (`Gives`,
-  -- `Ends`): after a fault of the store the call returns that error, after nothing it computes its key. If the store returns an entry with a
-  -- key whose included files are all unchanged, the call returns the greatest such key, as a stored one, and puts nothing. So it does
-  -- whatever a preprocessor would print.
+  -- A call that can hit asks the store once, under its key. If the store returns an entry with a key whose included files are all unchanged,
+  -- the call returns the greatest such key, as a stored one, and puts nothing. So it does whatever a preprocessor would print. What the store
+  -- returned determines in each other case too what the call does next (`Gives`, `Ends`): after a fault of the store it returns that error,
+  -- and after nothing it computes its key.
   abbrev pub ReturnsStored : Done V → S → CallResult → S → Type 0
   ReturnsStored d s r t =
-      (k : Bytes) → CanHit w d k r
-      → (returned : Returned) × (mid : S) × (o : Asked) × st.got s k returned mid × Gives w d.call (Fault d) returned o × Ends w st d.call (Fault d) o mid r t
-      × ((bytes key : Bytes) (e : Entry) → returned ≡ Ok (Some bytes) → EntryText e bytes → found w d.call e ≡ Some key → (r ≡ Keyed key false) × (t ≡ mid))
+      (k : Bytes) → CanHit w d k r → (returned : Returned) × (mid : S) × st.got s k returned mid
+      × ((bytes key : Bytes) (e : Entry) (includes : List Include) → returned ≡ Ok (Some bytes) → EntryText e bytes
+      → found_in (matching w d.call) (entries e) ≡ Some (key, includes) → (r ≡ Keyed key false) × (t ≡ mid))
+      × (o : Option CallResult) × Gives (matching w d.call) (Fault d) returned o × Ends w st d.call (Fault d) o mid r t
 
   abbrev pub StoredKeyIsReturned : Type 0
   StoredKeyIsReturned = (d : Done V) (s t : S) (r : CallResult) → Step w st d.call (Fault d) s r t → ReturnsStored d s r t
 
   -- a run, each of whose calls does so between the same two states as its step
   abbrev pub AllReturnStored : S → List (Done V) → List CallResult → S → Type 0
-  AllReturnStored s [] [] t = t ≡ s
-  AllReturnStored s (d ∷ ds) (r ∷ rs) t = (mid : S) × Step w st d.call (Fault d) s r mid × ReturnsStored d s r mid × AllReturnStored mid ds rs t
-  AllReturnStored s [] (r ∷ rs) t = ⊥
-  AllReturnStored s (d ∷ ds) [] t = ⊥
+  AllReturnStored = Chain (λ d s r t. Step w st d.call (Fault d) s r t × ReturnsStored d s r t)
 
   -- each run is one of these, whatever the store holds at first
   abbrev pub RunReturnsStored : Type 0
@@ -90,10 +91,7 @@ module _ {V S : Type 0} (w : World V) (st : Store S) where
 
   -- several runs on one store, each starting where the one before it ended
   abbrev pub Runs : S → List (List (Done V)) → List (List CallResult) → S → Type 0
-  Runs s [] [] t = t ≡ s
-  Runs s (run ∷ runs) (call_results ∷ others) t = (mid : S) × Run w st s run call_results mid × Runs mid runs others t
-  Runs s [] (call_results ∷ others) t = ⊥
-  Runs s (run ∷ runs) [] t = ⊥
+  Runs = Chain (λ run s call_results t. Run w st s run call_results t)
 
   abbrev pub RunsHeadline : Type 0
   RunsHeadline =

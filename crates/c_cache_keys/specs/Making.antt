@@ -3,7 +3,8 @@ use Rattle.std.specs.Prelude.{◌≡◌, true, map, Some, Result, Ok, Err, Strin
 use Rattle.std.specs.declared.alloc.Global.{Global}
 use Rattle.cck_key_error.specs.declared.key_error.KeyError.{KeyError}
 use Rattle.c_cache_keys.specs.Call.{CallResult, Call, Keyed, ReturnsError}
-use Rattle.c_cache_keys.specs.Keys.{extra_texts, is_preprocessed, preprocessor_key_of, printed}
+use Rattle.cck_util.specs.Language.{is_preprocessed_first}
+use Rattle.c_cache_keys.specs.Keys.{extra_texts, preprocessor_key_of, printed}
 use Rattle.c_cache_keys.specs.Seen.{why_of}
 use Rattle.c_cache_keys.specs.Walk.{input_path}
 use Rattle.c_cache_keys.specs.World.{World}
@@ -19,5 +20,5 @@ pub record IsPreprocessed {V : Type 0} (w : World V) (c : Call V) (input : Prepr
   pub path : input.path.now ≡ input_path c
   pub key : preprocessor_key_of w c ≡ Some input.key.now
   pub extra : extra_texts w c ≡ Some (map string_bytes input.extra_hashes.now)
-  pub first : is_preprocessed c.request ≡ true
+  pub first : is_preprocessed_first c.request.arguments.language ≡ true
   pub prints : printed w c ≡ Some input.text.now

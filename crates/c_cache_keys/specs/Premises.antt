@@ -1,5 +1,5 @@
 -- the premises on the calls, under which a stored key is the plain key
-use Rattle.std.specs.Prelude.{◌≡◌, ◌≢◌, ◌⊎◌, List, ◌++◌, true, false, Some, None, Ok, Contains}
+use Rattle.std.specs.Prelude.{◌≡◌, ◌≢◌, List, ◌++◌, true, false, Some, None, Ok, Contains}
 use Rattle.cck_digest.specs.Digest.{digest_text}
 use Rattle.cck_file_digest.specs.FolderText.{digest_material}
 use Rattle.cck_files.specs.FileMap.{FileNode, file_at, folder_at}
@@ -33,38 +33,34 @@ module _ {V : Type 0} (w : World V) where
   abbrev pub IsBefore : List (Call V) → Call V → Call V → Type 0
   IsBefore calls c d = (xs : List (Call V)) × (ys : List (Call V)) × (calls ≡ xs ++ ys) × Contains xs c × Contains ys d
 
-  -- Two calls agree in what a printed text and a key depend on, but for the input's text and its included files. That is all that a request
-  -- says for the preprocessor key, and the working directory. All their extra files have hex digests, and these are equal.
-  pub record Agree (c d : Call V) : Type 0 where
+  -- At this path both calls have a regular file, and that of the one equals that of the other as far as a text can show: in its contents; if
+  -- these hold a date, in the day and the `SOURCE_DATE_EPOCH` of the calls; and if they hold a timestamp, in the second of its modification.
+  pub record IsSameFile (c d : Call V) (p : Path) : Type 0 where
+    pub earlier : FileNode
+    pub later : FileNode
+    pub is_earlier : file_at c.files p ≡ Ok earlier
+    pub is_later : file_at d.files p ≡ Ok later
+    pub contents : earlier.contents ≡ later.contents
+    pub day : has_date earlier.contents ≡ true → local_day w.zone (nanos_of c.moment) ≡ local_day w.zone (nanos_of d.moment)
+    pub epoch : has_date earlier.contents ≡ true → source_date_epoch c.request.env_vars ≡ source_date_epoch d.request.env_vars
+    pub second : has_timestamp earlier.contents ≡ true → AreOfOneSecond w.zone earlier.modified later.modified
+
+  -- Two calls agree in all that a printed text and a key depend on. That is all that a request says for the preprocessor key, the path of the
+  -- input among it, the working directory, the hex digests of the extra files, which each has, the input and the regular files that the text
+  -- of the earlier call names. The input holds no `__TIME__`.
+  pub record Agree (c d : Call V) (text : Bytes) : Type 0 where
     pub parts : request_parts w c.request (input_path c) ≡ request_parts w d.request (input_path d)
     pub cwd : c.request.cwd ≡ d.request.cwd
     pub extra : extra_texts w c ≡ extra_texts w d
     pub some_extra : extra_texts w c ≢ None
+    pub input : IsSameFile c d (components (input_path c))
+    pub no_time : has_time input.earlier.contents ≡ false
+    pub included : (p : Path) (n : FileNode) → IsNamed w c text p → file_at c.files p ≡ Ok n → IsSameFile c d p
 
-  -- The file of one call equals that of the other as far as a text can show: in its contents; if these hold a date, in the day and the
-  -- `SOURCE_DATE_EPOCH` of the calls; and if they hold a timestamp, in the second of its modification.
-  pub record IsSameFile (c d : Call V) (n o : FileNode) : Type 0 where
-    pub contents : n.contents ≡ o.contents
-    pub day : has_date n.contents ≡ true → local_day w.zone (nanos_of c.moment) ≡ local_day w.zone (nanos_of d.moment)
-    pub epoch : has_date n.contents ≡ true → source_date_epoch c.request.env_vars ≡ source_date_epoch d.request.env_vars
-    pub second : has_timestamp n.contents ≡ true → AreOfOneSecond w.zone n.modified o.modified
-
-  -- the input is a regular file, and it and each regular file that the text names are unchanged
-  pub record SameFiles (c d : Call V) (text : Bytes) : Type 0 where
-    pub input : FileNode
-    pub is_input : file_at c.files (components (input_path c)) ≡ Ok input
-    pub same : (p : Path) (n : FileNode) → (p ≡ components (input_path c)) ⊎ IsNamed w c text p → file_at c.files p ≡ Ok n
-        → (o : FileNode) × (file_at d.files p ≡ Ok o) × IsSameFile c d n o
-
-  -- the input holds no `__TIME__`
-  abbrev pub NoTime : Call V → Type 0
-  NoTime c = (n : FileNode) → file_at c.files (components (input_path c)) ≡ Ok n → has_time n.contents ≡ false
-
-  -- a preprocessor prints the same text again for a later call that agrees with the first one, on the same files
+  -- a preprocessor prints an accepted text again for a later call that agrees with the first one
   abbrev pub DeterministicPreprocessor : List (Call V) → Type 0
   DeterministicPreprocessor calls =
-      (c d : Call V) (text : Bytes) → IsBefore calls c d → printed w c ≡ Some text → NoTime c → Walk w c text Accepted
-      → Agree c d → SameFiles c d text → printed w d ≡ Some text
+      (c d : Call V) (text : Bytes) → IsBefore calls c d → printed w c ≡ Some text → Walk w c text Accepted → Agree c d text → printed w d ≡ Some text
 
   -- the options under which a changed file may count as unchanged
   pub record StrictOptions : Type 0 where

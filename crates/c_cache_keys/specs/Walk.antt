@@ -1,8 +1,10 @@
 -- which files a preprocessed text names, and whether they are recorded
-use Rattle.std.specs.Prelude.{◌≡◌, ◌≢◌, ◌⊎◌, List, [], ◌∷◌, ◌++◌, Bool, true, false, Some, None, Ok, IfSome, Contains, AllPairs}
+use Rattle.std.specs.Prelude.{◌≡◌, ◌≢◌, ◌⊎◌, List, [], ◌∷◌, ◌++◌, Bool, true, false, Some, None, Ok, IfSome, Contains, AllPairs, length}
+use Rattle.std.specs.Option.{option_and}
 use Rattle.std.specs.declared.cmp.Ordering.TheVariants.{Less}
 use Rattle.cck_files.specs.FileMap.{FileNode, file_at, folder_at}
-use Rattle.cck_include.specs.Gathered.{Digested, is_before}
+use Rattle.cck_include.specs.Gathered.{is_before}
+use Rattle.cck_include.specs.Include.{Include}
 use Rattle.cck_include.specs.Recorded.{recorded}
 use Rattle.cck_markers.specs.Marks.{Mark, Name, Refusal, Malformed, Marks}
 use Rattle.cck_path.specs.Bytes.{Bytes}
@@ -10,10 +12,6 @@ use Rattle.cck_path.specs.Path.{Path, components, joined, normal, path_cmp}
 use Rattle.cck_path.specs.Text.{join_path, path_text}
 use Rattle.c_cache_keys.specs.Call.{Call}
 use Rattle.c_cache_keys.specs.World.{World, setting}
-
--- `<` and `>` with nothing or something between
-abbrev pub IsAngled : Bytes → Type 0
-IsAngled name = (inner : Bytes) × (name ≡ 60 ∷ inner ++ 62 ∷ [])
 
 -- the verdict on a text: it is recorded, or not, or has a malformed marker
 pub data Verdict : Type 0 where
@@ -30,11 +28,11 @@ abbrev pub meant_path : {V : Type 0} → Call V → Bytes → Path
 meant_path c name = normal (joined (components c.request.cwd) (components name))
 
 module _ {V : Type 0} (w : World V) where
-  -- The file of a name is looked at: the name is not empty and no `<..>`, is not of a system header where these are skipped, and its path
+  -- The file of a name is looked at: the name is not empty and no `<..>`, it is not of a system header where these are skipped, and its path
   -- is not the input's.
   pub record IsLooked (c : Call V) (name : Bytes) (system : Bool) : Type 0 where
     pub some : name ≢ []
-    pub not_angled : IsAngled name → ⊥
+    pub not_angled : (inner : Bytes) → name ≢ 60 ∷ inner ++ 62 ∷ []
     pub wanted : w.config.skip_system_headers ≡ true → system ≡ false
     pub other : meant_path c name ≢ components (input_path c)
 
@@ -69,17 +67,20 @@ module _ {V : Type 0} (w : World V) where
   abbrev pub Walk : Call V → Bytes → Verdict → Type 0
   Walk c text v = (marks : List Mark) × Marks true text marks × MarksDecide c marks v
 
-  -- a recorded digest and a written path: those of a regular file that the text names
-  pub record IsRecorded (c : Call V) (text : Bytes) (d : Digested) : Type 0 where
+  -- What is recorded of a regular file that the text names: its path, its recorded digest, its size and its times, if it has both.
+  pub record IsRecorded (c : Call V) (text : Bytes) (i : Include) : Type 0 where
     pub path : Path
-    pub written : d.1 ≡ path_text path
     pub named : IsNamed c text path
     pub node : FileNode
     pub file : file_at c.files path ≡ Ok node
-    pub digest : recorded (setting w c) node ≡ Some (d.0)
+    pub written : i.path ≡ path_text path
+    pub digest : recorded (setting w c) node ≡ Some i.digest
+    pub size : i.size ≡ length node.contents
+    pub modified : i.modified ≡ option_and node.changed node.modified
+    pub changed : i.changed ≡ option_and node.modified node.changed
 
-  -- all regular files that the text names, each once, in path order
-  pub record AreRecorded (c : Call V) (text : Bytes) (ds : List Digested) : Type 0 where
-    pub ordered : AllPairs (λ d e. path_cmp (components (d.1)) (components (e.1)) ≡ Less) ds
-    pub each : (d : Digested) → Contains ds d → IsRecorded c text d
-    pub all : (p : Path) (n : FileNode) → IsNamed c text p → file_at c.files p ≡ Ok n → (digest : Bytes) × Contains ds (digest, path_text p)
+  -- what is recorded of all regular files that an accepted text names, each once, in path order
+  pub record AreRecorded (c : Call V) (text : Bytes) (includes : List Include) : Type 0 where
+    pub ordered : AllPairs (λ i j. path_cmp (components i.path) (components j.path) ≡ Less) includes
+    pub each : (i : Include) → Contains includes i → IsRecorded c text i
+    pub all : (p : Path) (n : FileNode) → IsNamed c text p → file_at c.files p ≡ Ok n → (i : Include) × Contains includes i × (i.path ≡ path_text p)

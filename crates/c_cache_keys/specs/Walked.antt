@@ -1,7 +1,8 @@
 -- what a walk takes of a call, and the meaning of its result
-use Rattle.std.specs.Prelude.{◌≡◌, ◌⊎◌, ◌↔◌, List, map, Result, Ok, Err}
+use Rattle.std.specs.Prelude.{◌≡◌, ◌⊎◌, ◌↔◌, List, Some, map, Result, Ok, Err}
 use Rattle.std.specs.FinMap.{entries}
-use Rattle.cck_include.specs.Gathered.{Digested}
+use Rattle.cck_include.specs.Gathered.{Digested, gathered}
+use Rattle.cck_include.specs.Include.{Include}
 use Rattle.cck_key_error.specs.declared.key_error.KeyError.{KeyError}
 use Rattle.cck_key_error.specs.declared.key_error.KeyError.TheVariants.{Memory, Marker}
 use Rattle.cck_path.specs.Bytes.{Bytes}
@@ -35,18 +36,24 @@ verdict_of decision.Errs = Errs
 abbrev pub digested_by : Digests → List Digested
 digested_by digests = map (λ e. (e.1, path_text (e.0))) (entries digests)
 
+-- the digests in included files, with their paths
+abbrev pub digested_as : List Include → List Digested
+digested_as includes = map (λ i. (i.digest, i.path)) includes
+
 -- The verdict on a text is what its marks decide, name by name, and the digests of an accepted text are those of all regular files
 -- that it names.
 abbrev pub VerdictIsDecided : {V : Type 0} → World V → Type 0
 VerdictIsDecided {V} w =
     (c : Call V) (text : Bytes)
     → ((verdict : Verdict) → Walk w c text verdict ↔ ((d : Decided) × decision.TextDecides (walk_context w c) text d × (verdict_of d ≡ verdict)))
-    × ((digests : Digests) → decision.TextDecides (walk_context w c) text (Accepts digests) → AreRecorded w c text (digested_by digests))
+    × ((digests : Digests) → decision.TextDecides (walk_context w c) text (Accepts digests) → (includes : List Include) × AreRecorded w c text includes × (digested_as includes ≡ digested_by digests))
 
--- The result of a walk over a call's text: its verdict, and for an accepted text what is recorded. With a fault the text may be refused
--- whatever its verdict.
+-- The result of a walk over a call's text: its verdict, and for an accepted text the files of which something is recorded, and what is
+-- gathered of these. With a fault the text may be refused whatever its verdict.
 abbrev pub IsWalked : {V : Type 0} → World V → Call V → Bytes → Type 0 → Result walk.Walk KeyError → Type 0
-IsWalked w c text HasFault (Ok (walked.Accepted files)) = Walk w c text Accepted × AreRecorded w c text (digested_of files.items)
+IsWalked w c text HasFault (Ok (walked.Accepted files)) =
+    Walk w c text Accepted × (includes : List Include) × AreRecorded w c text includes × (digested_as includes ≡ digested_of files.items)
+    × (gathered c.files c.moment (digested_of files.items) ≡ Some includes)
 IsWalked w c text HasFault (Ok walked.Refused) = Walk w c text NotAccepted ⊎ HasFault
 IsWalked w c text HasFault (Err Marker) = Walk w c text Errs
 IsWalked w c text HasFault (Err Memory) = Unit {0}

@@ -67,9 +67,10 @@ pub struct Call<I, F> {
 /// Such a call asks the store once. If the store returned nothing, the call computes its key, and if
 /// the store failed, the call returns that error.
 ///
-/// Of a call only the state of its files changes. Each result is that of
-/// [`generate_hash_key`](CCompilerHasher::generate_hash_key) on the store that the calls before it
-/// left. The only error is [`UtilError::Memory`], and then no call was made.
+/// A call comes back as it was passed, but for its files: these are in the state that the calls on
+/// them left. Each result is that of [`generate_hash_key`](CCompilerHasher::generate_hash_key) on the
+/// store that the calls before it left. The only error is [`UtilError::Memory`], and then no call was
+/// made.
 pub fn run_calls<H: HashState, I: CCompilerImpl, F: Files, S: PreprocessorStore>(
     alloc: Global,
     store: &mut S,

@@ -1,13 +1,13 @@
 -- A hit doesn't depend on what is printed.
-use Rattle.std.proofs.Common.{◌≡◌, List, true, false, refl, sym, ◌∙◌}
+use Rattle.std.proofs.Common.{◌≡◌, List, true, false, refl, sym, ◌∙◌, Option, None, Some}
 use Rattle.cck_path.specs.Bytes.{Bytes}
 use Rattle.cck_store.specs.Store.{Store}
 use Rattle.cck_time.specs.declared.config.PreprocessorCacheModeConfig.{PreprocessorCacheModeConfig}
 use Rattle.jiff.specs.Types.{TimeZone}
 use Rattle.c_cache_keys.proofs.Stored.{not_failed}
-use Rattle.c_cache_keys.specs.Call.{Call, Damaged, Extra, ExtraFault, Input, InputFault, Keyed, Marker, Memory, NoText, Store as StoreFails, TextFault, Why}
+use Rattle.c_cache_keys.specs.Call.{Call, CallResult, Keyed, Why}
 use Rattle.c_cache_keys.specs.Keys.{extra_texts, input_file, input_recorded, key_material, preprocessor_key_of, request_parts, uses_cache}
-use Rattle.c_cache_keys.specs.Step.{Asked, Asks, Ends, Failed, Hit, Makes, Miss, Opened, Step, StopsOpening, asked, gives, made, stopped, stops}
+use Rattle.c_cache_keys.specs.Step.{Ends, Gives, Makes, Opened, Step, StopsOpening, asked, extra_fault, gives, made, matching, no_extra, no_used_input, opening_lacks, stopped, stops, used_input_fault}
 use Rattle.c_cache_keys.specs.World.{World, world_of}
 use Rattle.c_cache_keys.specs.declared.call.CacheControl.{CacheControl}
 use Rattle.cck_snapshot.specs.External.{External, Prints, external_compiler}
@@ -18,7 +18,7 @@ not_stored e = cc
 -- a computed key is no stored one
 pub made_fresh : {V S : Type 0} (w : World V) (st : Store S) (c : Call V) (F : Type 0) (s t : S) (key : Bytes) → Makes w st c F s (Keyed key false) t → ⊥
 made_fresh w st c F s t key (stops why cause is same) = not_failed is
-made_fresh w st c F s t key (gives other plain calm is stores) = not_stored is
+made_fresh w st c F s t key (gives other plain is stores) = not_stored is
 
 module _ (hash : Bytes → Bytes) (zone : TimeZone) (config : PreprocessorCacheModeConfig) (basedirs : List Bytes) where
   abbrev pub in_world : Prints → World External
@@ -47,26 +47,20 @@ module _ (hash : Bytes → Bytes) (zone : TimeZone) (config : PreprocessorCacheM
     pub hit_any : {S : Type 0} (st : Store S) (F : Type 0) (s t : S) (key : Bytes) → Step (in_world p) st c F s (Keyed key false) t → Step (in_world q) st c F s (Keyed key false) t
     hit_any st F s t key (stopped why cause is same) = absurd (not_failed is)
     hit_any st F s t key (made o not makes) = absurd (made_fresh (in_world p) st c F s t key makes)
-    hit_any {S} st F s t key (asked o k is-k control a mid asks ends) = go a asks ends
+    hit_any {S} st F s t key (asked o k is-k control from_store mid got a given ends) = go a given ends
       where
-        go : (a : Asked) → Asks (in_world p) st c F k s a mid → Ends (in_world p) st c F a mid (Keyed key false) t → Step (in_world q) st c F s (Keyed key false) t
-        go (Hit other) asks ends = asked (opened o) k (sym key_same ∙ is-k) control (Hit other) mid asks ends
-        go (Failed why) asks ends = absurd (not_failed ends.0)
-        go Miss asks ends = absurd (made_fresh (in_world p) st c F mid t key ends)
+        go : (a : Option CallResult) → Gives (matching (in_world p) c) F from_store a → Ends (in_world p) st c F a mid (Keyed key false) t → Step (in_world q) st c F s (Keyed key false) t
+        go (Some x) given ends = asked (opened o) k (sym key_same ∙ is-k) control from_store mid got (Some x) given ends
+        go None given ends = absurd (made_fresh (in_world p) st c F mid t key ends)
 
     -- an error before the store is asked doesn't depend on it either, nor on whether the store may be asked
     pub stops_any : (control : CacheControl) (F G : Type 0) → (F → G) → (why : Why) → StopsOpening (in_world p) c F why → StopsOpening (in_world q) (record c { control = control }) G why
     unfolding extra_texts input_file uses_cache
-    stops_any control F G more Memory h = tt
-    stops_any control F G more Extra h = h
-    stops_any control F G more ExtraFault h = more h
-    stops_any control F G more Input h = h
-    stops_any control F G more InputFault h = (h.0, more h.1)
-    stops_any control F G more StoreFails h = h
-    stops_any control F G more Damaged h = h
-    stops_any control F G more NoText h = h
-    stops_any control F G more TextFault h = h
-    stops_any control F G more Marker h = h
+    stops_any control F G more why opening_lacks = opening_lacks
+    stops_any control F G more why (no_extra none) = no_extra none
+    stops_any control F G more why (extra_fault fault) = extra_fault (more fault)
+    stops_any control F G more why (no_used_input extra used none) = no_used_input extra used none
+    stops_any control F G more why (used_input_fault used fault) = used_input_fault used (more fault)
 
     -- nor does the preprocessor key
     pub key_any : (control : CacheControl) → preprocessor_key_of (in_world p) c ≡ preprocessor_key_of (in_world q) (record c { control = control })

@@ -12,13 +12,12 @@ use Rattle.cck_path.specs.Bytes.{Bytes, lists_of}
 use Rattle.cck_path.specs.TextOrder.{text_cmp}
 use Rattle.cck_store.specs.MapStore.{IsGot, State, map_store}
 use Rattle.cck_store.specs.Store.{Returned}
-use Rattle.cck_store.specs.declared.store.StoreError.TheVariants as store
 use Rattle.jiff.specs.Words.{plain_zone}
 use Rattle.c_cache_keys.proofs.Stored.{not_both}
-use Rattle.c_cache_keys.specs.Call.{CallResult, Call, Damaged, Extra, ExtraFault, Input, InputFault, Marker, Memory, NoText, ReturnsError, Store as StoreFails, TextFault, Why}
+use Rattle.c_cache_keys.specs.Call.{CallResult, Call, Memory, ReturnsError}
 use Rattle.c_cache_keys.specs.Keys.{preprocessor_key_of}
 use Rattle.c_cache_keys.specs.Seen.{why_of}
-use Rattle.c_cache_keys.specs.Step.{Asked, Asks, Ends, Failed, Gives, Hit, Miss, ReadsAs, Step, asked, made, stopped}
+use Rattle.c_cache_keys.specs.Step.{Ends, Gives, Step, asked, damaged, lacked, made, matched, matching, no_bytes, nothing, opening_lacks, stopped, store_failed, store_lacked, unmatched}
 use Rattle.c_cache_keys.specs.World.{World}
 use Rattle.c_cache_keys.specs.declared.call.CacheControl.TheVariants.{Default}
 use Rattle.cck_snapshot.proofs.Hits.{hit_any, key_same}
@@ -29,35 +28,24 @@ use Rattle.cck_snapshot.specs.Requests.{call_for, world_for}
 use Rattle.cck_snapshot.specs.Snapshot.{IsLookUpError, IsLookedUp, IsMiss, IsStoredKey, one_pair}
 use Rattle.cck_snapshot.specs.declared.requests.SnapshotRequest.{SnapshotRequest}
 
-same_failed : {a b : Why} → Failed a ≡ Failed b → a ≡ b
-same_failed e = cc
-
-miss_failed : {why : Why} → Miss ≡ Failed why → ⊥
-miss_failed e = cc
+same_some : {x y : CallResult} → Some x ≡ Some y → x ≡ y
+same_some e = cc
 
 module _ {V : Type 0} (w : World V) (c : Call V) (F : Type 0) where
-  -- no error of asking a store is a miss
-  not_reading : (bytes : Bytes) (why : Why) → IsMiss (ReturnsError why) → ReadsAs w c F bytes (Failed why) → ⊥
-  not_reading bytes Memory m h = m
-  not_reading bytes Extra m h = m
-  not_reading bytes ExtraFault m h = m
-  not_reading bytes Input m h = m
-  not_reading bytes InputFault m h = m
-  not_reading bytes StoreFails m h = m
-  not_reading bytes Damaged m h = m
-  not_reading bytes NoText m h = h
-  not_reading bytes TextFault m h = h
-  not_reading bytes Marker m h = m
-
-  not_given : (from_store : Returned) (why : Why) → IsMiss (ReturnsError why) → Gives w c F from_store (Failed why) → ⊥
-  not_given (Err store.Fault) why m h = subst (λ v. IsMiss (ReturnsError v)) (same_failed h) m
-  not_given (Err store.Memory) why m h = subst (λ v. IsMiss (ReturnsError v)) (same_failed h) m
-  not_given (Ok None) why m h = miss_failed (sym h)
-  not_given (Ok (Some bytes)) why m h = not_reading bytes why m h
+  -- no result that the store determines is a miss
+  not_given : (from_store : Returned) (o : Option CallResult) (x : CallResult) → o ≡ Some x → IsMiss x → Gives (matching w c) F from_store o → ⊥
+  not_given from_store o x same m (store_failed is) = subst IsMiss (sym (same_some same)) m
+  not_given from_store o x same m (store_lacked is) = subst IsMiss (sym (same_some same)) m
+  not_given from_store o x same m (nothing is) = none-some _ same
+  not_given from_store o x same m (no_bytes is) = none-some _ same
+  not_given from_store o x same m (matched bytes key e list is text present all which) = false≢true (subst IsMiss (sym (same_some same)) m)
+  not_given from_store o x same m (unmatched bytes e is text which) = none-some _ same
+  not_given from_store o x same m (damaged bytes is some none) = subst IsMiss (sym (same_some same)) m
+  not_given from_store o x same m (lacked bytes is) = subst IsMiss (sym (same_some same)) m
 
   -- what a miss says of the pair
   abbrev pub IsMissOf : Bytes → Bytes → Type 0
-  IsMissOf k bytes = (preprocessor_key_of w c ≢ Some k) ⊎ ReadsAs w c F bytes Miss
+  IsMissOf k bytes = (preprocessor_key_of w c ≢ Some k) ⊎ Gives (matching w c) F (Ok (Some bytes)) None
 
   not_held : (k other bytes : Bytes) → preprocessor_key_of w c ≡ Some other → find text_cmp other ((k, bytes) ∷ []) ≡ None → preprocessor_key_of w c ≡ Some k → ⊥
   not_held k other bytes is none own =
@@ -66,23 +54,23 @@ module _ {V : Type 0} (w : World V) (c : Call V) (F : Type 0) where
       other_is : other ≡ k
       other_is = let e : Some other ≡ Some k = sym is ∙ own in cc
 
-  asked_missed : (k other bytes : Bytes) (from_store : Returned) (mid : State) → preprocessor_key_of w c ≡ Some other → IsGot (one_pair k bytes) other from_store mid → Gives w c F from_store Miss → IsMissOf k bytes
-  asked_missed k other bytes (Err store.Fault) mid is got given = absurd (miss_failed given)
-  asked_missed k other bytes (Err store.Memory) mid is got given = absurd (miss_failed given)
-  asked_missed k other bytes (Ok None) mid is got given = inl (not_held k other bytes is (sym got.1))
-  asked_missed k other bytes (Ok (Some found)) mid is got given =
-      inr (subst (λ b. ReadsAs w c F b Miss) (find_one k other bytes found (sym got.1)) given)
+  asked_missed : (k other bytes : Bytes) (from_store : Returned) (mid : State) → preprocessor_key_of w c ≡ Some other → IsGot (one_pair k bytes) other from_store mid
+      → Gives (matching w c) F from_store None → IsMissOf k bytes
+  asked_missed k other bytes from_store mid is got (nothing at) = inl (not_held k other bytes is (sym (subst (λ v. IsGot (one_pair k bytes) other v mid) at got).1))
+  asked_missed k other bytes from_store mid is got (no_bytes at) =
+      inr (subst (λ b. Gives (matching w c) F (Ok (Some b)) None) (find_one k other bytes [] (sym (subst (λ v. IsGot (one_pair k bytes) other v mid) at got).1)) (no_bytes refl))
+  asked_missed k other bytes from_store mid is got (unmatched found e at text which) =
+      inr (subst (λ b. Gives (matching w c) F (Ok (Some b)) None) (find_one k other bytes found (sym (subst (λ v. IsGot (one_pair k bytes) other v mid) at got).1)) (unmatched found e refl text which))
 
   pub missed : (k bytes : Bytes) (t : State) (r : CallResult) → c.control ≡ Default → IsMiss r → Step w map_store c F (one_pair k bytes) r t → IsMissOf k bytes
   missed k bytes t r control m (stopped why cause is same) = absurd (not_opening w c F why (subst IsMiss is m) cause)
   missed k bytes t r control m (made o (inl none) makes) = inl (λ own. none-some _ (sym none ∙ own))
   missed k bytes t r control m (made o (inr recache) makes) = absurd (not_both (sym control ∙ recache))
-  missed k bytes t r control m (asked o other is default a mid asks ends) = go a asks ends
+  missed k bytes t r control m (asked o other is default from_store mid got a given ends) = go a given ends
     where
-      go : (a : Asked) → Asks w map_store c F other (one_pair k bytes) a mid → Ends w map_store c F a mid r t → IsMissOf k bytes
-      go (Hit key) asks ends = absurd (false≢true (subst IsMiss ends.0 m))
-      go (Failed why) asks ends = absurd (not_given asks.from_store why (subst IsMiss ends.0 m) asks.gives)
-      go Miss asks ends = asked_missed k other bytes asks.from_store mid is asks.got asks.gives
+      go : (a : Option CallResult) → Gives (matching w c) F from_store a → Ends w map_store c F a mid r t → IsMissOf k bytes
+      go (Some x) given ends = absurd (not_given from_store (Some x) x refl (subst IsMiss ends.0 m) given)
+      go None given ends = asked_missed k other bytes from_store mid is got given
 
 module _ (hash : Bytes → Bytes) (files : FileMap) (r : SnapshotRequest) (F : Type 0) (k bytes : Bytes) where
   abbrev pub Looked : CallResult → State → Type 0
@@ -104,7 +92,7 @@ module _ (hash : Bytes → Bytes) (files : FileMap) (r : SnapshotRequest) (F : T
 
   -- memory is lacking before the store is asked
   pub starved : (e : KeyError) → e ≡ error.Memory → IsLookUpError hash files r F k bytes e
-  starved e is = (one_pair k bytes, stopped Memory tt (ap (λ v. ReturnsError (why_of v)) is) refl)
+  starved e is = (one_pair k bytes, stopped Memory opening_lacks (ap (λ v. ReturnsError (why_of v)) is) refl)
 
   module _ (s : State) (is : s ≡ one_pair k bytes) (a : CallResult) (t : State) (step : Step (world_for hash no_text r) map_store (call_for Default files r) F s a t) where
     looked_from : Looked a t

@@ -1,7 +1,7 @@
 -- Two calls that name the same paths: what the walk over a text says of both.
 use Rattle.std.proofs.Common.{◌≡◌, inl, inr, Bool, List, [], ◌∷◌, Ok, sym, ap, ◌∙◌, subst}
 use Rattle.cck_files.specs.FileMap.{FileNode, file_at}
-use Rattle.cck_include.specs.Gathered.{Digested}
+use Rattle.cck_include.specs.Include.{Include}
 use Rattle.cck_include.specs.Recorded.{recorded}
 use Rattle.cck_markers.specs.Marks.{Malformed, Mark, Name, Refusal}
 use Rattle.cck_path.specs.Bytes.{Bytes}
@@ -87,20 +87,23 @@ module _ {V U : Type 0} (w : World V) (c : Call V) (x : World U) (d : Call U) (s
 
   -- what is recorded of a named file
   module _ (text : Bytes) (files : (p : Path) (n : FileNode) → file_at c.files p ≡ Ok n → file_at d.files p ≡ Ok n) (digests : (n : FileNode) → recorded (setting w c) n ≡ recorded (setting x d) n) where
-    recorded_again : (e : Digested) → IsRecorded w c text e → IsRecorded x d text e
-    recorded_again e r = record {
+    recorded_again : (i : Include) → IsRecorded w c text i → IsRecorded x d text i
+    recorded_again i r = record {
       path = r.path;
-      written = r.written;
       named = named w c x d same text r.path r.named;
       node = r.node;
       file = files r.path r.node r.file;
+      written = r.written;
       digest = sym (digests r.node) ∙ r.digest;
+      size = r.size;
+      modified = r.modified;
+      changed = r.changed;
     }
 
-    pub all_recorded : ((p : Path) (n : FileNode) → IsNamed w c text p → file_at d.files p ≡ Ok n → file_at c.files p ≡ Ok n) → (ds : List Digested) → AreRecorded w c text ds → AreRecorded x d text ds
-    all_recorded back ds r = record {
+    pub all_recorded : ((p : Path) (n : FileNode) → IsNamed w c text p → file_at d.files p ≡ Ok n → file_at c.files p ≡ Ok n) → (includes : List Include) → AreRecorded w c text includes → AreRecorded x d text includes
+    all_recorded back includes r = record {
       ordered = r.ordered;
-      each = λ e at. recorded_again e (r.each e at);
+      each = λ i at. recorded_again i (r.each i at);
       all = λ p n is file.
           let is' : IsNamed w c text p = named x d w c (turned w c x d same) text p is in
           r.all p n is' (back p n is' file);

@@ -1,41 +1,40 @@
 -- What holds over a snapshot of files holds over all of them.
-use Rattle.std.proofs.Common.{◌≡◌, ◌≢◌, inl, inr, ◌∷◌, [], List, map, Bool, false, true, cond, None, Option, Some, Ok, Err, Result, refl, sym, ap, ◌∙◌, subst}
-use Rattle.std.specs.FinMap.{empty, entries, get}
+use Rattle.std.proofs.Common.{◌≡◌, ◌≢◌, inl, inr, ◌∷◌, [], List, Bool, false, true, cond, None, Option, Some, Ok, Err, Result, refl, sym, ap, ◌∙◌, subst}
+use Rattle.std.specs.FinMap.{empty, entries, get, insert}
 use Rattle.std.specs.List.{list_all}
 use Rattle.std.specs.Option.{option_and_then, option_map}
+use Rattle.std.specs.Result.{result_ok}
 use Rattle.std.specs.Prelude.{Contains}
-use Rattle.std.proofs.lemmas.Option.{none-some, same_Some}
+use Rattle.std.proofs.lemmas.Option.{none-some}
 use Rattle.cck_digest.specs.Digest.{digest_text}
 use Rattle.cck_digest.specs.declared.error.FileError.{FileError}
 use Rattle.cck_entry.proofs.LawLemmas.{one_text_one_entry}
-use Rattle.cck_entry.specs.Entry.{Entry, EntryText, added}
+use Rattle.cck_entry.specs.Entry.{Entry, EntryText}
 use Rattle.cck_entry.specs.Find.{IsLookup, found_in}
 use Rattle.cck_entry.specs.Results.{KeyResult}
-use Rattle.cck_files.specs.FileMap.{FileMap, FileNode, file_at, file_in, folder_at, folder_in, metadata_at, metadata_in}
-use Rattle.cck_include.specs.Gathered.{Digested, all_of, gathered, gathered_include, include_of_metadata}
+use Rattle.cck_files.specs.FileMap.{FileMap, FileNode, file_at, file_in, folder_at, folder_in}
 use Rattle.cck_include.specs.Include.{Include}
 use Rattle.cck_include.specs.Matching.{file_matches, matches}
 use Rattle.cck_include.specs.Recorded.{recorded}
 use Rattle.cck_include.specs.Setting.{Setting}
 use Rattle.cck_markers.proofs.OneList.{one_list}
-use Rattle.cck_markers.specs.Marks.{Malformed, Mark, Marks, Name, Refusal}
+use Rattle.cck_markers.specs.Marks.{Malformed, Mark, Name, Refusal}
 use Rattle.cck_path.specs.Bytes.{Bytes}
 use Rattle.cck_path.specs.Path.{Path, components}
 use Rattle.cck_store.specs.MapStore.{IsGot, State, map_store, empty_state}
 use Rattle.cck_preprocessor_key.specs.PreprocessorKey.{preprocessor_material}
 use Rattle.cck_store.specs.Store.{Returned}
-use Rattle.cck_store.specs.declared.store.StoreError.TheVariants as store
-use Rattle.cck_util.specs.Key.{object_key}
-use Rattle.c_cache_keys.proofs.Decisions.{one_decision}
+use Rattle.cck_util.specs.Key.{material}
 use Rattle.c_cache_keys.proofs.Elements.{all_pass, each_passes, none_in, one_of}
 use Rattle.c_cache_keys.proofs.HitPlain.{only_result}
-use Rattle.c_cache_keys.proofs.Includes.{entries-added, same_ok}
+use Rattle.c_cache_keys.proofs.Includes.{entries-alone, same_ok}
 use Rattle.c_cache_keys.proofs.Judgements.{folder_or_file}
-use Rattle.c_cache_keys.proofs.KeySame.{input_known, key_known, material_known, used_prints}
+use Rattle.c_cache_keys.proofs.KeySame.{input_known, key_known, material_known, of_both, used_prints}
 use Rattle.c_cache_keys.proofs.Stored.{not_both, not_failed}
-use Rattle.c_cache_keys.specs.Call.{Call, Fault, Keyed}
-use Rattle.c_cache_keys.specs.Keys.{extra_texts, input_file, input_recorded, is_preprocessed, key_material, of_both, params, plain_key, preprocessor_key_of, printed, request_parts, text_of, ok_value, uses_cache}
-use Rattle.c_cache_keys.specs.Step.{AreOwnIncludes, Asked, Asks, Ends, Failed, Gives, Hit, Miss, NotErring, Opened, OwnPair, Step, asked, gives, made, matching, stopped, stops}
+use Rattle.c_cache_keys.specs.Call.{Call, CallResult, Fault, Keyed}
+use Rattle.cck_util.specs.Language.{is_preprocessed_first}
+use Rattle.c_cache_keys.specs.Keys.{extra_texts, input_file, input_recorded, key_material, plain_key, plain_parts, preprocessor_key_of, printed, request_parts, text_of, uses_cache}
+use Rattle.c_cache_keys.specs.Step.{Ends, Gives, Opened, OwnPair, Step, asked, damaged, faulted, gives, lacked, made, matched, matching, no_bytes, no_key, none_recorded, nothing, puts, refused, stopped, stops, store_failed, store_lacked, unmatched}
 use Rattle.c_cache_keys.specs.Walk.{Accepted, Errs, IsGood, IsLooked, IsNamed, MarksDecide, NotAccepted, Walk, input_path, meant_path}
 use Rattle.c_cache_keys.specs.World.{World, setting}
 use Rattle.c_cache_keys.specs.declared.call.CacheControl.TheVariants.{ForceRecache}
@@ -88,20 +87,6 @@ first_name e = cc
 second_name : {a b : Bytes} {s t : Bool} → Name a s ≡ Name b t → s ≡ t
 second_name e = cc
 
--- of each that is there, the second function gives the same
-all_again : {D A : Type 0} (f g : D → Option A) → ((d : D) (x : A) → f d ≡ Some x → g d ≡ Some x) → (ds : List D) (xs : List A) → all_of (map f ds) ≡ Some xs → all_of (map g ds) ≡ Some xs
-all_again f g same [] xs e = e
-all_again {D} {A} f g same (d ∷ ds) xs e = by (f d) refl e (all_again f g same ds)
-  where
-    rest : (x : A) (o : Option (List A)) → all_of (map f ds) ≡ o → option_map (λ ys. x ∷ ys) o ≡ Some xs → ((ys : List A) → all_of (map f ds) ≡ Some ys → all_of (map g ds) ≡ Some ys)
-        → option_map (λ ys. x ∷ ys) (all_of (map g ds)) ≡ Some xs
-    rest x None at e more = absurd (none-some _ e)
-    rest x (Some ys) at e more = ap (option_map (λ ys. x ∷ ys)) (more ys at) ∙ e
-
-    by : (o : Option A) → f d ≡ o → all_of (o ∷ map f ds) ≡ Some xs → ((ys : List A) → all_of (map f ds) ≡ Some ys → all_of (map g ds) ≡ Some ys) → all_of (map g (d ∷ ds)) ≡ Some xs
-    by None at e more = absurd (none-some _ e)
-    by (Some x) at e more = ap (λ o. all_of (o ∷ map g ds)) (same d x at) ∙ rest x (all_of (map f ds)) refl e more
-
 -- ---- calls
 
 module _ {V : Type 0} (w : World V) (c : Call V) (whole : FileMap) (snapshot : IsSnapshot w c whole) where
@@ -111,18 +96,18 @@ module _ {V : Type 0} (w : World V) (c : Call V) (whole : FileMap) (snapshot : I
   files : (p : Path) (n : FileNode) → file_at c.files p ≡ Ok n → file_at whole p ≡ Ok n
   files = file_here c.files whole snapshot.part
 
-  ok_here : (n : FileNode) → ok_value (file_at c.files (components (input_path c))) ≡ Some n → ok_value (file_at whole (components (input_path c))) ≡ Some n
+  ok_here : (n : FileNode) → result_ok (file_at c.files (components (input_path c))) ≡ Some n → result_ok (file_at whole (components (input_path c))) ≡ Some n
   ok_here n is = by (file_at c.files (components (input_path c))) refl is
     where
-      by : (r : Result FileNode FileError) → file_at c.files (components (input_path c)) ≡ r → ok_value r ≡ Some n → ok_value (file_at whole (components (input_path c))) ≡ Some n
+      by : (r : Result FileNode FileError) → file_at c.files (components (input_path c)) ≡ r → result_ok r ≡ Some n → result_ok (file_at whole (components (input_path c))) ≡ Some n
       by (Err e) at is = absurd (none-some _ is)
-      by (Ok m) at is = ap ok_value (files (components (input_path c)) m at) ∙ is
+      by (Ok m) at is = ap result_ok (files (components (input_path c)) m at) ∙ is
 
   input_here : input_file w c ≢ None → input_file w d ≢ None
   unfolding input_file
-  input_here some none = by (ok_value (file_at c.files (components (input_path c)))) refl
+  input_here some none = by (result_ok (file_at c.files (components (input_path c)))) refl
     where
-      by : (o : Option FileNode) → ok_value (file_at c.files (components (input_path c))) ≡ o → ⊥
+      by : (o : Option FileNode) → result_ok (file_at c.files (components (input_path c))) ≡ o → ⊥
       by None at = some at
       by (Some n) at = none-some _ (sym none ∙ ok_here n at)
 
@@ -136,7 +121,7 @@ module _ {V : Type 0} (w : World V) (c : Call V) (whole : FileMap) (snapshot : I
   unfolding input_recorded input_file
   recorded_here r is =
       let (n, file, digest) = input_known w c r is in
-      ap (λ o. option_and_then (recorded (setting w c)) (ok_value o)) (files (components (input_path c)) n file) ∙ digest
+      ap (λ o. option_and_then (recorded (setting w c)) (result_ok o)) (files (components (input_path c)) n file) ∙ digest
 
   key_here : (k : Bytes) → preprocessor_key_of w c ≡ Some k → preprocessor_key_of w d ≡ Some k
   unfolding preprocessor_key_of key_material
@@ -160,31 +145,36 @@ module _ {V : Type 0} (w : World V) (c : Call V) (whole : FileMap) (snapshot : I
   lookup_here : (F : Type 0) (e : Entry) (bytes key : Bytes) → HasOneResult bytes → EntryText e bytes → IsLookup (matching w c) (entries e) F (Some key) → IsLookup (matching w d) (entries e) F (Some key)
   lookup_here F e bytes key (own, includes, own_text) text (list, at, all, which) =
       let is = only_result e own key includes list bytes text own_text at in
-      let same : e ≡ added empty own includes = (one_text_one_entry e (added empty own includes) bytes bytes text own_text).0 refl in
-      let one : entries e ≡ (key, list) ∷ [] = ap entries same ∙ entries-added own includes ∙ ap (λ (r : KeyResult). r ∷ []) (λ i. (sym is.0 i, sym is.1 i)) in
+      let same : e ≡ insert empty own includes = (one_text_one_entry e (insert empty own includes) bytes bytes text own_text).0 refl in
+      let one : entries e ≡ (key, list) ∷ [] = ap entries same ∙ entries-alone own includes ∙ ap (λ (r : KeyResult). r ∷ []) (λ i. (sym is.0 i, sym is.1 i)) in
       let all' = list_here list all in
       (list, at, all', inl (ap (found_in (matching w d)) one ∙ found_one (matching w d) (key, list) all'))
 
-  gives_here : (F : Type 0) (k other bytes key : Bytes) (from_store : Returned) (mid : State) → HasOneResult bytes → IsGot (one_pair k bytes) other from_store mid
-      → Gives w c F from_store (Hit key) → Gives w d F from_store (Hit key)
-  gives_here F k other bytes key (Err store.Fault) mid one got given = given
-  gives_here F k other bytes key (Err store.Memory) mid one got given = given
-  gives_here F k other bytes key (Ok None) mid one got given = given
-  gives_here F k other bytes key (Ok (Some found)) mid one got (e, text, is) =
-      (e, text, lookup_here F e found key (subst HasOneResult (sym (find_one k other bytes found (sym got.1))) one) text is)
+  gives_here : (F : Type 0) (k other bytes key : Bytes) (from_store : Returned) (mid : State) (o : Option CallResult) → o ≡ Some (Keyed key false) → HasOneResult bytes → IsGot (one_pair k bytes) other from_store mid
+      → Gives (matching w c) F from_store o → Gives (matching w d) F from_store o
+  gives_here F k other bytes key from_store mid o same one got (store_failed is) = store_failed is
+  gives_here F k other bytes key from_store mid o same one got (store_lacked is) = store_lacked is
+  gives_here F k other bytes key from_store mid o same one got (nothing is) = nothing is
+  gives_here F k other bytes key from_store mid o same one got (no_bytes is) = no_bytes is
+  gives_here F k other bytes key from_store mid o same one got (matched found own e list is text present all which) =
+      let held = find_one k other bytes found (sym (subst (λ v. IsGot (one_pair k bytes) other v mid) is got).1) in
+      let (list', present', all', which') = lookup_here F e found own (subst HasOneResult (sym held) one) text (list, present, all, which) in
+      matched found own e list' is text present' all' which'
+  gives_here F k other bytes key from_store mid o same one got (unmatched bytes' e is text which) = absurd (none-some _ same)
+  gives_here F k other bytes key from_store mid o same one got (damaged bytes' is some none) = damaged bytes' is some none
+  gives_here F k other bytes key from_store mid o same one got (lacked bytes' is) = lacked bytes' is
 
   pub hit_here : (F : Type 0) (k bytes key : Bytes) (t : State) → HasOneResult bytes → Step w map_store c F (one_pair k bytes) (Keyed key false) t
       → Step w map_store d F (one_pair k bytes) (Keyed key false) t
   hit_here F k bytes key t one (stopped why cause is same) = absurd (not_failed is)
   hit_here F k bytes key t one (made o not makes) = absurd (made_fresh w map_store c F (one_pair k bytes) t key makes)
-  hit_here F k bytes key t one (asked o other is control a mid asks ends) = go a asks ends
+  hit_here F k bytes key t one (asked o other is control from_store mid got a given ends) = go a given ends
     where
-      go : (a : Asked) → Asks w map_store c F other (one_pair k bytes) a mid → Ends w map_store c F a mid (Keyed key false) t → Step w map_store d F (one_pair k bytes) (Keyed key false) t
-      go (Hit found) asks ends =
-          asked (opened_here o) other (key_here other is) control (Hit found) mid
-          (record { from_store = asks.from_store; got = asks.got; gives = gives_here F k other bytes found asks.from_store mid one asks.got asks.gives }) ends
-      go (Failed why) asks ends = absurd (not_failed ends.0)
-      go Miss asks ends = absurd (made_fresh w map_store c F mid t key ends)
+      go : (a : Option CallResult) → Gives (matching w c) F from_store a → Ends w map_store c F a mid (Keyed key false) t → Step w map_store d F (one_pair k bytes) (Keyed key false) t
+      go (Some x) given ends =
+          asked (opened_here o) other (key_here other is) control from_store mid got (Some x)
+          (gives_here F k other bytes key from_store mid (Some x) (ap (λ v. Some v) (sym ends.0)) one got given) ends
+      go None given ends = absurd (made_fresh w map_store c F mid t key ends)
 
   -- ---- recordings
 
@@ -216,39 +206,15 @@ module _ {V : Type 0} (w : World V) (c : Call V) (whole : FileMap) (snapshot : I
       by (inl folder) = absurd (folder_or_file w d p n (folder_here c.files whole snapshot.part p folder) file)
       by (inr (o, own, old, digest)) = own ∙ ap Ok (same_ok o n (sym (files p o own) ∙ file))
 
-  include_again : (e : Digested) (x : Include) → gathered_include c.files c.moment e ≡ Some x → gathered_include whole c.moment e ≡ Some x
-  unfolding metadata_at
-  include_again e x is = by (get c.files.nodes (components (e.1))) refl is
-    where
-      by : (o : Option FileNode) → get c.files.nodes (components (e.1)) ≡ o → include_of_metadata c.moment e (metadata_in o) ≡ Some x
-          → include_of_metadata c.moment e (metadata_in (get whole.nodes (components (e.1)))) ≡ Some x
-      by None at is = absurd (none-some _ is)
-      by (Some n) at is = ap (λ o. include_of_metadata c.moment e (metadata_in o)) (snapshot.part (components (e.1)) n at) ∙ is
-
-  gathered_here : (ds : List Digested) (xs : List Include) → gathered c.files c.moment ds ≡ Some xs → gathered whole c.moment ds ≡ Some xs
-  unfolding gathered
-  gathered_here ds xs is = all_again (gathered_include c.files c.moment) (gathered_include whole c.moment) include_again ds xs is
-
   module _ (text_same : printed w d ≡ printed w c) where
-    plain_here : (key : Bytes) → is_preprocessed c.request ≡ true → plain_key w c ≡ Some key → plain_key w d ≡ Some key
+    plain_here : (key : Bytes) → is_preprocessed_first c.request.arguments.language ≡ true → plain_key w c ≡ Some key → plain_key w d ≡ Some key
     unfolding plain_key text_of
     plain_here key needs is =
-        ap (λ o. of_both (λ extra_hashes text. object_key w.hash (params w c.request extra_hashes text)) o (text_of w d)) snapshot.extra
-        ∙ ap (of_both (λ extra_hashes text. object_key w.hash (params w c.request extra_hashes text)) (extra_texts w c))
+        ap (λ o. of_both (λ extra_hashes text. digest_text w.hash (material (plain_parts w c.request extra_hashes text))) o (text_of w d)) snapshot.extra
+        ∙ ap (of_both (λ extra_hashes text. digest_text w.hash (material (plain_parts w c.request extra_hashes text))) (extra_texts w c))
         (ap (λ b. cond b (printed w d) (option_map (λ n. n.contents) (input_file w d))) needs ∙ text_same
         ∙ sym (ap (λ b. cond b (printed w c) (option_map (λ n. n.contents) (input_file w c))) needs))
         ∙ is
-
-    includes_here : (includes : List Include) → AreOwnIncludes w c includes → AreOwnIncludes w d includes
-    includes_here includes k = record {
-      text = k.text;
-      is_text = text_same ∙ k.is_text;
-      accepted = walk_accepts w c w d names good_here k.text k.accepted;
-      digested = k.digested;
-      recorded = all_recorded w c w d names k.text files (λ n. refl) (named_here k.text k.accepted) k.digested k.recorded;
-      some = k.some;
-      includes_are = gathered_here k.digested includes k.includes_are;
-    }
 
     own_here : (key k bytes : Bytes) → OwnPair w c key k bytes → OwnPair w d key k bytes
     own_here key k bytes own =
@@ -257,28 +223,27 @@ module _ {V : Type 0} (w : World V) (c : Call V) (whole : FileMap) (snapshot : I
         record {
           is_key = key_here k own.is_key;
           is_plain = plain_here key (used_prints w c.request used) own.is_plain;
+          text = own.text;
+          is_text = text_same ∙ own.is_text;
+          accepted = walk_accepts w c w d names good_here own.text own.accepted;
           includes = own.includes;
-          keeps = includes_here own.includes own.keeps;
-          is_text = own.is_text;
+          recorded = all_recorded w c w d names own.text files (λ n. refl) (named_here own.text own.accepted) own.includes own.recorded;
+          some = own.some;
+          is_entry = own.is_entry;
         }
-
-    -- an accepted text does not err
-    calm_here : (F : Type 0) (includes : List Include) → AreOwnIncludes w d includes → NotErring w d F
-    calm_here F includes k text some is (marks, are, m) =
-        let same : text ≡ k.text = same_Some text k.text (sym is ∙ k.is_text) in
-        let (marks', are', m') = k.accepted in
-        let lists : marks ≡ marks' = one_list true k.text marks marks' (subst (λ v. Marks true v marks) same are) are' in
-        absurd (not_erring (one_decision w d marks' Errs Accepted (subst (λ l. MarksDecide w d l Errs) lists m) m'))
 
     pub recording_here : (F : Type 0) (k bytes key : Bytes) → c.control ≡ ForceRecache → Step w map_store c F empty_state (Keyed key true) (one_pair k bytes)
         → Step w map_store d F empty_state (Keyed key true) (one_pair k bytes)
     recording_here F k bytes key control (stopped why cause is same) = absurd (not_failed is)
     recording_here F k bytes key control (made o not (stops why cause is same)) = absurd (not_failed is)
-    recording_here F k bytes key control (made o not (gives other plain calm is (inl p))) =
-        let own = own_here other p.k p.bytes p.own in
-        made (opened_here o) (inr control) (gives other own.is_plain (calm_here F own.includes own.keeps) is (inl (record { k = p.k; bytes = p.bytes; own = own; from_store = p.from_store; put = p.put })))
-    recording_here F k bytes key control (made o not (gives other plain calm is (inr n))) = absurd (not_one_pair k bytes n.0)
-    recording_here F k bytes key control (asked o other is default a mid asks ends) = absurd (not_both (sym default ∙ control))
+    recording_here F k bytes key control (made o not (gives other plain is (puts p q pair stored put))) =
+        let own = own_here other p q pair in
+        made (opened_here o) (inr control) (gives other own.is_plain is (puts p q own stored put))
+    recording_here F k bytes key control (made o not (gives other plain is (no_key none same))) = absurd (not_one_pair k bytes same)
+    recording_here F k bytes key control (made o not (gives other plain is (refused text prints walk same))) = absurd (not_one_pair k bytes same)
+    recording_here F k bytes key control (made o not (gives other plain is (none_recorded text prints walk none same))) = absurd (not_one_pair k bytes same)
+    recording_here F k bytes key control (made o not (gives other plain is (faulted fault same))) = absurd (not_one_pair k bytes same)
+    recording_here F k bytes key control (asked o other is default a mid got b given ends) = absurd (not_both (sym default ∙ control))
 
 module _ {V : Type 0} (w : World V) where
   pub hit_over_all : HitOverAll w

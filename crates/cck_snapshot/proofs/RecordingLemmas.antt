@@ -11,7 +11,7 @@ use Rattle.jiff.specs.Words.{plain_zone}
 use Rattle.c_cache_keys.specs.Call.{CallResult, Memory, ReturnsError, Request as CallRequest}
 use Rattle.c_cache_keys.specs.Conditions.{call_under, world_under}
 use Rattle.c_cache_keys.specs.Seen.{why_of}
-use Rattle.c_cache_keys.specs.Step.{Step, stopped}
+use Rattle.c_cache_keys.specs.Step.{Step, opening_lacks, stopped}
 use Rattle.c_cache_keys.specs.declared.call.CacheControl.TheVariants.{ForceRecache}
 use Rattle.c_cache_keys.specs.declared.hasher.CCompilerHasher.{CCompilerHasher}
 use Rattle.cck_snapshot.proofs.Texts.{recorded_there, error_there}
@@ -37,7 +37,7 @@ memory_has_text = (λ e. cc, λ e. cc)
 module _ (hash : Bytes → Bytes) (files : FileMap) (r : SnapshotRequest) (F : Type 0) (text : Bytes) where
   -- memory is lacking
   pub starved : (e : KeyError) → e ≡ error.Memory → IsRecordingError hash files r F text e
-  starved e is = subst (IsRecordingError hash files r F text) (sym is) (memory_has_text, λ prints printed. stopped Memory tt refl refl)
+  starved e is = subst (IsRecordingError hash files r F text) (sym is) (memory_has_text, λ prints printed. stopped Memory opening_lacks refl refl)
 
   module _ (hasher : CCompilerHasher TextCompiler) (same : IsTextHasher r.hasher.now text hasher) (s t : LastPut) (new : s ≡ Some None) (a : CallResult)
       (step : Step (world_under hash text_compiler (given_in ForceRecache r)) last_put (call_under with_text_of files hasher (given_in ForceRecache r)) F s a t) where

@@ -1,5 +1,5 @@
 -- A step on one pair is a step on each store.
-use Rattle.std.proofs.Common.{◌≡◌, ◌⊎◌, ℕ, inl, inr, ◌∷◌, [], List, Bool, false, true, cond, None, Some, Ok, Err, refl, sym, ap, ◌∙◌, subst, arith}
+use Rattle.std.proofs.Common.{◌≡◌, ℕ, ◌∷◌, [], List, Bool, false, true, cond, Option, None, Some, Ok, Err, refl, sym, ap, ◌∙◌, subst, arith}
 use Rattle.std.specs.Cmp.{Equal-is}
 use Rattle.std.specs.Cmp.Lexicographic.{nat_list_cmp_total}
 use Rattle.std.specs.FinMap.{nat_cmp-IsAntisymmetric, slice_cmp-IsAntisymmetric}
@@ -13,9 +13,9 @@ use Rattle.cck_store.specs.MapStore.{IsGot, IsMapPut, State, call_begun, map_sto
 use Rattle.cck_store.specs.Store.{Returned, Store, Stored}
 use Rattle.cck_store.specs.declared.store.StoreError.TheVariants as store
 use Rattle.c_cache_keys.proofs.Stored.{not_both, not_failed}
-use Rattle.c_cache_keys.specs.Call.{Call, Fault, Keyed, Why}
+use Rattle.c_cache_keys.specs.Call.{Call, CallResult, Fault, Keyed, ReturnsError, Why}
 use Rattle.c_cache_keys.specs.Keys.{preprocessor_key_of}
-use Rattle.c_cache_keys.specs.Step.{Asked, Asks, Ends, Failed, Gives, Hit, Miss, NothingNew, OwnPair, Step, Stores, asked, gives, made, stopped, stops}
+use Rattle.c_cache_keys.specs.Step.{Ends, Gives, OwnPair, Step, Stores, asked, damaged, faulted, gives, lacked, made, matched, matching, no_bytes, no_key, none_recorded, nothing, puts, refused, stopped, stops, store_failed, store_lacked, unmatched}
 use Rattle.c_cache_keys.specs.World.{World}
 use Rattle.c_cache_keys.specs.declared.call.CacheControl.TheVariants.{ForceRecache}
 use Rattle.cck_snapshot.proofs.Hits.{made_fresh}
@@ -31,11 +31,11 @@ find_key k other bytes x h = by (is_eq (text_cmp other k)) refl (sym (find-put t
     by true tied e = slice_cmp-IsAntisymmetric nat_cmp-IsAntisymmetric other k ((Equal-is (text_cmp other k)).0 tied)
     by false tied e = absurd (none-some _ e)
 
-miss_hit : {key : Bytes} → Miss ≡ Hit key → ⊥
-miss_hit e = cc
+error_key : {why : Why} {key : Bytes} → Some (ReturnsError why) ≡ Some (Keyed key false) → ⊥
+error_key e = cc
 
-failed_hit : {key : Bytes} {why : Why} → Failed why ≡ Hit key → ⊥
-failed_hit e = cc
+none_key : {key : Bytes} → None ≡ Some (Keyed key false) → ⊥
+none_key e = cc
 
 same_head : (x y : Bytes × Bytes) (xs ys : List (Bytes × Bytes)) → x ∷ xs ≡ y ∷ ys → x ≡ y
 same_head x y xs ys e = cc
@@ -46,25 +46,32 @@ same_pairs k l a b e = let pair = same_head (k, a) (l, b) [] [] (ap (λ (v : Sta
 
 module _ {V S : Type 0} (w : World V) (st : Store S) (c : Call V) (F : Type 0) where
   -- what a get of one pair returned for a hit is the pair's bytes, under its key
-  got_hit : (k other bytes key : Bytes) (from_store : Returned) (mid : State) → IsGot (one_pair k bytes) other from_store mid → Gives w c F from_store (Hit key)
-      → (other ≡ k) × Gives w c F (Ok (Some bytes)) (Hit key)
-  got_hit k other bytes key (Err store.Fault) mid got given = absurd (failed_hit (sym given))
-  got_hit k other bytes key (Err store.Memory) mid got given = absurd (failed_hit (sym given))
-  got_hit k other bytes key (Ok None) mid got given = absurd (miss_hit (sym given))
-  got_hit k other bytes key (Ok (Some found)) mid got given =
-      (find_key k other bytes found (sym got.1), subst (λ b. Gives w c F (Ok (Some b)) (Hit key)) (find_one k other bytes found (sym got.1)) given)
+  got_hit : (k other bytes key : Bytes) (from_store : Returned) (mid : State) (o : Option CallResult) → o ≡ Some (Keyed key false) → IsGot (one_pair k bytes) other from_store mid → Gives (matching w c) F from_store o
+      → (other ≡ k) × Gives (matching w c) F (Ok (Some bytes)) (Some (Keyed key false))
+  got_hit k other bytes key from_store mid o same got (store_failed is) = absurd (error_key same)
+  got_hit k other bytes key from_store mid o same got (store_lacked is) = absurd (error_key same)
+  got_hit k other bytes key from_store mid o same got (nothing is) = absurd (none_key same)
+  got_hit k other bytes key from_store mid o same got (no_bytes is) = absurd (none_key same)
+  got_hit k other bytes key from_store mid o same got (matched found own e list is text present all which) =
+      let held = sym (subst (λ v. IsGot (one_pair k bytes) other v mid) is got).1 in (
+        find_key k other bytes found held,
+        subst (λ v. Gives (matching w c) F (Ok (Some bytes)) v) same
+            (subst (λ b. Gives (matching w c) F (Ok (Some b)) (Some (Keyed own false))) (find_one k other bytes found held) (matched found own e list refl text present all which)),
+      )
+  got_hit k other bytes key from_store mid o same got (unmatched bytes' e is text which) = absurd (none_key same)
+  got_hit k other bytes key from_store mid o same got (damaged bytes' is some none) = absurd (error_key same)
+  got_hit k other bytes key from_store mid o same got (lacked bytes' is) = absurd (error_key same)
 
   hit_there : (k bytes key : Bytes) (t : State) (s u : S) → Step w map_store c F (one_pair k bytes) (Keyed key false) t → st.got s k (Ok (Some bytes)) u → Step w st c F s (Keyed key false) u
   hit_there k bytes key t s u (stopped why cause is same) got = absurd (not_failed is)
   hit_there k bytes key t s u (made o not makes) got = absurd (made_fresh w map_store c F (one_pair k bytes) t key makes)
-  hit_there k bytes key t s u (asked o other is control a mid asks ends) got = go a asks ends
+  hit_there k bytes key t s u (asked o other is control from_store mid got_pair a given ends) got = go a given ends
     where
-      go : (a : Asked) → Asks w map_store c F other (one_pair k bytes) a mid → Ends w map_store c F a mid (Keyed key false) t → Step w st c F s (Keyed key false) u
-      go (Hit found) asks ends =
-          let parts = got_hit k other bytes found asks.from_store mid asks.got asks.gives in
-          asked o k (subst (λ v. preprocessor_key_of w c ≡ Some v) parts.0 is) control (Hit found) u (record { from_store = Ok (Some bytes); got = got; gives = parts.1 }) (ends.0, refl)
-      go (Failed why) asks ends = absurd (not_failed ends.0)
-      go Miss asks ends = absurd (made_fresh w map_store c F mid t key ends)
+      go : (a : Option CallResult) → Gives (matching w c) F from_store a → Ends w map_store c F a mid (Keyed key false) t → Step w st c F s (Keyed key false) u
+      go (Some x) given ends =
+          let parts = got_hit k other bytes key from_store mid (Some x) (ap (λ v. Some v) (sym ends.0)) got_pair given in
+          asked o k (subst (λ v. preprocessor_key_of w c ≡ Some v) parts.0 is) control (Ok (Some bytes)) u got (Some (Keyed key false)) parts.1 (refl, refl)
+      go None given ends = absurd (made_fresh w map_store c F mid t key ends)
 
   -- a put that left one pair is the put of this pair
   put_was : (key k bytes : Bytes) (p q : Bytes) (from_store : Stored) → IsMapPut empty_state p q from_store (one_pair k bytes) → (p ≡ k) × (q ≡ bytes)
@@ -73,32 +80,37 @@ module _ {V S : Type 0} (w : World V) (st : Store S) (c : Call V) (F : Type 0) w
   put_was key k bytes p q (Err store.Memory) put = absurd (holds_one k bytes (count_failure (call_begun empty_state)) refl put.1)
 
   own_of : (key k bytes : Bytes) → Stores w map_store c F key empty_state (one_pair k bytes) → OwnPair w c key k bytes
-  own_of key k bytes (inl p) =
-      let same = put_was key k bytes p.k p.bytes p.from_store p.put in
-      subst (λ v. OwnPair w c key v bytes) same.0 (subst (λ v. OwnPair w c key p.k v) same.1 p.own)
-  own_of key k bytes (inr n) = absurd (not_one_pair k bytes n.0)
+  own_of key k bytes (puts p q own stored put) =
+      let same = put_was key k bytes p q stored put in
+      subst (λ v. OwnPair w c key v bytes) same.0 (subst (λ v. OwnPair w c key p v) same.1 own)
+  own_of key k bytes (no_key none same) = absurd (not_one_pair k bytes same)
+  own_of key k bytes (refused text prints walk same) = absurd (not_one_pair k bytes same)
+  own_of key k bytes (none_recorded text prints walk none same) = absurd (not_one_pair k bytes same)
+  own_of key k bytes (faulted fault same) = absurd (not_one_pair k bytes same)
 
-  nothing_of : (key : Bytes) → Stores w map_store c F key empty_state empty_state → F ⊎ NothingNew w c
-  nothing_of key (inl p) = absurd (nothing_put p.k p.bytes p.from_store p.put)
+  nothing_of : (key : Bytes) (s : S) → Stores w map_store c F key empty_state empty_state → Stores w st c F key s s
+  nothing_of key s (puts p q own stored put) = absurd (nothing_put p q stored put)
     where
       nothing_put : (k bytes : Bytes) (from_store : Stored) → IsMapPut empty_state k bytes from_store empty_state → ⊥
       nothing_put k bytes (Ok done) put = let ps : ◌≡◌ {A = List (Bytes × Bytes)} [] ((k, bytes) ∷ []) = ap (λ (v : State). v.pairs) (put_one empty_state empty_state k bytes refl put.1) in cc
       nothing_put k bytes (Err store.Fault) put = false≢true put.0
       nothing_put k bytes (Err store.Memory) put = let no : ◌≡◌ {A = ℕ} 0 1 = ap (λ (v : State). v.armed.calls) put.1 in omega arith
-  nothing_of key (inr n) = n.1
+  nothing_of key s (no_key none same) = no_key none refl
+  nothing_of key s (refused text prints walk same) = refused text prints walk refl
+  nothing_of key s (none_recorded text prints walk none same) = none_recorded text prints walk none refl
+  nothing_of key s (faulted fault same) = faulted fault refl
 
   recording_there : (k bytes key : Bytes) (from_store : Stored) (s u : S) → c.control ≡ ForceRecache → Step w map_store c F empty_state (Keyed key true) (one_pair k bytes) → st.put s k bytes from_store u → Step w st c F s (Keyed key true) u
   recording_there k bytes key from_store s u control (stopped why cause is same) put = absurd (not_failed is)
   recording_there k bytes key from_store s u control (made o not (stops why cause is same)) put = absurd (not_failed is)
-  recording_there k bytes key from_store s u control (made o not (gives other plain calm is puts)) put =
-      made o not (gives other plain calm is (inl (record { k = k; bytes = bytes; own = own_of other k bytes puts; from_store = from_store; put = put })))
-  recording_there k bytes key from_store s u control (asked o other is default a mid asks ends) put = absurd (not_both (sym default ∙ control))
+  recording_there k bytes key from_store s u control (made o not (gives other plain is stores)) put = made o not (gives other plain is (puts k bytes (own_of other k bytes stores) from_store put))
+  recording_there k bytes key from_store s u control (asked o other is default a mid got b given ends) put = absurd (not_both (sym default ∙ control))
 
   nothing_there : (key : Bytes) (s : S) → c.control ≡ ForceRecache → Step w map_store c F empty_state (Keyed key true) empty_state → Step w st c F s (Keyed key true) s
   nothing_there key s control (stopped why cause is same) = absurd (not_failed is)
   nothing_there key s control (made o not (stops why cause is same)) = absurd (not_failed is)
-  nothing_there key s control (made o not (gives other plain calm is puts)) = made o not (gives other plain calm is (inr (refl, nothing_of other puts)))
-  nothing_there key s control (asked o other is default a mid asks ends) = absurd (not_both (sym default ∙ control))
+  nothing_there key s control (made o not (gives other plain is stores)) = made o not (gives other plain is (nothing_of other s stores))
+  nothing_there key s control (asked o other is default a mid got b given ends) = absurd (not_both (sym default ∙ control))
 
 module _ {V S : Type 0} (w : World V) (st : Store S) where
   pub hit_on_any_store : HitOnAnyStore w st

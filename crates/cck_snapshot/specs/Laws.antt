@@ -1,7 +1,7 @@
 -- laws of look-ups and recordings over snapshots
 use Rattle.std.specs.Prelude.{◌≡◌, List, true, false, Some, Ok}
-use Rattle.std.specs.FinMap.{empty, get}
-use Rattle.cck_entry.specs.Entry.{EntryText, added}
+use Rattle.std.specs.FinMap.{empty, get, insert}
+use Rattle.cck_entry.specs.Entry.{EntryText}
 use Rattle.cck_files.specs.FileMap.{FileMap, FileNode}
 use Rattle.cck_include.specs.Include.{Include}
 use Rattle.cck_path.specs.Bytes.{Bytes}
@@ -44,7 +44,7 @@ IsPart part whole = (p : Path) (n : FileNode) → get part.nodes p ≡ Some n �
 
 -- the bytes are of an entry of one result, as those of a recording are
 abbrev pub HasOneResult : Bytes → Type 0
-HasOneResult bytes = (key : Bytes) × (includes : List Include) × EntryText (added empty key includes) bytes
+HasOneResult bytes = (key : Bytes) × (includes : List Include) × EntryText (insert empty key includes) bytes
 
 module _ {V : Type 0} (w : World V) where
   -- Files are left out of the whole, but for the extra files.

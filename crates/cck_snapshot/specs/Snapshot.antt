@@ -1,5 +1,5 @@
 -- look-ups and recordings over a snapshot
-use Rattle.std.specs.Prelude.{◌≡◌, ◌≢◌, ◌⊎◌, ◌∷◌, [], true, false, Option, Some, None, String, string_bytes}
+use Rattle.std.specs.Prelude.{◌≡◌, ◌≢◌, ◌⊎◌, ◌∷◌, [], true, false, Option, Some, None, Ok, String, string_bytes}
 use Rattle.std.specs.declared.alloc.Global.{Global}
 use Rattle.cck_files.specs.FileMap.{FileMap}
 use Rattle.cck_key_error.specs.declared.key_error.KeyError.{KeyError}
@@ -8,7 +8,7 @@ use Rattle.cck_store.specs.MapStore.{State, map_store, empty_state}
 use Rattle.c_cache_keys.specs.Call.{CallResult, Damaged, Extra, ExtraFault, Input, InputFault, Keyed, Marker, Memory, NoText, ReturnsError, Store as StoreFails, TextFault}
 use Rattle.c_cache_keys.specs.Keys.{preprocessor_key_of}
 use Rattle.c_cache_keys.specs.Seen.{why_of}
-use Rattle.c_cache_keys.specs.Step.{Miss, ReadsAs, Step}
+use Rattle.c_cache_keys.specs.Step.{Gives, Step, matching}
 use Rattle.c_cache_keys.specs.declared.call.CacheControl.TheVariants.{Default}
 use Rattle.cck_snapshot.specs.External.{Prints, no_text}
 use Rattle.cck_snapshot.specs.Requests.{call_for, world_for}
@@ -46,7 +46,8 @@ module _ (hash : Bytes → Bytes) (files : FileMap) (r : SnapshotRequest) (F : T
       (prints : Prints) → (t : State) × Step (world_for hash prints r) map_store (call_for Default files r) F (one_pair k bytes) (Keyed (string_bytes key) false) t
   IsLookedUp k bytes None =
       (prints : Prints)
-      → (preprocessor_key_of (world_for hash prints r) (call_for Default files r) ≢ Some k) ⊎ ReadsAs (world_for hash prints r) (call_for Default files r) F bytes Miss
+      → (preprocessor_key_of (world_for hash prints r) (call_for Default files r) ≢ Some k)
+      ⊎ Gives (matching (world_for hash prints r) (call_for Default files r)) F (Ok (Some bytes)) None
 
   -- the error of a look-up
   abbrev pub IsLookUpError : Bytes → Bytes → KeyError → Type 0

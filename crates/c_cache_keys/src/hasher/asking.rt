@@ -2,10 +2,9 @@
 ghost use Rattle.std.specs.Prelude.{◌≡◌, IfErr, List, Some, option_map, string_bytes, ℕ};
 ghost use Rattle.cck_files.specs.Calls.{Keeps, Rose};
 ghost use Rattle.cck_include.specs.Matching.{matches};
-ghost use Rattle.c_cache_keys.specs.Asking.{IsFoundBy, asked_of};
+ghost use Rattle.c_cache_keys.specs.Asking.{AsksBy, IsFoundBy, asked_of};
 ghost use Rattle.c_cache_keys.specs.Conditions.{given_of, setting_under};
 ghost use Rattle.c_cache_keys.specs.Reasons.{IsStoreReason};
-ghost use Rattle.c_cache_keys.specs.Step.{AsksBy};
 
 use super::opening::Opening;
 use crate::call::CacheControl;

@@ -1,9 +1,10 @@
 //! Computing a key without the store.
 ghost use Rattle.std.specs.Prelude.{◌≡◌, IfErr, IfOk, map, string_bytes};
+ghost use Rattle.cck_digest.specs.Digest.{digest_text};
 ghost use Rattle.cck_files.specs.Calls.{Keeps, Rose};
-ghost use Rattle.cck_util.specs.Key.{object_key};
+ghost use Rattle.cck_util.specs.Key.{material};
 ghost use Rattle.c_cache_keys.specs.Conditions.{call_under, given_of, request_under, world_under};
-ghost use Rattle.c_cache_keys.specs.Keys.{params};
+ghost use Rattle.c_cache_keys.specs.Keys.{plain_parts};
 ghost use Rattle.c_cache_keys.specs.Making.{IsPreprocessed, made_of};
 ghost use Rattle.c_cache_keys.specs.Opening.{IsOpening};
 ghost use Rattle.c_cache_keys.specs.Reasons.{IsFileReason};
@@ -101,7 +102,7 @@ impl<I: CCompilerImpl> CCompilerHasher<I> {
         ensures { let given = given_of conditions.now in
             let w = world_under H.hash I.compiler given in
             IfOk result (λ key. string_bytes key
-            ≡ object_key H.hash (params w (request_under I.value self.now given) (map string_bytes extra_hashes.now) text.now)) }
+            ≡ digest_text H.hash (material (plain_parts w (request_under I.value self.now given) (map string_bytes extra_hashes.now) text.now))) }
     {
         let args = &self.parsed_args;
         let mut arguments = Vec::new(alloc);

@@ -1,8 +1,8 @@
-use Rattle.c_cache_keys.specs.Keys.{params}
+use Rattle.c_cache_keys.specs.Keys.{plain_parts}
 use Rattle.c_cache_keys.proofs.hasher.CCompilerHasher.plain_key.Goals as goal
 
 pub returns-in-Ok : goal.returns-in-Ok
-unfolding params
+unfolding plain_parts
 returns-in-Ok g c =
     rw (
       c.with_assembler_digest-params.ensures,

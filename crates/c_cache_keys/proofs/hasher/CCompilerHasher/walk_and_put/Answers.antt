@@ -1,15 +1,14 @@
-use Rattle.std.proofs.Common.{Ok, Err, ◌∙◌, ap, length, refl, subst, sym}
+use Rattle.std.proofs.Common.{Ok, Err, ◌∙◌, ap, length, refl, sym}
 use Rattle.std.proofs.lemmas.Result.{err_from_is_err_and}
 use Rattle.std.specs.Prelude.{◌==◌}
 use Rattle.cck_files.proofs.CallsLemmas.{rose_earlier}
 use Rattle.cck_files.specs.Calls.{Rose}
 use Rattle.cck_include.specs.Gathered.{digested_in}
-use Rattle.c_cache_keys.proofs.Made.{accepted_walk, empty_list, nothing_mapped, nothing_named, put_for, refused, refused_walk, some_list, stop_memory, stop_walked}
+use Rattle.c_cache_keys.proofs.Made.{accepted_walk, empty_list, nothing_mapped, nothing_named, put_for, refused_for, refused_walk, some_list, stop_memory, stop_walked}
 use Rattle.c_cache_keys.proofs.Walked.{walked_for}
 use Rattle.c_cache_keys.proofs.Widen.{wide_makes}
 use Rattle.c_cache_keys.specs.Conditions.{call_under, given_of, world_under}
 use Rattle.c_cache_keys.specs.Included.{digested_of}
-use Rattle.c_cache_keys.specs.Walk.{AreRecorded}
 use Rattle.c_cache_keys.proofs.hasher.CCompilerHasher.walk_and_put.Goals as goal
 
 pub returns-in_err-walk-clause-makes : goal.returns-in_err-walk-clause-makes
@@ -30,7 +29,7 @@ returns-in-Refused-clause-makes g c =
     let w = world_under g.H.HashState.hash g.I.CCompilerImpl.compiler (given_of c.args.conditions.now) in
     let call = call_under g.I.CCompilerImpl.value (g.F.Files.file_map c.args.files.now) c.args.self.now (given_of c.args.conditions.now) in
     let F = Rose (g.F.Files.faults c.args.files.now) (g.F.Files.faults c.process_preprocessed_file.new.files) in
-    refused w g.S.PreprocessorStore.store call F c.args.input.now c.requires c.args.store.now c.in_ok-key.key
+    refused_for w g.S.PreprocessorStore.store call F c.args.input.now c.requires c.args.store.now c.in_ok-key.key
     (refused_walk w call c.args.input.now.text.now F c.in_ok-walk.walk c.in-Refused.is
     (walked_for g.H.HashState.hash g.I.CCompilerImpl.compiler g.I.CCompilerImpl.value (g.F.Files.file_map c.args.files.now) c.args.self.now c.args.conditions.now c.args.input.now c.requires F
     (Ok c.in_ok-walk.walk) c.in_ok-walk.ensures.outcome))
@@ -51,7 +50,7 @@ returns-then-is_empty-clause-makes g c =
     (Ok c.in_ok-walk.walk) c.in_ok-walk.ensures.outcome) in
     let none = empty_list c.in_ok-included.included.items c.is_empty.result (c.is_empty.ensures ∙ ap (λ xs. length xs == 0) c.deref-included.ensures.value) c.if-is_empty.true in
     nothing_named w g.S.PreprocessorStore.store call F c.args.input.now c.requires c.args.store.now c.in_ok-key.key c.in_ok-key.ensures walk
-    (subst (AreRecorded w call c.args.input.now.text.now) (sym c.in_ok-included.ensures ∙ ap digested_in none) recorded)
+    (digested_of c.in-Accepted.records.items) (sym c.in_ok-included.ensures ∙ ap digested_in none) recorded
 
 pub returns-in_err-put_result-clause-makes : goal.returns-in_err-put_result-clause-makes
 returns-in_err-put_result-clause-makes g c =
@@ -71,7 +70,7 @@ returns-clause-makes g c =
     (Ok c.in_ok-walk.walk) c.in_ok-walk.ensures.outcome) in
     let some = some_list c.in_ok-included.included.items c.is_empty.result (c.is_empty.ensures ∙ ap (λ xs. length xs == 0) c.deref-included.ensures.value) c.if-is_empty.false in
     wide_makes w call (Rose middle after) (Rose before after) (rose_earlier before middle after c.in_ok-walk.ensures.keeps.not_lower) st c.args.store.now _ c.put_result.new.store
-    (put_for w st call (Rose middle after) c.args.input.now c.requires (digested_of c.in-Accepted.records.items) recorded
+    (put_for w st call (Rose before middle) c.args.input.now c.requires (digested_of c.in-Accepted.records.items) recorded (Rose middle after)
     c.args.store.now c.put_result.new.store c.in_ok-key.key c.in_ok-put_result.field-0 c.in_ok-key.ensures walk
     (λ none. some (nothing_mapped _ c.in_ok-included.included.items (c.in_ok-included.ensures ∙ none)))
     (rw (c.deref-included.ensures.value, c.in_ok-included.ensures, c.in_ok-walk.ensures.keeps.same_map, c.as_str.ensures.value) at c.in_ok-put_result.ensures.put))
