@@ -16,7 +16,7 @@ KEYWORDS = set("_ as b break const continue else enum false fn for if impl in le
 # What every file has of std, and methods of std that edits alone call.
 OF_STD = set("bool char f64 i8 i16 i32 i64 isize str u8 u16 u32 u64 u128 usize Box Clone Copy Drop Eq Err None Ok"
              " Option Ord PartialEq Result Some String Vec std core alloc"
-             " first_key_value is_char_boundary is_le leading_zeros reverse sort_unstable_by split_last".split())
+             " first_key_value is_char_boundary is_le leading_zeros reverse sort_unstable_by split_last wrapping_abs".split())
 BINDING = re.compile(r"\bconst (\w+)|\bfn (\w+)\(([^()]*)\)|\blet (.*?) ?=[^=]"
                      r"|\bfor (.*?) in\b|\|([\w\s,&():]*)\|(?!\|)")
 CLAUSE = re.compile(r"\b(?:ensures|requires)\b[^{]*\{(?:[^{}]|\{[^{}]*\})*\}")

@@ -1,5 +1,5 @@
 -- entries, for a caller that passes their bytes, and what they say as it is stored
-use Rattle.std.specs.Prelude.{◌≡◌, ◌≢◌, ◌≤◌, ℕ, ℤ, pos, List, ◌∷◌, length, map, take, drop, Option, Some, None, nat_eq, if◌then◌else◌}
+use Rattle.std.specs.Prelude.{◌≡◌, ◌≢◌, ◌≤◌, ℕ, ℤ, pos, List, ◌∷◌, length, map, take, drop, Option, Some, None}
 use Rattle.cck_include.specs.Include.{Include}
 use Rattle.cck_path.specs.Timestamp.{Moment}
 use Rattle.cck_preprocessor_key.specs.PreprocessorKey.{format_version}
@@ -39,13 +39,21 @@ key_and_count r = (r.0, length (r.1))
 abbrev pub passed_result : EntryResult → List ℕ × ℕ
 passed_result r = (r.key.now, r.includes)
 
--- a time, if there is one
-abbrev pub passed_moment : EntryTime → Option Moment
-passed_moment t = if nat_eq t.is_known 0 then None else Some (record { seconds = t.seconds; nanoseconds = t.nanoseconds })
+-- a time as it is stored: its seconds, its nanoseconds and 1, or zeros if there is none
+abbrev pub stored_time : Option Moment → EntryTime
+stored_time None = record { seconds = pos 0; nanoseconds = 0; is_known = 0 }
+stored_time (Some time) = record { seconds = time.seconds; nanoseconds = time.nanoseconds; is_known = 1 }
 
--- an include
-abbrev pub passed_include : EntryInclude → Include
-passed_include i = record { path = i.path.now; digest = i.digest.now; size = i.size; modified = passed_moment i.modified; changed = passed_moment i.changed }
+-- the fields of an include as it is stored: path, digest, size, and the times of the last modification and of the last change
+abbrev pub IncludeFields : Type 0
+IncludeFields = List ℕ × List ℕ × ℕ × EntryTime × EntryTime
+
+abbrev pub include_fields : Include → IncludeFields
+include_fields i = (i.path, i.digest, i.size, stored_time i.modified, stored_time i.changed)
+
+-- the same, of what is stored
+abbrev pub passed_include : EntryInclude → IncludeFields
+passed_include i = (i.path.now, i.digest.now, i.size, i.modified, i.changed)
 
 -- the array begins with these values, and its rest is as before
 pub record IsFilled {A B : Type 0} (value : A → B) (values : List B) (old new : List A) : Type 0 where

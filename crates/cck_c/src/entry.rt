@@ -5,7 +5,7 @@ ghost use Rattle.cck_include.specs.Include.{include_lent};
 ghost use Rattle.cck_entry.specs.Entry.{Entry, Reads, include_count};
 ghost use Rattle.cck_entry.specs.Lent.{result_lent};
 ghost use Rattle.cck_entry.specs.Results.{KeyResult};
-ghost use Rattle.cck_c.specs.Entry.{IsFilled, IsDamaged, IsOtherFormat, IsStatusOf, MayLackMemory, key_and_count, passed_include, passed_result, passed_moment};
+ghost use Rattle.cck_c.specs.Entry.{IsFilled, IsDamaged, IsOtherFormat, IsStatusOf, MayLackMemory, include_fields, key_and_count, passed_include, passed_result, stored_time};
 ghost use Rattle.cck_c.specs.Status.{IsOneOf};
 
 use crate::status;
@@ -136,7 +136,7 @@ pub extern "C" fn cck_entry_includes<'a>(
 ) -> i32
     ensures done { result ≡ pos 0 → (e : Entry) × Reads (Ok e) bytes.now
         × ((r : KeyResult) × (slice_get (entries e) index ≡ Some r) × (count.new ≡ length r.1)
-        × IsFilled passed_include (r.1) includes.old includes.new) }
+        × IsFilled passed_include (map include_fields (r.1)) includes.old includes.new) }
     ensures short { result ≡ pos 2 → (e : Entry) × Reads (Ok e) bytes.now
         × ((r : KeyResult) × (slice_get (entries e) index ≡ Some r) × (length includes.old < length r.1)) }
     ensures absent { result ≡ pos 8 → (e : Entry) × Reads (Ok e) bytes.now × (len e ≤ index) }
@@ -189,7 +189,7 @@ fn write_results<'a>(all: &[ResultRef<'a>], results: &mut [EntryResult<'a>])
 // Writes the includes to the start of the array.
 fn write_includes<'a>(all: Includes<'a>, includes: &mut [EntryInclude<'a>])
     requires { length all ≤ length includes.old }
-    ensures { IsFilled passed_include all.entry includes.old includes.new }
+    ensures { IsFilled passed_include (map include_fields all.entry) includes.old includes.new }
 {
     let mut index = 0;
     for include in all {
@@ -200,7 +200,7 @@ fn write_includes<'a>(all: Includes<'a>, includes: &mut [EntryInclude<'a>])
 
 // Returns the include as it is passed to a caller.
 fn passed<'a>(include: &IncludeRef<'a>) -> EntryInclude<'a>
-    ensures { passed_include result ≡ include_lent include.now }
+    ensures { passed_include result ≡ include_fields (include_lent include.now) }
 {
     EntryInclude {
         path: include.path,
@@ -213,7 +213,7 @@ fn passed<'a>(include: &IncludeRef<'a>) -> EntryInclude<'a>
 
 // Returns the time as it is passed to a caller.
 fn passed_time(time: Option<Timestamp>) -> EntryTime
-    ensures { passed_moment result ≡ time }
+    ensures { result ≡ stored_time time }
 {
     match time {
         Some(time) => EntryTime {

@@ -1,7 +1,7 @@
 //! The time macros in a stream.
 ghost use Rattle.std.specs.Prelude.{◌≡◌, ◌≤◌, ℕ, List, [], ◌++◌, length};
 ghost use Rattle.cck_digest.specs.TimeMacros.{Follows};
-ghost use Rattle.cck_c.specs.Finder.{seen_in};
+ghost use Rattle.cck_c.specs.Finder.{IsStored, seen_in};
 
 use cck_digest::{SeenMacros, TimeMacroFinder};
 
@@ -20,7 +20,8 @@ pub struct Finder {
 /// Makes this the finder of an empty stream.
 #[unsafe(no_mangle)]
 pub extern "C" fn cck_finder_start(finder: &mut Finder)
-    ensures { Follows (seen_in finder.new) [] }
+    ensures follows { Follows (seen_in finder.new) [] }
+    ensures stored { IsStored finder.new }
 {
     let new = TimeMacroFinder::new();
     store(finder, new.seen());
@@ -32,6 +33,7 @@ pub extern "C" fn cck_finder_push(finder: &mut Finder, piece: &[u8])
     ensures follows { (stream : List ℕ) → Follows (seen_in finder.old) stream
         → Follows (seen_in finder.new) (stream ++ piece.now) }
     ensures empty { piece.now ≡ [] → seen_in finder.new ≡ seen_in finder.old }
+    ensures stored { IsStored finder.new }
 {
     if let Some(mut resumed) = TimeMacroFinder::resume(stored(finder)) {
         resumed.find_time_macros(piece);
@@ -62,12 +64,13 @@ fn stored(finder: &Finder) -> SeenMacros<'_>
 // Writes the state to the struct.
 fn store(finder: &mut Finder, seen: SeenMacros<'_>)
     requires { length seen.tail.now ≤ 12 }
-    ensures { seen_in finder.new ≡ record {
+    ensures value { seen_in finder.new ≡ record {
       time = seen.entry.time;
       date = seen.entry.date;
       timestamp = seen.entry.timestamp;
       tail = seen.entry.tail.now;
     } }
+    ensures stored { IsStored finder.new }
 {
     finder.found_time = u8::from(seen.time);
     finder.found_date = u8::from(seen.date);

@@ -1,7 +1,7 @@
 //! The marks of a preprocessed text.
 ghost use Rattle.std.specs.Prelude.{◌≡◌, ◌≤◌, ◌<◌, [], drop, length, map, take};
 ghost use Rattle.cck_markers.specs.Markers.{Yields, MarksLeft, mark_of};
-ghost use Rattle.cck_c.specs.Marks.{mark_in, unread_in};
+ghost use Rattle.cck_c.specs.Marks.{mark_fields, mark_in, stored_mark, unread_in};
 
 use cck_markers::Markers;
 
@@ -43,6 +43,7 @@ pub struct UnreadText<'a> {
 pub extern "C" fn cck_marks<'a>(unread: &mut UnreadText<'a>, marks: &mut [CMark<'a>]) -> usize
     ensures within { result ≤ length marks.old }
     ensures read { Yields (unread_in unread.old) (map mark_in (take result marks.new)) (unread_in unread.new) }
+    ensures fields { let written = take result marks.new in map mark_fields written ≡ map (λ mark. stored_mark (mark_in mark)) written }
     ensures all { result < length marks.old → MarksLeft (unread_in unread.new) [] }
     ensures kept { drop result marks.new ≡ drop result marks.old }
 {
@@ -65,7 +66,8 @@ pub extern "C" fn cck_marks<'a>(unread: &mut UnreadText<'a>, marks: &mut [CMark<
 
 // Returns the mark as it is passed to a caller.
 fn passed(mark: cck_markers::Mark<'_>) -> CMark<'_>
-    ensures { mark_in result ≡ mark_of mark.entry }
+    ensures value { mark_in result ≡ mark_of mark.entry }
+    ensures fields { mark_fields result ≡ stored_mark (mark_of mark.entry) }
 {
     match mark {
         cck_markers::Mark::Name { name, is_system } => CMark {

@@ -43,7 +43,7 @@ calm c asked old new ready after =
     let room : fault_count old.files + 1 < 2 ^ 64 = rw before (omega arith) in
     (before, after.keeps.stays_calm (ready.unarmed, room) ∙ before)
 
-one_done : (hash : Bytes → Bytes) (zone : ℤ) (c : CCompiler MiniCompiler) (asked : script.ScriptCallValue) (old new : Call MiniCompiler FileState) → IsRunCompiler hash zone c → IsReady c asked old
+pub one_done : (hash : Bytes → Bytes) (zone : ℤ) (c : CCompiler MiniCompiler) (asked : script.ScriptCallValue) (old new : Call MiniCompiler FileState) → IsRunCompiler hash zone c → IsReady c asked old
     → IsCallAfter old new → IsRequested hash zone asked (done_in (λ (m : MiniCompiler). m.zone_offset) (λ s. s.files) fault_count old new.files)
 one_done hash zone c asked old new of ready after = record {
   compiler = ready.zone_is ∙ of.zone_is;

@@ -1,1 +1,2 @@
+pub mod JudgedLemmas
 pub mod NotedLemmas

@@ -1,2 +1,4 @@
 pub mod Difference
+pub mod Judged
 pub mod Listing
+pub mod Note

@@ -9,6 +9,7 @@ ghost use Rattle.cck_include.specs.Matching.{MayMiss, matches};
 ghost use Rattle.cck_include.specs.Recorded.{has_date, has_timestamp};
 ghost use Rattle.cck_path.specs.Path.{components};
 ghost use Rattle.cck_explain_script.specs.Difference.{IsChange, IsDifference};
+ghost use Rattle.cck_explain_script.specs.Note.{difference_word};
 
 use cck_digest::{Digest, FileError, HashState, TimeMacroFinder};
 use cck_file_digest::read_contents;
@@ -33,7 +34,9 @@ pub enum Difference {
 
 impl Difference {
     /// The difference in words.
-    pub fn as_str(self) -> &'static str {
+    pub fn as_str(self) -> &'static str
+        ensures { result.now ≡ difference_word self }
+    {
         match self {
             Difference::Missing => "missing",
             Difference::Contents => "contents",

@@ -1,7 +1,10 @@
 //! The calls of a script, made one after another, and what each did.
-ghost use Rattle.std.specs.Prelude.{◌≡◌, ◌∷◌, ◌++◌, [], ℤ, List, IfErr, IfOk, None, OnOk};
+ghost use Rattle.std.specs.Prelude.{◌≡◌, ◌+◌, ◌∷◌, ◌++◌, [], ℤ, List, IfErr, IfOk, None, OnOk, length};
 ghost use Rattle.cck_path.specs.Bytes.{lists_of};
+ghost use Rattle.cck_files.specs.FileState.{IsQuiet, fault_count};
+ghost use Rattle.cck_include.specs.Setting.{setting_in};
 ghost use Rattle.cck_store.specs.MapStore.{State};
+ghost use Rattle.cck_store.specs.Store.{counted};
 ghost use Rattle.jiff.specs.Words.{plain_zone};
 ghost use Rattle.cck_script.specs.Calls.{ScriptCallValue};
 ghost use Rattle.cck_script.specs.Script.{IsScriptError, commands_of, wrong_line};
@@ -12,7 +15,9 @@ ghost use Rattle.cck_command.specs.MiniCompiler.{mini_compiler};
 ghost use Rattle.cck_command.specs.Made.{IsReady, IsRunCompiler};
 ghost use Rattle.c_cache_keys.specs.declared.c_compiler.CCompiler.{CCompiler};
 ghost use Rattle.cck_command.specs.declared.mini_compiler.MiniCompiler.{MiniCompiler as MiniCompilerValue};
+ghost use Rattle.cck_explain_script.specs.Judged.{IsCalm};
 ghost use Rattle.cck_explain_script.specs.Listing.{AreNoted, IsScriptListing};
+ghost use Rattle.cck_explain_script.specs.Note.{IsNote};
 
 use crate::note::{push_head, push_note};
 use crate::watched_store::WatchedStore;
@@ -35,7 +40,7 @@ struct ListingContext {
     basedirs: Vec<Vec<u8>>,
 }
 
-// Returns what a call did that was made on this store, but for its result.
+// Returns the note of a call that was made on this store.
 fn note_of<H: HashState>(
     alloc: Global,
     context: &ListingContext,
@@ -43,7 +48,10 @@ fn note_of<H: HashState>(
     number: u64,
     made: &mut Call<MiniCompiler, MapFiles>,
 ) -> Result<Vec<u8>, AllocError>
-    ensures { store.new ≡ store.old }
+    ensures store { store.new ≡ store.old }
+    ensures note { let s = setting_in H.hash activated made.old.moment (plain_zone context.now.zone) made.old.vars.items in
+        IsCalm fault_count IsQuiet made.old.files
+        → IfOk result (λ note. IsNote s made.old.files.files number made.old.hasher.parsed_args.input.items note.items) }
 {
     let calls = store.take_calls(alloc)?;
     let mut note = Vec::new(alloc);
@@ -68,7 +76,7 @@ fn explain_call<H: HashState>(
     listing: &mut Vec<u8>,
 ) -> Result<(), Failed>
     ensures { OnOk result ((zone : ℤ) (compiler : CCompiler MiniCompilerValue) (front : List ScriptCallValue) (asked : ScriptCallValue)
-        (start : State) → IsRunCompiler H.hash zone compiler → IsReady compiler asked call →
+        (start : State) → IsRunCompiler H.hash zone compiler → IsReady compiler asked call → number ≡ counted (length front + 1) →
         let w = world_of H.hash mini_compiler (plain_zone context.now.zone) activated (lists_of context.now.basedirs.items) in
         AreNoted H.hash zone w front start store.old listing.old.items
         → AreNoted H.hash zone w (front ++ asked ∷ []) start store.new listing.new.items) }

@@ -15,4 +15,4 @@ abbrev pub invariant-loop-call : goal.invariant-loop-call
 invariant-loop-call g l =
     let lines = lines_of l.fn.script in
     SoFar g.H.HashState.hash (zone_of lines) (world_of g.H.HashState.hash mini_compiler (plain_zone l.context.zone) activated (lists_of l.context.basedirs.items))
-    l.compiler (script_calls lines) (armed_by lines) l.store l.listing.items l.call-iterator.rest.items
+    l.compiler (script_calls lines) (armed_by lines) l.store l.number l.listing.items l.call-iterator.rest.items
