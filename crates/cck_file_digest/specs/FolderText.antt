@@ -1,5 +1,6 @@
 -- the bytes that are hashed for a file or a directory, by the file map alone
 use Rattle.std.specs.Prelude.{ℕ, ◌+◌, List, [], ◌∷◌, ◌++◌, length, Bool, true, false, ◌&&◌, ◌||◌, if◌then◌else◌, Option, Some, None, flat_map, filter_map, map, nat_lt}
+use Rattle.std.specs.Option.{option_map_or}
 use Rattle.std.specs.Str.{encode_utf8_all}
 use Rattle.std.specs.List.{join_with_byte, list_any}
 use Rattle.std.specs.Ordering.{eq_by_cmp}
@@ -19,24 +20,19 @@ following (c ∷ p) [] = None
 following (c ∷ p) (d ∷ q) = if eq_by_cmp component_cmp c d then following p q else None
 
 abbrev pub is_name : Component → Bool
-is_name Root = false
-is_name Current = false
-is_name Parent = false
 is_name (Name n) = true
+is_name _ = false
 
 abbrev pub is_folder_kind : FileKind → Bool
-is_folder_kind File = false
 is_folder_kind Folder = true
-is_folder_kind Other = false
+is_folder_kind _ = false
 
 abbrev pub is_other_kind : FileKind → Bool
-is_other_kind File = false
-is_other_kind Folder = false
 is_other_kind Other = true
+is_other_kind _ = false
 
 abbrev pub is_folder : Option FileNode → Bool
-is_folder None = false
-is_folder (Some n) = is_folder_kind n.kind
+is_folder node = option_map_or (λ n. is_folder_kind n.kind) node false
 
 abbrev pub is_empty_path : Path → Bool
 is_empty_path [] = true
@@ -93,8 +89,7 @@ opening (Some name) = delimiter_bytes (lossy name)
 
 abbrev pub piece_of : FileKind → Option (List ℕ) → List ℕ → List ℕ
 piece_of File name contents = opening name ++ contents
-piece_of Folder name contents = []
-piece_of Other name contents = []
+piece_of _ name contents = []
 
 -- what a file adds: its name, where it has one, and its contents
 abbrev pub piece : Option (List ℕ) → Path × FileNode → List ℕ

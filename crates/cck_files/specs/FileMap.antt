@@ -59,8 +59,7 @@ contents_at m p = contents_in (get m.nodes p)
 
 abbrev pub file_if : FileNode → FileKind → Result FileNode FileError
 file_if n File = Ok n
-file_if n Folder = Err OtherKind
-file_if n Other = Err OtherKind
+file_if n _ = Err OtherKind
 
 abbrev pub file_in : Option FileNode → Result FileNode FileError
 file_in None = Err NotFound
@@ -71,9 +70,8 @@ unfoldable pub file_at : FileMap → Path → Result FileNode FileError
 file_at m p = file_in (get m.nodes p)
 
 abbrev pub folder_if : FileKind → Result (Unit {0}) FileError
-folder_if File = Err OtherKind
 folder_if Folder = Ok tt
-folder_if Other = Err OtherKind
+folder_if _ = Err OtherKind
 
 abbrev pub folder_in : Option FileNode → Result (Unit {0}) FileError
 folder_in None = Err NotFound

@@ -1,5 +1,6 @@
 -- when an included file matches
 use Rattle.std.specs.Prelude.{◌≡◌, ◌⊎◌, ℕ, Bool, true, false, ◌&&◌, ◌||◌, nat_eq, List, length, Option, Some, None, Ok, Err, Result}
+use Rattle.std.specs.Option.{option_map_or}
 use Rattle.std.specs.Str.{bytes_eq}
 use Rattle.cck_digest.specs.declared.error.FileError.{FileError}
 use Rattle.cck_files.specs.FileMap.{FileMap, FileNode, file_at}
@@ -27,8 +28,7 @@ times_accept config i n = config.file_stat_matches && times_agree config.use_cti
 
 -- there is a digest, and it is this one
 abbrev pub is_digest : Option (List ℕ) → List ℕ → Bool
-is_digest None digest = false
-is_digest (Some d) digest = bytes_eq d digest
+is_digest found digest = option_map_or (λ d. bytes_eq d digest) found false
 
 -- there is a regular file, and this is its recorded digest
 abbrev pub digest_found : Setting → List ℕ → Result FileNode FileError → Bool

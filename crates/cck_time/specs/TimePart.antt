@@ -78,8 +78,7 @@ time_part date timestamp modified moment zone variables =
 -- both are known, and of the same local second
 abbrev pub AreOfOneSecond : TimeZone → Option Moment → Option Moment → Type 0
 AreOfOneSecond zone (Some t) (Some u) = local_second zone (nanos_of t) ≡ local_second zone (nanos_of u)
-AreOfOneSecond zone (Some t) None = ⊥
-AreOfOneSecond zone None u = ⊥
+AreOfOneSecond zone _ _ = ⊥
 
 -- the bytes were appended to the old ones, or there were none to append
 abbrev pub IsAppended : List ℕ → List ℕ → Bool → Option (List ℕ) → Type 0
