@@ -1,3 +1,4 @@
+mod GivenLemmas
 pub mod Hits
 pub mod Keys
 pub mod LookingLemmas

@@ -4,7 +4,7 @@ use Rattle.cck_files.specs.FileMap.{FileMap}
 use Rattle.cck_key_error.specs.declared.key_error.KeyError.{KeyError}
 use Rattle.cck_path.specs.Bytes.{Bytes}
 use Rattle.cck_store.specs.MapStore.{State, map_store, empty_state}
-use Rattle.c_cache_keys.specs.Call.{CallResult, Keyed, NoText, ReturnsError, TextFault, Why}
+use Rattle.c_cache_keys.specs.Call.{CallResult, Keyed, Memory, NoText, ReturnsError, TextFault, Why}
 use Rattle.c_cache_keys.specs.Keys.{printed}
 use Rattle.c_cache_keys.specs.Seen.{why_of}
 use Rattle.c_cache_keys.specs.Step.{Step}
@@ -24,6 +24,13 @@ key_of (ReturnsError why) = None
 -- the error is not that there is no text
 abbrev pub HasText : Why → Type 0
 HasText why = (why ≢ NoText) × (why ≢ TextFault)
+
+-- the result of a call to which a text was given: where it is missing memory is lacking
+abbrev pub given_text : CallResult → CallResult
+given_text (Keyed key fresh) = Keyed key fresh
+given_text (ReturnsError NoText) = ReturnsError Memory
+given_text (ReturnsError TextFault) = ReturnsError Memory
+given_text (ReturnsError why) = ReturnsError why
 
 -- a store in memory that was just made and into which this was put, if there is something
 abbrev pub state_with : Option (Bytes × Bytes) → State

@@ -1,4 +1,7 @@
 //! Compilers that the caller runs.
+ghost use Rattle.std.specs.Prelude.{◌≡◌, Err, None};
+ghost use Rattle.cck_compiler.specs.Seen.{IsPrinted};
+ghost use Rattle.cck_files.specs.Calls.{Keeps, Rose};
 
 use c_cache_keys::{
     CCompilerImpl, CCompilerKind, CompilerArguments, KeyError, ParsedArguments, PreprocessError,
@@ -68,13 +71,17 @@ impl CCompilerImpl for ExternalCompiler {
     fn preprocess<F: Files>(
         &self,
         _: Global,
-        _: &mut F,
+        files: &mut F,
         _: &[u8],
         _: &ParsedArguments,
         _: &[u8],
         _: &[(Vec<u8>, Vec<u8>)],
         _: Timestamp,
-    ) -> Result<Vec<u8>, PreprocessError> {
+    ) -> Result<Vec<u8>, PreprocessError>
+        ensures keeps { Keeps F.file_map F.faults F.is_quiet files.old files.new }
+        ensures outcome { IsPrinted None (Rose (F.faults files.old) (F.faults files.new)) result }
+        ensures failed { result ≡ Err PreprocessError.Failed }
+    {
         Err(PreprocessError::Failed)
     }
 

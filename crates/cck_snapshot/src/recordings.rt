@@ -3,7 +3,7 @@ ghost use Rattle.std.specs.Prelude.{◌≡◌, ◌⊎◌, IfErr, IfOk, Some, str
 ghost use Rattle.cck_files.specs.Calls.{Keeps, Rose};
 ghost use Rattle.c_cache_keys.specs.Call.{ReturnsError};
 ghost use Rattle.c_cache_keys.specs.Seen.{result_of, why_of};
-ghost use Rattle.cck_snapshot.specs.Recordings.{HasText, IsRecording, IsRecordingError, key_of};
+ghost use Rattle.cck_snapshot.specs.Recordings.{HasText, IsRecording, IsRecordingError, given_text, key_of};
 
 use crate::last_put::LastPut;
 use crate::requests::SnapshotRequest;
@@ -90,9 +90,11 @@ pub fn record_text<H: HashState, F: Files>(
 }
 
 // The key that was computed. There is a text, so where it is missing memory is lacking.
+#[tactic(auto, using(crate::proofs::GivenLemmas::text_missing, crate::proofs::GivenLemmas::text_given))]
 fn computed_key(found: Result<HashResult, KeyError>) -> Result<String, KeyError>
     ensures key { IfOk result (λ key. key_of (result_of found) ≡ Some (string_bytes key)) }
     ensures errors { IfErr result (λ e. (e ≡ KeyError.Memory) ⊎ ((result_of found ≡ ReturnsError (why_of e)) × HasText (why_of e))) }
+    ensures cause { IfErr result (λ e. given_text (result_of found) ≡ ReturnsError (why_of e)) }
 {
     match found {
         Ok(found) => Ok(found.key),
