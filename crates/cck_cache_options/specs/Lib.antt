@@ -1,0 +1,6 @@
+pub mod Call
+pub mod Laws
+pub mod Parts
+pub mod Quote
+pub mod Reason
+pub mod Table
