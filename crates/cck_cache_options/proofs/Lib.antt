@@ -1,6 +1,7 @@
 pub mod KeyedLemmas
 pub mod LongestLemmas
 pub mod PartLemmas
+pub mod PathLemmas
 pub mod PlainLemmas
 pub mod QuoteLemmas
 pub mod StateLemmas

@@ -7,17 +7,20 @@
 //! - [`parse`] reads the arguments of a call by the rows of a table.
 //! - [`push_arguments`] appends arguments as a POSIX shell reads them back, and
 //!   [`push_preprocessor_arguments`] those of a call that its preprocessed text depends on.
+//! - [`object_path`] and [`dependency_path`] are the paths that gcc chooses where a call says none.
 #![tactic(auto)]
 
 mod call;
 mod gcc;
 pub mod laws;
+mod paths;
 mod quote;
 mod reason;
 mod table;
 
 pub use call::{Call, Keyed, Parsed, parse};
 pub use gcc::GCC;
+pub use paths::{dependency_path, object_path};
 pub use quote::{push_arguments, push_preprocessor_arguments, push_quoted};
 pub use reason::Reason;
 pub use table::{Cause, Class, Form, Row, rows_of};
