@@ -1,0 +1,7 @@
+pub mod Call
+pub mod Laws
+pub mod Parts
+pub mod Paths
+pub mod Quote
+pub mod Reason
+pub mod Table

@@ -1,0 +1,385 @@
+//! The arguments of a call.
+ghost use Rattle.std.specs.Prelude.{◌≡◌, IfOk, map};
+ghost use Rattle.std.specs.Option.{option_map};
+ghost use Rattle.cck_cache_options.specs.Table.{entries};
+ghost use Rattle.cck_cache_options.specs.Call.{advance, call_of, conclude, finish, flag, is_contrary, is_keyed, is_preprocessed, keep, next_of, nothing_asked, on_argument, on_dash, on_input, on_option, on_value, outcome_of, parse, refused, step, take, take_dependency_file, take_output, take_preprocessor_file};
+
+use crate::reason::Reason;
+use crate::table::{Cause, Class, Form, Row, after_name, longest};
+use std::alloc::{AllocError, Global};
+
+/// An argument that counts in a key.
+#[derive(Clone, Copy)]
+pub struct Keyed<'a> {
+    /// What its option decides.
+    pub class: Class,
+    /// The argument.
+    pub argument: &'a [u8],
+}
+
+/// What a call asks for.
+#[derive(Drop)]
+pub struct Call<'a> {
+    /// Whether an object is made.
+    pub compiles: bool,
+    /// The input, as the call has it.
+    pub input: Option<&'a [u8]>,
+    /// The path of the object, if the call has one.
+    pub output: Option<&'a [u8]>,
+    /// Whether the compiler writes a dependency file.
+    pub depends: bool,
+    /// Whether the preprocessor is asked for a dependency file by an option of its own.
+    pub preprocessor_depends: bool,
+    /// Whether an option says something of the dependency file of the compiler.
+    pub describes: bool,
+    /// Whether an option says the target of the rule in it.
+    pub targets: bool,
+    /// The path of the dependency file, if the call has one.
+    pub dependency_file: Option<&'a [u8]>,
+    /// The arguments that count in a key, in their order.
+    pub keyed: Vec<Keyed<'a>>,
+    /// The directories in which headers are looked for, in their order.
+    pub directories: Vec<&'a [u8]>,
+}
+
+/// What the arguments of a call say.
+#[derive(Drop)]
+pub enum Parsed<'a> {
+    /// What the call asks for.
+    Asks(Call<'a>),
+    /// Why the call is not cached.
+    PassedOn(Reason),
+}
+
+// The state after some arguments: the call so far, and the class of the option of which the next
+// argument is the value; or why the call is not cached.
+#[derive(Drop)]
+enum Next<'a> {
+    On(Call<'a>, Option<Class>),
+    Stop(Reason),
+}
+
+// Whether the arguments of options of this class count in a key. Paths of what is written do not.
+fn is_keyed(class: Class) -> bool
+    ensures { result ≡ is_keyed class }
+{
+    match class {
+        Class::Text
+        | Class::Code
+        | Class::Message
+        | Class::Directory
+        | Class::Dependencies
+        | Class::Rule
+        | Class::Target
+        | Class::PreprocessorDependencyFile => true,
+        Class::Nothing
+        | Class::Compile
+        | Class::Output
+        | Class::DependencyFile
+        | Class::Passed(_) => false,
+    }
+}
+
+/// Whether the preprocessor has the arguments of options of this class where it writes no dependency
+/// file: the text may depend on each that counts in a key, but for those of a dependency file.
+pub(crate) fn is_preprocessed(class: Class) -> bool
+    ensures { result ≡ is_preprocessed class }
+{
+    match class {
+        Class::Text | Class::Code | Class::Message | Class::Directory => true,
+        Class::Dependencies
+        | Class::Rule
+        | Class::Target
+        | Class::PreprocessorDependencyFile
+        | Class::Nothing
+        | Class::Compile
+        | Class::Output
+        | Class::DependencyFile
+        | Class::Passed(_) => false,
+    }
+}
+
+// The call with an argument of an option of this class.
+fn keep<'a>(mut call: Call<'a>, class: Class, argument: &'a [u8]) -> Result<Call<'a>, AllocError>
+    ensures { IfOk result (λ kept. call_of kept ≡ keep (call_of call.entry) class argument.now) }
+{
+    if is_keyed(class) {
+        call.keyed.push(Keyed { class, argument })?;
+    }
+    Ok(call)
+}
+
+// The state after the path of the object. Which of two counts is left to the compiler.
+fn take_output<'a>(mut call: Call<'a>, value: &'a [u8]) -> Next<'a>
+    ensures { next_of result ≡ take_output (call_of call.entry) value.now }
+{
+    if call.output.is_some() {
+        return Next::Stop(Reason::TwoOutputs);
+    }
+    call.output = Some(value);
+    Next::On(call, None)
+}
+
+// The state after the path of the dependency file.
+fn take_dependency_file<'a>(mut call: Call<'a>, value: &'a [u8]) -> Next<'a>
+    ensures { next_of result ≡ take_dependency_file (call_of call.entry) value.now }
+{
+    if call.dependency_file.is_some() {
+        return Next::Stop(Reason::TwoDependencyFiles);
+    }
+    call.dependency_file = Some(value);
+    call.describes = true;
+    Next::On(call, None)
+}
+
+// The state after the path of a dependency file of the preprocessor. A comma in it begins another option
+// of the preprocessor.
+fn take_preprocessor_file<'a>(mut call: Call<'a>, value: &'a [u8]) -> Next<'a>
+    ensures { next_of result ≡ take_preprocessor_file (call_of call.entry) value.now }
+{
+    if value.contains(&b',') {
+        return Next::Stop(Reason::PassedOption(Cause::PreprocessorOption));
+    }
+    if call.dependency_file.is_some() {
+        return Next::Stop(Reason::TwoDependencyFiles);
+    }
+    call.dependency_file = Some(value);
+    call.preprocessor_depends = true;
+    Next::On(call, None)
+}
+
+// The state after the value of an option of this class.
+fn take<'a>(mut call: Call<'a>, class: Class, value: &'a [u8]) -> Result<Next<'a>, AllocError>
+    ensures { IfOk result (λ next. next_of next ≡ take (call_of call.entry) class value.now) }
+{
+    match class {
+        Class::Output => return Ok(take_output(call, value)),
+        Class::DependencyFile => return Ok(take_dependency_file(call, value)),
+        Class::PreprocessorDependencyFile => return Ok(take_preprocessor_file(call, value)),
+        Class::Passed(cause) => return Ok(Next::Stop(Reason::PassedOption(cause))),
+        Class::Directory => call.directories.push(value)?,
+        Class::Target => {
+            call.describes = true;
+            call.targets = true;
+        }
+        _ => {}
+    }
+    Ok(Next::On(call, None))
+}
+
+// The state after an option without a value.
+fn flag<'a>(mut call: Call<'a>, class: Class) -> Next<'a>
+    ensures { next_of result ≡ flag (call_of call.entry) class }
+{
+    match class {
+        Class::Passed(cause) => return Next::Stop(Reason::PassedOption(cause)),
+        Class::Compile => call.compiles = true,
+        Class::Dependencies => call.depends = true,
+        Class::Rule => call.describes = true,
+        _ => {}
+    }
+    Next::On(call, None)
+}
+
+// The state after the argument of an option, by the rest of it after the option's name.
+fn on_option<'a>(
+    call: Call<'a>,
+    form: Form,
+    class: Class,
+    argument: &'a [u8],
+    rest: &'a [u8],
+) -> Result<Next<'a>, AllocError>
+    ensures { IfOk result (λ next. next_of next ≡ on_option (call_of call.entry) form class argument.now rest.now) }
+{
+    let call = keep(call, class, argument)?;
+    match form {
+        Form::Alone => Ok(flag(call, class)),
+        Form::Joined => take(call, class, rest),
+        Form::Separate => Ok(Next::On(call, Some(class))),
+        Form::Either => {
+            if rest.is_empty() {
+                Ok(Next::On(call, Some(class)))
+            } else {
+                take(call, class, rest)
+            }
+        }
+        Form::Equals => match after_name(b"=", rest) {
+            Some(value) => take(call, class, value),
+            None => Ok(Next::Stop(Reason::UnknownOption)),
+        },
+    }
+}
+
+// The state after an argument that is no option and no value. The text may show the path of the input,
+// so the argument counts.
+fn on_input<'a>(call: Call<'a>, argument: &'a [u8]) -> Result<Next<'a>, AllocError>
+    ensures { IfOk result (λ next. next_of next ≡ on_input (call_of call.entry) argument.now) }
+{
+    if !argument.ends_with(b".c") {
+        return Ok(Next::Stop(Reason::OtherInput));
+    }
+    if call.input.is_some() {
+        return Ok(Next::Stop(Reason::TwoInputs));
+    }
+    let mut call = keep(call, Class::Text, argument)?;
+    call.input = Some(argument);
+    Ok(Next::On(call, None))
+}
+
+// The state after an argument that begins with `-` and is no value.
+fn on_dash<'a>(rows: &[Row<'_>], call: Call<'a>, argument: &'a [u8]) -> Result<Next<'a>, AllocError>
+    ensures { IfOk result (λ next. next_of next ≡ on_dash (entries rows.now) (call_of call.entry) argument.now) }
+{
+    let Some(row) = longest(rows, argument) else {
+        return Ok(Next::Stop(Reason::UnknownOption));
+    };
+    let Some(rest) = after_name(row.name, argument) else {
+        return Ok(Next::Stop(Reason::UnknownOption));
+    };
+    on_option(call, row.form, row.class, argument, rest)
+}
+
+// The state after the value of an option in an argument of its own.
+fn on_value<'a>(call: Call<'a>, class: Class, argument: &'a [u8]) -> Result<Next<'a>, AllocError>
+    ensures { IfOk result (λ next. next_of next ≡ on_value (call_of call.entry) class argument.now) }
+{
+    let call = keep(call, class, argument)?;
+    take(call, class, argument)
+}
+
+// The state after an argument that may be cached.
+fn on_argument<'a>(
+    rows: &[Row<'_>],
+    call: Call<'a>,
+    waiting: Option<Class>,
+    argument: &'a [u8],
+) -> Result<Next<'a>, AllocError>
+    ensures { IfOk result (λ next. next_of next ≡ on_argument (entries rows.now) (call_of call.entry) waiting argument.now) }
+{
+    if let Some(class) = waiting {
+        return on_value(call, class, argument);
+    }
+    if argument.starts_with(b"-") {
+        on_dash(rows, call, argument)
+    } else {
+        on_input(call, argument)
+    }
+}
+
+// Why a call with this argument is not cached, whatever it is there for. The list of directories is read
+// from lines that the compiler prints, and it prints arguments too, so none may have a line feed.
+fn refused(argument: &[u8]) -> Option<Reason>
+    ensures { result ≡ refused argument.now }
+{
+    if argument.is_empty() {
+        Some(Reason::EmptyArgument)
+    } else if argument.starts_with(b"@") {
+        Some(Reason::ResponseFile)
+    } else if argument.contains(&b'\n') || argument.contains(&0) {
+        Some(Reason::ControlCharacter)
+    } else {
+        None
+    }
+}
+
+// The state after an argument.
+fn step<'a>(
+    rows: &[Row<'_>],
+    call: Call<'a>,
+    waiting: Option<Class>,
+    argument: &'a [u8],
+) -> Result<Next<'a>, AllocError>
+    ensures { IfOk result (λ next. next_of next ≡ step (entries rows.now) (call_of call.entry) waiting argument.now) }
+{
+    match refused(argument) {
+        Some(reason) => Ok(Next::Stop(reason)),
+        None => on_argument(rows, call, waiting, argument),
+    }
+}
+
+// The state after one more argument. A reason stays.
+fn advance<'a>(
+    rows: &[Row<'_>],
+    state: Next<'a>,
+    argument: &'a [u8],
+) -> Result<Next<'a>, AllocError>
+    ensures { IfOk result (λ next. next_of next ≡ advance (entries rows.now) (next_of state.entry) argument.now) }
+{
+    match state {
+        Next::On(call, waiting) => step(rows, call, waiting, argument),
+        Next::Stop(reason) => Ok(Next::Stop(reason)),
+    }
+}
+
+// Whether a call asks for a dependency file in two ways, or only says something of one.
+fn is_contrary(call: &Call<'_>) -> bool
+    ensures { result ≡ is_contrary (call_of call.now) }
+{
+    if call.preprocessor_depends {
+        call.depends
+    } else {
+        call.describes && !call.depends
+    }
+}
+
+// What a call asks for, of which all arguments are read.
+fn conclude<'a>(call: Call<'a>) -> Parsed<'a>
+    ensures { outcome_of result ≡ conclude (call_of call.entry) }
+{
+    if call.input.is_none() {
+        Parsed::PassedOn(Reason::NoInput)
+    } else if !call.compiles {
+        Parsed::PassedOn(Reason::NotCompiling)
+    } else if is_contrary(&call) {
+        Parsed::PassedOn(Reason::DependencyOptions)
+    } else {
+        Parsed::Asks(call)
+    }
+}
+
+// What a call asks for, after its last argument.
+fn finish<'a>(state: Next<'a>) -> Parsed<'a>
+    ensures { outcome_of result ≡ finish (next_of state.entry) }
+{
+    match state {
+        Next::Stop(reason) => Parsed::PassedOn(reason),
+        Next::On(_, Some(_)) => Parsed::PassedOn(Reason::MissingValue),
+        Next::On(call, None) => conclude(call),
+    }
+}
+
+// The state before the first argument.
+fn nothing_asked<'a>(alloc: Global) -> Next<'a>
+    ensures { next_of result ≡ nothing_asked }
+{
+    let call = Call {
+        compiles: false,
+        input: None,
+        output: None,
+        depends: false,
+        preprocessor_depends: false,
+        describes: false,
+        targets: false,
+        dependency_file: None,
+        keyed: Vec::new(alloc),
+        directories: Vec::new(alloc),
+    };
+    Next::On(call, None)
+}
+
+/// Reads the arguments of a call by the rows of a table: what it asks for, or why it is not cached.
+///
+/// The only error is lack of memory.
+pub fn parse<'a>(
+    alloc: Global,
+    rows: &[Row<'_>],
+    arguments: &'a [Vec<u8>],
+) -> Result<Parsed<'a>, AllocError>
+    ensures { IfOk result (λ parsed. outcome_of parsed ≡ parse (entries rows.now) (map (λ argument. argument.items) arguments.now)) }
+{
+    let mut state = nothing_asked(alloc);
+    for argument in arguments {
+        state = advance(rows, state, argument)?;
+    }
+    Ok(finish(state))
+}

@@ -1,0 +1,26 @@
+//! The arguments of a call of a compiler, read by a table of the options that are known.
+//!
+//! An argument that the table does not know, or that it knows as one of calls that are not cached, ends
+//! the reading with a reason: the call then goes to the compiler as it came.
+//!
+//! - [`rows_of`] reads a table of options from its text, and [`GCC`] is that of gcc.
+//! - [`parse`] reads the arguments of a call by the rows of a table.
+//! - [`push_arguments`] appends arguments as a POSIX shell reads them back, and
+//!   [`push_preprocessor_arguments`] those of a call that its preprocessed text depends on.
+//! - [`object_path`] and [`dependency_path`] are the paths that gcc chooses where a call says none.
+#![tactic(auto)]
+
+mod call;
+mod gcc;
+pub mod laws;
+mod paths;
+mod quote;
+mod reason;
+mod table;
+
+pub use call::{Call, Keyed, Parsed, parse};
+pub use gcc::GCC;
+pub use paths::{dependency_path, object_path};
+pub use quote::{push_arguments, push_preprocessor_arguments, push_quoted};
+pub use reason::Reason;
+pub use table::{Cause, Class, Form, Row, rows_of};

@@ -1,0 +1,313 @@
+//! A table of options, and the row of an argument.
+ghost use Rattle.std.specs.Prelude.{◌≡◌, ◌++◌, IfOk, OnOk, map};
+ghost use Rattle.std.specs.Option.{option_map};
+ghost use Rattle.cck_cache_options.specs.Table.{after_name, better, cause_named, class_named, entries, entries_of_lines, entry, entry_of_line, fits, form_fits, form_named, kept_class_named, listed, longest, split_at, table_of};
+
+use std::alloc::{AllocError, Global};
+
+/// Where the value of an option is.
+#[derive(Clone, Copy)]
+pub enum Form {
+    /// It has none.
+    Alone,
+    /// In the same argument, right after the name.
+    Joined,
+    /// In the next argument.
+    Separate,
+    /// In the same argument, or in the next one.
+    Either,
+    /// In the same argument, after a `=`.
+    Equals,
+}
+
+/// Why calls with an option are not cached.
+#[derive(Clone, Copy)]
+pub enum Cause {
+    /// Something else than an object is made, or the language is another one.
+    Mode,
+    /// There is no object, but a list of dependencies.
+    DependencyList,
+    /// The preprocessor is given more than the arguments say.
+    PreprocessorOption,
+    /// The assembler is given more than the arguments say.
+    AssemblerOption,
+    /// It is for the linker.
+    Inputs,
+    /// The object is made again by the linker.
+    LinkTimeOptimization,
+    /// The code is for the machine that compiles.
+    Native,
+    /// Files of a profile are read or written.
+    Profile,
+    /// A precompiled header, a module or a text that is preprocessed is read.
+    Precompiled,
+    /// More files are written.
+    FurtherOutput,
+    /// The object has the command line.
+    RecordedSwitches,
+    /// Other programs are run.
+    OtherPrograms,
+}
+
+/// What an option decides.
+#[derive(Clone, Copy)]
+pub enum Class {
+    /// The preprocessed text.
+    Text,
+    /// The code.
+    Code,
+    /// The messages.
+    Message,
+    /// A directory in which headers are looked for.
+    Directory,
+    /// Nothing of what is written.
+    Nothing,
+    /// That an object is made.
+    Compile,
+    /// The path of the object.
+    Output,
+    /// That a dependency file is written.
+    Dependencies,
+    /// What is in the dependency file.
+    Rule,
+    /// The target of the rule in the dependency file.
+    Target,
+    /// The path of the dependency file.
+    DependencyFile,
+    /// The path of a dependency file that the preprocessor is asked for.
+    PreprocessorDependencyFile,
+    /// That the call is not cached.
+    Passed(Cause),
+}
+
+/// A row of a table: one option.
+#[derive(Clone, Copy)]
+pub struct Row<'t> {
+    /// The name, without a value and the `=` before it.
+    pub name: &'t [u8],
+    /// Where the value is.
+    pub form: Form,
+    /// What the option decides.
+    pub class: Class,
+}
+
+// The rest of an argument after a name with which it begins.
+pub(crate) fn after_name<'a>(name: &[u8], argument: &'a [u8]) -> Option<&'a [u8]>
+    ensures { option_map (λ rest. rest.now) result ≡ after_name name.now argument.now }
+{
+    argument.strip_prefix(name)
+}
+
+// Whether the rest of an argument after an option's name is one that this form allows.
+fn form_fits(form: Form, rest: &[u8]) -> bool
+    ensures { result ≡ form_fits form rest.now }
+{
+    match form {
+        Form::Alone | Form::Separate => rest.is_empty(),
+        Form::Joined => !rest.is_empty(),
+        Form::Either => true,
+        Form::Equals => rest.starts_with(b"="),
+    }
+}
+
+// Whether an argument is the option of this row.
+fn fits(row: &Row<'_>, argument: &[u8]) -> bool
+    ensures { result ≡ fits (entry row.now) argument.now }
+{
+    match after_name(row.name, argument) {
+        Some(rest) => form_fits(row.form, rest),
+        None => false,
+    }
+}
+
+// The one of two rows that an argument fits, and if it fits both, that with the longer name.
+fn better<'t>(argument: &[u8], best: Option<Row<'t>>, row: Row<'t>) -> Option<Row<'t>>
+    ensures { option_map entry result ≡ better argument.now (option_map entry best.entry) (entry row.entry) }
+{
+    if !fits(&row, argument) {
+        return best;
+    }
+    match best {
+        Some(old) if row.name.len() <= old.name.len() => Some(old),
+        _ => Some(row),
+    }
+}
+
+/// The row with the longest name of those that an argument fits.
+pub(crate) fn longest<'t>(rows: &[Row<'t>], argument: &[u8]) -> Option<Row<'t>>
+    ensures { option_map entry result ≡ longest (map entry rows.now) argument.now }
+{
+    let mut best = None;
+    for row in rows {
+        best = better(argument, best, *row);
+    }
+    best
+}
+
+// The form of this name.
+fn form_named(name: &[u8]) -> Option<Form>
+    ensures { result ≡ form_named name.now }
+{
+    if name == b"alone".as_slice() {
+        Some(Form::Alone)
+    } else if name == b"joined".as_slice() {
+        Some(Form::Joined)
+    } else if name == b"separate".as_slice() {
+        Some(Form::Separate)
+    } else if name == b"either".as_slice() {
+        Some(Form::Either)
+    } else if name == b"equals".as_slice() {
+        Some(Form::Equals)
+    } else {
+        None
+    }
+}
+
+// The class of this name, of options that calls which are cached may have.
+fn kept_class_named(name: &[u8]) -> Option<Class>
+    ensures { result ≡ kept_class_named name.now }
+{
+    if name == b"text".as_slice() {
+        Some(Class::Text)
+    } else if name == b"code".as_slice() {
+        Some(Class::Code)
+    } else if name == b"message".as_slice() {
+        Some(Class::Message)
+    } else if name == b"directory".as_slice() {
+        Some(Class::Directory)
+    } else if name == b"nothing".as_slice() {
+        Some(Class::Nothing)
+    } else if name == b"compile".as_slice() {
+        Some(Class::Compile)
+    } else if name == b"output".as_slice() {
+        Some(Class::Output)
+    } else if name == b"dependencies".as_slice() {
+        Some(Class::Dependencies)
+    } else if name == b"rule".as_slice() {
+        Some(Class::Rule)
+    } else if name == b"target".as_slice() {
+        Some(Class::Target)
+    } else if name == b"dependency-file".as_slice() {
+        Some(Class::DependencyFile)
+    } else if name == b"preprocessor-dependency-file".as_slice() {
+        Some(Class::PreprocessorDependencyFile)
+    } else {
+        None
+    }
+}
+
+// The cause of this name.
+fn cause_named(name: &[u8]) -> Option<Cause>
+    ensures { result ≡ cause_named name.now }
+{
+    if name == b"passed-mode".as_slice() {
+        Some(Cause::Mode)
+    } else if name == b"passed-dependencies".as_slice() {
+        Some(Cause::DependencyList)
+    } else if name == b"passed-preprocessor-option".as_slice() {
+        Some(Cause::PreprocessorOption)
+    } else if name == b"passed-assembler-option".as_slice() {
+        Some(Cause::AssemblerOption)
+    } else if name == b"passed-inputs".as_slice() {
+        Some(Cause::Inputs)
+    } else if name == b"passed-link-time-optimization".as_slice() {
+        Some(Cause::LinkTimeOptimization)
+    } else if name == b"passed-native".as_slice() {
+        Some(Cause::Native)
+    } else if name == b"passed-profile".as_slice() {
+        Some(Cause::Profile)
+    } else if name == b"passed-precompiled".as_slice() {
+        Some(Cause::Precompiled)
+    } else if name == b"passed-further-output".as_slice() {
+        Some(Cause::FurtherOutput)
+    } else if name == b"passed-recorded-switches".as_slice() {
+        Some(Cause::RecordedSwitches)
+    } else if name == b"passed-other-programs".as_slice() {
+        Some(Cause::OtherPrograms)
+    } else {
+        None
+    }
+}
+
+// The class of this name.
+fn class_named(name: &[u8]) -> Option<Class>
+    ensures { result ≡ class_named name.now }
+{
+    match cause_named(name) {
+        Some(cause) => Some(Class::Passed(cause)),
+        None => kept_class_named(name),
+    }
+}
+
+// The fields of a line, with single spaces between them.
+fn fields<'t>(alloc: Global, line: &'t [u8]) -> Result<Vec<&'t [u8]>, AllocError>
+    ensures { IfOk result (λ parts. map (λ part. part.now) parts.items ≡ split_at 32 line.now) }
+{
+    line.split(|byte| *byte == b' ').collect(alloc)
+}
+
+// The lines of a text.
+fn lines<'t>(alloc: Global, text: &'t [u8]) -> Result<Vec<&'t [u8]>, AllocError>
+    ensures { IfOk result (λ parts. map (λ part. part.now) parts.items ≡ split_at 10 text.now) }
+{
+    text.split(|byte| *byte == b'\n').collect(alloc)
+}
+
+// The row of these fields: a name, a form and a class.
+fn row_of<'t>(fields: &[&'t [u8]]) -> Option<Row<'t>>
+    ensures { option_map entry result ≡ entry_of_line (map (λ part. part.now) fields.now) }
+{
+    if fields.len() != 3 {
+        return None;
+    }
+    let name = fields[0];
+    let form = form_named(fields[1])?;
+    let class = class_named(fields[2])?;
+    Some(Row { name, form, class })
+}
+
+// The row of a line.
+fn row_in<'t>(alloc: Global, line: &'t [u8]) -> Result<Option<Row<'t>>, AllocError>
+    ensures { IfOk result (λ row. option_map entry row ≡ entry_of_line (split_at 32 line.now)) }
+{
+    let fields = fields(alloc, line)?;
+    Ok(row_of(&fields))
+}
+
+// Appends a row, if there is one.
+fn push_row<'t>(rows: &mut Vec<Row<'t>>, row: Option<Row<'t>>) -> Result<(), AllocError>
+    ensures { OnOk result (entries rows.new.items ≡ entries rows.old.items ++ listed (option_map entry row.entry)) }
+{
+    match row {
+        Some(row) => Ok(rows.push(row)?),
+        None => Ok(()),
+    }
+}
+
+// Appends the rows of these lines.
+fn push_rows<'t>(
+    alloc: Global,
+    rows: &mut Vec<Row<'t>>,
+    lines: &[&'t [u8]],
+) -> Result<(), AllocError>
+    ensures { OnOk result (entries rows.new.items ≡ entries rows.old.items ++ entries_of_lines (map (λ line. line.now) lines.now)) }
+{
+    for line in lines {
+        let row = row_in(alloc, line)?;
+        push_row(rows, row)?;
+    }
+    Ok(())
+}
+
+/// The rows of a table in a text: a line for each, with a name, a form and a class and single spaces
+/// between them. Any other line has no row, so that its option is unknown.
+///
+/// The only error is lack of memory.
+pub fn rows_of<'t>(alloc: Global, text: &'t [u8]) -> Result<Vec<Row<'t>>, AllocError>
+    ensures { IfOk result (λ rows. entries rows.items ≡ table_of text.now) }
+{
+    let mut rows = Vec::new(alloc);
+    let lines = lines(alloc, text)?;
+    push_rows(alloc, &mut rows, &lines)?;
+    Ok(rows)
+}

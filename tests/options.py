@@ -1,0 +1,117 @@
+#!/usr/bin/env python3
+"""Checks the table of gcc's options, in crates/cck_cache_options/src/gcc.rt, by itself and by the gcc that is
+installed. Run by hand: options.py [--missing]. Needs gcc; the table was made for gcc 12 on x86-64.
+
+- Each line has a name, a form and a class that the program knows, and no two have one name and form. A line
+  that is spelled wrongly has no row in the program, so that its option is unknown there.
+- An option whose value may be joined to its name is not the beginning of another option: each longer option
+  that gcc prints has a row of its own. Otherwise the program would read it as the shorter one with a value.
+- gcc accepts each option without a value that a cached call may have.
+
+With --missing it prints the options of gcc that the table does not have: calls with them are passed on. The last
+line is `all passed`.
+"""
+
+import os
+import re
+import subprocess
+import sys
+import tempfile
+
+TOP = os.path.join(os.path.dirname(os.path.abspath(__file__)), "..")
+SOURCES = os.path.join(TOP, "crates", "cck_cache_options", "src")
+LISTS = (
+    "common", "c", "c++", "objc", "objc++", "d", "fortran", "go", "ada", "lto", "target", "optimizers", "params",
+    "warnings",
+)
+# Options that gcc takes and prints in no list.
+HIDDEN = ("-I-",)
+
+
+def text_of(name):
+    with open(os.path.join(SOURCES, name), encoding="utf-8") as file:
+        return file.read()
+
+
+def table():
+    literal = re.search(r'b"\\\n(.*)";', text_of("gcc.rt"), re.S).group(1)
+    lines = literal.split("\\n\\\n")
+    assert lines.pop() == "", "the last line has no end"
+    return lines
+
+
+def rows_of(lines, faults):
+    words = set(re.findall(r'name == b"([a-z-]+)"', text_of("table.rt")))
+    forms = {"alone", "joined", "separate", "either", "equals"}
+    classes = words - forms
+    rows = []
+    for line in lines:
+        fields = line.split(" ")
+        if len(fields) != 3 or not fields[0].startswith("-") or fields[1] not in forms or fields[2] not in classes:
+            faults.append(f"no row: {line!r}")
+        elif (fields[0], fields[1]) in ((name, form) for name, form, _ in rows):
+            faults.append(f"two rows: {line!r}")
+        else:
+            rows.append(tuple(fields))
+    return rows
+
+
+def printed():
+    names = set(HIDDEN)
+    for name in LISTS:
+        for kind in ("", "joined,", "separate,", "undocumented,"):
+            done = subprocess.run(["gcc", f"--help={kind}{name}"], capture_output=True, text=True)
+            names.update(re.split(r"[<\[]", word)[0] for word in re.findall(r"^  (-\S+)", done.stdout, re.M))
+    return names
+
+
+def is_passed(row):
+    return row[2].startswith("passed-")
+
+
+def longer(rows, names):
+    own = {name for name, _, _ in rows} | {name + "=" for name, form, _ in rows if form == "equals"}
+    for row in rows:
+        name, form, _ = row
+        if form in ("joined", "either") and not is_passed(row):
+            for other in sorted(names - own):
+                if other.startswith(name) and other != name and other.split("=")[0] not in own:
+                    yield f"{other} would be {name} with a value"
+
+
+def refused(rows):
+    with tempfile.TemporaryDirectory() as room:
+        path = os.path.join(room, "small.c")
+        with open(path, "w", encoding="utf-8") as file:
+            file.write("int small;\n")
+        for row in rows:
+            if row[1] == "alone" and not is_passed(row) and not row[0].startswith("-M"):
+                done = subprocess.run(
+                    ["gcc", row[0], "-c", path, "-o", os.path.join(room, "small.o")], capture_output=True
+                )
+                if done.returncode != 0:
+                    yield f"gcc refuses {row[0]}"
+
+
+def main():
+    faults = []
+    lines = table()
+    rows = rows_of(lines, faults)
+    names = printed()
+    if len(names) < 1000:
+        faults.append(f"gcc prints only {len(names)} options")
+    faults += longer(rows, names)
+    faults += refused(rows)
+    known = {name for name, _, _ in rows}
+    missing = sorted(name for name in names if name.rstrip("=") not in known and name.split("=")[0] not in known)
+    if "--missing" in sys.argv[1:]:
+        print("\n".join(missing))
+    print(f"{len(rows)} rows of {len(lines)} lines, {len(names)} options of gcc, {len(missing)} without a row")
+    for fault in faults:
+        print(f"FAILED: {fault}")
+    print(f"{len(faults)} failed" if faults else "all passed")
+    return 1 if faults else 0
+
+
+if __name__ == "__main__":
+    sys.exit(main())
