@@ -36,14 +36,14 @@ programs=$(sed -n 2p "$CCK_STORE"/compilers/*)
 python3 - "$programs" <<'P'
 import os, subprocess, sys, time
 program, store, flags = os.environ["CCK_PROGRAM"], os.environ["CCK_STORE"], "-O2 -g -Wall -DLUA_COMPAT_5_3 -DLUA_USE_POSIX".split()
-def request(name):
-    return ["--compiler", sys.argv[1], "--directory", os.getcwd(), name, "--", *flags, "-c", name]
+def call(name):
+    return ["--compiler", sys.argv[1], "--directory", os.getcwd(), "--", *flags, "-c", name, "-o", name[:-2] + ".o"]
 parts = {"a process: true": ["true"], "a shell: sh -c :": ["sh", "-c", ":"],
          "a program: cck_cache --version": [program, "--version"]}
 for name in "lvm.c", "lzio.c":
     out = name[:-2] + ".o"
-    parts["cck_cache key, " + name] = [program, "key", *request(name)]
-    parts["cck_cache look, " + name] = [program, "look", store, "--out", out, *request(name)]
+    parts["cck_cache key, " + name] = [program, "key", *call(name)]
+    parts["cck_cache look, " + name] = [program, "look", store, *call(name)]
     parts["cckcc gcc, " + name] = ["cckcc", "gcc", *flags, "-c", name, "-o", out]
     parts["ccache gcc, " + name] = ["ccache", "gcc", *flags, "-c", name, "-o", out]
     parts["gcc -O2, " + name] = ["gcc", *flags, "-c", name, "-o", out]

@@ -85,6 +85,36 @@ check_files() {
     echo "$label: $(cd "$room/hit" && find . -type f | sort | tr '\n' ' ')"
 }
 
+# check_call LABEL WANTED ARG..: the status, the output, the messages and the files of gcc with these arguments in
+# a copy of the directory `call`, and those of the wrapper, twice. The second time it must do WANTED, a pattern of
+# the log's last line.
+check_call() {
+    label=$1 wanted=$2
+    shift 2
+    for step in plain once again; do
+        rm -rf "$room/made" "${room:?}/$step"
+        cp -a "$room/call" "$room/made"
+        settle
+        : >"$CCK_LOG"
+        wrapper=cckcc
+        [ $step != plain ] || wrapper=
+        (
+            cd "$room/made" && $wrapper gcc "$@" >"$room/$step.out" 2>"$room/$step.err"
+            echo $? >>"$room/$step.out"
+        )
+        mv "$room/made" "$room/$step"
+        for kind in out err; do
+            cmp -s "$room/plain.$kind" "$room/$step.$kind" || fault "$label: another status, output or message"
+        done
+        diff -r --no-dereference "$room/plain" "$room/$step" >/dev/null || fault "$label: other files"
+    done
+    did=$(sed -n 's/^cckcc: //p' "$CCK_LOG" | tail -1 | cut -c 1-40)
+    case $did in
+    $wanted) echo "$label: $(tail -1 "$room/plain.out"), $did" ;;
+    *) fault "$label: did '$did' and not '$wanted'" ;;
+    esac
+}
+
 # The search path.
 mkdir a b
 echo 'int v = 1;' >b/h.h
@@ -185,7 +215,7 @@ cp depends.c depends.two.c
 settle
 check_files 'no output, two points' -MD -I"$work/d2" -I"$work/d1" -c "$work/depends.two.c"
 check_files 'special characters' -MD -MP -I"$work/d2" -I"$work/d1" -c "$work/depends.c" -o 'a b$#:.o'
-check_files 'the last one counts' -MD -MMD -MFone -MF two -I"$work/d2" -I"$work/d1" -c "$work/depends.c" -o foo.o
+check_files 'both options' -MD -MMD -MFone -I"$work/d2" -I"$work/d1" -c "$work/depends.c" -o foo.o
 check_files 'as automake' -MT foo.o -MD -MP -MF .deps/foo.Tpo -I"$work/d2" -I"$work/d1" -c -o foo.o "$work/depends.c"
 check_files 'as CMake' -I"$work/d2" -I"$work/d1" -MD -MT a.b/foo.c.o -MF a.b/foo.c.o.d -o a.b/foo.c.o -c "$work/depends.c"
 check_files 'by the preprocessor' -Wp,-MMD,.deps/.foo.d -MP -I"$work/d2" -I"$work/d1" -c -o a.b/foo.o "$work/depends.c"
@@ -309,6 +339,66 @@ check '@file' 'passed on (response-file)*' same -c x.c @options
 check '-x' 'passed on (mode)*' same -x c -c x.c -Ib
 : >empty.c
 check '-x and its value in one word' 'passed on (mode)*' same -xassembler-with-cpp -c empty.c
+
+# Arguments: what the table of options does not know is passed on.
+mkdir -p "$room/call/a" "$room/call/directory.o"
+echo 'int f(void) { int unused; return VALUE; }' >"$room/call/x.c"
+echo 'int VALUE;' >"$room/call/y.c"
+echo '#define VALUE 1' >"$room/call/a/value.h"
+echo '-DVALUE=2' >"$room/call/@defs"
+echo '-DVALUE=2' >"$room/call/defs"
+printf 'value.h other.h\n' >"$room/call/a/header.gcc"
+ln -s nowhere.o "$room/call/link.o"
+ln -s x.c "$room/call/link.c"
+cp "$room/call/a/value.h" "$room/call/value.h"
+lines='-DVALUE=1
+'
+check_call 'known options' 'hit *' -O2 -g -Wall -Wextra -fPIC -std=gnu11 -pipe -DVALUE=1 -c x.c -o x.o
+check_call 'values in the next argument' 'hit *' -D VALUE -I a -include value.h -U OTHER -o x.o -c x.c
+check_call 'values in the same argument' 'hit *' -DVALUE=3 -Ia -includevalue.h -UOTHER -ox.o -c x.c
+check_call 'the value of an option is an option' 'hit *' -MD -MT -o -DVALUE=1 -c x.c
+check_call '-MF with the name of an option' 'hit *' -MD -MF -c -DVALUE=1 -c x.c
+check_call 'a parameter' 'hit *' --param=max-inline-insns-auto=10 --param max-unroll-times=2 -DVALUE=1 -c x.c
+check_call 'quotes and spaces' 'hit *' '-DOTHER="a '"'"'b"' '-DVALUE=1 /* $x `y` \\ */' -c x.c
+check_call 'colours' 'hit *' -Wall -fdiagnostics-color=always -DVALUE=1 -c x.c
+check_call 'an unknown option -f' 'passed on (unknown-option)*' -fno-such-option -DVALUE=1 -c x.c
+check_call 'an unknown option -m' 'passed on (unknown-option)*' -mno-such-option -DVALUE=1 -c x.c
+check_call 'an unknown long option' 'passed on (unknown-option)*' --no-such-option -DVALUE=1 -c x.c
+check_call 'an unknown option -W' 'passed on (unknown-option)*' -Wsuch-option -DVALUE=1 -c x.c
+check_call 'a long name of an option' 'passed on (unknown-option)*' --include value.h -c x.c
+check_call 'a long name of an option, with a value' 'passed on (unknown-option)*' --include=value.h -c x.c
+check_call '--' 'passed on (unknown-option)*' -DVALUE=1 -c -- x.c
+check_call 'standard input' 'passed on (mode)*' -c -
+check_call '-remap' 'passed on (preprocessor-option)*' -remap -Ia -include value.h -c x.c
+check_call '-I-' 'passed on (preprocessor-option)*' -Ia -I- -DVALUE=1 -c x.c
+check_call '--sysroot' 'passed on (preprocessor-option)*' --sysroot=a -DVALUE=1 -c x.c
+check_call '--sysroot and its value' 'passed on (preprocessor-option)*' --sysroot a -DVALUE=1 -c x.c
+check_call '-print-file-name' 'passed on (mode)*' -print-file-name=cc1 -DVALUE=1 -c x.c
+check_call '-print-search-dirs' 'passed on (mode)*' -DVALUE=1 -c x.c -print-search-dirs
+check_call '--version' 'passed on (mode)*' --version -c x.c
+check_call 'a response file' 'passed on (response-file)*' @defs -c x.c
+check_call 'a response file as a value' 'passed on (response-file)*' -D @defs -c x.c
+check_call 'a missing response file as a value' 'passed on (response-file)*' -DVALUE=1 -I @missing -c x.c
+check_call 'a line feed in an argument' 'passed on (control-character)*' "$lines" -c x.c
+check_call 'an empty argument' 'passed on (empty-argument)*' -DVALUE=1 '' -c x.c
+check_call 'an empty output' 'passed on (empty-argument)*' -DVALUE=1 -c x.c -o ''
+check_call 'a value that is missing' 'passed on (missing-value)*' -DVALUE=1 -c x.c -o
+check_call 'two inputs' 'passed on (inputs)*' -DVALUE=1 -c x.c y.c
+check_call 'another input' 'passed on (inputs)*' -DVALUE=1 -c x.c defs
+check_call 'two outputs' 'passed on (outputs)*' -DVALUE=1 -c x.c -o x.o -o y.o
+check_call 'two dependency files' 'passed on (dependencies)*' -DVALUE=1 -c x.c -MD -MF x.d -MF y.d
+check_call 'a dependency file of none' 'passed on (dependencies)*' -DVALUE=1 -c x.c -MF x.d
+check_call 'dependencies on standard output' 'passed on (output)*' -DVALUE=1 -c x.c -MD -MF -
+check_call 'the output is the input' 'passed on (output)*' -DVALUE=1 -c x.c -o x.c
+cmp -s "$room/call/x.c" "$room/again/x.c" || fault 'the source is gone'
+check_call 'the output is the input of a link' 'passed on (output)*' -DVALUE=1 -c link.c -o ./x.c
+check_call 'the dependency file is the input' 'passed on (output)*' -DVALUE=1 -c x.c -MD -MF ./x.c
+check_call 'the output is a directory' 'passed on (output)*' -DVALUE=1 -c x.c -o directory.o
+check_call 'the output is a link' 'passed on (output)*' -DVALUE=1 -c x.c -o link.o
+check_call 'the output is a device' 'passed on (output)*' -DVALUE=1 -c x.c -o /dev/null
+check_call 'no input' 'passed on (no-input)*' -DVALUE=1 -c
+check_call 'no -c' 'passed on (no-c)*' -DVALUE=1 x.c
+check_call 'an input that is missing' 'passed on (*' -DVALUE=1 -c missing.c
 
 # A compiler that appears earlier in PATH.
 mkdir earlier

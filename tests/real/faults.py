@@ -30,7 +30,7 @@ def programs():
     return ":".join([driver, compiler, assembler])
 
 
-REQUEST = ["--compiler", programs(), "--directory", ROOM]
+CALL = ["--compiler", programs(), "--directory", ROOM]
 
 
 def settle():
@@ -59,13 +59,12 @@ def made(name):
 
 
 def look(source, store=STORE):
-    """The words that a look-up prints, and the object and the dependency file that it writes."""
+    """The words of the first line that a look-up prints, and the object and the dependency file that it writes."""
     for name in ("got.o", "got.d"):
         if os.path.exists(name):
             os.unlink(name)
-    words = text_of([PROGRAM, "look", store, "--out", "got.o", "--dependencies", "got.d", *REQUEST, source, "--",
-                     *words_of(source)]).split()
-    return words, made("got")
+    said = text_of([PROGRAM, "look", store, *CALL, "--", *words_of(source), "-MF", "got.d", "-o", "got.o"])
+    return said.partition("\n")[0].split(), made("got")
 
 
 def preprocess(source):
@@ -84,8 +83,8 @@ def start_record(source, missed, store=STORE, **variables):
     """Begins to record what was compiled after this look-up, with more variables of the environment."""
     return subprocess.Popen(
         [PROGRAM, "record", store, "--since", missed[2], "--key", missed[1], "--object", "o.o",
-         "--dependencies", "o.d", "--search", "search", "--messages", "messages", *REQUEST, source, "--",
-         *words_of(source)],
+         "--dependencies", "o.d", "--search", "search", "--messages", "messages", *CALL, "--", *words_of(source),
+         "-MF", "o.d", "-o", "o.o"],
         stdin=open("text", "rb"), stdout=subprocess.PIPE, stderr=subprocess.DEVNULL, text=True,
         env={**os.environ, **variables})
 

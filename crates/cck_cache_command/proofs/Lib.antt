@@ -1,4 +1,5 @@
 pub mod AbsenceLemmas
+pub mod CallLemmas
 pub mod InputLemmas
 pub mod LookLemmas
 pub mod RecordLemmas

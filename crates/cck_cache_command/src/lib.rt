@@ -6,10 +6,12 @@
 #![tactic(auto)]
 
 mod absence;
+mod call;
 mod environment;
 mod input;
 mod look;
 mod outputs;
+mod places;
 mod program;
 mod prune;
 mod record;

@@ -1,8 +1,10 @@
 //! The program, over any files, reader and writers.
+use crate::call::{CallPaths, paths_of, print_call, request_of};
 use crate::environment::Environment;
 use crate::input::input_snapshot;
 use crate::look::{Found, NO_KEY, look};
 use crate::outputs::write_outputs;
+use crate::places::are_free;
 use crate::prune::prune;
 use crate::record::{Outcome, object_key, record};
 use crate::request::request_key;
@@ -11,7 +13,10 @@ use crate::unpack::unpack;
 use crate::why::print_why;
 use anyhow::{Result, bail};
 use cck_cache_files::{Kind, StoreDirectory, open_store};
-use cck_cache_words::{Compilation, Look, Packed, Request, Task, task_of};
+use cck_cache_options::{Call, GCC, Parsed, parse, rows_of};
+use cck_cache_words::{
+    Action, Compilation, CompilerCall, Look, Outputs, Packed, Request, Task, task_of,
+};
 use cck_path::Timestamp;
 use clap::Error;
 use clap::error::ErrorKind;
@@ -25,20 +30,38 @@ const DONE: u8 = 0;
 /// The exit status for wrong words.
 const USAGE: u8 = 2;
 
-/// The exit status where there is no key, no object or no recording.
+/// The exit status where there is no key, no object or no recording, or where a call is not cached.
 const MISS: u8 = 3;
+
+// What a call of a compiler asks for.
+#[derive(Drop)]
+struct Wanted<'a> {
+    // What its arguments say.
+    asked: Call<'a>,
+    // The paths of its files.
+    paths: CallPaths<'a>,
+    // Its compilation.
+    request: Request<'a>,
+}
+
+// Prints why a call is not cached.
+fn print_passed<W: Write>(writer: &mut W, reason: &str) -> Result<u8> {
+    writeln!(writer, "passed {reason}")?;
+    Ok(MISS)
+}
 
 // Prints the preprocessor key.
 fn run_key<R: Files + AllocGlobal, W: Write>(
     rt: &R,
     environment: &Environment<'_>,
-    request: &Request<'_>,
+    wanted: &Wanted<'_>,
     writer: &mut W,
 ) -> Result<u8> {
-    let mut files = input_snapshot(rt, request)?.files;
-    match request_key(rt, environment, request, &mut files)? {
+    let mut files = input_snapshot(rt, &wanted.request)?.files;
+    match request_key(rt, environment, &wanted.request, &mut files)? {
         Some(key) => {
             writeln!(writer, "{key}")?;
+            print_call(rt.alloc(), &wanted.asked, &wanted.paths, writer)?;
             Ok(DONE)
         }
         None => {
@@ -83,17 +106,26 @@ fn note_hit<R: Files + AllocGlobal>(
     let _ = store.count(rt, "hit");
 }
 
-// Looks for an object, and writes it, with the dependency file if there is a path for it. The compiler's
-// messages go to `errors`.
+// Looks for the object of a request in a store, or in an entry file, and writes it, with the dependency
+// file if there is a path for it. The compiler's messages go to `errors`.
 fn run_look<R: Files + AllocGlobal, W: Write, E: Write>(
     rt: &R,
     environment: &Environment<'_>,
-    wanted: &Look<'_>,
+    places: (&str, Option<&str>),
+    outputs: Outputs<'_>,
+    request: Request<'_>,
     writer: &mut W,
     errors: &mut E,
 ) -> Result<u8> {
+    let (store, entry) = places;
+    let wanted = Look {
+        store,
+        entry,
+        outputs,
+        request,
+    };
     let store = open_store(rt, wanted.store, environment.id)?;
-    match look(rt, environment, &store, wanted)? {
+    match look(rt, environment, &store, &wanted)? {
         Found::Hit {
             preprocessor_key,
             object_key,
@@ -101,7 +133,7 @@ fn run_look<R: Files + AllocGlobal, W: Write, E: Write>(
         } => {
             write_outputs(rt, &store, &wanted.outputs, &object, errors)?;
             note_hit(rt, environment, &store, &preprocessor_key, &object_key);
-            writeln!(writer, "hit {object_key}")?;
+            writeln!(writer, "hit {object_key} {}", wanted.request.input)?;
             Ok(DONE)
         }
         Found::Miss {
@@ -231,6 +263,101 @@ fn run_why<R: Files + AllocGlobal, W: Write>(
     Ok(if has_key { DONE } else { MISS })
 }
 
+// Where the files of a call are written.
+fn outputs_of<'a>(paths: &'a CallPaths<'_>) -> Outputs<'a> {
+    Outputs {
+        object: paths.output.as_str(),
+        dependencies: paths.dependencies.as_deref(),
+    }
+}
+
+// Looks for the object of a call. After a line for a miss it prints the call.
+fn run_look_for_call<R: Files + AllocGlobal, W: Write, E: Write>(
+    rt: &R,
+    environment: &Environment<'_>,
+    places: (&str, Option<&str>),
+    wanted: Wanted<'_>,
+    writer: &mut W,
+    errors: &mut E,
+) -> Result<u8> {
+    let Wanted {
+        asked,
+        paths,
+        request,
+    } = wanted;
+    let outputs = outputs_of(&paths);
+    let status = run_look(rt, environment, places, outputs, request, writer, errors)?;
+    if status == MISS {
+        print_call(rt.alloc(), &asked, &paths, writer)?;
+    }
+    Ok(status)
+}
+
+// Does what was asked for with a call that is cached.
+fn run_action<R: Files + AllocGlobal, I: Read, W: Write, E: Write>(
+    rt: &R,
+    environment: &Environment<'_>,
+    action: &Action<'_>,
+    wanted: Wanted<'_>,
+    reader: &mut I,
+    writer: &mut W,
+    errors: &mut E,
+) -> Result<u8> {
+    match action {
+        Action::Key => run_key(rt, environment, &wanted, writer),
+        Action::ObjectKey => run_object_key(rt, environment, &wanted.request, reader, writer),
+        Action::Look { store, entry } => run_look_for_call(
+            rt,
+            environment,
+            (store, *entry),
+            wanted,
+            writer,
+            errors,
+        ),
+        Action::Record { store, compilation } => run_record(
+            rt,
+            environment,
+            store,
+            &wanted.request,
+            compilation,
+            reader,
+            writer,
+        ),
+        Action::Why { store } => run_why(rt, environment, store, &wanted.request, writer),
+    }
+}
+
+// Does what was asked for with a call of a compiler, or prints why the call is not cached.
+fn run_call<R: Files + AllocGlobal, I: Read, W: Write, E: Write>(
+    rt: &R,
+    environment: &Environment<'_>,
+    call: &CompilerCall<'_>,
+    action: &Action<'_>,
+    reader: &mut I,
+    writer: &mut W,
+    errors: &mut E,
+) -> Result<u8> {
+    let alloc = rt.alloc();
+    let rows = rows_of(alloc, GCC)?;
+    let asked = match parse(alloc, &rows, &call.arguments)? {
+        Parsed::Asks(asked) => asked,
+        Parsed::PassedOn(reason) => return print_passed(writer, reason.as_str()),
+    };
+    let Some(paths) = paths_of(alloc, &asked)? else {
+        return print_passed(writer, "no-input");
+    };
+    if !are_free(rt, &paths) {
+        return print_passed(writer, "output");
+    }
+    let request = request_of(alloc, call, &asked, &paths)?;
+    let wanted = Wanted {
+        asked,
+        paths,
+        request,
+    };
+    run_action(rt, environment, action, wanted, reader, writer, errors)
+}
+
 // Does what was asked for.
 fn run_task<R: Files + AllocGlobal + Clone + Drop, I: Read, W: Write, E: Write>(
     rt: &R,
@@ -241,9 +368,15 @@ fn run_task<R: Files + AllocGlobal + Clone + Drop, I: Read, W: Write, E: Write>(
     errors: &mut E,
 ) -> Result<u8> {
     match task {
-        Task::Key(request) => run_key(rt, environment, request, writer),
-        Task::ObjectKey(request) => run_object_key(rt, environment, request, reader, writer),
-        Task::Look(wanted) => run_look(rt, environment, wanted, writer, errors),
+        Task::Call { call, action } => run_call(
+            rt,
+            environment,
+            call,
+            action,
+            reader,
+            writer,
+            errors,
+        ),
         Task::Unpack { store, packed } => run_unpack(
             rt,
             environment,
@@ -252,14 +385,8 @@ fn run_task<R: Files + AllocGlobal + Clone + Drop, I: Read, W: Write, E: Write>(
             writer,
             errors,
         ),
-        Task::Record {
-            store,
-            request,
-            compilation,
-        } => run_record(rt, environment, store, request, compilation, reader, writer),
         Task::Stats { store } => run_stats(rt, environment, store, writer),
         Task::Prune { store, max_size } => run_prune(rt, environment, store, *max_size, writer),
-        Task::Why { store, request } => run_why(rt, environment, store, request, writer),
     }
 }
 

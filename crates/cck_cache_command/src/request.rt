@@ -34,8 +34,10 @@ pub fn base_words<'a>(request: &'a Request<'_>) -> Words<'a>
     }
 }
 
-// Appends an argument: a name and its value.
-fn push_argument(
+/// Appends an argument: a name and its value.
+///
+/// The error is lack of memory.
+pub fn push_argument(
     alloc: Global,
     all: &mut Vec<Vec<u8>>,
     name: &[u8],

@@ -16,7 +16,7 @@ const DEPENDENCIES: OptionWords<'static> = (
     "Where the dependency file is written",
 );
 
-const REQUEST_REQUIRED: [OptionWords<'static>; 2] = [
+const CALL_REQUIRED: [OptionWords<'static>; 2] = [
     (
         "compiler",
         "PATHS",
@@ -25,7 +25,7 @@ const REQUEST_REQUIRED: [OptionWords<'static>; 2] = [
     ("directory", "DIR", "The working directory"),
 ];
 
-const REQUEST_EXTRA: [OptionWords<'static>; 2] = [
+const CALL_EXTRA: [OptionWords<'static>; 2] = [
     (
         "digests",
         "STORE",
@@ -46,16 +46,11 @@ const UNPACK_REQUIRED: [OptionWords<'static>; 3] = [
 
 const UNPACK_EXTRA: [OptionWords<'static>; 1] = [DEPENDENCIES];
 
-const LOOK_REQUIRED: [OptionWords<'static>; 1] = [OUT];
-
-const LOOK_EXTRA: [OptionWords<'static>; 2] = [
-    DEPENDENCIES,
-    (
-        "entry",
-        "FILE",
-        "An entry file that is read in place of the store's",
-    ),
-];
+const LOOK_EXTRA: [OptionWords<'static>; 1] = [(
+    "entry",
+    "FILE",
+    "An entry file that is read in place of the store's",
+)];
 
 const RECORD_REQUIRED: [OptionWords<'static>; 3] = [
     ("since", "STAMP", "The time that the look-up printed"),
@@ -121,19 +116,17 @@ fn with_options<'a>(
     Ok(command)
 }
 
-// A command with the words of a request after its own.
-fn with_request<'a>(alloc: Global, command: Command<'a>) -> Result<Command<'a>, AllocError> {
-    let command = with_options(alloc, command, &REQUEST_REQUIRED, true)?;
-    let command = with_options(alloc, command, &REQUEST_EXTRA, false)?;
-    let input = Arg::new(alloc, "INPUT")
-        .required(true)
-        .help("The input, as the compiler's command line has it");
-    let arguments = Arg::new(alloc, "ARG")
-        .num_args(0..)
-        .trailing_var_arg(true)
-        .allow_hyphen_values(true)
-        .help("The compiler's arguments, without the output");
-    command.arg(input)?.arg(arguments)
+// A command with the words of a compiler's call after its own.
+fn with_call<'a>(alloc: Global, command: Command<'a>) -> Result<Command<'a>, AllocError> {
+    let command = with_options(alloc, command, &CALL_REQUIRED, true)?;
+    let command = with_options(alloc, command, &CALL_EXTRA, false)?;
+    command.arg(
+        Arg::new(alloc, "ARG")
+            .num_args(0..)
+            .trailing_var_arg(true)
+            .allow_hyphen_values(true)
+            .help("The compiler's arguments"),
+    )
 }
 
 // A command with the word STORE.
@@ -148,7 +141,7 @@ fn with_store<'a>(alloc: Global, command: Command<'a>) -> Result<Command<'a>, Al
 // The command `key`.
 fn key_command<'a>(alloc: Global) -> Result<Command<'a>, AllocError> {
     let command = Command::new(alloc, "key").about("Prints the preprocessor key");
-    with_request(alloc, command)
+    with_call(alloc, command)
 }
 
 // The command `object-key`.
@@ -156,7 +149,7 @@ fn object_key_command<'a>(alloc: Global) -> Result<Command<'a>, AllocError> {
     let command = Command::new(alloc, "object-key").about(
         "Prints the key of the object whose preprocessed text is read from standard input",
     );
-    with_request(alloc, command)
+    with_call(alloc, command)
 }
 
 // The command `unpack`.
@@ -170,9 +163,8 @@ fn unpack_command<'a>(alloc: Global) -> Result<Command<'a>, AllocError> {
 // The command `look`.
 fn look_command<'a>(alloc: Global) -> Result<Command<'a>, AllocError> {
     let command = Command::new(alloc, "look").about("Writes the object from the store");
-    let command = with_options(alloc, command, &LOOK_REQUIRED, true)?;
     let command = with_options(alloc, command, &LOOK_EXTRA, false)?;
-    with_request(alloc, with_store(alloc, command)?)
+    with_call(alloc, with_store(alloc, command)?)
 }
 
 // The command `record`.
@@ -182,7 +174,7 @@ fn record_command<'a>(alloc: Global) -> Result<Command<'a>, AllocError> {
     );
     let command = with_options(alloc, command, &RECORD_REQUIRED, true)?;
     let command = with_options(alloc, command, &RECORD_EXTRA, false)?;
-    with_request(alloc, with_store(alloc, command)?)
+    with_call(alloc, with_store(alloc, command)?)
 }
 
 // The command `stats`.
@@ -207,14 +199,11 @@ fn why_command<'a>(alloc: Global) -> Result<Command<'a>, AllocError> {
     let command = Command::new(alloc, "why").about(
         "Prints which paths keep an entry from matching",
     );
-    with_request(alloc, with_store(alloc, command)?)
+    with_call(alloc, with_store(alloc, command)?)
 }
 
-// A program with the commands that have the words of a request.
-fn with_request_commands<'a>(
-    alloc: Global,
-    program: Command<'a>,
-) -> Result<Command<'a>, AllocError> {
+// A program with the commands that have the words of a compiler's call.
+fn with_call_commands<'a>(alloc: Global, program: Command<'a>) -> Result<Command<'a>, AllocError> {
     program
         .subcommand(key_command(alloc)?)?
         .subcommand(object_key_command(alloc)?)?
@@ -239,6 +228,6 @@ pub(crate) fn program<'a>(alloc: Global) -> Result<Command<'a>, AllocError> {
         .version(VERSION)
         .about("Keeps the objects of compilations")
         .subcommand_required(true);
-    let program = with_request_commands(alloc, program)?;
+    let program = with_call_commands(alloc, program)?;
     with_store_commands(alloc, program)
 }

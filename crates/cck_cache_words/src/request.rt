@@ -1,17 +1,33 @@
-//! The compilation that words ask for.
+//! The call of a compiler that words have, and the compilation that it asks for.
 use clap::ArgMatches;
 use std::alloc::{AllocError, Global};
 
-/// A compilation: what the words of the command line say of it.
+/// A call of a compiler: what the words of the command line say of it.
+#[derive(Drop)]
+pub struct CompilerCall<'a> {
+    /// The paths of the programs that the compiler runs, with colons between them.
+    pub compiler: &'a str,
+    /// The working directory.
+    pub directory: &'a str,
+    /// The compiler's arguments, as they came.
+    pub arguments: Vec<Vec<u8>>,
+    /// The store directory that keeps the digests of the programs' contents, if the programs count
+    /// by their contents.
+    pub digests: Option<&'a str>,
+    /// The base directory, if objects are shared between checkouts.
+    pub base: Option<&'a str>,
+}
+
+/// The compilation that a call of a compiler asks for.
 #[derive(Drop)]
 pub struct Request<'a> {
     /// The paths of the programs that the compiler runs, with colons between them.
     pub compiler: &'a str,
     /// The working directory.
     pub directory: &'a str,
-    /// The input, as the compiler's command line has it.
+    /// The input, as the call has it.
     pub input: &'a str,
-    /// The compiler's arguments without the output.
+    /// The arguments that count in keys.
     pub arguments: Vec<Vec<u8>>,
     /// The store directory that keeps the digests of the programs' contents, if the programs count
     /// by their contents.
@@ -31,25 +47,23 @@ fn arguments_of(alloc: Global, matches: &ArgMatches<'_>) -> Result<Vec<Vec<u8>>,
     Ok(all)
 }
 
-/// The request in the words of a command. `None` where one of its words is missing, which `clap`
-/// does not let pass.
+/// The call of a compiler in the words of a command. `None` where one of its words is missing, which
+/// `clap` does not let pass.
 ///
 /// The error is lack of memory.
-pub(crate) fn request_of<'a>(
+pub(crate) fn call_of<'a>(
     alloc: Global,
     matches: &ArgMatches<'a>,
-) -> Result<Option<Request<'a>>, AllocError> {
-    let (Some(compiler), Some(directory), Some(input)) = (
+) -> Result<Option<CompilerCall<'a>>, AllocError> {
+    let (Some(compiler), Some(directory)) = (
         matches.get_str("compiler"),
         matches.get_str("directory"),
-        matches.get_str("INPUT"),
     ) else {
         return Ok(None);
     };
-    Ok(Some(Request {
+    Ok(Some(CompilerCall {
         compiler,
         directory,
-        input,
         arguments: arguments_of(alloc, matches)?,
         digests: matches.get_str("digests"),
         base: matches.get_str("base"),

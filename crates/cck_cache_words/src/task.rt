@@ -5,7 +5,7 @@ ghost use Rattle.clap.specs.Matches.{found_of};
 ghost use Rattle.cck_cache_words.specs.Task.{IsMade, IsOutputs, IsPacked, IsSince, IsSize, MadeWords, OutputWords, PackedWords, made_words, output_words, packed_words};
 
 use crate::command_line::program;
-use crate::request::{Request, request_of};
+use crate::request::{CompilerCall, Request, call_of};
 use crate::stamp::stamp_of;
 use cck_path::Timestamp;
 use clap::{ArgMatches, Error};
@@ -21,7 +21,7 @@ pub struct Outputs<'a> {
     pub dependencies: Option<&'a str>,
 }
 
-/// What the words of `look` ask for.
+/// What a look-up is for.
 #[derive(Drop)]
 pub struct Look<'a> {
     /// The path of the store.
@@ -73,30 +73,50 @@ pub struct Packed<'a> {
     pub outputs: Outputs<'a>,
 }
 
+/// What is done for a call of a compiler.
+#[derive(Drop)]
+pub enum Action<'a> {
+    /// The preprocessor key is printed.
+    Key,
+    /// The key of the object is printed, from its preprocessed text.
+    ObjectKey,
+    /// The object is looked for in the store.
+    Look {
+        /// The path of the store.
+        store: &'a str,
+        /// The path of an entry file that is read in place of the store's.
+        entry: Option<&'a str>,
+    },
+    /// The compilation is recorded.
+    Record {
+        /// The path of the store.
+        store: &'a str,
+        /// What is recorded.
+        compilation: Compilation<'a>,
+    },
+    /// It is printed why a look-up misses.
+    Why {
+        /// The path of the store.
+        store: &'a str,
+    },
+}
+
 /// What the words ask for.
 #[derive(Drop)]
 pub enum Task<'a> {
-    /// The preprocessor key of a request.
-    Key(Request<'a>),
-    /// The key of the object of a request, from its preprocessed text.
-    ObjectKey(Request<'a>),
-    /// The object of a request, from the store.
-    Look(Look<'a>),
+    /// Something for a call of a compiler.
+    Call {
+        /// The call.
+        call: CompilerCall<'a>,
+        /// What is done.
+        action: Action<'a>,
+    },
     /// The object of an object file.
     Unpack {
         /// The path of the store.
         store: &'a str,
         /// The object file.
         packed: Packed<'a>,
-    },
-    /// The recording of a compilation.
-    Record {
-        /// The path of the store.
-        store: &'a str,
-        /// The request.
-        request: Request<'a>,
-        /// What is recorded.
-        compilation: Compilation<'a>,
     },
     /// What a store has, and what was counted.
     Stats {
@@ -110,16 +130,9 @@ pub enum Task<'a> {
         /// The most bytes that its files may have together.
         max_size: u64,
     },
-    /// Why a look-up misses.
-    Why {
-        /// The path of the store.
-        store: &'a str,
-        /// The request.
-        request: Request<'a>,
-    },
 }
 
-// Where the parts of an object file are written, in the words of `look` and of `unpack`.
+// Where the parts of an object file are written, in the words of `unpack`.
 fn outputs_of<'a>(matches: &ArgMatches<'a>) -> Option<Outputs<'a>>
     ensures { MatchOption result ((words : OutputWords) → IsOutputs (found_of matches.now) words → ⊥)
         (λ outputs. IsOutputs (found_of matches.now) (output_words outputs)) }
@@ -128,16 +141,6 @@ fn outputs_of<'a>(matches: &ArgMatches<'a>) -> Option<Outputs<'a>>
         object: matches.get_str("out")?,
         dependencies: matches.get_str("dependencies"),
     })
-}
-
-// The task in the words of `look`.
-fn look_task<'a>(matches: &ArgMatches<'a>, request: Request<'a>) -> Option<Task<'a>> {
-    Some(Task::Look(Look {
-        store: matches.get_str("STORE")?,
-        entry: matches.get_str("entry"),
-        outputs: outputs_of(matches)?,
-        request,
-    }))
 }
 
 // The object file in the words of `unpack`.
@@ -182,11 +185,26 @@ fn since_of(matches: &ArgMatches<'_>) -> Option<Timestamp>
     stamp_of(text)
 }
 
-// The task in the words of `record`.
-fn record_task<'a>(matches: &ArgMatches<'a>, request: Request<'a>) -> Option<Task<'a>> {
-    Some(Task::Record {
+// The size in the words of `prune`.
+fn max_size_of(matches: &ArgMatches<'_>) -> Option<u64>
+    ensures { MatchOption result ((size : ℕ) → IsSize (found_of matches.now) size → ⊥)
+        (λ size. IsSize (found_of matches.now) size) }
+{
+    matches.get_str("max-size")?.parse::<u64>().ok()
+}
+
+// What `look` does.
+fn look_action<'a>(matches: &ArgMatches<'a>) -> Option<Action<'a>> {
+    Some(Action::Look {
         store: matches.get_str("STORE")?,
-        request,
+        entry: matches.get_str("entry"),
+    })
+}
+
+// What `record` does.
+fn record_action<'a>(matches: &ArgMatches<'a>) -> Option<Action<'a>> {
+    Some(Action::Record {
+        store: matches.get_str("STORE")?,
         compilation: Compilation {
             since: since_of(matches)?,
             key: matches.get_str("key")?,
@@ -198,42 +216,41 @@ fn record_task<'a>(matches: &ArgMatches<'a>, request: Request<'a>) -> Option<Tas
     })
 }
 
-// The task in the words of `why`.
-fn why_task<'a>(matches: &ArgMatches<'a>, request: Request<'a>) -> Option<Task<'a>> {
-    Some(Task::Why {
+// What `why` does.
+fn why_action<'a>(matches: &ArgMatches<'a>) -> Option<Action<'a>> {
+    Some(Action::Why {
         store: matches.get_str("STORE")?,
-        request,
     })
 }
 
-// The size in the words of `prune`.
-fn max_size_of(matches: &ArgMatches<'_>) -> Option<u64>
-    ensures { MatchOption result ((size : ℕ) → IsSize (found_of matches.now) size → ⊥)
-        (λ size. IsSize (found_of matches.now) size) }
-{
-    matches.get_str("max-size")?.parse::<u64>().ok()
+// What a command of this name does for a call of a compiler.
+fn action_of<'a>(name: &str, matches: &ArgMatches<'a>) -> Option<Action<'a>> {
+    match name {
+        "key" => Some(Action::Key),
+        "object-key" => Some(Action::ObjectKey),
+        "look" => look_action(matches),
+        "record" => record_action(matches),
+        "why" => why_action(matches),
+        _ => None,
+    }
 }
 
-// The task in the words of a command that takes a request.
-fn request_task<'a>(
+// The task in the words of a command that takes a call of a compiler.
+fn call_task<'a>(
     alloc: Global,
     name: &str,
     matches: &ArgMatches<'a>,
 ) -> Result<Option<Task<'a>>, AllocError> {
-    let Some(request) = request_of(alloc, matches)? else {
+    let Some(call) = call_of(alloc, matches)? else {
         return Ok(None);
     };
-    Ok(match name {
-        "key" => Some(Task::Key(request)),
-        "object-key" => Some(Task::ObjectKey(request)),
-        "look" => look_task(matches, request),
-        "record" => record_task(matches, request),
-        "why" => why_task(matches, request),
-        _ => None,
+    Ok(match action_of(name, matches) {
+        Some(action) => Some(Task::Call { call, action }),
+        None => None,
     })
 }
 
-// The task in the words of a command without a request.
+// The task in the words of a command without a call of a compiler.
 fn store_task<'a>(name: &str, matches: &ArgMatches<'a>) -> Option<Task<'a>> {
     let store = matches.get_str("STORE")?;
     match name {
@@ -263,6 +280,6 @@ pub fn task_of<'a>(alloc: Global, words: &'a [String]) -> Result<Option<Task<'a>
     };
     match name {
         "stats" | "prune" | "unpack" => Ok(store_task(name, command)),
-        _ => Ok(request_task(alloc, name, command)?),
+        _ => Ok(call_task(alloc, name, command)?),
     }
 }

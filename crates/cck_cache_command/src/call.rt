@@ -1,0 +1,157 @@
+//! The compilation that a call of a compiler asks for, and the paths of its files.
+ghost use Rattle.std.specs.Prelude.{◌≡◌, ◌++◌, IfOk, OnOk, map, string_bytes};
+ghost use Rattle.cck_cache_command.specs.Call.{IsCallRequest, counted_arguments};
+ghost use Rattle.cck_path.specs.Bytes.{lists_of};
+
+use crate::request::push_argument;
+use anyhow::Result;
+use cck_cache_options::{
+    Call, Keyed, dependency_path, object_path, push_preprocessor_arguments, push_quoted,
+};
+use cck_cache_words::{CompilerCall, Request};
+use std::alloc::{AllocError, Global};
+use std::io::Write;
+
+/// The paths of a compilation, as its call has them or as the compiler chooses them.
+#[derive(Drop)]
+pub struct CallPaths<'a> {
+    /// The input.
+    pub input: &'a str,
+    /// The object.
+    pub output: String,
+    /// The dependency file, if one is written.
+    pub dependencies: Option<String>,
+}
+
+// The path of the object.
+fn output_of(alloc: Global, asked: &Call<'_>, input: &[u8]) -> Result<Vec<u8>, AllocError> {
+    match asked.output {
+        Some(path) => path.to_vec(alloc),
+        None => object_path(alloc, input),
+    }
+}
+
+// The path of the dependency file of a call that writes one.
+fn dependencies_of(
+    alloc: Global,
+    asked: &Call<'_>,
+    output: &[u8],
+) -> Result<Option<Vec<u8>>, AllocError> {
+    Ok(match asked.dependency_file {
+        Some(path) => Some(path.to_vec(alloc)?),
+        None if asked.depends => Some(dependency_path(alloc, output)?),
+        None => None,
+    })
+}
+
+// A text of these bytes. `None` where they are not UTF-8.
+fn text_of(bytes: Vec<u8>) -> Option<String> {
+    match String::from_utf8(bytes) {
+        Ok(text) => Some(text),
+        Err(_) => None,
+    }
+}
+
+/// The paths of a call. `None` where there is no input, or a path is not UTF-8.
+///
+/// The error is lack of memory.
+pub fn paths_of<'a>(alloc: Global, asked: &Call<'a>) -> Result<Option<CallPaths<'a>>, AllocError> {
+    let Some(input) = asked.input else {
+        return Ok(None);
+    };
+    let output = output_of(alloc, asked, input)?;
+    let dependencies = dependencies_of(alloc, asked, &output)?;
+    let (Ok(input), Some(output)) = (std::str::from_utf8(input), text_of(output)) else {
+        return Ok(None);
+    };
+    let dependencies = match dependencies {
+        Some(path) => match text_of(path) {
+            Some(path) => Some(path),
+            None => return Ok(None),
+        },
+        None => None,
+    };
+    Ok(Some(CallPaths {
+        input,
+        output,
+        dependencies,
+    }))
+}
+
+// Appends copies of arguments.
+fn push_keyed(alloc: Global, all: &mut Vec<Vec<u8>>, keyed: &[Keyed<'_>]) -> Result<(), AllocError>
+    ensures { OnOk result
+        (lists_of all.new.items ≡ lists_of all.old.items ++ map (λ k. k.argument.now) keyed.now) }
+{
+    for one in keyed {
+        push_argument(alloc, all, b"", one.argument)?;
+    }
+    Ok(())
+}
+
+// The arguments of a call that count in keys. The path of the object is the target of the rule in a
+// dependency file, where no option says another one.
+fn counted_arguments(
+    alloc: Global,
+    asked: &Call<'_>,
+    paths: &CallPaths<'_>,
+) -> Result<Vec<Vec<u8>>, AllocError>
+    ensures { IfOk result (λ all.
+        lists_of all.items ≡ counted_arguments asked.now (string_bytes paths.now.output)) }
+{
+    let mut all = Vec::new(alloc);
+    push_keyed(alloc, &mut all, &asked.keyed)?;
+    if asked.depends && !asked.targets {
+        push_argument(alloc, &mut all, b"-MQ", b"")?;
+        push_argument(alloc, &mut all, b"", paths.output.as_bytes())?;
+    }
+    Ok(all)
+}
+
+/// The compilation that a call asks for.
+///
+/// The error is lack of memory.
+pub fn request_of<'a>(
+    alloc: Global,
+    call: &CompilerCall<'a>,
+    asked: &Call<'_>,
+    paths: &CallPaths<'a>,
+) -> Result<Request<'a>, AllocError>
+    ensures { IfOk result (IsCallRequest call.now asked.now paths.now) }
+{
+    Ok(Request {
+        compiler: call.compiler,
+        directory: call.directory,
+        input: paths.input,
+        arguments: counted_arguments(alloc, asked, paths)?,
+        digests: call.digests,
+        base: call.base,
+    })
+}
+
+/// Prints the paths of a call, and the arguments that the preprocessor has, a line for each. A shell
+/// reads them back. Where no dependency file is written its path is empty.
+///
+/// The error is of a failed write, or lack of memory.
+pub fn print_call<W: Write>(
+    alloc: Global,
+    asked: &Call<'_>,
+    paths: &CallPaths<'_>,
+    writer: &mut W,
+) -> Result<()> {
+    let mut lines = Vec::new(alloc);
+    push_quoted(&mut lines, paths.input.as_bytes())?;
+    lines.push(b' ')?;
+    push_quoted(&mut lines, paths.output.as_bytes())?;
+    lines.push(b' ')?;
+    let dependencies = match &paths.dependencies {
+        Some(path) => path.as_str(),
+        None => "",
+    };
+    push_quoted(&mut lines, dependencies.as_bytes())?;
+    lines.push(b'\n')?;
+    push_preprocessor_arguments(&mut lines, &asked.keyed)?;
+    lines.push(b'\n')?;
+    writer.write_all(&lines)?;
+    Ok(())
+}
