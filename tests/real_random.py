@@ -1,0 +1,94 @@
+#!/usr/bin/env python3
+"""Random projects, and random changes between calls: each call by the plain compiler and by the wrapper, compared in
+all outputs (status, what is printed, files with their modes). A difference is shrunk to the smallest list of steps
+and printed as a script of a shell. Run by hand; needs gcc and the program (CCK_PROGRAM, by default the one that was
+proved and built here). The last line is `real_random: N passed, M failed`."""
+import argparse
+import collections
+import concurrent.futures
+import json
+import os
+import sys
+import tempfile
+import threading
+import time
+
+sys.path.insert(0, os.path.join(os.path.dirname(os.path.abspath(__file__)), "real"))
+from history import Fresh, Shrink, play, script  # noqa: E402
+from projects import CALLS, Project  # noqa: E402
+
+
+def arguments():
+    parser = argparse.ArgumentParser(description=__doc__)
+    parser.add_argument("--seed", default="1", help="what decides the projects")
+    parser.add_argument("--steps", type=int, default=1000, help="how many calls are made")
+    parser.add_argument("--compiler", default="gcc")
+    parser.add_argument("--jobs", type=int, default=1, help="projects side by side")
+    parser.add_argument("--keep", action="store_true", help="keep the rooms of failures, and their histories as files")
+    parser.add_argument("--replay", metavar="FILE", help="play the history of a file")
+    parser.add_argument("--shrink-seconds", type=float, default=60, help="the time to shrink one failure")
+    return parser.parse_args()
+
+
+class Run:
+    """What all projects of a run have in common."""
+
+    def __init__(self, options):
+        self.options = options
+        self.counts = collections.Counter()
+        self.lock = threading.Lock()
+
+    def project(self, name, history):
+        """Plays a project up to its first difference."""
+        with Fresh() as room:
+            failure = None
+            for place, judged in play(history, self.options.compiler, room):
+                with self.lock:
+                    self.counts[judged.verdict] += 1
+                    self.counts["unstable"] += not judged.is_stable
+                    self.counts["differing" if judged.differing else "equal"] += 1
+                if judged.differing:
+                    failure = place, judged
+                    break
+        if failure:
+            self.report(name, history[:failure[0] + 1], failure[1])
+
+    def report(self, name, history, judged):
+        shrunk = Shrink(history, judged, self.options.compiler, self.options.shrink_seconds)
+        lines = [f"FAILED: project {name}, step {len(history)}: a {judged.verdict}: {', '.join(judged.differing)} differs"]
+        if not shrunk.holds:
+            lines.append("# not seen again")
+        lines += ["    " + line for line in script(shrunk.history, shrunk.judged, self.options.compiler)]
+        if self.options.keep:
+            handle, path = tempfile.mkstemp(prefix=f"real_random-{name}-", suffix=".json")
+            with os.fdopen(handle, "w", encoding="utf-8") as file:
+                json.dump({"compiler": self.options.compiler, "history": shrunk.history, "whole": history}, file)
+            lines.append(f"    # {path}")
+        with self.lock:
+            print("\n".join(lines), flush=True)
+
+
+def main():
+    options = arguments()
+    run = Run(options)
+    start = time.time()
+    if options.replay:
+        with open(options.replay, encoding="utf-8") as file:
+            read = json.load(file)
+        options.compiler = read["compiler"]
+        run.project("replay", read["history"])
+    else:
+        names = [f"{options.seed}.{number}" for number in range(-(-options.steps // CALLS))]
+        with concurrent.futures.ThreadPoolExecutor(options.jobs) as pool:
+            for done in [pool.submit(run.project, name, Project(name).history) for name in names]:
+                done.result()
+    counts = run.counts
+    calls = counts["equal"] + counts["differing"]
+    print(f"{calls} calls in {time.time() - start:.0f} seconds: " + ", ".join(
+        f"{name} {counts[name]}" for name in ("hit", "miss", "passed", "refused", "other", "unstable")))
+    print(f"real_random: {counts['equal']} passed, {counts['differing']} failed")
+    sys.exit(1 if counts["differing"] else 0)
+
+
+if __name__ == "__main__":
+    main()
