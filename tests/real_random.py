@@ -12,6 +12,7 @@ import sys
 import tempfile
 import threading
 import time
+import types
 
 sys.path.insert(0, os.path.join(os.path.dirname(os.path.abspath(__file__)), "real"))
 from history import Fresh, Shrink, play, script  # noqa: E402
@@ -38,11 +39,16 @@ class Run:
         self.counts = collections.Counter()
         self.lock = threading.Lock()
 
-    def project(self, name, history):
-        """Plays a project up to its first difference."""
+    def project(self, name):
+        """Plays a random project up to its first difference."""
+        project = Project(name)
+        self.play(name, project.steps(), project)
+
+    def play(self, name, steps, project):
+        failure = None
         with Fresh() as room:
-            failure = None
-            for place, judged in play(history, self.options.compiler, room):
+            for place, judged in play(steps, self.options.compiler, room):
+                project.failed = judged.wanted.status != 0
                 with self.lock:
                     self.counts[judged.verdict] += 1
                     self.counts["unstable"] += not judged.is_stable
@@ -51,7 +57,7 @@ class Run:
                     failure = place, judged
                     break
         if failure:
-            self.report(name, history[:failure[0] + 1], failure[1])
+            self.report(name, project.history[:failure[0] + 1], failure[1])
 
     def report(self, name, history, judged):
         shrunk = Shrink(history, judged, self.options.compiler, self.options.shrink_seconds)
@@ -76,11 +82,11 @@ def main():
         with open(options.replay, encoding="utf-8") as file:
             read = json.load(file)
         options.compiler = read["compiler"]
-        run.project("replay", read["history"])
+        run.play("replay", read["history"], types.SimpleNamespace(history=read["history"]))
     else:
         names = [f"{options.seed}.{number}" for number in range(-(-options.steps // CALLS))]
         with concurrent.futures.ThreadPoolExecutor(options.jobs) as pool:
-            for done in [pool.submit(run.project, name, Project(name).history) for name in names]:
+            for done in [pool.submit(run.project, name) for name in names]:
                 done.result()
     counts = run.counts
     calls = counts["equal"] + counts["differing"]

@@ -35,6 +35,8 @@ def rows(table):
 
 
 SNIPPET_ROWS, OPTION_ROWS, VARIABLE_ROWS = rows(SNIPPETS), rows(OPTIONS), rows(VARIABLES)
+# What most compilers refuse, or what the wrapper may pass on: mostly for one call.
+ODD_OPTIONS = {row for row, weight in zip(*OPTION_ROWS) if weight <= 1.5}
 
 
 class Project:
@@ -42,15 +44,43 @@ class Project:
 
     def __init__(self, seed):
         self.chance = random.Random(seed)
-        self.history, self.past, self.calls, self.number = [], {}, [], 0
+        self.history, self.past, self.calls, self.number, self.recent = [], {}, [], 0, None
         # What is at each path, as the step that put it there.
         self.tree = {}
         self.call = None
+        # How likely the last change of the call is undone after it.
+        self.undone = 0
         self.start()
+        # Whether the compiler failed in the last call, as the player says; and what was so when it last did not.
+        self.failed, self.good = False, None
+
+    def steps(self):
+        """The steps, one after the other. What makes the compiler fail is mostly undone after a call or more."""
+        given = 0
         for _ in range(CALLS):
             self.add_call()
+            yield from self.history[given:]
+            given = len(self.history)
+            if not self.failed:
+                self.good = dict(self.call), dict(self.tree), given
+            elif self.good is None:
+                self.write("work/x.c", 1, 3)
+                self.call["options"] = [option for option in self.call["options"] if option[0][:2] == "-I"]
+            elif self.is_rare(0.75):
+                self.undo()
+            if self.is_rare(self.undone):
+                self.call = dict(self.good[0] if self.good else self.calls[0])
+            self.undone = 0
             for _ in range(self.pick([0, 1, 1, 1, 2])):
                 getattr(self, self.pick(*self.CHANGES))()
+
+    def undo(self):
+        """Makes the call and the tree what they were when the compiler last did not fail."""
+        call, tree, place = self.good
+        self.call = dict(call)
+        steps = [step for step in self.history[place:] if step["do"] != "call"]
+        for path in sorted({step["path"] for step in steps} | {step["to"] for step in steps if step["do"] == "rename"}):
+            self.do({**tree[path], "path": path} if path in tree else {"do": "remove", "path": path})
 
     def pick(self, things, weights=None):
         return self.chance.choices(things, weights)[0]
@@ -62,6 +92,7 @@ class Project:
         """Adds a step and keeps what is at its path."""
         self.history.append(step)
         path = step["path"]
+        self.recent = path
         if path in self.tree:
             self.past.setdefault(path, []).append(self.tree[path])
         if step["do"] in ("remove", "rename"):
@@ -120,9 +151,9 @@ class Project:
         if self.is_rare(0.4):
             self.write("work/src/y.c", 1, 4)
         tops = {path[:-len(name) - 1] for path in self.headers() for name in HEADERS if path.endswith("/" + name)}
-        options = [["-I" + self.spelled(os.path.relpath(top, "work"))] for top in sorted(tops) if not self.is_rare(0.15)]
+        options = [["-I" + self.spelled(os.path.relpath(top, "work"))] for top in sorted(tops) if not self.is_rare(0.02)]
         self.chance.shuffle(options)
-        self.call = {"mode": ["-c"], "output": self.pick(OUTPUTS), "input": self.pick(INPUTS[:17]), "options": options,
+        self.call = {"mode": ["-c"], "output": self.pick(OUTPUTS), "input": ["x.c"], "options": options,
                      "variables": {}, "directory": "work", "umask": 0o022}
         for _ in range(self.chance.randint(0, 3)):
             self.add_option()
@@ -142,7 +173,9 @@ class Project:
         self.calls.append({**call, "options": options, "variables": dict(call["variables"])})
 
     def option(self):
-        form, *rest = self.pick(*OPTION_ROWS).split(" ")
+        row = self.pick(*OPTION_ROWS)
+        form, *rest = row.split(" ")
+        self.undone = 0.9 if row in ODD_OPTIONS else 0.2
         if form == "words":
             return rest
         if form == "alone":
@@ -180,13 +213,18 @@ class Project:
             options[place] = ["-I" + self.spelled(self.pick(["a", "b", "inc"]))]
 
     def change_output(self):
+        self.undone = 0.5
         self.call["output"] = self.pick(ODD_OUTPUTS if self.is_rare(0.3) else OUTPUTS)
 
     def change_input(self):
-        self.call["input"] = self.pick(ODD_INPUTS if self.is_rare(0.25) else INPUTS)
+        self.undone = 0.5
+        self.call["input"] = self.pick(ODD_INPUTS if self.is_rare(0.15) else INPUTS)
+        if self.call["input"] == ["src/y.c"] and "work/src/y.c" not in self.tree:
+            self.call["input"] = ["x.c"]
         self.call["mode"] = self.pick(MODES)
 
     def change_variable(self):
+        self.undone = 0.5
         name, *values = self.pick(*VARIABLE_ROWS).split(" ")
         self.call["variables"] = dict(self.call["variables"])
         if self.call["variables"] and self.is_rare(0.6):
@@ -195,7 +233,9 @@ class Project:
             self.call["variables"][name] = self.pick(values).replace("''", "").replace("|", " ")
 
     def change_directory(self):
-        self.call["directory"] = self.pick(["work"] * 3 + ["link", "work/src", "other"])
+        self.undone = 0.5
+        self.call["directory"], self.call["input"] = self.pick([
+            ("work", ["x.c"]), ("work", ["x.c"]), ("link", ["x.c"]), ("work/src", ["../x.c"]), ("other", ["../work/x.c"])])
         self.call["umask"] = self.pick([0o022] * 4 + [0o077, 0o002])
 
     def call_again(self):
@@ -262,9 +302,11 @@ class Project:
                 self.do({**self.tree[path], "path": to, "keeps": self.is_rare(0.5)})
 
     def remove(self):
+        self.undone = 0.5
         self.do({"do": "remove", "path": self.pick(self.headers() * 3 + ["work/a", "work/b", "work/linked", "work/missing"])})
 
     def rename(self):
+        self.undone = 0.5
         if self.headers():
             path = self.pick(self.headers())
             self.do({"do": "rename", "path": path, "to": self.pick(PLACES) + "/" + self.pick(HEADERS)})
@@ -277,6 +319,7 @@ class Project:
         self.do({"do": "link", "path": path, "to": to})
 
     def directory(self):
+        self.undone = 0.5
         self.do({"do": "directory", "path": self.pick(self.headers() + ["work/missing", "work/data", "work/a/h.h", "work/inc"])})
 
     def data(self):
@@ -285,9 +328,9 @@ class Project:
         self.do({"do": "write", "path": path, "snippets": [self.pick(text)], "guard": ""})
 
     def back(self):
-        """What was at a path before."""
+        """What was at a path before, mostly at the one that was changed last."""
         if self.past:
-            path = self.pick(sorted(self.past))
+            path = self.recent if self.recent in self.past and self.is_rare(0.7) else self.pick(sorted(self.past))
             self.do({**self.pick(self.past[path]), "path": path})
 
     def nothing(self):

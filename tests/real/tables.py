@@ -100,8 +100,8 @@ OPTIONS = r"""
 4 either -iquote @d
 4 either -isystem @d
 3 either -idirafter @d
-5 either -include @f h.h g.h missing.h
-3 either -imacros @f h.h k.h
+5 either -include @f @f @f @f h.h missing.h
+3 either -imacros @f @f @f h.h
 4 alone -MD -MMD
 4 words -MD -MP
 3 words -MMD -MF out/x.d
