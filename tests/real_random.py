@@ -61,7 +61,8 @@ class Run:
 
     def report(self, name, history, judged):
         shrunk = Shrink(history, judged, self.options.compiler, self.options.shrink_seconds)
-        lines = [f"FAILED: project {name}, step {len(history)}: a {judged.verdict}: {', '.join(judged.differing)} differs"]
+        differing = ", ".join(judged.differing)
+        lines = [f"FAILED: project {name}, step {len(history)}: a {judged.verdict}: {differing} differs"]
         if not shrunk.holds:
             lines.append("# not seen again")
         lines += ["    " + line for line in script(shrunk.history, shrunk.judged, self.options.compiler)]

@@ -68,7 +68,7 @@ def put_back(root, before, after):
             os.makedirs(place, exist_ok=True)
         elif node.kind == "link" and not is_there:
             os.symlink(node.contents, place)
-        elif node.kind == "file" and (not is_there or left.contents != node.contents or left.moment[1] != node.moment[1]):
+        elif node.kind == "file" and (not is_there or (left.contents, left.moment[1]) != (node.contents, node.moment[1])):
             with open(place, "wb") as file:
                 file.write(node.contents)
             os.utime(place, ns=node.moment)

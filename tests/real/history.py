@@ -1,5 +1,5 @@
 """Plays a history of steps in a room, shrinks one that shows a difference to the smallest list of steps, and prints
-it as a script of a shell. docs of the steps: tests/real/projects.py."""
+it as a script of a shell."""
 import copy
 import os
 import shlex
@@ -60,7 +60,11 @@ def touch(step, path, root):
     os.utime(path, None if step["seconds"] is None else (step["seconds"],) * 2)
 
 
-DOES = {"write": write, "link": link, "directory": directory, "rename": rename, "touch": touch,
+def mode(step, path, root):
+    os.chmod(path, step["mode"])
+
+
+DOES = {"write": write, "mode": mode, "link": link, "directory": directory, "rename": rename, "touch": touch,
         "remove": lambda step, path, root: remove(path), "sleep": lambda step, path, root: time.sleep(step["seconds"])}
 
 
@@ -96,7 +100,7 @@ class Fresh:
 
 
 def last(history, compiler):
-    """The judgement of the last call, where the wrapper alone makes the calls before it; None if it has no directory."""
+    """The judgement of the last call, where the wrapper alone makes the calls before it; None without its directory."""
     with Fresh() as room:
         for step in history[:-1]:
             if step["do"] != "call":
@@ -119,12 +123,12 @@ class Shrink:
     def __init__(self, history, judged, compiler, seconds):
         self.history, self.judged, self.compiler = history, judged, compiler
         self.end = time.time() + seconds
-        self.tries = 0
-        self.holds = self.shows(history)
-        if not self.holds:
-            # What shows another second has to wait for it.
-            slow = history[:-1] + [{"do": "sleep", "path": ".", "seconds": 1.1}, history[-1]]
-            self.holds = self.shows(slow)
+        calls = [place for place, step in enumerate(history[:-1]) if step["do"] == "call"]
+        pairs = [set(calls) - {kept} for kept in calls[:-6:-1] + calls[:2]]
+        # What shows another second has to wait for it.
+        wait = [{"do": "sleep", "path": ".", "seconds": 1.1}]
+        self.holds = any(self.shows([step for place, step in enumerate(history[:-1]) if place not in dropped] + pause +
+                                    history[-1:]) for pause in ([], wait) for dropped in pairs + [set()])
         changed = self.holds
         while changed and time.time() < self.end:
             size = self.size()
@@ -140,7 +144,6 @@ class Shrink:
         """Whether a history shows the difference; it is the history then."""
         if time.time() > self.end:
             return False
-        self.tries += 1
         judged = last(history, self.compiler)
         shows = bool(judged) and judged.verdict == self.judged.verdict and any(
             name.split()[0] in [other.split()[0] for other in self.judged.differing] for name in judged.differing)
@@ -174,7 +177,8 @@ class Shrink:
     def each(self, kinds, parts, without):
         """Drops a part from all steps that have it, else from one of them."""
         for part in sorted({str(part): part for step in self.history for part in parts(step)}.items()):
-            having = [place for place, step in enumerate(self.history) if step["do"] in kinds and part[1] in parts(step)]
+            having = [place for place, step in enumerate(self.history)
+                      if step["do"] in kinds and part[1] in parts(step)]
             for places in [having] + ([[place] for place in having] if len(having) > 1 else []):
                 history = copy.deepcopy(self.history)
                 for place in places:
@@ -188,7 +192,8 @@ class Shrink:
         self.each(["call"], lambda step: step.get("words", []), without)
 
     def drop_variables(self):
-        self.each(["call"], lambda step: list(step.get("variables", {})), lambda step, name: step["variables"].pop(name))
+        self.each(["call"], lambda step: list(step.get("variables", {})),
+                  lambda step, name: step["variables"].pop(name))
 
     def drop_snippets(self):
         def without(step, snippet):
@@ -222,19 +227,27 @@ def write_line(step):
 def call_line(step, compiler):
     words = " ".join(quoted(word) for group in step["words"] for word in group)
     variables = "".join(f"{name}={quoted(value)} " for name, value in sorted(step["variables"].items()))
+    around = "" if step["directory"] == CWD else f"cd {path_in_script(step['directory'])}; "
+    around += "" if step["umask"] == 0o022 else f"umask {step['umask']:03o}; "
     line = f"{variables}{compiler} {words}"
-    if step["umask"] != 0o022:
-        line = f"umask {step['umask']:03o}; {line}"
-    if step["directory"] != CWD:
-        line = f"cd {path_in_script(step['directory'])}; {line}"
-    return f"({line})" if line.startswith(("cd ", "umask ")) else line
+    return ("sleep 0.1; " if step["waits"] else "") + (f"({around}{line})" if around else line)
 
 
-LINES = {"write": write_line, "directory": lambda step: "mkdir -p " + path_in_script(step["path"]),
-         "link": lambda step: f"rm -rf {path_in_script(step['path'])}; ln -s {quoted(step['to'])} {path_in_script(step['path'])}",
+def touch_line(step):
+    moment = "" if step["seconds"] is None else f"-d @{step['seconds']} "
+    return f"touch {moment}{path_in_script(step['path'])}"
+
+
+def link_line(step):
+    path = path_in_script(step["path"])
+    return f"rm -rf {path}; ln -s {quoted(step['to'])} {path}"
+
+
+LINES = {"write": write_line, "link": link_line, "touch": touch_line,
+         "directory": lambda step: "mkdir -p " + path_in_script(step["path"]),
          "remove": lambda step: "rm -rf " + path_in_script(step["path"]),
          "rename": lambda step: f"mv {path_in_script(step['path'])} {path_in_script(step['to'])}",
-         "touch": lambda step: "touch " + ("" if step["seconds"] is None else f"-d @{step['seconds']} ") + path_in_script(step["path"]),
+         "mode": lambda step: f"chmod {step['mode']:03o} {path_in_script(step['path'])}",
          "sleep": lambda step: f"sleep {step['seconds']}"}
 
 

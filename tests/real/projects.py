@@ -14,7 +14,8 @@ OUTPUTS = [[]] * 2 + [["-o", "out/x.o"]] * 10 + [["-oout/x.o"]] * 3 + [["-o", ".
 ODD_OUTPUTS = [["-o", "x.c"], ["-o", "./x.c"], ["-o", "a"], ["-o", "out/link.o"], ["-o", "/dev/null"], ["-o", ""],
                ["-o", "missing/x.o"], ["-o", "out/x.o", "-o", "out/z.o"], ["-o"], ["-o", "out/old.o"], ["-o", "data"],
                ["-o", "linked.c"], ["-o", "x"], ["-o", "@root/out/x.o"], ["-o", "a b.o"], ["-o", "out/.x"], ["-o", "-"]]
-INPUTS = [["x.c"]] * 14 + [["src/y.c"]] * 3 + [["./x.c"], ["@root/work/x.c"], ["../work/x.c"], ["src/../x.c"], ["linked.c"]]
+INPUTS = [["x.c"]] * 14 + [["src/y.c"]] * 3 + [
+    ["./x.c"], ["@root/work/x.c"], ["../work/x.c"], ["src/../x.c"], ["linked.c"]]
 ODD_INPUTS = [["x.c", "src/y.c"], ["--", "x.c"], ["-x", "c", "x.c"], ["missing.c"], ["a"], [], ["x.c", "x.c"], ["-"],
               ["copy.i"], ["-xc", "a/h.h"], [""], ["x.c", "-x", "none"]]
 MODES = [["-c"]] * 30 + [["-S"], ["-E"], [], ["-fsyntax-only"], ["-c", "-c"], ["-c", "-E"]]
@@ -110,31 +111,40 @@ class Project:
     def files(self):
         return sorted(path for path, step in self.tree.items() if step["do"] == "write" and path[-2:] in (".c", ".h"))
 
+    def includable(self, path, text):
+        """The headers that a snippet of a file may name: the later ones of the list, or others of its own name, so that
+        few compilations fail."""
+        headers = self.headers()
+        name = next((name for name in HEADERS if path.endswith("/" + name)), None)
+        if "_next" in text:
+            return [name] if any(other.endswith(f"/{name}") for other in headers if other != path) else []
+        later = HEADERS[HEADERS.index(name) + 1:] if name else HEADERS
+        return [other for other in later if any(header.endswith("/" + other) for header in headers)]
+
     def snippet(self, path, start=""):
-        """A snippet for the file at a path, which starts so. A header includes only headers that are later in the list, or others of
-        its own name, so that few compilations fail."""
-        name = next((name for name in HEADERS if path.endswith("/" + name)), "")
+        """A snippet for the file at a path, which starts so."""
         while True:
             place, text = self.pick(*SNIPPET_ROWS).split(" ", 1)
-            if place not in ("any", "h" if path.endswith(".h") else "c") or not text.startswith(start):
-                continue
-            later = HEADERS[HEADERS.index(name) + 1:] if name else HEADERS
-            others = [other for other in self.headers() if other.endswith("/" + name) and other != path]
-            if "_next" in text:
-                later = [name] if name and others else []
-            later = [other for other in later if any(path.endswith("/" + other) for path in self.headers())]
-            if "@h" in text and not later:
-                continue
-            self.number += 1
-            text = unescape(text).replace("@n", str(self.number)).replace("@k", str(self.chance.randrange(10)))
-            return text.replace("@m", str(self.chance.randrange(3))).replace("@h", self.pick(later or [""]))
+            names = self.includable(path, text)
+            if (place in ("any", "h" if path.endswith(".h") else "c") and text.startswith(start)
+                    and (names or "@h" not in text)):
+                break
+        self.number += 1
+        parts = {"@n": self.number, "@k": self.chance.randrange(10), "@m": self.chance.randrange(3),
+                 "@h": self.pick(names or [""])}
+        text = unescape(text)
+        for part, value in parts.items():
+            text = text.replace(part, str(value))
+        return text
 
     def write(self, path, least=1, most=4):
         snippets = [TEXTS] if path.endswith(".c") else []
         if path.endswith(".c"):
             snippets += [self.snippet(path, "#include") for _ in range(self.pick([0, 1, 1, 2]))]
         snippets += [self.snippet(path) for _ in range(self.chance.randint(least, most))]
-        guard = "" if path.endswith(".c") or self.is_rare(0.15) else "G_" + "".join(c if c.isalnum() else "_" for c in path)
+        guard = "G_" + "".join(c if c.isalnum() else "_" for c in path)
+        if path.endswith(".c") or self.is_rare(0.15):
+            guard = ""
         self.do({"do": "write", "path": path, "snippets": snippets, "guard": guard})
 
     def start(self):
@@ -151,7 +161,7 @@ class Project:
         if self.is_rare(0.4):
             self.write("work/src/y.c", 1, 4)
         tops = {path[:-len(name) - 1] for path in self.headers() for name in HEADERS if path.endswith("/" + name)}
-        options = [["-I" + self.spelled(os.path.relpath(top, "work"))] for top in sorted(tops) if not self.is_rare(0.02)]
+        options = [["-I" + self.spelled(os.path.relpath(top, "work"))] for top in sorted(tops)]
         self.chance.shuffle(options)
         self.call = {"mode": ["-c"], "output": self.pick(OUTPUTS), "input": ["x.c"], "options": options,
                      "variables": {}, "directory": "work", "umask": 0o022}
@@ -235,7 +245,8 @@ class Project:
     def change_directory(self):
         self.undone = 0.5
         self.call["directory"], self.call["input"] = self.pick([
-            ("work", ["x.c"]), ("work", ["x.c"]), ("link", ["x.c"]), ("work/src", ["../x.c"]), ("other", ["../work/x.c"])])
+            ("work", ["x.c"]), ("work", ["x.c"]), ("link", ["x.c"]), ("work/src", ["../x.c"]),
+            ("other", ["../work/x.c"])])
         self.call["umask"] = self.pick([0o022] * 4 + [0o077, 0o002])
 
     def call_again(self):
@@ -273,7 +284,8 @@ class Project:
             self.rewrite(path, snippets, **more)
 
     def space(self):
-        self.vary([(" = ", "  =  "), (" {", "   {"), ("return ", "return    "), ("    ", "\t"), ("; ", ";   "), ("/ i", "/  i")])
+        self.vary([(" = ", "  =  "), (" {", "   {"), ("return ", "return    "), ("    ", "\t"), ("; ", ";   "),
+                   ("/ i", "/  i")])
 
     def comment(self):
         self.vary([("    /* fall through */\n", ""), ("/* fall through */", "/* falls */"), (" = ", " = /* set */ "),
@@ -303,7 +315,8 @@ class Project:
 
     def remove(self):
         self.undone = 0.5
-        self.do({"do": "remove", "path": self.pick(self.headers() * 3 + ["work/a", "work/b", "work/linked", "work/missing"])})
+        others = ["work/a", "work/b", "work/linked", "work/missing"]
+        self.do({"do": "remove", "path": self.pick(self.headers() * 3 + others)})
 
     def rename(self):
         self.undone = 0.5
@@ -313,14 +326,20 @@ class Project:
 
     def link(self):
         """A link in the place of a file or a directory, or one that has another target."""
-        path = self.pick(self.headers() + ["work/linked", "work/linked", "work/b", "work/missing", "work/a/c", "work/x.c"])
+        others = ["work/linked", "work/linked", "work/b", "work/missing", "work/a/c", "work/x.c"]
+        path = self.pick(self.headers() + others)
         to = self.pick(["b", "a", "../other", "nowhere", "@root/work/a", "a/c"] + [
             os.path.relpath(other, os.path.dirname(path)) for other in self.headers()])
         self.do({"do": "link", "path": path, "to": to})
 
     def directory(self):
         self.undone = 0.5
-        self.do({"do": "directory", "path": self.pick(self.headers() + ["work/missing", "work/data", "work/a/h.h", "work/inc"])})
+        others = ["work/missing", "work/data", "work/a/h.h", "work/inc"]
+        self.do({"do": "directory", "path": self.pick(self.headers() + others)})
+
+    def mode(self):
+        path = self.pick(["work/out/old.o", "work/x.c"] + self.headers())
+        self.do({"do": "mode", "path": path, "mode": self.pick([0o600, 0o444, 0o755, 0o644])})
 
     def data(self):
         path = self.pick(["work/data", "work/data", "work/@defs", "work/@words", "work/missing", "work/copy.i"])
@@ -352,6 +371,7 @@ class Project:
         3 link
         2 directory
         2 data
+        1 mode
         4 add_option
         3 drop_option
         3 change_option

@@ -84,13 +84,18 @@ OPTIONS = r"""
 9 alone -g -g -g -g3 -g1 -ggdb -gdwarf-4 -g0 -gno-column-info
 5 alone -fsanitize=undefined -fsanitize=address
 9 alone -Wall -Wextra -Wall -Wextra -w -pedantic -Wno-all
-4 alone -Wunused-variable -Wimplicit-fallthrough -Wimplicit-fallthrough=2 -Wsign-compare -Wmisleading-indentation -Wsystem-headers
-3 alone -Werror -Werror=unused-variable -Wfatal-errors -Wno-cpp -Wcpp -Wundef -Wstrict-prototypes -Wdate-time -Wunused-macros
-5 alone -fno-common -fPIC -fwrapv -ffunction-sections -fdata-sections -fno-asynchronous-unwind-tables -fstack-protector-strong -fvisibility=hidden
-3 alone -ffreestanding -funsigned-char -fshort-enums -fno-builtin -fcommon -finstrument-functions -fno-diagnostics-show-caret -fno-diagnostics-show-option
+2 alone -Wunused-variable -Wimplicit-fallthrough -Wimplicit-fallthrough=2
+2 alone -Wsign-compare -Wmisleading-indentation -Wsystem-headers
+1.6 alone -Werror -Werror=unused-variable -Wfatal-errors -Wno-cpp
+1.6 alone -Wcpp -Wundef -Wstrict-prototypes -Wdate-time -Wunused-macros
+2.5 alone -fno-common -fPIC -fwrapv -ffunction-sections
+2.5 alone -fdata-sections -fno-asynchronous-unwind-tables -fstack-protector-strong -fvisibility=hidden
+1.6 alone -ffreestanding -funsigned-char -fshort-enums -fno-builtin
+1.6 alone -fcommon -finstrument-functions -fno-diagnostics-show-caret -fno-diagnostics-show-option
 3 alone -m32 -msse4.2 -mavx2 -march=x86-64 -mtune=generic -mno-red-zone -m64 -masm=intel -masm=att
 3 alone -std=c99 -std=gnu11 -std=c17 -ansi -std=c2x --std=c11
-4 alone -fdiagnostics-color=always -fdiagnostics-color -fmessage-length=40 -fdiagnostics-urls=always -fdiagnostics-show-location=once -fdiagnostics-generate-patch -fmax-errors=1 -ftabstop=4
+2 alone -fdiagnostics-color=always -fdiagnostics-color -fmessage-length=40 -fdiagnostics-urls=always
+2 alone -fdiagnostics-show-location=once -fdiagnostics-generate-patch -fmax-errors=1 -ftabstop=4
 6 joined -D M0=7 M1 M2=3 M3=__LINE__ E1=0 M4=__FILE__ N2="g.h"
 3 separate -D M0=7 M1 M2=3
 2 joined -U M0 M1 M2
@@ -112,22 +117,28 @@ OPTIONS = r"""
 1 either -MF out/z.d missing/x.d -o a linked
 3 alone -pipe
 1.5 alone -P
-1 alone -v -### -H -Q -ftime-report -fverbose-asm -dM -dD -C -CC
-1 alone -remap -save-temps -save-temps=obj -fdump-tree-original -fstack-usage -fdirectives-only -fpreprocessed -no-integrated-cpp
+1 alone -v -### -H -fverbose-asm -dM -dD -C -CC
+0.5 alone -remap -save-temps -save-temps=obj -fdump-tree-original
+0.5 alone -fstack-usage -fdirectives-only -fpreprocessed -no-integrated-cpp
 1 words -D @defs
 1 words -include @defs
 1 alone @words @missing -I@words
 0.7 alone -print-prog-name=cc1 -print-search-dirs --version -dumpmachine -print-file-name=x --help -dumpversion
-0.7 alone -unknown -funknown -Wunknown -Wno-unknown --unknown -munknown -fno-unknown -std=unknown -Ounknown -gunknown --param=unknown=1
+0.35 alone -unknown -funknown -Wunknown -Wno-unknown --unknown
+0.35 alone -munknown -fno-unknown -std=unknown -Ounknown -gunknown --param=unknown=1
 0.7 alone -s -no-pie -shared -static -rdynamic -lm -L. -Wl,-x -nostdlib -pthread -fuse-ld=bfd
 0.7 alone -Wa,-L -Wa,--MD,out/as.d -Wa,-Ia -Wa,-g -Xassembler
 0.7 words -Xpreprocessor -DM1=1
 0.5 words -Xassembler -L
 0.7 alone -nostdinc -isysroota --sysroot=a -iprefixa/ -iwithprefixc -imultilibx -I-
-0.7 alone -fdebug-prefix-map=@root=x -ffile-prefix-map=@root=x -fmacro-prefix-map=@root=x -fworking-directory -fno-working-directory
-0.7 alone --include=h.h --include-directory=a --define-macro=M1 --undefine-macro=M1 --debug --optimize=2 --output=out/x.o --all-warnings --pedantic --warn-all
-0.5 alone -specs=data -Ba -B -wrapper -fplugin=x -frecord-gcc-switches -fauto-profile -fopt-info -fdiagnostics-format=json -aux-info
-0.7 alone -trigraphs -undef -fextended-identifiers -finput-charset=latin1 -fexec-charset=latin1 -ftrack-macro-expansion=0 -flarge-source-files -fpch-deps -fdollars-in-identifiers
+0.35 alone -fdebug-prefix-map=@root=x -ffile-prefix-map=@root=x
+0.35 alone -fmacro-prefix-map=@root=x -fworking-directory -fno-working-directory
+0.35 alone --include=h.h --include-directory=a --define-macro=M1 --undefine-macro=M1 --debug
+0.35 alone --optimize=2 --output=out/x.o --all-warnings --pedantic --warn-all
+0.25 alone -specs=data -Ba -B -wrapper -fplugin=x
+0.25 alone -frecord-gcc-switches -fauto-profile -fopt-info -fdiagnostics-format=json -aux-info
+0.35 alone -trigraphs -undef -fextended-identifiers -finput-charset=latin1
+0.35 alone -fexec-charset=latin1 -ftrack-macro-expansion=0 -flarge-source-files -fpch-deps -fdollars-in-identifiers
 0.7 alone --param=max-inline-insns-auto=3 -fno-inline -falign-functions=32 -fsyntax-only -E -S -c -x -march=native
 """
 
