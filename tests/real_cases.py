@@ -11,7 +11,7 @@ import tempfile
 import time
 
 sys.path.insert(0, os.path.join(os.path.dirname(os.path.abspath(__file__)), "real"))
-from calls import PAUSE, TOP, WRAPPER, Room, difference, remove  # noqa: E402
+from calls import PAUSE, TOP, WRAPPER, Room, difference, need_program, remove  # noqa: E402
 from projects import unescape  # noqa: E402
 
 TABLE = TOP + "/tests/real/cases.txt"
@@ -78,7 +78,10 @@ class Case:
     def act(self, items):
         place = self.room.root + "/w"
         os.makedirs(place, exist_ok=True)
-        do(items, place, {**self.room.variables, "CC": COMPILER})
+        try:
+            do(items, place, {**self.room.variables, "CC": COMPILER})
+        except (OSError, subprocess.CalledProcessError) as error:
+            self.wrong.append(f"not done: {error}")
         time.sleep(PAUSE)
 
     def words(self, compiler):
@@ -100,6 +103,7 @@ class Case:
 
 
 def main():
+    need_program()
     chosen = [case for case in cases() if not sys.argv[1:] or any(part in case[0] for part in sys.argv[1:])]
     for case in chosen:
         if not set(case[5].replace(", ", "/").split("/")) <= set(VERDICTS):

@@ -15,6 +15,7 @@ import time
 import types
 
 sys.path.insert(0, os.path.join(os.path.dirname(os.path.abspath(__file__)), "real"))
+from calls import need_program  # noqa: E402
 from history import Fresh, Shrink, play, script  # noqa: E402
 from projects import CALLS, Project  # noqa: E402
 
@@ -77,6 +78,7 @@ class Run:
 
 def main():
     options = arguments()
+    need_program()
     run = Run(options)
     start = time.time()
     if options.replay:
@@ -93,6 +95,8 @@ def main():
     calls = counts["equal"] + counts["differing"]
     print(f"{calls} calls in {time.time() - start:.0f} seconds: " + ", ".join(
         f"{name} {counts[name]}" for name in ("hit", "miss", "passed", "refused", "other", "unstable")))
+    if 4 * counts["hit"] < calls and calls >= 200:
+        print("fewer than a quarter of the calls were hits: this run tests little")
     print(f"real_random: {counts['equal']} passed, {counts['differing']} failed")
     sys.exit(1 if counts["differing"] else 0)
 

@@ -6,6 +6,7 @@ import re
 import shutil
 import stat
 import subprocess
+import sys
 import time
 
 TOP = os.path.dirname(os.path.dirname(os.path.dirname(os.path.abspath(__file__))))
@@ -19,6 +20,12 @@ PAUSE = 0.012
 Node = collections.namedtuple("Node", "kind mode contents moment")
 Outcome = collections.namedtuple("Outcome", "status output messages files")
 Judged = collections.namedtuple("Judged", "verdict differing is_stable wanted got")
+
+
+def need_program():
+    """Ends where there is no program, since then the wrapper passes each call on."""
+    if not os.access(PROGRAM, os.X_OK):
+        sys.exit(f"no program {PROGRAM}: CCK_PROGRAM names it")
 
 
 def node_at(path):
