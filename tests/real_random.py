@@ -26,7 +26,7 @@ def arguments():
     parser.add_argument("--steps", type=int, default=1000, help="how many calls are made")
     parser.add_argument("--compiler", default="gcc")
     parser.add_argument("--jobs", type=int, default=1, help="projects side by side")
-    parser.add_argument("--keep", action="store_true", help="keep the rooms of failures, and their histories as files")
+    parser.add_argument("--keep", action="store_true", help="write the history of each failure to a file")
     parser.add_argument("--replay", metavar="FILE", help="play the history of a file")
     parser.add_argument("--shrink-seconds", type=float, default=60, help="the time to shrink one failure")
     return parser.parse_args()

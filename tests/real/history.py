@@ -86,17 +86,14 @@ def play(history, compiler, room):
 
 
 class Fresh:
-    """A room that is removed at the end, unless it is kept."""
-
-    def __init__(self, keeps=False):
-        self.room, self.keeps = Room(tempfile.mkdtemp(prefix="cck-")), keeps
+    """A room that is removed at the end."""
 
     def __enter__(self):
+        self.room = Room(tempfile.mkdtemp(prefix="cck-"))
         return self.room
 
     def __exit__(self, *_):
-        if not self.keeps:
-            shutil.rmtree(self.room.top, ignore_errors=True)
+        shutil.rmtree(self.room.top, ignore_errors=True)
 
 
 def last(history, compiler):
@@ -105,15 +102,11 @@ def last(history, compiler):
         for step in history[:-1]:
             if step["do"] != "call":
                 apply(step, room.root)
-                continue
-            call = call_of(step, room.root, compiler)
-            if not os.path.isdir(os.path.join(room.root, call[1])):
-                continue
-            if step["waits"]:
-                time.sleep(2 * PAUSE)
-            room.run([WRAPPER, *call[0]], *call[1:])
-        judged = [judgement for _, judgement in play(history[-1:], compiler, room)]
-        return judged[0] if judged else None
+            elif os.path.isdir(os.path.join(room.root, step["directory"])):
+                time.sleep(2 * PAUSE if step["waits"] else 0)
+                words, *rest = call_of(step, room.root, compiler)
+                room.run([WRAPPER, *words], *rest)
+        return next((judged for _, judged in play(history[-1:], compiler, room)), None)
 
 
 class Shrink:
@@ -209,8 +202,8 @@ class Shrink:
 
 def quoted(word):
     """A word for a shell, in which the top of the tree is a variable."""
-    return "".join(shlex.quote(part) if part or word == "" else part for part in word.split("@root")[:1]) + "".join(
-        '"$root"' + (shlex.quote(part) if part else "") for part in word.split("@root")[1:])
+    parts = word.split("@root")
+    return '"$root"'.join(shlex.quote(part) if part or not word else "" for part in parts)
 
 
 def path_in_script(path):
