@@ -1,0 +1,259 @@
+"""Plays a history of steps in a room, shrinks one that shows a difference to the smallest list of steps, and prints
+it as a script of a shell."""
+import copy
+import os
+import shlex
+import shutil
+import tempfile
+import time
+
+from calls import PAUSE, WRAPPER, Room, remove
+
+CWD = "work"
+
+
+def text_of(step):
+    """The contents of a file: its snippets, each of lines of its own, within a guard if it has one."""
+    text = "".join(snippet + "\n" for snippet in step["snippets"])
+    guard = step["guard"]
+    return f"#ifndef {guard}\n#define {guard}\n{text}#endif\n" if guard else text
+
+
+def apply(step, root):
+    """Does to a tree what a step says. One that does not fit the tree, as after a shrink, does nothing."""
+    path = os.path.join(root, step["path"])
+    try:
+        os.makedirs(os.path.dirname(path), exist_ok=True)
+        DOES[step["do"]](step, path, root)
+    except OSError:
+        pass
+
+
+def write(step, path, root):
+    status = os.stat(path) if os.path.isfile(path) else None
+    if os.path.islink(path) or os.path.isdir(path):
+        remove(path)
+    with open(path, "w", encoding="utf-8") as file:
+        file.write(text_of(step).replace("@root", root))
+    if step.get("keeps") and status:
+        os.utime(path, ns=(status.st_atime_ns, status.st_mtime_ns))
+
+
+def link(step, path, root):
+    remove(path)
+    os.symlink(step["to"].replace("@root", root), path)
+
+
+def directory(step, path, root):
+    if not os.path.isdir(path):
+        remove(path)
+        os.makedirs(path)
+
+
+def rename(step, path, root):
+    to = os.path.join(root, step["to"])
+    os.makedirs(os.path.dirname(to), exist_ok=True)
+    os.rename(path, to)
+
+
+def touch(step, path, root):
+    os.utime(path, None if step["seconds"] is None else (step["seconds"],) * 2)
+
+
+def mode(step, path, root):
+    os.chmod(path, step["mode"])
+
+
+DOES = {"write": write, "mode": mode, "link": link, "directory": directory, "rename": rename, "touch": touch,
+        "remove": lambda step, path, root: remove(path), "sleep": lambda step, path, root: time.sleep(step["seconds"])}
+
+
+def call_of(step, root, compiler):
+    """The words, the directory, the variables and the umask of a call."""
+    words = [word.replace("@root", root) for group in step["words"] for word in group]
+    variables = {name: value.replace("@root", root) for name, value in step["variables"].items()}
+    return [compiler, *words], step["directory"], variables, step["umask"]
+
+
+def play(history, compiler, room):
+    """Plays a history, and gives the place and the judgement of each call, which both compilers make."""
+    for place, step in enumerate(history):
+        if step["do"] != "call":
+            apply(step, room.root)
+        elif os.path.isdir(os.path.join(room.root, step["directory"])):
+            call = call_of(step, room.root, compiler)
+            yield place, room.judge(call, [WRAPPER, *call[0]], step["waits"])
+
+
+class Fresh:
+    """A room that is removed at the end."""
+
+    def __enter__(self):
+        self.room = Room(tempfile.mkdtemp(prefix="cck-"))
+        return self.room
+
+    def __exit__(self, *_):
+        shutil.rmtree(self.room.top, ignore_errors=True)
+
+
+def last(history, compiler):
+    """The judgement of the last call, where the wrapper alone makes the calls before it; None without its directory."""
+    with Fresh() as room:
+        for step in history[:-1]:
+            if step["do"] != "call":
+                apply(step, room.root)
+            elif os.path.isdir(os.path.join(room.root, step["directory"])):
+                time.sleep(2 * PAUSE if step["waits"] else 0)
+                words, *rest = call_of(step, room.root, compiler)
+                room.run([WRAPPER, *words], *rest)
+        return next((judged for _, judged in play(history[-1:], compiler, room)), None)
+
+
+class Shrink:
+    """The smallest history that this finds within some seconds, in which the last call has the same verdict and one of
+    the same outputs differs."""
+
+    def __init__(self, history, judged, compiler, seconds):
+        self.history, self.judged, self.compiler = history, judged, compiler
+        self.end = time.time() + seconds
+        calls = [place for place, step in enumerate(history[:-1]) if step["do"] == "call"]
+        pairs = [set(calls) - {kept} for kept in calls[:-6:-1] + calls[:2]]
+        # What shows another second has to wait for it.
+        wait = [{"do": "sleep", "path": ".", "seconds": 1.1}]
+        self.holds = any(self.shows([step for place, step in enumerate(history[:-1]) if place not in dropped] + pause +
+                                    history[-1:]) for pause in ([], wait) for dropped in pairs + [set()])
+        changed = self.holds
+        while changed and time.time() < self.end:
+            size = self.size()
+            for part in (self.drop_calls, self.drop_steps, self.drop_words, self.drop_variables, self.drop_snippets,
+                         self.drop_guards):
+                part()
+            changed = self.size() < size
+
+    def size(self):
+        return len(str(self.history))
+
+    def shows(self, history):
+        """Whether a history shows the difference; it is the history then."""
+        if time.time() > self.end:
+            return False
+        judged = last(history, self.compiler)
+        shows = bool(judged) and judged.verdict == self.judged.verdict and any(
+            name.split()[0] in [other.split()[0] for other in self.judged.differing] for name in judged.differing)
+        if shows:
+            self.history, self.judged = history, judged
+        return shows
+
+    def drop(self, places):
+        return self.shows([step for place, step in enumerate(self.history) if place not in places])
+
+    def drop_calls(self):
+        """All calls but the last one and one before it, else as many as need not be."""
+        calls = [place for place, step in enumerate(self.history[:-1]) if step["do"] == "call"]
+        if len(calls) > 1 and not any(self.drop(set(calls) - {kept}) for kept in reversed(calls)):
+            self.drop_parts(lambda: [place for place, step in enumerate(self.history[:-1]) if step["do"] == "call"])
+
+    def drop_steps(self):
+        self.drop_parts(lambda: list(range(len(self.history) - 1)))
+
+    def drop_parts(self, places):
+        """Drops halves, quarters, and so on down to single ones."""
+        size = max(1, len(places()) // 2)
+        while size and time.time() < self.end:
+            start = len(places())
+            while start > 0:
+                start = min(start, len(places()))
+                self.drop(set(places()[max(0, start - size):start]))
+                start -= size
+            size //= 2
+
+    def each(self, kinds, parts, without):
+        """Drops a part from all steps that have it, else from one of them."""
+        for part in sorted({str(part): part for step in self.history for part in parts(step)}.items()):
+            having = [place for place, step in enumerate(self.history)
+                      if step["do"] in kinds and part[1] in parts(step)]
+            for places in [having] + ([[place] for place in having] if len(having) > 1 else []):
+                history = copy.deepcopy(self.history)
+                for place in places:
+                    without(history[place], part[1])
+                if self.shows(history):
+                    break
+
+    def drop_words(self):
+        def without(step, group):
+            step["words"] = [other for other in step["words"] if other != group]
+        self.each(["call"], lambda step: step.get("words", []), without)
+
+    def drop_variables(self):
+        self.each(["call"], lambda step: list(step.get("variables", {})),
+                  lambda step, name: step["variables"].pop(name))
+
+    def drop_snippets(self):
+        def without(step, snippet):
+            step["snippets"] = [other for other in step["snippets"] if other != snippet]
+        self.each(["write"], lambda step: step.get("snippets", []), without)
+
+    def drop_guards(self):
+        self.each(["write"], lambda step: [step["guard"]] if step.get("guard") else [],
+                  lambda step, guard: step.update(guard=""))
+
+
+# A history as a script.
+
+def quoted(word):
+    """A word for a shell, in which the top of the tree is a variable."""
+    parts = word.split("@root")
+    return '"$root"'.join(shlex.quote(part) if part or not word else "" for part in parts)
+
+
+def path_in_script(path):
+    return quoted(os.path.relpath(path, CWD))
+
+
+def write_line(step):
+    path, text = path_in_script(step["path"]), text_of(step)
+    line = f"printf %s {quoted(text)} >{path}" if "\\" in text else "printf " + quoted(
+        text.replace("%", "%%").replace("\n", "\\n")) + f" >{path}"
+    return f"touch -r {path} ../kept; {line}; touch -r ../kept {path}" if step.get("keeps") else line
+
+
+def call_line(step, compiler):
+    words = " ".join(quoted(word) for group in step["words"] for word in group)
+    variables = "".join(f"{name}={quoted(value)} " for name, value in sorted(step["variables"].items()))
+    around = "" if step["directory"] == CWD else f"cd {path_in_script(step['directory'])}; "
+    around += "" if step["umask"] == 0o022 else f"umask {step['umask']:03o}; "
+    line = f"{variables}{compiler} {words}"
+    return ("sleep 0.1; " if step["waits"] else "") + (f"({around}{line})" if around else line)
+
+
+def touch_line(step):
+    moment = "" if step["seconds"] is None else f"-d @{step['seconds']} "
+    return f"touch {moment}{path_in_script(step['path'])}"
+
+
+def link_line(step):
+    path = path_in_script(step["path"])
+    return f"rm -rf {path}; ln -s {quoted(step['to'])} {path}"
+
+
+LINES = {"write": write_line, "link": link_line, "touch": touch_line,
+         "directory": lambda step: "mkdir -p " + path_in_script(step["path"]),
+         "remove": lambda step: "rm -rf " + path_in_script(step["path"]),
+         "rename": lambda step: f"mv {path_in_script(step['path'])} {path_in_script(step['to'])}",
+         "mode": lambda step: f"chmod {step['mode']:03o} {path_in_script(step['path'])}",
+         "sleep": lambda step: f"sleep {step['seconds']}"}
+
+
+def script(history, judged, compiler):
+    """The lines of a script, which is run in an empty directory, and a remark that says what differs."""
+    lines, made = ["root=$PWD; mkdir work; cd work"], {CWD, ""}
+    for step in history:
+        if step["do"] == "call":
+            lines.append(call_line(step, "cckcc " + compiler))
+            continue
+        for path in [step["path"]] + ([step["to"]] if step["do"] == "rename" else []):
+            if os.path.dirname(path) not in made and step["do"] != "sleep":
+                made.add(os.path.dirname(path))
+                lines.append("mkdir -p " + path_in_script(os.path.dirname(path)))
+        lines.append(LINES[step["do"]](step))
+    return lines + [f"# a {judged.verdict}; differs from {compiler}: {', '.join(judged.differing)}"]

@@ -1,0 +1,128 @@
+#!/usr/bin/env python3
+"""A table of calls, tests/real/cases.txt: what the wrapper does in each, and that all its outputs (status, what is
+printed, files with their modes) are the plain compiler's. Where ccache is installed its outputs are compared too,
+and reported. Run by hand; needs gcc and the program (CCK_PROGRAM, by default the one that was proved and built here).
+The arguments are parts of the names of cases, by default all. The last line is `real_cases: N passed, M failed`."""
+import os
+import shutil
+import subprocess
+import sys
+import tempfile
+import time
+
+sys.path.insert(0, os.path.join(os.path.dirname(os.path.abspath(__file__)), "real"))
+from calls import PAUSE, TOP, WRAPPER, Room, difference, need_program, remove  # noqa: E402
+from projects import unescape  # noqa: E402
+
+TABLE = TOP + "/tests/real/cases.txt"
+COMPILER = "gcc"
+VERDICTS = ("hit", "miss", "passed", "refused")
+
+
+def cases():
+    """The cases of the table: name, files, call, change, call again, and the verdicts that are right."""
+    texts, found = {}, []
+    with open(TABLE, encoding="utf-8") as file:
+        for line in file:
+            line = line.rstrip("\n")
+            if line.startswith("let "):
+                name, text = line[4:].split(" = ", 1)
+                texts["{" + name + "}"] = text
+            elif line and line[0] != "#":
+                for name, text in texts.items():
+                    line = line.replace(name, text)
+                fields = ["" if field == "-" else field.strip() for field in line.split(" | ")]
+                if len(fields) != 6 or fields[0] in [case[0] for case in found]:
+                    sys.exit(f"{TABLE}: no case, or a name that there is: {line}")
+                found.append(fields)
+    return found
+
+
+def do(items, place, variables):
+    """Does what the items of a field say, in a directory."""
+    for item in filter(None, items.split(" ++ ")):
+        name, is_file, contents = (unescape(part) for part in item.partition(": "))
+        if name.startswith("! "):
+            subprocess.run(["sh", "-c", unescape(item[2:])], cwd=place, env=variables, check=True)
+        elif not is_file and " -> " in name:
+            name, to = name.split(" -> ")
+            remove(f"{place}/{name}")
+            os.makedirs(os.path.dirname(f"{place}/{name}"), exist_ok=True)
+            os.symlink(to, f"{place}/{name}")
+        elif not is_file and name.endswith("/"):
+            os.makedirs(f"{place}/{name}", exist_ok=True)
+        else:
+            name = name if is_file else name.rstrip(":")
+            os.makedirs(os.path.dirname(f"{place}/{name}"), exist_ok=True)
+            with open(f"{place}/{name}", "w", encoding="utf-8") as file:
+                file.write(contents + "\n" if contents else "")
+
+
+class Case:
+    """One case in a room: what was not right of its calls."""
+
+    def __init__(self, room, fields, with_ccache):
+        _, files, self.line, change, again, right = fields
+        self.room, self.wrong, self.verdicts, self.with_ccache, self.others = room, [], [], with_ccache, []
+        second, _, last = right.rpartition(", ")
+        self.act(files)
+        self.call("first", None)
+        if not change and not again:
+            self.call("second", last)
+            return
+        self.call("second", second)
+        self.act(change)
+        self.line = again or self.line
+        self.call("last", last)
+
+    def act(self, items):
+        place = self.room.root + "/w"
+        os.makedirs(place, exist_ok=True)
+        try:
+            do(items, place, {**self.room.variables, "CC": COMPILER})
+        except (OSError, subprocess.CalledProcessError) as error:
+            self.wrong.append(f"not done: {error}")
+        time.sleep(PAUSE)
+
+    def words(self, compiler):
+        """The call by a compiler, as a line of a shell."""
+        line = unescape(self.line)
+        return ["sh", "-c", line.replace("$CC", compiler) if "$CC" in line else f"{compiler} {line}"]
+
+    def call(self, name, right):
+        """Makes a call by the plain compiler and by the wrapper, and keeps what was not right."""
+        judged = self.room.judge((self.words(COMPILER), "w", {}, 0o022), self.words(f"{WRAPPER} {COMPILER}"))
+        self.verdicts.append(judged.verdict)
+        if judged.differing:
+            self.wrong.append(f"{name} ({judged.verdict}): {', '.join(judged.differing)}")
+        elif right and judged.verdict not in right.split("/"):
+            self.wrong.append(f"{name} is {judged.verdict}, not {right}")
+        if self.with_ccache:
+            other = self.room.run(self.words(f"ccache {COMPILER}"), "w", {}, 0o022)
+            self.others = difference(judged.wanted, other)
+
+
+def main():
+    need_program()
+    chosen = [case for case in cases() if not sys.argv[1:] or any(part in case[0] for part in sys.argv[1:])]
+    for case in chosen:
+        if not set(case[5].replace(", ", "/").split("/")) <= set(VERDICTS):
+            sys.exit(f"{TABLE}: no verdict: {case[5]}")
+    with_ccache = shutil.which("ccache")
+    failed = others = 0
+    for case in chosen:
+        directory = tempfile.mkdtemp(prefix="cck-")
+        done = Case(Room(directory), case, with_ccache)
+        shutil.rmtree(directory, ignore_errors=True)
+        failed += bool(done.wrong)
+        others += bool(done.others)
+        said = f"FAILED: {case[0]}: {'; '.join(done.wrong)}" if done.wrong else f"{case[0]}: {', '.join(done.verdicts)}"
+        print(said + (f" [ccache: {', '.join(done.others)}]" if done.others else ""), flush=True)
+    if with_ccache:
+        print(f"ccache: {others} with another output than {COMPILER}'s")
+    print(f"real_cases: {len(chosen) - failed} passed, {failed} failed")
+    sys.exit(1 if failed else 0)
+
+
+if __name__ == "__main__":
+    main()
