@@ -43,7 +43,7 @@ def do(items, place, variables):
     for item in filter(None, items.split(" ++ ")):
         name, is_file, contents = (unescape(part) for part in item.partition(": "))
         if name.startswith("! "):
-            subprocess.run(["sh", "-c", unescape(item[2:])], cwd=place, env=variables, check=True)
+            subprocess.run(["sh", "-c", unescape(item[2:])], cwd=place, env=variables, check=True, capture_output=True)
         elif not is_file and " -> " in name:
             name, to = name.split(" -> ")
             remove(f"{place}/{name}")
@@ -79,7 +79,7 @@ class Case:
         place = self.room.root + "/w"
         os.makedirs(place, exist_ok=True)
         try:
-            do(items, place, {**self.room.variables, "CC": COMPILER})
+            do(items, place, {**self.room.variables, "CC": COMPILER, "CACHED": f"{WRAPPER} {COMPILER}"})
         except (OSError, subprocess.CalledProcessError) as error:
             self.wrong.append(f"not done: {error}")
         time.sleep(PAUSE)
