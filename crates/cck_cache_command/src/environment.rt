@@ -28,8 +28,20 @@ const VARIABLES: [&str; 14] = [
     "SOURCE_DATE_EPOCH",
 ];
 
-// The variables that the compiler's messages depend on. They are part of the keys as arguments.
-const LOCALE: [&str; 5] = ["LC_ALL", "LC_CTYPE", "LC_MESSAGES", "LANG", "LANGUAGE"];
+// The variables that the compiler's messages depend on: those of the locale, and those of colours, links,
+// hints and the width of a line. They are part of the keys as arguments.
+const LOCALE: [&str; 10] = [
+    "LC_ALL",
+    "LC_CTYPE",
+    "LC_MESSAGES",
+    "LANG",
+    "LANGUAGE",
+    "GCC_COLORS",
+    "GCC_URLS",
+    "TERM_URLS",
+    "GCC_EXTRA_DIAGNOSTIC_OUTPUT",
+    "COLUMNS",
+];
 
 /// What a process is given beside its words.
 #[derive(Drop)]
@@ -40,7 +52,7 @@ pub struct Environment<'a> {
     pub zone: TimeZone<'a>,
     /// The variables that keys depend on, in a fixed order.
     pub variables: Vec<(Vec<u8>, Vec<u8>)>,
-    /// The variables of the locale, a line each.
+    /// The variables that messages depend on, those of the locale among them, a line each.
     pub locale: Vec<u8>,
     /// The number of the process.
     pub id: u32,
@@ -89,7 +101,7 @@ pub fn variables<R: Env + AllocGlobal>(rt: &R) -> Result<Vec<(Vec<u8>, Vec<u8>)>
     Ok(found)
 }
 
-/// The variables of the locale that are set, a line each.
+/// The variables that messages depend on and that are set, a line each.
 ///
 /// The error is of a variable that is not UTF-8, or lack of memory.
 pub fn locale<R: Env + AllocGlobal>(rt: &R) -> Result<Vec<u8>> {

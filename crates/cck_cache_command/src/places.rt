@@ -16,7 +16,8 @@ fn is_free<R: Files>(rt: &R, input: &Metadata, path: &str) -> bool {
     }
 }
 
-/// Whether the files of a compilation may be put at their paths by a rename. `-` is standard output.
+/// Whether the files of a compilation may be put at their paths by a rename, and are two files. `-` is
+/// standard output.
 /// `false` where the input can't be looked at.
 pub fn are_free<R: Files>(rt: &R, paths: &CallPaths<'_>) -> bool {
     let Ok(input) = fs::metadata(rt, paths.input) else {
@@ -27,7 +28,10 @@ pub fn are_free<R: Files>(rt: &R, paths: &CallPaths<'_>) -> bool {
         return false;
     }
     match &paths.dependencies {
-        Some(path) => path.as_str() != "-" && is_free(rt, &input, path.as_str()),
+        Some(path) => {
+            let path = path.as_str();
+            path != "-" && path != output && is_free(rt, &input, path)
+        }
         None => true,
     }
 }

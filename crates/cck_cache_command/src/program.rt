@@ -12,6 +12,7 @@ use crate::stats::print_stats;
 use crate::unpack::unpack;
 use crate::why::print_why;
 use anyhow::{Result, bail};
+use cck_cache_entry::has_include_test;
 use cck_cache_files::{Kind, StoreDirectory, open_store};
 use cck_cache_options::{Call, GCC, Parsed, parse, rows_of};
 use cck_cache_words::{
@@ -327,6 +328,11 @@ fn run_action<R: Files + AllocGlobal, I: Read, W: Write, E: Write>(
     }
 }
 
+// Whether an argument tests for the existence of a header.
+fn tests_for_header(arguments: &[Vec<u8>]) -> bool {
+    arguments.iter().any(|argument| has_include_test(argument))
+}
+
 // Does what was asked for with a call of a compiler, or prints why the call is not cached.
 fn run_call<R: Files + AllocGlobal, I: Read, W: Write, E: Write>(
     rt: &R,
@@ -343,6 +349,9 @@ fn run_call<R: Files + AllocGlobal, I: Read, W: Write, E: Write>(
         Parsed::Asks(asked) => asked,
         Parsed::PassedOn(reason) => return print_passed(writer, reason.as_str()),
     };
+    if tests_for_header(&call.arguments) {
+        return print_passed(writer, "header-test");
+    }
     let Some(paths) = paths_of(alloc, &asked)? else {
         return print_passed(writer, "no-input");
     };

@@ -1,5 +1,5 @@
 -- The paths that are added for a name.
-use Rattle.std.proofs.Common.{◌≡◌, ◌≢◌, ℕ, ◌+◌, ◌<◌, ◌⊎◌, ◌↔◌, ◌||◌, inl, inr, Bool, true, false, List, [], ◌∷◌, ◌++◌, Option, Some, None, Bor, IsTrue, length, map, get_or, refl, sym, ap, subst, ◌∙◌, arith}
+use Rattle.std.proofs.Common.{◌≡◌, ◌≢◌, ℕ, ◌+◌, ◌<◌, ◌⊎◌, ◌↔◌, ◌||◌, inl, inr, Bool, true, false, List, [], ◌++◌, Option, Some, None, Bor, IsTrue, length, map, get_or, refl, sym, ap, subst, ◌∙◌, arith}
 use Rattle.std.proofs.lemmas.List.{append_cancel_left}
 use Rattle.std.specs.BTreeSet.{BTreeSet}
 use Rattle.std.specs.Global.{Vec}
@@ -17,14 +17,13 @@ use Rattle.cck_cache_entry.specs.Sets.{Adds, IsSetOf, has_key}
 use Rattle.cck_cache_entry.proofs.SetLemmas.{Below, adds_as, adds_both, adds_nothing, has_key_at, key_at}
 
 -- the rest of a name in a directory
-pub within_read : (name directory middle : List ℕ) (r : Option (Bor (List ℕ))) → name ≡ directory ++ middle → MatchOption r ((rest : List ℕ) → middle ≢ (47 ∷ []) ++ rest) (λ x. middle ≡ (47 ∷ []) ++ x.now)
-    → ReadsBack (path_in directory) name (option_map (λ rest. rest.now) r)
-within_read name directory middle None is none = λ rest same. none rest (append_cancel_left directory middle (47 ∷ rest) (sym is ∙ sym same))
-within_read name directory middle (Some x) is begins =
-    (ap (λ m. directory ++ m) (sym begins) ∙ sym is, λ rest same. rest_same rest x.now (append_cancel_left directory (47 ∷ rest) (47 ∷ x.now) (same ∙ (is ∙ ap (λ m. directory ++ m) begins))))
-  where
-    rest_same : (a b : List ℕ) → 47 ∷ a ≡ 47 ∷ b → a ≡ b
-    rest_same a b e = cc
+pub within_read : (name directory between middle : List ℕ) (r : Option (Bor (List ℕ))) → name ≡ directory ++ middle → MatchOption r ((rest : List ℕ) → middle ≢ between ++ rest) (λ x. middle ≡ between ++ x.now)
+    → ReadsBack (λ rest. directory ++ (between ++ rest)) name (option_map (λ rest. rest.now) r)
+within_read name directory between middle None is none = λ rest same. none rest (append_cancel_left directory middle (between ++ rest) (sym is ∙ sym same))
+within_read name directory between middle (Some x) is begins = (
+  ap (λ m. directory ++ m) (sym begins) ∙ sym is,
+  λ rest same. append_cancel_left between rest x.now (append_cancel_left directory (between ++ rest) (between ++ x.now) (same ∙ (is ∙ ap (λ m. directory ++ m) begins))),
+)
 
 module _ (names : List ℕ → Bool) (path first : List ℕ) (is : first ≡ precompiled path) (old new : BTreeSet (Vec ℕ)) where
   -- a path that no mark names

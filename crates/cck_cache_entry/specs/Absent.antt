@@ -1,5 +1,6 @@
 -- the paths at which a header that a text names would have been found earlier
-use Rattle.std.specs.Prelude.{◌≡◌, ℕ, Bool, ◌<◌, ◌⊎◌, true, false, List, ◌∷◌, [], ◌++◌, length, get_or, Contains, codes, IsTrue, Option, Some, None}
+use Rattle.std.specs.Prelude.{◌≡◌, ℕ, Bool, ◌<◌, ◌⊎◌, true, false, List, [], ◌++◌, length, get_or, Contains, codes, IsTrue, Option, Some, None, if◌then◌else◌, nat_eq}
+use Rattle.std.specs.List.{ends_with}
 use Rattle.std.specs.BTreeSet.{BTreeSet}
 use Rattle.std.specs.Global.{Vec}
 use Rattle.cck_markers.specs.Marks.{Mark}
@@ -7,9 +8,13 @@ use Rattle.cck_cache_entry.specs.Names.{is_named, is_place, is_system_name}
 use Rattle.cck_cache_entry.specs.SearchList.{SearchFields}
 use Rattle.cck_cache_entry.specs.Sets.{Adds, IsSetOf}
 
+-- what a compiler writes between a directory of its list and the name of a file in it: a `/`, unless the directory ends in one
+abbrev pub separator : List ℕ → List ℕ
+separator directory = if ends_with nat_eq directory (codes "/") then [] else codes "/"
+
 -- a path in a directory
 abbrev pub path_in : List ℕ → List ℕ → List ℕ
-path_in directory name = directory ++ 47 ∷ name
+path_in directory name = directory ++ (separator directory ++ name)
 
 -- the precompiled header of a path
 abbrev pub precompiled : List ℕ → List ℕ

@@ -3,7 +3,7 @@ ghost use Rattle.std.specs.Prelude.{◌≡◌, ◌<◌, ◌↔◌, ◌++◌, Con
 ghost use Rattle.std.specs.Option.{option_map};
 ghost use Rattle.cck_markers.specs.Marks as spec;
 ghost use Rattle.cck_markers.specs.Marks.{Marks};
-ghost use Rattle.cck_cache_entry.specs.Absent.{AreAbsentNames, AreAdded, IsBeforeDirectory, IsBeside, IsForName, IsListed, IsInDirectory, path_in};
+ghost use Rattle.cck_cache_entry.specs.Absent.{AreAbsentNames, AreAdded, IsBeforeDirectory, IsBeside, IsForName, IsListed, IsInDirectory, path_in, separator};
 ghost use Rattle.cck_cache_entry.specs.Reading.{ReadsBack, byte_lists};
 ghost use Rattle.cck_cache_entry.specs.SearchList.{search_fields};
 ghost use Rattle.cck_cache_entry.specs.Sets.{Adds, IsSetOf, has_key};
@@ -13,11 +13,19 @@ use crate::search_list::SearchList;
 use std::alloc::{AllocError, Global};
 use std::collections::BTreeSet;
 
-// A name in a directory, without the slash between them.
+// What a compiler writes between a directory of its list and the name of a file in it.
+fn separator(directory: &[u8]) -> &'static [u8]
+    ensures { result.now ≡ separator directory.now }
+{
+    if directory.ends_with(b"/") { b"" } else { b"/" }
+}
+
+// A name in a directory, without what is between them.
 fn within<'a>(name: &'a [u8], directory: &[u8]) -> Option<&'a [u8]>
     ensures { ReadsBack (path_in directory.now) name.now (option_map (λ rest. rest.now) result) }
 {
-    name.strip_prefix(directory)?.strip_prefix(b"/".as_slice())
+    name.strip_prefix(directory)?
+        .strip_prefix(separator(directory))
 }
 
 // These three, one after the other.
@@ -28,6 +36,13 @@ fn joined(alloc: Global, a: &[u8], b: &[u8], c: &[u8]) -> Result<Vec<u8>, AllocE
     all.extend_from_slice(b)?;
     all.extend_from_slice(c)?;
     Ok(all)
+}
+
+// The path of a name in a directory.
+fn path_in(alloc: Global, directory: &[u8], name: &[u8]) -> Result<Vec<u8>, AllocError>
+    ensures { IfOk result (λ path. path.items ≡ path_in directory.now name.now) }
+{
+    joined(alloc, directory, separator(directory), name)
 }
 
 // Adds a path.
@@ -85,7 +100,7 @@ fn add_in(
         paths.old paths.new) }
 {
     for directory in directories {
-        add_path(alloc, paths, named, joined(alloc, directory, b"/", rest)?)?;
+        add_path(alloc, paths, named, path_in(alloc, directory, rest)?)?;
     }
     Ok(())
 }

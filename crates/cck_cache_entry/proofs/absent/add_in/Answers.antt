@@ -1,4 +1,4 @@
-use Rattle.std.proofs.Common.{◌≡◌, ℕ, List, [], ◌∷◌, map, length, get_or, append_assoc, sym, ap, ◌∙◌, subst, arith}
+use Rattle.std.proofs.Common.{◌≡◌, ℕ, List, [], map, length, get_or, sym, ap, ◌∙◌, subst, arith}
 use Rattle.std.proofs.lemmas.List.{get_or-map}
 use Rattle.cck_cache_entry.specs.Absent.{IsBeside, path_in}
 use Rattle.cck_cache_entry.specs.Sets.{Adds, has_key}
@@ -17,8 +17,7 @@ loop-directory-preserved c =
     let i = c.loop-directory.directory-index in
     let directory = c.directory-item.result in
     let at : directory.items ≡ get_or directories i [] = ap (λ d. d.items) c.directory-item.is ∙ sym (get_or-map (λ d. d.items) c.args.directories.now i directory [] c.loop-directory-test.true) in
-    let same : c.in_ok-joined.field-0.items ≡ path_in (get_or directories i []) rest =
-    c.in_ok-joined.ensures ∙ (append_assoc c.deref.result.now (47 ∷ []) rest ∙ ap (λ d. path_in d rest) (c.deref.ensures.value ∙ at))
+    let same : c.in_ok-path_in.field-0.items ≡ path_in (get_or directories i []) rest = c.in_ok-path_in.ensures ∙ ap (λ d. path_in d rest) (c.deref.ensures.value ∙ at)
     in
     adds_more (InDirectory names directories rest) i c.args.paths.now c.loop-directory.paths c.add_path.new.paths c.loop-directory.invariant
     (subst (λ (p : List ℕ). Adds (IsBeside names p) c.loop-directory.paths c.add_path.new.paths) same c.in_ok-add_path.ensures)
