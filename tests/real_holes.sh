@@ -320,8 +320,7 @@ settle
 check 'the same path after the file that it seems to be' 'refused-named-file *' same -c n.c
 echo 'char *d = __DATE__;' >d.c
 settle
-check '__DATE__' 'miss *' same -c d.c
-check 'the same again' 'hit *' same -c d.c
+check '__DATE__' 'refused-time-macro *' same -c d.c
 echo 'char *t = __TIME__;' >t.c
 settle
 check '__TIME__' 'passed on*' same -c t.c
