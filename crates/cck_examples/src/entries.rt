@@ -101,6 +101,7 @@ pub(crate) fn is_directory_found(alloc: Global) -> Option<bool> {
 
 /// The copy of an include, whose original is then changed: its digest and its size, and whether the
 /// two were equal before the change and after it.
+#[derive(Drop)]
 pub(crate) struct CopiedInclude {
     pub(crate) digest: String,
     pub(crate) size: u64,

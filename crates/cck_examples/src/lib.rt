@@ -21,9 +21,12 @@ pub fn results(alloc: Global) -> Option<String> {
     let (calls, reads) = (counts.calls, counts.reads);
     let (found, headers) = entries::look_up_over_counted_files(alloc)?;
     let is_found = entries::is_directory_found(alloc)?;
-    let copied = entries::copied_include(alloc).ok()?;
-    let (digest, copied_size) = (copied.digest, copied.size);
-    let (was_equal, is_equal) = (copied.was_equal, copied.is_equal);
+    let entries::CopiedInclude {
+        digest,
+        size: copied_size,
+        was_equal,
+        is_equal,
+    } = entries::copied_include(alloc).ok()?;
     let key = calls::key_by_own_compiler(alloc).ok()?;
     let text = format!(in alloc;
         "{first}\n\
