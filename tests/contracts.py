@@ -14,7 +14,7 @@ ITEM = re.compile(
     r"^ *(?:(?P<block>(?P<is_pub>pub )?trait|impl)\b(?P<head>[^{;]*)\{"
     r"|(?P<pub>pub )?(?:const |extern \"C\" )*fn (?P<name>\w+)"
     r"|ghost (?P<ghost>\w+): (?=\{))", re.MULTILINE)
-BRACES = re.compile(r"//[^\n]*|\"[^\"\n]*\"|[{}]")
+BRACES = re.compile(r"//[^\n]*|\"(?:[^\"\\]|\\.)*\"|'(?:[^'\\\n]|\\.)'|[{}]", re.DOTALL)
 CLAUSE = re.compile(r"\s*((?:requires|ensures|ghost)\b[^{;]*)\{")
 SIGNATURE_END = re.compile(r"\s*(?:\b(?:requires|ensures|ghost)\b|;(?! \d+\])|\{)")
 SENTENCE_END = re.compile(r"[.:](?= [A-Z`\[]|$)")
