@@ -43,8 +43,8 @@ def run(row, is_shown):
         done = subprocess.run(["sh", "-c", row.command], cwd=TOP, stdin=subprocess.DEVNULL, check=False,
                               errors="replace", **streams)
         output, has_failed = done.stdout or "", done.returncode != 0
-        counts = [tuple(map(int, found)) for found in COUNTS.findall(output)]
-        passed, failed = counts[-1] if counts else (int(not has_failed), 0)
+        counts = [tuple(map(int, found)) for found in COUNTS.findall(output)] or [(int(not has_failed), 0)]
+        passed, failed = map(sum, zip(*counts))
         failed = max(failed, int(has_failed))
     if failed:
         sys.stdout.write(COUNTS.sub("", output))
