@@ -11,10 +11,10 @@ set -e
 here=$(cd "$(dirname "$0")" && pwd)
 top=$(cd "$here/.." && pwd)
 folder=${1:-$(mktemp -d)}
-. "$here/program.sh"
+. "$here/lib/program.sh"
 
 printf '' | "$top/cck" key abcd c > /dev/null 2>&1 # proves and builds the program where it is stale
 entries=$("$top/tests/attack/program.sh" "$folder/entries")
 markers=$folder/work/crates/markers_bench/out/markers_bench
 [ -x "$markers" ] || build_program markers cck_markers 'cck_markers memchr'
-exec python3 "$here/awkward.py" "$top/crates/cck_run/out/cck_run" "$markers" "$entries" "$folder"
+exec python3 "$here/lib/awkward.py" "$top/crates/cck_run/out/cck_run" "$markers" "$entries" "$folder"

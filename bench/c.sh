@@ -16,8 +16,8 @@ set -e
 here=$(cd "$(dirname "$0")" && pwd)
 top=$(cd "$here/.." && pwd)
 folder=${1:-$(mktemp -d)}
-. "$here/program.sh"
-. "$here/headers.sh"
+. "$here/lib/program.sh"
+. "$here/lib/headers.sh"
 
 "$top/examples/archive.sh" "$folder"
 ${CC:-cc} -std=c99 -O2 -Wall -Wextra -Werror -I"$top/crates/cck_c/include" "$here/c/calls.c" \

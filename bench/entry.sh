@@ -12,7 +12,7 @@ set -e
 here=$(cd "$(dirname "$0")" && pwd)
 top=$(cd "$here/.." && pwd)
 folder=${1:-$(mktemp -d)}
-. "$here/program.sh"
+. "$here/lib/program.sh"
 
 build_program entry 'cck_digest cck_path cck_strip cck_path_map cck_files cck_file_digest cck_util
     cck_time cck_include cck_preprocessor_key cck_entry' \

@@ -11,8 +11,8 @@ set -e
 here=$(cd "$(dirname "$0")" && pwd)
 top=$(cd "$here/.." && pwd)
 folder=${1:-$(mktemp -d)}
-. "$here/program.sh"
-. "$here/headers.sh"
+. "$here/lib/program.sh"
+. "$here/lib/headers.sh"
 
 if [ ! -s "$folder/words.i" ]; then
     yes '__attribute__ ((__nothrow__, __leaf__)) ________ __TIME_ __DATE_ __TIMEOUT__ _T_I_M_E_' |

@@ -13,4 +13,4 @@ top=$(cd "$here/.." && pwd)
 folder=${1:-$(mktemp -d)}
 mkdir -p "$folder"
 printf '' | "$top/cck" key abcd c > /dev/null 2>&1 # proves and builds the program where it is stale
-exec python3 "$here/key.py" "$top/crates/cck_run/out/cck_run" "$folder"
+exec python3 "$here/lib/key.py" "$top/crates/cck_run/out/cck_run" "$folder"

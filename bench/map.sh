@@ -11,7 +11,7 @@ set -e
 here=$(cd "$(dirname "$0")" && pwd)
 top=$(cd "$here/.." && pwd)
 folder=${1:-$(mktemp -d)}
-. "$here/program.sh"
+. "$here/lib/program.sh"
 
 build_program map 'cck_digest cck_path cck_path_map' 'cck_digest cck_path cck_path_map anyhow'
 

@@ -12,10 +12,10 @@ set -e
 here=$(cd "$(dirname "$0")" && pwd)
 top=$(cd "$here/.." && pwd)
 folder=${1:-$(mktemp -d)}
-. "$here/program.sh"
-. "$here/headers.sh"
-. "$here/dense.sh"
-. "$here/short_lines.sh"
+. "$here/lib/program.sh"
+. "$here/lib/headers.sh"
+. "$here/lib/dense.sh"
+. "$here/lib/short_lines.sh"
 
 build_program markers cck_markers 'cck_markers memchr'
 

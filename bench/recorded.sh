@@ -10,7 +10,7 @@ set -e
 here=$(cd "$(dirname "$0")" && pwd)
 top=$(cd "$here/.." && pwd)
 folder=${1:-$(mktemp -d)}
-. "$here/program.sh"
+. "$here/lib/program.sh"
 
 build_program recorded 'cck_digest cck_path cck_path_map cck_files cck_file_digest cck_time
     cck_include' 'cck_digest cck_path cck_files cck_time cck_include jiff anyhow'

@@ -12,8 +12,8 @@ set -e
 here=$(cd "$(dirname "$0")" && pwd)
 top=$(cd "$here/.." && pwd)
 folder=${1:-$(mktemp -d)}
-. "$here/program.sh"
+. "$here/lib/program.sh"
 
 printf 'x' | "$top/cck" key abcd c > /dev/null 2>&1 # proves and builds the program where it is stale
 build_program hashing cck_digest 'cck_digest anyhow'
-exec python3 "$here/runs.py" "$top/crates/cck_run/out/cck_run" "$program" "$folder"
+exec python3 "$here/lib/runs.py" "$top/crates/cck_run/out/cck_run" "$program" "$folder"

@@ -15,9 +15,9 @@ set -e
 here=$(cd "$(dirname "$0")" && pwd)
 top=$(cd "$here/.." && pwd)
 folder=${1:-$(mktemp -d)}
-. "$here/program.sh"
-. "$here/headers.sh"
-. "$here/unit.sh"
+. "$here/lib/program.sh"
+. "$here/lib/headers.sh"
+. "$here/lib/unit.sh"
 
 build_program strip 'cck_digest cck_strip' 'cck_strip memchr anyhow'
 

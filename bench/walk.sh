@@ -13,9 +13,9 @@ set -e
 here=$(cd "$(dirname "$0")" && pwd)
 top=$(cd "$here/.." && pwd)
 folder=${1:-$(mktemp -d)}
-. "$here/program.sh"
-. "$here/headers.sh"
-. "$here/dense.sh"
+. "$here/lib/program.sh"
+. "$here/lib/headers.sh"
+. "$here/lib/dense.sh"
 names() {
     seq "$@" | awk '{ printf "# 1 \"h%05d.h\"\n", $1 }'
 }

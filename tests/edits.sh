@@ -42,5 +42,5 @@ for crate in "$@"; do
     tried=$((tried + $(ls "tests/edits/$crate" | wc -l)))
     refused=$((refused + $(grep -c '^rt: must-fail .*: refused' "$room/said" || true)))
 done
-echo "$tried edits, $refused of them rejected"
+echo "edits: $refused passed, $((tried - refused)) failed"
 [ "$failed" -eq 0 ] && [ "$tried" -eq "$refused" ]

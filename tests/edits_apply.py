@@ -3,7 +3,7 @@
 Each old text has to be in its file once, pair after pair. What a new text names has to be there after the edit: a
 local in the changed function, a function or a type in the file, a field or a method in a source of the repository.
 A method of std that edits alone call is in OF_STD. What an edit says outside functions is not looked at. It prints
-what is wrong, and ends with status 1 if anything is."""
+what is wrong, and ends with status 1 if anything is. The last line is `edits_apply: N passed, M failed`."""
 import re
 
 from edit_files import (DoesNotApply, TREE, crate_of, functions_of, gate_edits, hand_edits, pairs_of, place_of, source,
@@ -116,9 +116,14 @@ def faults_of(edit, uses_of, members):
 def main():
     uses_of, edits = uses(), gate_edits() + hand_edits()
     members = {word for file in TREE.glob("crates/*/src/**/*.rt") for word in WORD.findall(file.read_text())}
-    faults = [f"{edit.relative_to(TREE)} {fault}" for edit in edits for fault in faults_of(edit, uses_of, members)]
-    print(*faults, f"{len(edits)} edits, {len(faults)} faults", sep="\n")
-    raise SystemExit(bool(faults))
+    failed = 0
+    for edit in edits:
+        faults = faults_of(edit, uses_of, members)
+        failed += bool(faults)
+        for fault in faults:
+            print(f"{edit.relative_to(TREE)} {fault}")
+    print(f"edits_apply: {len(edits) - failed} passed, {failed} failed")
+    raise SystemExit(bool(failed))
 
 
 if __name__ == "__main__":

@@ -30,4 +30,5 @@ while [ "$n" -lt $((first + runs)) ]; do
     [ "$text" = "$expected" ] || { echo "$1: allocation $n failed: $text"; cat "$log"; exit 1; }
     n=$((n + 1))
 done
-echo "$1: $runs runs from allocation $first on, $short of them ended for lack of memory"
+echo "$1: $runs runs from allocation $first on, $short of them ended out of memory"
+echo "fail_alloc: $runs passed, 0 failed"

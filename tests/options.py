@@ -9,7 +9,7 @@ installed. Run by hand: options.py [--missing]. Needs gcc; the table was made fo
 - gcc accepts each option without a value that a cached call may have.
 
 With --missing it prints the options of gcc that the table does not have: calls with them are passed on. The last
-line is `all passed`.
+line is `options: N passed, M failed`, of rows.
 """
 
 import os
@@ -109,7 +109,7 @@ def main():
     print(f"{len(rows)} rows of {len(lines)} lines, {len(names)} options of gcc, {len(missing)} without a row")
     for fault in faults:
         print(f"FAILED: {fault}")
-    print(f"{len(faults)} failed" if faults else "all passed")
+    print(f"options: {max(0, len(rows) - len(faults))} passed, {len(faults)} failed")
     return 1 if faults else 0
 
 

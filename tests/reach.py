@@ -116,6 +116,7 @@ def main():
     untried = sorted(statement - tried)
     for key in untried:
         print("not tried:", "/".join(key))
+    print(f"reach: {len(statement & tried)} passed, {len(untried)} failed")
     return 1 if untried else 0
 
 

@@ -286,7 +286,8 @@ def main():
     total = sum(counts.values())
     print(f"seed {chosen.seed}, blocks {blocks.start} to {blocks.stop - 1}: {total} texts, {size} bytes")
     print("results: " + ", ".join(f"{counts[name]} {name}" for name in sorted(counts)))
-    print(f"{total / seconds:.0f} texts a second, {differences} differences")
+    print(f"{total / seconds:.0f} texts a second")
+    print(f"entries: {total - differences} passed, {differences} failed")
     return 1 if differences else 0
 
 

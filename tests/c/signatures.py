@@ -1,6 +1,7 @@
 """Compares crates/cck_c/include/cck.h with the exports of crates/cck_c: the names of the functions and
 the number of their parameters, the names and order of the fields of structs, and the values of the
-statuses and kinds. Types are not compared. It prints each difference, and then what it compared.
+statuses and kinds. Types are not compared. It prints each difference, and then
+how many names it compared.
 """
 import pathlib
 import re
@@ -90,17 +91,19 @@ def of_header():
 def main():
     """Compares both, and returns the exit status."""
     kinds = ("function", "struct", "constant")
-    differences = 0
-    counts = []
+    passed = failed = 0
     for kind, crate, header in zip(kinds, of_crate(), of_header()):
+        if not crate:
+            failed += 1
+            print(f"no {kind} in the crate")
         for name in sorted(crate.keys() | header.keys()):
-            if crate.get(name) != header.get(name):
-                differences += 1
+            if crate.get(name) == header.get(name):
+                passed += 1
+            else:
+                failed += 1
                 print(f"{kind} {name}: {crate.get(name)} in the crate, {header.get(name)} in cck.h")
-        counts.append(f"{len(crate)} {kind}s")
-        differences += not crate
-    print(f"{', '.join(counts)}, {differences} differences")
-    return 1 if differences else 0
+    print(f"signatures: {passed} passed, {failed} failed")
+    return 1 if failed else 0
 
 
 if __name__ == "__main__":

@@ -1,4 +1,4 @@
-"""Vector files: how they are read, judged and written. docs/VECTORS.md has their form.
+"""Vector files: how they are read, judged and written. docs/TESTING.md has their form.
 
 A line's name and rest are `str` whose characters are bytes (0 to 255). A library of cases has a
 module in `subjects`, with a class `Subject`: see `subjects/values.py` for a small one.

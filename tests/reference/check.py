@@ -42,25 +42,28 @@ def chosen_files(words):
 
 
 def check_file(file, module):
-    """What is printed of a file, and whether each result is the expected one."""
+    """What is printed of a file, how many results are the expected ones, and how many are not."""
     if module is None:
-        return f"{name_of(file)}: not checked, since there is no adapter\n", False
+        return f"{name_of(file)}: not checked, since there is no adapter\n", 0, 1
     outcomes = list(outcomes_of(file.read_bytes(), module.Subject()))
     results = sum(outcome.result is not None for outcome in outcomes)
     different = [outcome for outcome in outcomes if not outcome.agrees()]
     printed = "".join(report_of(name_of(file), outcome) for outcome in different)
     printed += f"{name_of(file)}: {results} results, {len(different)} differences\n"
-    return printed, not different
+    equal = sum(outcome.result is not None and outcome.agrees() for outcome in outcomes)
+    return printed, equal, len(different)
 
 
 def check(words):
     """`check [FILE..]`: compares each expected result with that of the reference."""
-    agreed = True
+    passed = failed = 0
     for file, module in chosen_files(words):
-        printed, agrees = check_file(file, module)
+        printed, equal, different = check_file(file, module)
         sys.stdout.write(printed)
-        agreed = agreed and agrees
-    return 0 if agreed else 1
+        passed += equal
+        failed += different
+    sys.stdout.write(f"reference: {passed} passed, {failed} failed\n")
+    return 1 if failed else 0
 
 
 def vector_names():

@@ -131,7 +131,7 @@ def compare(words):
     parser.add_argument("--from", type=int, default=0, dest="first")
     parser.add_argument("program")
     chosen = parser.parse_args(words)
-    all_different = 0
+    passed = failed = 0
     for kind, count, make in [
         ("scripts", chosen.scripts, random_scripts),
         ("damaged scripts", chosen.damaged, damaged_scripts),
@@ -139,8 +139,12 @@ def compare(words):
         numbers = range(chosen.first, chosen.first + count)
         different, counts = compare_scripts(chosen.program, make(numbers, chosen.seed))
         print_counts(kind, numbers, different, counts)
-        all_different += different
+        passed += count - different
+        failed += different
     numbers = range(chosen.first, chosen.first + chosen.keys)
     different = compare_keys(chosen.program, numbers, chosen.seed)
     print_counts("keys", numbers, different, {})
-    return 1 if all_different + different else 0
+    passed += chosen.keys - different
+    failed += different
+    sys.stdout.write(f"compare: {passed} passed, {failed} failed\n")
+    return 1 if failed else 0

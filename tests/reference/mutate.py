@@ -193,4 +193,5 @@ def summary(every, changes, tried, survived, equal, modules):
     noticed = len(tried) - survived
     counts = f"{noticed} noticed, {skipped} equal in meaning, {survived} survived"
     sys.stdout.write(f"{len(changes)} of {len(every)} changes: {counts}\n")
+    sys.stdout.write(f"mutate: {noticed} passed, {survived} failed\n")
     return 1 if survived else 0

@@ -1,4 +1,4 @@
-# Read by the benchmarks that have a program. They set $here, the directory of this file, $top, the one
+# Sourced by the benchmarks that have a program. They set $here, the directory bench, $top, the one
 # above it, and $folder, in which all is made. What counts needs valgrind.
 
 # Proves and builds the program of bench/$1, over a copy of the crates $2 of this repository. $3 are

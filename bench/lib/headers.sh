@@ -1,4 +1,4 @@
-# Read by the benchmarks that want 64 MB of preprocessed text: sets `size`, and writes the text of
+# Sourced by the benchmarks that want 64 MB of preprocessed text: sets `size`, and writes the text of
 # the system headers, as gcc -E leaves them, to $folder/headers.i, unless it is there.
 size=67108864
 mkdir -p "$folder"

@@ -1,4 +1,4 @@
-# Read by the benchmarks that want 64 MB of one translation unit as users have it: sets `size`, and
+# Sourced by the benchmarks that want 64 MB of one translation unit as users have it: sets `size`, and
 # writes to $folder/unit.i, unless it is there, what gcc -E leaves of a C file of /work/project with
 # a dozen headers of the system and 2000 lines of its own, over and over.
 size=67108864
