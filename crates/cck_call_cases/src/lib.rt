@@ -1,6 +1,6 @@
 //! Cases of compilers, stores, calls for keys and lists of calls.
 //!
-//! [`run_file`] runs a vector file. `docs/VECTORS.md` has the grammar.
+//! [`run_file`] runs a vector file. `docs/TESTING.md` has the grammar.
 //!
 //! Lines give a compilation, and what the call for its key is made under:
 //!

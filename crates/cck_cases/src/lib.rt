@@ -1,6 +1,6 @@
 //! Test vectors: reads cases from files, makes their calls, and reports the results.
 //!
-//! A vector file has one line for each thing that a case says. `docs/VECTORS.md` has the grammar. A
+//! A vector file has one line for each thing that a case says. `docs/TESTING.md` has the grammar. A
 //! library of cases implements [`Subject`] for the calls that it knows, and runs a file by
 //! [`run_file`]. A case that is added to a file needs no proof.
 //!

@@ -1,7 +1,7 @@
 //! Cases of the calls on maps of paths, files, digests of files, wrappers, time parts, recorded
 //! digests, preprocessor keys and entries.
 //!
-//! [`run_file`] runs a vector file. `docs/VECTORS.md` has the grammar. Beside the words that are known
+//! [`run_file`] runs a vector file. `docs/TESTING.md` has the grammar. Beside the words that are known
 //! in every file, and those of arguments, variables and files, those of `wanted.rt` are known here.
 #![tactic(auto)]
 

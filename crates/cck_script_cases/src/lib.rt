@@ -1,6 +1,6 @@
 //! Cases of the calls on scripts, on the small preprocessor and on the program `cck` as a function.
 //!
-//! [`run_file`] runs a vector file. `docs/VECTORS.md` has the grammar. A script is made of the lines of
+//! [`run_file`] runs a vector file. `docs/TESTING.md` has the grammar. A script is made of the lines of
 //! `line TEXT`, each as it is, and after them the bytes of a call.
 //!
 //! | call | what is called, and its result |

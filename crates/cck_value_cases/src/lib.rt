@@ -1,6 +1,6 @@
 //! Cases of the calls on bytes, paths, texts, times, digests, readers and keys.
 //!
-//! [`run_file`] runs a vector file. `docs/VECTORS.md` has the grammar, and the words that are known in
+//! [`run_file`] runs a vector file. `docs/TESTING.md` has the grammar, and the words that are known in
 //! every file. These words are known here too:
 //!
 //! | word | meaning |

@@ -1,7 +1,7 @@
 //! The program `cck_vectors`: makes the calls of vector files, and compares their results.
 //!
 //! The words after its name are vector files. The folder that a file is in says which library knows
-//! its calls; `docs/VECTORS.md` has a table of them, and the grammar of the files. For each file the
+//! its calls; `docs/TESTING.md` has a table of them, and the grammar of the files. For each file the
 //! program prints each difference, and the number of results. For the word `examples` it prints the
 //! results of the calls of `cck_examples`.
 //!

@@ -1,6 +1,6 @@
 //! Cases of the calls on line markers and of walks over them.
 //!
-//! [`run_file`] runs a vector file. `docs/VECTORS.md` has the grammar.
+//! [`run_file`] runs a vector file. `docs/TESTING.md` has the grammar.
 #![tactic(auto)]
 
 mod cases;
