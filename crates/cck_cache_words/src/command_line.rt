@@ -39,7 +39,7 @@ const CALL_EXTRA: [OptionWords<'static>; 2] = [
 ];
 
 const UNPACK_REQUIRED: [OptionWords<'static>; 3] = [
-    ("key", "KEY", "The name of the object"),
+    ("key", "NAME", "The name of the object"),
     ("object", "FILE", "The object file"),
     OUT,
 ];
