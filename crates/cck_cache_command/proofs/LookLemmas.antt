@@ -6,7 +6,7 @@ use Rattle.std.proofs.lemmas.List.{get_or-map, length-map}
 use Rattle.std.proofs.lemmas.Option.{get_or_from_slice_get}
 use Rattle.std.specs.Global.{Vec}
 use Rattle.std.specs.declared.alloc.Global.{Global}
-use Rattle.cck_cache_command.specs.Look.{IsLookResult, IsFoundFor, IsIncluded, IsKeptObject, IsMatch, IsMatchOfKey, IsLookMiss, IsIncludeOf}
+use Rattle.cck_cache_command.specs.Look.{IsFoundFor, IsIncludeOf, IsIncluded, IsKeptObject, IsLookMiss, IsLookResult, IsMatch, IsNameOfKey, IsNamedMatch}
 use Rattle.cck_cache_command.specs.Input.{NoFault}
 use Rattle.cck_cache_command.specs.Request.{HasPreprocessorKey}
 use Rattle.cck_cache_command.specs.declared.environment.Environment.{Environment}
@@ -25,28 +25,28 @@ use Rattle.cck_snapshot.specs.Snapshot.{IsLookedUp}
 use Rattle.sha2.specs.Sha256.{sha256}
 use Rattle.cck_snapshot.specs.declared.requests.SnapshotRequest.{SnapshotRequest}
 
--- an object file that was found of the key of a match
-pub found_kept : (outputs : Outputs) (asked : SnapshotRequest) (input : FileMap) (key object : String Global) (found : Found) → IsMatchOfKey asked input key object → IsKeptObject outputs key object found → IsFoundFor outputs asked input key found
-found_kept outputs asked input key object (Hit k o file) is kept =
-    (kept.0, subst (λ (x : String Global). IsMatchOfKey asked input key x) (sym kept.1) is, kept.2 ∙ sym (ap string_bytes kept.1), kept.3)
-found_kept outputs asked input key object (Miss k since o damaged) is kept =
-    (kept.0, subst (λ (x : Option (String Global)). IfSome x (IsMatchOfKey asked input key)) (sym kept.1) is)
-found_kept outputs asked input key object NoKey is kept = kept
+-- an object file that was found under the name of a match
+pub found_kept : (wanted : Look) (asked : SnapshotRequest) (input : FileMap) (key name : String Global) (found : Found) → IsNameOfKey wanted.request asked input key name → IsKeptObject wanted.outputs key name found → IsFoundFor wanted asked input key found
+found_kept wanted asked input key name (Hit k n file) is kept =
+    (kept.0, subst (λ (x : String Global). IsNameOfKey wanted.request asked input key x) (sym kept.1) is, kept.2 ∙ sym (ap string_bytes kept.1), kept.3)
+found_kept wanted asked input key name (Miss k since n damaged) is kept =
+    (kept.0, subst (λ (x : Option (String Global)). IfSome x (IsNameOfKey wanted.request asked input key)) (sym kept.1) is)
+found_kept wanted asked input key name NoKey is kept = kept
 
--- a miss without a key of an object
-pub found_none : (outputs : Outputs) (asked : SnapshotRequest) (input : FileMap) (key : String Global) (found : Found) → IsLookMiss key None found → IsFoundFor outputs asked input key found
-found_none outputs asked input key (Hit k o file) miss = absurd miss
-found_none outputs asked input key (Miss k since o damaged) miss =
-    (miss.0, subst (λ (x : Option (String Global)). IfSome x (IsMatchOfKey asked input key)) (sym miss.1) tt)
-found_none outputs asked input key NoKey miss = miss
+-- a miss without the name of an object
+pub found_none : (wanted : Look) (asked : SnapshotRequest) (input : FileMap) (key : String Global) (found : Found) → IsLookMiss key None found → IsFoundFor wanted asked input key found
+found_none wanted asked input key (Hit k n file) miss = absurd miss
+found_none wanted asked input key (Miss k since n damaged) miss =
+    (miss.0, subst (λ (x : Option (String Global)). IfSome x (IsNameOfKey wanted.request asked input key)) (sym miss.1) tt)
+found_none wanted asked input key NoKey miss = miss
 
 -- the result for the preprocessor key of a request is the result for the request
 pub found_all : (environment : Environment) (wanted : Look) (key : String Global) (has : HasPreprocessorKey environment wanted.request (Some (string_bytes key))) (found : Found)
-    → IsFoundFor wanted.outputs has.asked has.input key found → IsLookResult environment wanted found
-found_all environment wanted key has (Hit k o file) is =
-    subst (λ (x : String Global). IsLookResult environment wanted (Hit x o file)) (sym is.0) (has, is.1, is.2, is.3)
-found_all environment wanted key has (Miss k since o damaged) is =
-    subst (λ (x : String Global). IsLookResult environment wanted (Miss x since o damaged)) (sym is.0) (has, is.1)
+    → IsFoundFor wanted has.asked has.input key found → IsLookResult environment wanted found
+found_all environment wanted key has (Hit k n file) is =
+    subst (λ (x : String Global). IsLookResult environment wanted (Hit x n file)) (sym is.0) (has, is.1, is.2, is.3)
+found_all environment wanted key has (Miss k since n damaged) is =
+    subst (λ (x : String Global). IsLookResult environment wanted (Miss x since n damaged)) (sym is.0) (has, is.1)
 found_all environment wanted key has NoKey is = absurd is
 
 -- an element of a list under a function
@@ -67,8 +67,3 @@ included_at bytes entry results n r reads same at path tests one = record {
   among = subst (λ (rs : List KeyResult). Contains rs (result_in r)) (sym same) (contains_map result_in results r (n, at.0, get_or_from_slice_get results n r r at.1));
   one_of = one;
 }
-
--- the key of a look-up, if it returned one
-pub match_found : (asked : SnapshotRequest) (input : FileMap) (key bytes : Bytes) (files : FileMap) (found : Option (String Global)) → ArePut (IsIncluded bytes) input files → IsLookedUp sha256 files asked NoFault key bytes found → IfSome found (IsMatch asked input key bytes)
-match_found asked input key bytes files None put is = tt
-match_found asked input key bytes files (Some object) put is = record { files = files; grown = put; found = is }

@@ -91,6 +91,6 @@ recorded_over asked text before mid after recording put calm first second is rec
 -- an outcome over the files that were gathered is the outcome
 pub outcome_all : (environment : Environment) (request : Request) (compilation : Compilation) (text : Bytes) (gathered : Gathered) (outcome : Outcome) → may_include text ≡ false
     → AreGathered request compilation.since text gathered.tests_headers gathered.files.files (lists_of gathered.absent_paths.items) → IsOutcomeOver environment request compilation text gathered outcome → IsOutcome environment request compilation text outcome
-outcome_all environment request compilation text gathered (Recorded key) none are is = (none, (gathered.tests_headers, gathered.files.files, lists_of gathered.absent_paths.items, are, is))
+outcome_all environment request compilation text gathered (Recorded name) none are is = (none, (gathered.tests_headers, gathered.files.files, lists_of gathered.absent_paths.items, are, is))
 outcome_all environment request compilation text gathered (Refused refusal) none are is =
     inr (gathered.tests_headers, gathered.is_doubtful, gathered.files.files, lists_of gathered.absent_paths.items, are, is)

@@ -3,6 +3,7 @@ use Rattle.std.specs.Prelude.{◌≡◌, ◌⊎◌, List, Contains, Bool, true, 
 use Rattle.std.specs.FinMap.{entries}
 use Rattle.std.specs.declared.alloc.Global.{Global}
 use Rattle.cck_cache_command.specs.Input.{NoFault}
+use Rattle.cck_cache_command.specs.Naming.{IsName}
 use Rattle.cck_cache_command.specs.Outputs.{has_outputs}
 use Rattle.cck_cache_command.specs.Request.{HasPreprocessorKey}
 use Rattle.cck_cache_command.specs.declared.environment.Environment.{Environment}
@@ -12,6 +13,7 @@ use Rattle.cck_cache_command.specs.declared.look.Kept.{Kept}
 use Rattle.cck_cache_command.specs.declared.look.Kept.TheVariants.{Nothing, Damaged, Entry as KeptEntry}
 use Rattle.cck_cache_entry.specs.Files.{EntryFields}
 use Rattle.cck_cache_files.specs.Snapshot.{ArePut}
+use Rattle.cck_cache_words.specs.declared.request.Request.{Request}
 use Rattle.cck_cache_words.specs.declared.task.Look.{Look}
 use Rattle.cck_cache_words.specs.declared.task.Outputs.{Outputs}
 use Rattle.cck_entry.specs.Entry.{Entry, Reads}
@@ -28,10 +30,10 @@ use Rattle.sha2.specs.Sha256.{sha256}
 abbrev pub IsIncludeOf : List Include → Bytes → Bool → Type 0
 IsIncludeOf includes path tests = (include : Include) × Contains includes include × (include.path ≡ path)
 
--- whether these bytes are read as an entry: else their first byte is another format, or they are the text of none
-abbrev pub IsEntryRead : Bytes → Bool → Type 0
-IsEntryRead bytes true = (entry : Entry) × Reads (Ok entry) bytes
-IsEntryRead bytes false = ((format : ℕ) × Reads (Err (UnknownFormat format)) bytes) ⊎ Reads (Err Deserialization) bytes
+-- the entry that these bytes are read as, if they are: else their first byte is another format, or they are the text of none
+abbrev pub IsEntryRead : Bytes → Option Entry → Type 0
+IsEntryRead bytes (Some entry) = Reads (Ok entry) bytes
+IsEntryRead bytes None = ((format : ℕ) × Reads (Err (UnknownFormat format)) bytes) ⊎ Reads (Err Deserialization) bytes
 
 -- a file that a result of the entry of these bytes included
 pub record IsIncluded (bytes : Bytes) (path : Bytes) (tests : Bool) : Type 0 where
@@ -47,10 +49,16 @@ pub record IsMatch (asked : SnapshotRequest) (input : FileMap) (key bytes : Byte
   pub grown : ArePut (IsIncluded bytes) input files
   pub found : IsLookedUp sha256 files asked NoFault key bytes (Some object)
 
+-- the look-up of this key in an entry of these bytes returned the key of an object, and that object has this name over the files of the look-up
+pub record IsNamedMatch (request : Request) (asked : SnapshotRequest) (input : FileMap) (key bytes : Bytes) (name : String Global) : Type 0 where
+  pub object : String Global
+  pub matched : IsMatch asked input key bytes object
+  pub is_name : IsName request matched.files bytes (string_bytes object) (string_bytes name)
+
 -- the same of an entry file of this key
-abbrev pub IsMatchOfKey : SnapshotRequest → FileMap → String Global → String Global → Type 0
-IsMatchOfKey asked input key object =
-    (file : EntryFields) × (file.preprocessor_key ≡ string_bytes key) × IsMatch asked input (string_bytes key) file.entry object
+abbrev pub IsNameOfKey : Request → SnapshotRequest → FileMap → String Global → String Global → Type 0
+IsNameOfKey request asked input key name =
+    (file : EntryFields) × (file.preprocessor_key ≡ string_bytes key) × IsNamedMatch request asked input (string_bytes key) file.entry name
 
 -- what a store has of a preprocessor key: an entry is of this key
 abbrev pub IsKeyEntry : Bytes → Kept → Type 0
@@ -60,29 +68,30 @@ IsKeyEntry key (KeptEntry file) = file.preprocessor_key.items ≡ key
 
 -- a miss
 abbrev pub IsLookMiss : String Global → Option (String Global) → Found → Type 0
-IsLookMiss key object (Hit k o file) = ⊥
-IsLookMiss key object (Miss k since o damaged) = (k ≡ key) × (o ≡ object)
-IsLookMiss key object NoKey = ⊥
+IsLookMiss key name (Hit k n file) = ⊥
+IsLookMiss key name (Miss k since n damaged) = (k ≡ key) × (n ≡ name)
+IsLookMiss key name NoKey = ⊥
 
--- what was found in a store of a key that an entry of a preprocessor key names
+-- what was found in a store under the name of an object of a preprocessor key
 abbrev pub IsKeptObject : Outputs → String Global → String Global → Found → Type 0
-IsKeptObject outputs preprocessor_key key (Hit k o object) =
-    (k ≡ preprocessor_key) × (o ≡ key) × (object.key.items ≡ string_bytes key) × (has_outputs outputs object ≡ true)
-IsKeptObject outputs preprocessor_key key (Miss k since o damaged) = (k ≡ preprocessor_key) × (o ≡ Some key)
-IsKeptObject outputs preprocessor_key key NoKey = ⊥
+IsKeptObject outputs preprocessor_key name (Hit k n object) =
+    (k ≡ preprocessor_key) × (n ≡ name) × (object.key.items ≡ string_bytes name) × (has_outputs outputs object ≡ true)
+IsKeptObject outputs preprocessor_key name (Miss k since n damaged) = (k ≡ preprocessor_key) × (n ≡ Some name)
+IsKeptObject outputs preprocessor_key name NoKey = ⊥
 
 -- what was found for a preprocessor key over a snapshot of the input
-abbrev pub IsFoundFor : Outputs → SnapshotRequest → FileMap → String Global → Found → Type 0
-IsFoundFor outputs asked input key (Hit k o object) =
-    (k ≡ key) × IsMatchOfKey asked input key o × (object.key.items ≡ string_bytes o) × (has_outputs outputs object ≡ true)
-IsFoundFor outputs asked input key (Miss k since o damaged) = (k ≡ key) × IfSome o (IsMatchOfKey asked input key)
-IsFoundFor outputs asked input key NoKey = ⊥
+abbrev pub IsFoundFor : Look → SnapshotRequest → FileMap → String Global → Found → Type 0
+IsFoundFor wanted asked input key (Hit k n object) =
+    (k ≡ key) × IsNameOfKey wanted.request asked input key n × (object.key.items ≡ string_bytes n) × (has_outputs wanted.outputs object ≡ true)
+IsFoundFor wanted asked input key (Miss k since n damaged) = (k ≡ key) × IfSome n (IsNameOfKey wanted.request asked input key)
+IsFoundFor wanted asked input key NoKey = ⊥
 
--- The result of a look-up. A hit has an object file of a key that is looked up in an entry file of the request's preprocessor key.
+-- The result of a look-up. A hit has an object file of the name of an object whose key is looked up in an entry file of the request's preprocessor
+-- key.
 abbrev pub IsLookResult : Environment → Look → Found → Type 0
-IsLookResult environment wanted (Hit k o object) =
-    (has : HasPreprocessorKey environment wanted.request (Some (string_bytes k))) × IsMatchOfKey has.asked has.input k o × (object.key.items ≡ string_bytes o)
-    × (has_outputs wanted.outputs object ≡ true)
-IsLookResult environment wanted (Miss k since o damaged) =
-    (has : HasPreprocessorKey environment wanted.request (Some (string_bytes k))) × IfSome o (IsMatchOfKey has.asked has.input k)
+IsLookResult environment wanted (Hit k n object) =
+    (has : HasPreprocessorKey environment wanted.request (Some (string_bytes k))) × IsNameOfKey wanted.request has.asked has.input k n
+    × (object.key.items ≡ string_bytes n) × (has_outputs wanted.outputs object ≡ true)
+IsLookResult environment wanted (Miss k since n damaged) =
+    (has : HasPreprocessorKey environment wanted.request (Some (string_bytes k))) × IfSome n (IsNameOfKey wanted.request has.asked has.input k)
 IsLookResult environment wanted NoKey = HasPreprocessorKey environment wanted.request None

@@ -5,6 +5,7 @@ use Rattle.cck_cache_base.specs.Shown.{ShowsBase}
 use Rattle.cck_cache_base.specs.Text.{AreBases}
 use Rattle.cck_cache_command.specs.Absence.{ArePathsOf, IsRefusedByPath}
 use Rattle.cck_cache_command.specs.Input.{IsCalm, IsInput, NoFault}
+use Rattle.cck_cache_command.specs.Naming.{IsName}
 use Rattle.cck_cache_command.specs.Request.{IsRequest, key_over, request_words}
 use Rattle.cck_cache_command.specs.declared.environment.Environment.{Environment}
 use Rattle.cck_cache_command.specs.declared.record.Gathered.{Gathered}
@@ -32,18 +33,6 @@ use Rattle.cck_snapshot.specs.declared.requests.SnapshotRequest.{SnapshotRequest
 use Rattle.jiff.specs.Types.{DateTime, TimeZone}
 use Rattle.jiff.specs.Words.{IsTimestampNanos, civil_nanos, epoch_day, nanos_of_seconds, offset_at, plain_zone}
 use Rattle.sha2.specs.Sha256.{sha256}
-
--- the key of the object that is compiled from this text: that of a recording over a snapshot that has the input alone
-pub record IsObjectKey (environment : Environment) (request : Request) (text : Bytes) (key : String Global) : Type 0 where
-  pub input : FileMap
-  pub tests : Bool
-  pub is_input : IsInput request input tests
-  pub bases : List Bytes
-  pub are_bases : AreBases (request_words request) text bases
-  pub asked : SnapshotRequest
-  pub is_request : IsRequest environment request environment.now bases asked
-  pub put : Option RecordedEntry
-  pub recorded : IsRecording sha256 input asked NoFault text (record { key = key; put = put })
 
 -- the nanoseconds of so many seconds
 abbrev pub second_nanos : ℤ → ℤ
@@ -130,13 +119,16 @@ pub record IsAsked (environment : Environment) (request : Request) (compilation 
   pub are_bases : AreBases (request_words request) text bases
   pub is_request : IsRequest environment request compilation.since bases asked
 
--- the recording over these files has this key and an entry, and neither the input nor the time keeps it from being recorded
-pub record IsRecordedOver (environment : Environment) (request : Request) (compilation : Compilation) (text : Bytes) (tests : Bool) (files : FileMap) (key : String Global) : Type 0 where
+-- The recording over these files has an entry, and neither the input nor the time keeps it from being recorded. The name is that of the object of the
+-- recording's key, by this entry.
+pub record IsRecordedOver (environment : Environment) (request : Request) (compilation : Compilation) (text : Bytes) (tests : Bool) (files : FileMap) (name : String Global) : Type 0 where
   pub asked : SnapshotRequest
   pub is_asked : IsAsked environment request compilation text asked
   pub judged : IsJudgedByInput environment asked files tests compilation.key.now None
+  pub key : String Global
   pub entry : RecordedEntry
   pub recorded : IsRecording sha256 files asked NoFault text (record { key = key; put = Some entry })
+  pub is_name : IsName request files entry.bytes.items (string_bytes key) (string_bytes name)
 
 -- the input or the time keeps it from being recorded
 pub record IsRefusedByInput (environment : Environment) (request : Request) (compilation : Compilation) (text : Bytes) (tests : Bool) (files : FileMap) (refusal : Refusal) : Type 0 where
@@ -162,16 +154,16 @@ IsRefusedOver environment request compilation text tests doubtful files refusal 
     ⊎ (((refusal ≡ NamedFile) × ((doubtful ≡ true) ⊎ RecordsNoEntry environment request compilation text files)) ⊎ ShowsBaseOf request text refusal)
 
 abbrev pub IsOutcomeOver : Environment → Request → Compilation → Bytes → Gathered → Outcome → Type 0
-IsOutcomeOver environment request compilation text gathered (Recorded key) =
-    IsRecordedOver environment request compilation text gathered.tests_headers gathered.files.files key
+IsOutcomeOver environment request compilation text gathered (Recorded name) =
+    IsRecordedOver environment request compilation text gathered.tests_headers gathered.files.files name
 IsOutcomeOver environment request compilation text gathered (Refused refusal) =
     IsRefusedOver environment request compilation text gathered.tests_headers gathered.is_doubtful gathered.files.files refusal
 
 -- The outcome of a recording. What is recorded is recorded over files that were gathered for the text.
 abbrev pub IsOutcome : Environment → Request → Compilation → Bytes → Outcome → Type 0
-IsOutcome environment request compilation text (Recorded key) =
+IsOutcome environment request compilation text (Recorded name) =
     (may_include text ≡ false)
-    × ((tests : Bool) × (files : FileMap) × (paths : List Bytes) × AreGathered request compilation.since text tests files paths × IsRecordedOver environment request compilation text tests files key)
+    × ((tests : Bool) × (files : FileMap) × (paths : List Bytes) × AreGathered request compilation.since text tests files paths × IsRecordedOver environment request compilation text tests files name)
 IsOutcome environment request compilation text (Refused refusal) =
     IsRefusedByText request compilation.since text refusal
     ⊎ ((tests doubtful : Bool) × (files : FileMap) × (paths : List Bytes) × AreGathered request compilation.since text tests files paths

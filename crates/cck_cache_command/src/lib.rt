@@ -10,6 +10,7 @@ mod call;
 mod environment;
 mod input;
 mod look;
+mod naming;
 mod outputs;
 mod places;
 mod program;

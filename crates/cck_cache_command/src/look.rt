@@ -1,20 +1,21 @@
 //! Looks for an object in the store.
 ghost use Rattle.std.specs.Prelude.{IfOk, IfSome, OnOk};
 ghost use Rattle.cck_cache_command.specs.Input.{IsCalm};
-ghost use Rattle.cck_cache_command.specs.Look.{IsLookResult, IsFoundFor, IsIncluded, IsKeptObject, IsEntryRead, IsKeyEntry, IsMatch, IsLookMiss, IsIncludeOf};
+ghost use Rattle.cck_cache_command.specs.Look.{IsEntryRead, IsFoundFor, IsIncludeOf, IsIncluded, IsKeptObject, IsKeyEntry, IsLookMiss, IsLookResult, IsNamedMatch};
 ghost use Rattle.cck_cache_files.specs.Snapshot.{ArePut};
 ghost use Rattle.cck_include.specs.Include.{includes_in};
 
 use crate::absence::first_present;
 use crate::environment::Environment;
 use crate::input::input_snapshot;
+use crate::naming::name_of;
 use crate::outputs::has_outputs;
 use crate::request::{hasher_of, snapshot_request};
 use anyhow::Result;
 use cck_cache_entry::{EntryFile, ObjectFile};
 use cck_cache_files::{Kind, StoreDirectory, add_file};
 use cck_cache_rules::{entry_in, object_in};
-use cck_cache_words::{Look, Outputs};
+use cck_cache_words::{Look, Outputs, Request};
 use cck_digest::UtilError;
 use cck_entry::{Error, PreprocessorCacheEntry};
 use cck_files::MapFiles;
@@ -36,8 +37,8 @@ pub enum Found {
     Hit {
         /// The preprocessor key.
         preprocessor_key: String,
-        /// The key of the object.
-        object_key: String,
+        /// The name of the object.
+        object_name: String,
         /// What the compiler made.
         object: ObjectFile,
     },
@@ -47,8 +48,8 @@ pub enum Found {
         preprocessor_key: String,
         /// When the look-up ended, by the clock of the store's file system.
         since: Timestamp,
-        /// The key of the object that a result of the entry names, and that the store does not have.
-        object_key: Option<String>,
+        /// The name of the object of a result of the entry, which the store does not have.
+        object_name: Option<String>,
         /// The path of a file that is damaged.
         damaged: Option<String>,
     },
@@ -120,49 +121,54 @@ fn add_includes<R: Files + AllocGlobal>(
     Ok(())
 }
 
-/// Puts the files that an entry names into the snapshot. `true` if the bytes are read as an entry, and
-/// `false` if they are none.
+/// Puts the files that an entry names into the snapshot. Returns the entry, or `None` where the bytes are
+/// read as none.
 ///
 /// The error is lack of memory. Some of the files may then be in the snapshot.
 pub fn add_entry_files<R: Files + AllocGlobal>(
     rt: &R,
     files: &mut MapFiles,
     bytes: &[u8],
-) -> Result<bool>
+) -> Result<Option<PreprocessorCacheEntry>>
     ensures entry { IfOk result (IsEntryRead bytes.now) }
     ensures put { OnOk result (ArePut (IsIncluded bytes.now) files.old.files files.new.files) }
     ensures calm { OnOk result (IsCalm files.old → IsCalm files.new) }
 {
     let entry = match PreprocessorCacheEntry::read(rt.alloc(), bytes) {
         Ok(entry) => entry,
-        Err(Error::Deserialization | Error::UnknownFormat(_)) => return Ok(false),
+        Err(Error::Deserialization | Error::UnknownFormat(_)) => return Ok(None),
         Err(error) => return Err(error.into()),
     };
     for (_, includes) in entry.results().iter() {
         add_includes(rt, files, includes)?;
     }
-    Ok(true)
+    Ok(Some(entry))
 }
 
-// The key of a result in the entry that matches, if what was absent is absent still.
-fn matching_key<R: Files + AllocGlobal>(
+// The name of the object of a result in the entry that matches, if what was absent is absent still.
+fn matching_name<R: Files + AllocGlobal>(
     rt: &R,
+    request: &Request<'_>,
     asked: &SnapshotRequest<'_>,
     files: &mut MapFiles,
     key: &str,
     file: &EntryFile,
 ) -> Result<Option<String>>
     ensures { IfOk result (λ found. IsCalm files.old → IfSome found
-        (IsMatch asked.now files.old.files key.now file.now.entry.items)) }
+        (IsNamedMatch request.now asked.now files.old.files key.now file.now.entry.items)) }
 {
     if first_present(rt, &file.absent_paths).is_some() {
         return Ok(None);
     }
-    if !add_entry_files(rt, files, &file.entry)? {
+    let Some(entry) = add_entry_files(rt, files, &file.entry)? else {
         return Ok(None);
-    }
+    };
     let found = look_up::<Sha256State, MapFiles>(rt.alloc(), files, asked, key, &file.entry)?;
-    Ok(found)
+    let Some(object) = found else {
+        return Ok(None);
+    };
+    let name = name_of(rt, request, files, object.as_str(), &entry)?;
+    Ok(Some(name))
 }
 
 // A miss.
@@ -170,44 +176,44 @@ fn miss<R: Files + AllocGlobal>(
     rt: &R,
     store: &StoreDirectory,
     preprocessor_key: String,
-    object_key: Option<String>,
+    object_name: Option<String>,
     damaged: Option<String>,
 ) -> Result<Found>
-    ensures { IfOk result (IsLookMiss preprocessor_key object_key) }
+    ensures { IfOk result (IsLookMiss preprocessor_key object_name) }
 {
     let since = store.stamp(rt)?;
     Ok(Found::Miss {
         preprocessor_key,
         since,
-        object_key,
+        object_name,
         damaged,
     })
 }
 
-// What the store has of a key that a result of the entry of a preprocessor key names. An object file
+// What the store has under the name of an object of a preprocessor key. An object file
 // without what is to be written counts as absent, so that it is recorded again.
 fn kept_object<R: Files + AllocGlobal>(
     rt: &R,
     store: &StoreDirectory,
     outputs: &Outputs<'_>,
     preprocessor_key: String,
-    object_key: String,
+    object_name: String,
 ) -> Result<Found>
-    ensures { IfOk result (IsKeptObject outputs.now preprocessor_key object_key) }
+    ensures { IfOk result (IsKeptObject outputs.now preprocessor_key object_name) }
 {
-    let Some(bytes) = store.read(rt, Kind::Object, object_key.as_str())? else {
-        return miss(rt, store, preprocessor_key, Some(object_key), None);
+    let Some(bytes) = store.read(rt, Kind::Object, object_name.as_str())? else {
+        return miss(rt, store, preprocessor_key, Some(object_name), None);
     };
-    match object_in::<Sha256State>(rt.alloc(), object_key.as_str(), &bytes)? {
+    match object_in::<Sha256State>(rt.alloc(), object_name.as_str(), &bytes)? {
         Some(object) if has_outputs(&object, outputs) => Ok(Found::Hit {
             preprocessor_key,
-            object_key,
+            object_name,
             object,
         }),
-        Some(_) => miss(rt, store, preprocessor_key, Some(object_key), None),
+        Some(_) => miss(rt, store, preprocessor_key, Some(object_name), None),
         None => {
-            let path = store.path_of(rt, Kind::Object, object_key.as_str())?;
-            miss(rt, store, preprocessor_key, Some(object_key), Some(path))
+            let path = store.path_of(rt, Kind::Object, object_name.as_str())?;
+            miss(rt, store, preprocessor_key, Some(object_name), Some(path))
         }
     }
 }
@@ -235,7 +241,7 @@ fn look_for<R: Files + AllocGlobal>(
     key: String,
 ) -> Result<Found>
     ensures { IfOk result (λ found. IsCalm files.old →
-        IsFoundFor wanted.now.outputs asked.now files.old.files key found) }
+        IsFoundFor wanted.now asked.now files.old.files key found) }
 {
     let file = match read_entry(rt, store, wanted.entry, key.as_str())? {
         Kept::Nothing => return miss(rt, store, key, None, None),
@@ -245,8 +251,8 @@ fn look_for<R: Files + AllocGlobal>(
         }
         Kept::Entry(file) => file,
     };
-    match matching_key(rt, asked, files, key.as_str(), &file)? {
-        Some(object) => kept_object(rt, store, &wanted.outputs, key, object),
+    match matching_name(rt, &wanted.request, asked, files, key.as_str(), &file)? {
+        Some(name) => kept_object(rt, store, &wanted.outputs, key, name),
         None => miss(rt, store, key, None, None),
     }
 }

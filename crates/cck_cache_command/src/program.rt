@@ -6,7 +6,7 @@ use crate::look::{Found, NO_KEY, look};
 use crate::outputs::write_outputs;
 use crate::places::are_free;
 use crate::prune::prune;
-use crate::record::{Outcome, object_key, record};
+use crate::record::{Outcome, record};
 use crate::request::request_key;
 use crate::stats::print_stats;
 use crate::unpack::unpack;
@@ -72,19 +72,19 @@ fn run_key<R: Files + AllocGlobal, W: Write>(
     }
 }
 
-// Prints a miss: the preprocessor key, the time at which the look-up ended, and the key of an object and
+// Prints a miss: the preprocessor key, the time at which the look-up ended, and the name of an object and
 // the path of a damaged file, if there are such.
 fn print_miss<W: Write>(
     writer: &mut W,
     preprocessor_key: &str,
     since: Timestamp,
-    object_key: Option<&str>,
+    object_name: Option<&str>,
     damaged: Option<&str>,
 ) -> Result<()> {
     let (seconds, nanoseconds) = (since.seconds(), since.nanoseconds());
     write!(writer, "miss {preprocessor_key} {seconds}.{nanoseconds:09}")?;
-    if let Some(object_key) = object_key {
-        write!(writer, " object {object_key}")?;
+    if let Some(object_name) = object_name {
+        write!(writer, " object {object_name}")?;
     }
     if let Some(path) = damaged {
         write!(writer, " damaged {path}")?;
@@ -93,16 +93,16 @@ fn print_miss<W: Write>(
     Ok(())
 }
 
-// Notes that the files of these keys were used, and counts a hit. An error changes no result: neither
+// Notes that the entry file of this key and the object file of this name were used, and counts a hit. An error changes no result: neither
 // a time nor a count decides whether a look-up hits.
 fn note_hit<R: Files + AllocGlobal>(
     rt: &R,
     environment: &Environment<'_>,
     store: &StoreDirectory,
     preprocessor_key: &str,
-    object_key: &str,
+    object_name: &str,
 ) {
-    let _ = store.touch(rt, Kind::Object, object_key, environment.now);
+    let _ = store.touch(rt, Kind::Object, object_name, environment.now);
     let _ = store.touch(rt, Kind::Entry, preprocessor_key, environment.now);
     let _ = store.count(rt, "hit");
 }
@@ -129,23 +129,23 @@ fn run_look<R: Files + AllocGlobal, W: Write, E: Write>(
     match look(rt, environment, &store, &wanted)? {
         Found::Hit {
             preprocessor_key,
-            object_key,
+            object_name,
             object,
         } => {
             write_outputs(rt, &store, &wanted.outputs, &object, errors)?;
-            note_hit(rt, environment, &store, &preprocessor_key, &object_key);
-            writeln!(writer, "hit {object_key} {}", wanted.request.input)?;
+            note_hit(rt, environment, &store, &preprocessor_key, &object_name);
+            writeln!(writer, "hit {object_name} {}", wanted.request.input)?;
             Ok(DONE)
         }
         Found::Miss {
             preprocessor_key,
             since,
-            object_key,
+            object_name,
             damaged,
         } => {
             let _ = store.count(rt, "miss");
-            let (object_key, damaged) = (object_key.as_deref(), damaged.as_deref());
-            print_miss(writer, &preprocessor_key, since, object_key, damaged)?;
+            let (object_name, damaged) = (object_name.as_deref(), damaged.as_deref());
+            print_miss(writer, &preprocessor_key, since, object_name, damaged)?;
             Ok(MISS)
         }
         Found::NoKey => {
@@ -185,6 +185,19 @@ fn read_text<R: AllocGlobal, I: Read>(rt: &R, reader: &mut I) -> io::Result<Vec<
     Ok(text)
 }
 
+// Counts the outcome of a recording. That of an entry alone is not counted: the object of its text may be
+// missing, and then the compilation is recorded too.
+fn count_outcome<R: Files + AllocGlobal>(
+    rt: &R,
+    store: &StoreDirectory,
+    compilation: &Compilation<'_>,
+    name: &str,
+) {
+    if compilation.made.is_some() {
+        let _ = store.count(rt, name);
+    }
+}
+
 // Records a compilation, whose preprocessed text is read.
 fn run_record<R: Files + AllocGlobal, I: Read, W: Write>(
     rt: &R,
@@ -198,32 +211,18 @@ fn run_record<R: Files + AllocGlobal, I: Read, W: Write>(
     let store = open_store(rt, store, environment.id)?;
     let text = read_text(rt, reader)?;
     match record(rt, environment, &store, request, compilation, &text)? {
-        Outcome::Recorded(key) => {
-            let _ = store.count(rt, "recorded");
-            writeln!(writer, "miss {key}")?;
+        Outcome::Recorded(object_name) => {
+            count_outcome(rt, &store, compilation, "recorded");
+            writeln!(writer, "miss {object_name}")?;
             Ok(DONE)
         }
         Outcome::Refused(refusal) => {
             let name = refusal.as_str();
-            let _ = store.count(rt, name);
+            count_outcome(rt, &store, compilation, name);
             writeln!(writer, "{name}")?;
             Ok(MISS)
         }
     }
-}
-
-// Prints the key of the object whose preprocessed text is read.
-fn run_object_key<R: Files + AllocGlobal, I: Read, W: Write>(
-    rt: &R,
-    environment: &Environment<'_>,
-    request: &Request<'_>,
-    reader: &mut I,
-    writer: &mut W,
-) -> Result<u8> {
-    let text = read_text(rt, reader)?;
-    let key = object_key(rt, environment, request, &text)?;
-    writeln!(writer, "{key}")?;
-    Ok(DONE)
 }
 
 // Prints what a store has.
@@ -306,7 +305,6 @@ fn run_action<R: Files + AllocGlobal, I: Read, W: Write, E: Write>(
 ) -> Result<u8> {
     match action {
         Action::Key => run_key(rt, environment, &wanted, writer),
-        Action::ObjectKey => run_object_key(rt, environment, &wanted.request, reader, writer),
         Action::Look { store, entry } => run_look_for_call(
             rt,
             environment,

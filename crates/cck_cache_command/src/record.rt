@@ -2,7 +2,7 @@
 ghost use Rattle.std.specs.Prelude.{◌≡◌, ◌↔◌, IfOk, IfSome, IsTrue, MatchOption, OnOk, Some};
 ghost use Rattle.std.specs.Option.{option_map};
 ghost use Rattle.cck_cache_command.specs.Input.{IsCalm};
-ghost use Rattle.cck_cache_command.specs.Record.{HasNoLocalTime, IsJudgedByInput, IsLocalTime, IsObjectKey, IsOneDay, IsOutcome, IsOutcomeOver, IsRefusedByBase, IsSeen, ObjectShowsBase, recorded_fields};
+ghost use Rattle.cck_cache_command.specs.Record.{HasNoLocalTime, IsJudgedByInput, IsLocalTime, IsOneDay, IsOutcome, IsOutcomeOver, IsRefusedByBase, IsSeen, ObjectShowsBase, recorded_fields};
 ghost use Rattle.cck_cache_entry.specs.Files.{entry_fields};
 ghost use Rattle.cck_files.specs.Calls.{Keeps};
 ghost use Rattle.cck_files.specs.FileState.{IsQuiet, fault_count};
@@ -12,6 +12,7 @@ ghost use Rattle.jiff.specs.Words.{plain_zone};
 use crate::absence::{Absence, absence_of};
 use crate::environment::Environment;
 use crate::input::{InputSnapshot, input_snapshot};
+use crate::naming::name_in;
 use crate::request::{base_words, hasher_of, snapshot_request};
 use anyhow::Result;
 use cck_cache_base::{bases_of, shows_base};
@@ -31,7 +32,7 @@ use std::{fs, io};
 /// The outcome of a recording.
 #[derive(Drop)]
 pub enum Outcome {
-    /// The object of this key was recorded.
+    /// The object of this name was recorded.
     Recorded(String),
     /// Nothing was recorded.
     Refused(Refusal),
@@ -179,13 +180,20 @@ fn write_files<R: Files + AllocGlobal>(
     store: &StoreDirectory,
     compilation: &Compilation<'_>,
     object: Option<&ObjectFile>,
-    key: &str,
+    name: &str,
     file: &EntryFile,
 ) -> Result<()> {
     let alloc = rt.alloc();
     if let Some(object) = object {
         let bytes = object.write::<Sha256State>(alloc)?;
-        write_file(rt, store, Kind::Object, key, compilation.object_out, &bytes)?;
+        write_file(
+            rt,
+            store,
+            Kind::Object,
+            name,
+            compilation.object_out,
+            &bytes,
+        )?;
     }
     let bytes = file.write::<Sha256State>(alloc)?;
     write_file(
@@ -207,17 +215,17 @@ fn read_some<R: Files + AllocGlobal>(rt: &R, path: Option<&str>) -> io::Result<V
     }
 }
 
-// The object file of what the compiler made.
+// The object file of this name, of what the compiler made.
 fn object_of<R: Files + AllocGlobal>(
     rt: &R,
     compilation: &Compilation<'_>,
-    key: &str,
+    name: &str,
 ) -> Result<Option<ObjectFile>>
-    ensures { IfOk result (λ object. IfSome object (λ o. o.key.items ≡ key.now)) }
+    ensures { IfOk result (λ object. IfSome object (λ o. o.key.items ≡ name.now)) }
 {
     match &compilation.made {
         Some(made) => Ok(Some(ObjectFile {
-            key: key.as_bytes().to_vec(rt.alloc())?,
+            key: name.as_bytes().to_vec(rt.alloc())?,
             object: fs::read(rt, made.object)?,
             messages: fs::read(rt, made.messages)?,
             dependencies: read_some(rt, made.dependencies)?,
@@ -250,45 +258,22 @@ fn object_shows_base(bases: &[Vec<u8>], object: Option<&ObjectFile>) -> bool
     }
 }
 
-/// The key of the object that is compiled from this preprocessed text. No file that the text names is
-/// part of that key, so a snapshot of the input is enough.
-///
-/// The error is of a program of the compiler that can't be read, of an input that is no regular file that
-/// can be read, of a malformed line marker, or lack of memory.
-pub fn object_key<R: Files + AllocGlobal>(
-    rt: &R,
-    environment: &Environment<'_>,
-    request: &Request<'_>,
-    text: &[u8],
-) -> Result<String>
-    ensures { IfOk result (IsObjectKey environment.entry.now request.now text.now) }
-{
-    let alloc = rt.alloc();
-    let mut files = input_snapshot(rt, request)?.files;
-    let bases = bases_of(alloc, &base_words(request), text)?;
-    let hasher = hasher_of(rt, environment, request)?;
-    let (directory, now) = (request.directory, environment.now);
-    let asked = snapshot_request(environment, &hasher, directory, now, &bases);
-    let recording = record_text::<Sha256State, MapFiles>(alloc, &mut files, &asked, text)?;
-    Ok(recording.key)
-}
-
 // Writes what was recorded of a compilation, unless a base directory is in what the compiler made.
 fn keep<R: Files + AllocGlobal>(
     rt: &R,
     store: &StoreDirectory,
     compilation: &Compilation<'_>,
     bases: &[Vec<u8>],
-    key: &str,
+    name: &str,
     file: &EntryFile,
 ) -> Result<Option<Refusal>>
     ensures { IfOk result (λ refusal. IfSome refusal (IsRefusedByBase (lists_of bases.now))) }
 {
-    let object = object_of(rt, compilation, key)?;
+    let object = object_of(rt, compilation, name)?;
     if object_shows_base(bases, object.as_ref()) {
         return Ok(Some(Refusal::BaseDirectory));
     }
-    write_files(rt, store, compilation, object.as_ref(), key, file)?;
+    write_files(rt, store, compilation, object.as_ref(), name, file)?;
     Ok(None)
 }
 
@@ -341,21 +326,19 @@ fn record_over<R: Files + AllocGlobal>(
         return Ok(Outcome::Refused(Refusal::NamedFile));
     }
     let recording = record_text::<Sha256State, MapFiles>(rt.alloc(), &mut files, &asked, text)?;
-    let Recording {
-        key: object_key,
-        put,
-    } = recording;
+    let Recording { key: object, put } = recording;
     let Some(entry) = put else {
         return Ok(Outcome::Refused(Refusal::NamedFile));
     };
+    let name = name_in(rt, request, &mut files, object.as_str(), &entry.bytes)?;
     let file = entry_file_of(entry, absent_paths);
-    match keep(rt, store, compilation, &bases, object_key.as_str(), &file)? {
+    match keep(rt, store, compilation, &bases, name.as_str(), &file)? {
         Some(refusal) => Ok(Outcome::Refused(refusal)),
-        None => Ok(Outcome::Recorded(object_key)),
+        None => Ok(Outcome::Recorded(name)),
     }
 }
 
-/// Records a compilation whose preprocessed text is this, after it was compiled. Returns the key of the
+/// Records a compilation whose preprocessed text is this, after it was compiled. Returns the name of the
 /// object, or why nothing was recorded.
 ///
 /// The error is of a file that can't be read or written, of a malformed line marker, or lack of memory.

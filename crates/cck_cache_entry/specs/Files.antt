@@ -47,4 +47,4 @@ entry_file hash file = stored_file hash (codes "cck entry 1\n") (entry_parts fil
 
 -- an object file of the store
 abbrev pub object_file : (List ℕ → List ℕ) → ObjectFields → List ℕ
-object_file hash file = stored_file hash (codes "cck object 2\n") (object_parts file)
+object_file hash file = stored_file hash (codes "cck object 3\n") (object_parts file)

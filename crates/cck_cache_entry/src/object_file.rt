@@ -9,12 +9,12 @@ use cck_digest::{HashState, UtilError};
 use std::alloc::Global;
 
 /// How an object file of the store begins.
-const KIND: &[u8] = b"cck object 2\n";
+const KIND: &[u8] = b"cck object 3\n";
 
 /// What an object file of the store holds.
 #[derive(Debug, Drop, PartialEq, Eq)]
 pub struct ObjectFile {
-    /// The key of the object.
+    /// The key of the file: the name of the object.
     pub key: Vec<u8>,
     /// The bytes of the object.
     pub object: Vec<u8>,

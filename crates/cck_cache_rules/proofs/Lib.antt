@@ -1,2 +1,3 @@
 mod ContentLemmas
 mod Examples
+mod ObjectNameLemmas

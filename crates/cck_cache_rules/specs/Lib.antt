@@ -1,3 +1,4 @@
 pub mod Age
 pub mod Contents
+pub mod ObjectName
 pub mod Refusal

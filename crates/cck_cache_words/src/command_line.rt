@@ -39,7 +39,7 @@ const CALL_EXTRA: [OptionWords<'static>; 2] = [
 ];
 
 const UNPACK_REQUIRED: [OptionWords<'static>; 3] = [
-    ("key", "KEY", "The key of the object"),
+    ("key", "NAME", "The name of the object"),
     ("object", "FILE", "The object file"),
     OUT,
 ];
@@ -144,14 +144,6 @@ fn key_command<'a>(alloc: Global) -> Result<Command<'a>, AllocError> {
     with_call(alloc, command)
 }
 
-// The command `object-key`.
-fn object_key_command<'a>(alloc: Global) -> Result<Command<'a>, AllocError> {
-    let command = Command::new(alloc, "object-key").about(
-        "Prints the key of the object whose preprocessed text is read from standard input",
-    );
-    with_call(alloc, command)
-}
-
 // The command `unpack`.
 fn unpack_command<'a>(alloc: Global) -> Result<Command<'a>, AllocError> {
     let command = Command::new(alloc, "unpack").about("Writes the object that an object file has");
@@ -206,7 +198,6 @@ fn why_command<'a>(alloc: Global) -> Result<Command<'a>, AllocError> {
 fn with_call_commands<'a>(alloc: Global, program: Command<'a>) -> Result<Command<'a>, AllocError> {
     program
         .subcommand(key_command(alloc)?)?
-        .subcommand(object_key_command(alloc)?)?
         .subcommand(look_command(alloc)?)?
         .subcommand(record_command(alloc)?)?
         .subcommand(why_command(alloc)?)

@@ -65,7 +65,7 @@ pub struct Made<'a> {
 /// An object file that is not in the store.
 #[derive(Drop)]
 pub struct Packed<'a> {
-    /// The key of the object.
+    /// The name of the object.
     pub key: &'a str,
     /// The path of the object file.
     pub path: &'a str,
@@ -78,8 +78,6 @@ pub struct Packed<'a> {
 pub enum Action<'a> {
     /// The preprocessor key is printed.
     Key,
-    /// The key of the object is printed, from its preprocessed text.
-    ObjectKey,
     /// The object is looked for in the store.
     Look {
         /// The path of the store.
@@ -227,7 +225,6 @@ fn why_action<'a>(matches: &ArgMatches<'a>) -> Option<Action<'a>> {
 fn action_of<'a>(name: &str, matches: &ArgMatches<'a>) -> Option<Action<'a>> {
     match name {
         "key" => Some(Action::Key),
-        "object-key" => Some(Action::ObjectKey),
         "look" => look_action(matches),
         "record" => record_action(matches),
         "why" => why_action(matches),

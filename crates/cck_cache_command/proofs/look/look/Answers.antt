@@ -27,9 +27,9 @@ returns-in-Some g c =
       is_request = c.snapshot_request-asked.ensures wanted.request refl c.in_ok-hasher.ensures;
       is_key = sym c.in_ok-key.ensures.key ∙ ap (λ (o : Option (String Global)). option_map string_bytes o) c.in-Some.is;
     } in
-    IfOk-weaker c.look_for.result (λ (found : Found). IsCalm after → IsFoundFor wanted.outputs asked after.files key found) (IsLookResult environment wanted)
+    IfOk-weaker c.look_for.result (λ (found : Found). IsCalm after → IsFoundFor wanted asked after.files key found) (IsLookResult environment wanted)
     (λ found is. found_all environment wanted key has found
-    (subst (λ (m : FileMap). IsFoundFor wanted.outputs asked m key found) c.in_ok-key.ensures.keeps.same_map (is (calm_kept files after c.in_ok-key.ensures.keeps c.in_ok-files.ensures.calm))))
+    (subst (λ (m : FileMap). IsFoundFor wanted asked m key found) c.in_ok-key.ensures.keeps.same_map (is (calm_kept files after c.in_ok-key.ensures.keeps c.in_ok-files.ensures.calm))))
     c.look_for.ensures
 
 pub returns : goal.returns

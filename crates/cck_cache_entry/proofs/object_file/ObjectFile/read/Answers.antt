@@ -13,4 +13,4 @@ returns-in_default-clause-read g c =
 
 pub returns-clause-read : goal.returns-clause-read
 returns-clause-read g c =
-    read_twice (stored_file g.H.HashState.hash (codes "cck object 2\n")) object_parts c.args.bytes.now (byte_lists c.in-Some.parts) (option_map object_fields c.file_of.result) (rw c.in-Some.is at c.in_ok-parts.ensures.read) c.file_of.ensures
+    read_twice (stored_file g.H.HashState.hash (codes "cck object 3\n")) object_parts c.args.bytes.now (byte_lists c.in-Some.parts) (option_map object_fields c.file_of.result) (rw c.in-Some.is at c.in_ok-parts.ensures.read) c.file_of.ensures
