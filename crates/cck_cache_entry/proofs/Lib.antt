@@ -6,3 +6,4 @@ pub mod ReadingLemmas
 pub mod SearchLemmas
 pub mod SetLemmas
 pub mod StoredLemmas
+pub mod TestLemmas

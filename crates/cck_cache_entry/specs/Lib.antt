@@ -3,6 +3,7 @@ pub mod Assembler
 pub mod Files
 pub mod Frames
 pub mod Names
+pub mod PathTest
 pub mod Reading
 pub mod SearchList
 pub mod Sets
