@@ -1,6 +1,7 @@
 pub mod AbsentLemmas
 mod AssemblerExamples
 pub mod EqualityLemmas
+pub mod LeftLemmas
 pub mod NameLemmas
 pub mod ReadingLemmas
 pub mod SearchLemmas

@@ -111,8 +111,8 @@ pub next_part : (all left rest : List (List ℕ)) (before after : List PathTest)
 next_part all left rest before after test part so_far first more is =
     let written : map test_bytes (tests_of after) ≡ map test_bytes (tests_of before) ++ part ∷ [] =
     ap (λ (ts : List PathTest). map test_bytes (tests_of ts)) more
-        ∙ (ap (map test_bytes) (map-append test_of before (test ∷ []))
-        ∙ (map-append test_bytes (tests_of before) (test_of test ∷ []) ∙ ap (λ (b : List ℕ). map test_bytes (tests_of before) ++ b ∷ []) is))
+    ∙ (ap (map test_bytes) (map-append test_of before (test ∷ []))
+    ∙ (map-append test_bytes (tests_of before) (test_of test ∷ []) ∙ ap (λ (b : List ℕ). map test_bytes (tests_of before) ++ b ∷ []) is))
     in
     so_far ∙ (ap (λ (l : List (List ℕ)). map test_bytes (tests_of before) ++ l) first
-        ∙ (sym (append_assoc (map test_bytes (tests_of before)) (part ∷ []) rest) ∙ ap (λ (l : List (List ℕ)). l ++ rest) (sym written)))
+    ∙ (sym (append_assoc (map test_bytes (tests_of before)) (part ∷ []) rest) ∙ ap (λ (l : List (List ℕ)). l ++ rest) (sym written)))

@@ -2,6 +2,7 @@ pub mod Absent
 pub mod Assembler
 pub mod Files
 pub mod Frames
+pub mod Left
 pub mod Names
 pub mod PathTest
 pub mod Reading

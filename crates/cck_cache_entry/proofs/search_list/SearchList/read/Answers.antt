@@ -43,7 +43,7 @@ returns c =
     let listing_is : lines_of listing ≡ after_first begins_list (before_first ends_list lines) = c.listing_in-listing.ensures ∙ ap (after_first begins_list) front_is in
     let quotes : lines_of (take c.place_of-2.result listing) ≡ before_first begins_list (after_first begins_list (before_first ends_list lines)) =
     sym (take-map (λ l. l.now) c.place_of-2.result listing)
-        ∙ (ap (λ n. take n (lines_of listing)) (c.place_of-2.ensures.place begins_list (λ line found is. is)) ∙ ap (before_first begins_list) listing_is)
+    ∙ (ap (λ n. take n (lines_of listing)) (c.place_of-2.ensures.place begins_list (λ line found is. is)) ∙ ap (before_first begins_list) listing_is)
     in
     let for_quotes = c.in_ok-directories_in-2.field-0 in
     rw (← c.in_ok-lines.ensures) (record {
