@@ -2,7 +2,9 @@ pub mod Absent
 pub mod Assembler
 pub mod Files
 pub mod Frames
+pub mod Left
 pub mod Names
+pub mod PathTest
 pub mod Reading
 pub mod SearchList
 pub mod Sets

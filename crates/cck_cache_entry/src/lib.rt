@@ -4,8 +4,10 @@
 //!
 //! - [`EntryFile`] and [`ObjectFile`] are the two kinds of file of a store. Their bytes end in
 //!   frames, under a digest over all of them, so that a file that was cut or changed is not read.
+//! - [`PathTest`] is what must hold of a path before an entry is used.
 //! - [`SearchList`] is a compiler's list of directories for headers, as `gcc -v` prints it.
 //! - [`absent_names`] lists the paths at which a named header would have been found earlier.
+//! - [`left_directories`] lists the directories that names of a text leave by `..`.
 //! - [`may_include`] and [`has_include_test`] say whether a text may depend on a file that no line
 //!   marker names.
 //! - [`laws`] states what `==` means for the types.
@@ -17,8 +19,10 @@ mod entry_file;
 mod frames;
 mod has_include;
 pub mod laws;
+mod left;
 mod names;
 mod object_file;
+mod path_test;
 mod search_list;
 mod stored;
 
@@ -26,5 +30,7 @@ pub use absent::absent_names;
 pub use assembler::may_include;
 pub use entry_file::EntryFile;
 pub use has_include::has_include_test;
+pub use left::left_directories;
 pub use object_file::ObjectFile;
+pub use path_test::PathTest;
 pub use search_list::SearchList;
