@@ -67,6 +67,7 @@ fn is_keyed(class: Class) -> bool
         Class::Text
         | Class::Code
         | Class::Message
+        | Class::CompilerMessage
         | Class::Directory
         | Class::Dependencies
         | Class::Rule
@@ -81,13 +82,15 @@ fn is_keyed(class: Class) -> bool
 }
 
 /// Whether the preprocessor has the arguments of options of this class where it writes no dependency
-/// file: the text may depend on each that counts in a key, but for those of a dependency file.
+/// file: the text may depend on each that counts in a key, but for those of a dependency file and those
+/// of the compiler's messages alone.
 pub(crate) fn is_preprocessed(class: Class) -> bool
     ensures { result ≡ is_preprocessed class }
 {
     match class {
         Class::Text | Class::Code | Class::Message | Class::Directory => true,
-        Class::Dependencies
+        Class::CompilerMessage
+        | Class::Dependencies
         | Class::Rule
         | Class::Target
         | Class::PreprocessorDependencyFile

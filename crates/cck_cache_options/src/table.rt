@@ -58,6 +58,9 @@ pub enum Class {
     Code,
     /// The messages.
     Message,
+    /// The messages, in such a way that a warning of the preprocessor may not be printed, or not on one
+    /// line. The preprocessed text does not depend on it, and the preprocessor is not given it.
+    CompilerMessage,
     /// A directory in which headers are looked for.
     Directory,
     /// Nothing of what is written.
@@ -173,6 +176,8 @@ fn kept_class_named(name: &[u8]) -> Option<Class>
         Some(Class::Code)
     } else if name == b"message".as_slice() {
         Some(Class::Message)
+    } else if name == b"compiler-message".as_slice() {
+        Some(Class::CompilerMessage)
     } else if name == b"directory".as_slice() {
         Some(Class::Directory)
     } else if name == b"nothing".as_slice() {
