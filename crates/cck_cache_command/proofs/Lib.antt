@@ -1,7 +1,6 @@
 pub mod AbsenceLemmas
 pub mod CallLemmas
 pub mod InputLemmas
-pub mod JudgeLemmas
 pub mod LookLemmas
 pub mod RecordLemmas
 pub mod RequestLemmas

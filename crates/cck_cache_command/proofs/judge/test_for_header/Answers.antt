@@ -1,7 +1,7 @@
 use Rattle.std.proofs.Common.{rules, tests}
 use Rattle.std.proofs.lemmas.Iterator.{YieldsList-from_slice, cases_from_any}
+use Rattle.cck_cache_base.proofs.ListLemmas.{any_decided}
 use Rattle.cck_cache_command.specs.Judge.{TestsForHeader}
-use Rattle.cck_cache_command.proofs.JudgeLemmas.{any_decided}
 use Rattle.cck_cache_command.proofs.judge.test_for_header.Goals as goal
 
 pub returns : goal.returns
