@@ -16,6 +16,7 @@ pub mod laws;
 mod paths;
 mod quote;
 mod reason;
+mod runs;
 mod table;
 
 pub use call::{Call, Keyed, Parsed, parse};
