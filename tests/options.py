@@ -7,6 +7,10 @@ installed. Run by hand: options.py [--missing]. Needs gcc; the table was made fo
 - An option whose value may be joined to its name is not the beginning of another option: each longer option
   that gcc prints has a row of its own. Otherwise the program would read it as the shorter one with a value.
 - gcc accepts each option without a value that a cached call may have.
+- With each option that the preprocessor is given, with some values, the warning of a time macro by which the wrapper
+  knows one (-Wdate-time) is on one line, if gcc accepts the option; and the class of options with which it is not is
+  of no other option.
+- gcc refuses `-Wno-` before an option that is none of warnings (-Wa, -Wl, -Wp,), so that it is not read as that option.
 
 With --missing it prints the options of gcc that the table does not have: calls with them are passed on. The last
 line is `options: N passed, M failed`, of rows.
@@ -26,6 +30,14 @@ LISTS = (
 )
 # Options that gcc takes and prints in no list.
 HIDDEN = ("-I-",)
+# The classes of options that the preprocessor is given, and that of options that it is not given for its warnings.
+PREPROCESSED = ("text", "code", "message", "directory")
+SILENCING = "compiler-message"
+# Values that are tried with each option that has one.
+VALUES = ("0", "1", "20", "x", "always", "none")
+WARNING = "might prevent reproducible builds"
+# What is no option of warnings, after -W.
+NO_WARNINGS = ("a,-L", "l,-x", "p,-w", "p,-MD,small.d")
 
 
 def text_of(name):
@@ -93,6 +105,48 @@ def refused(rows):
                     yield f"gcc refuses {row[0]}"
 
 
+def shows_warning(words, path):
+    """Whether the preprocessor prints the warning of a time macro on one line, by the call of the wrapper. None where
+    it refuses these words."""
+    call = ["gcc", *words, path, "-Wdate-time", "-Wsystem-headers", "-Wno-error", "-E", "-o", os.devnull]
+    done = subprocess.run(call, capture_output=True, text=True, errors="replace", env={**os.environ, "LC_ALL": "C"})
+    return None if done.returncode else WARNING in done.stderr
+
+
+def words_of(row):
+    """The words of an option, with each value that is tried."""
+    name, form, _ = row
+    if form == "alone":
+        return [[name]]
+    if form == "separate":
+        return [[name, value] for value in VALUES]
+    return [[name + ("=" if form == "equals" else "") + value] for value in VALUES]
+
+
+def silenced(rows):
+    with tempfile.TemporaryDirectory() as room:
+        path = os.path.join(room, "time.c")
+        with open(path, "w", encoding="utf-8") as file:
+            file.write("const char *time = __TIME__;\n")
+        for row in rows:
+            if row[2] in PREPROCESSED + (SILENCING,):
+                hiding = [words for words in words_of(row) if shows_warning(words, path) is False]
+                if row[2] != SILENCING:
+                    yield from (f"the warning of a time macro is not on one line with {' '.join(words)}" for words in hiding)
+                elif not hiding:
+                    yield f"the warning of a time macro is on one line with {row[0]}"
+
+
+def negated():
+    with tempfile.TemporaryDirectory() as room:
+        with open(os.path.join(room, "small.c"), "w", encoding="utf-8") as file:
+            file.write("int small;\n")
+        for ending in NO_WARNINGS:
+            done = subprocess.run(["gcc", "-Wno-" + ending, "-c", "small.c"], capture_output=True, cwd=room)
+            if done.returncode == 0:
+                yield f"gcc accepts -Wno-{ending}"
+
+
 def main():
     faults = []
     lines = table()
@@ -102,6 +156,8 @@ def main():
         faults.append(f"gcc prints only {len(names)} options")
     faults += longer(rows, names)
     faults += refused(rows)
+    faults += silenced(rows)
+    faults += negated()
     known = {name for name, _, _ in rows}
     missing = sorted(name for name in names if name.rstrip("=") not in known and name.split("=")[0] not in known)
     if "--missing" in sys.argv[1:]:

@@ -1,6 +1,10 @@
--- the compilation that a call of a compiler asks for
-use Rattle.std.specs.Prelude.{◌≡◌, ◌++◌, ◌∷◌, [], cond, not, ◌&&◌, List, Bool, codes, map, string_bytes}
+-- the compilation that a call of a compiler asks for, and the paths of its files
+use Rattle.std.specs.Prelude.{◌≡◌, ◌++◌, ◌∷◌, ◌⊎◌, [], cond, not, ◌&&◌, List, Bool, true, false, Option, Some, None, IfSome, IsUtf8, codes, map, string_bytes}
+use Rattle.std.specs.Option.{option_map}
 use Rattle.cck_cache_command.specs.declared.call.CallPaths.{CallPaths}
+use Rattle.cck_cache_options.specs.Call.{Asked}
+use Rattle.cck_cache_options.specs.Paths.{IsDependencyPath, IsObjectPath}
+use Rattle.cck_cache_options.specs.Quote.{command, preprocessor_command}
 use Rattle.cck_cache_options.specs.declared.call.Call.{Call}
 use Rattle.cck_cache_words.specs.declared.request.CompilerCall.{CompilerCall}
 use Rattle.cck_cache_words.specs.declared.request.Request.{Request}
@@ -22,3 +26,57 @@ pub record IsCallRequest (call : CompilerCall) (asked : Call) (paths : CallPaths
   pub arguments : lists_of request.arguments.items ≡ counted_arguments asked (string_bytes paths.output)
   pub digests : request.digests ≡ call.digests
   pub base : request.base ≡ call.base
+
+-- the path of the object: the one that the call has, or the one that the compiler chooses for the input
+abbrev pub IsOutput : Option Bytes → Bytes → Bytes → Type 0
+IsOutput (Some given) input path = path ≡ given
+IsOutput None input path = IsObjectPath input path
+
+-- the path of the dependency file of a call that has one, or of one that writes it where the compiler chooses
+abbrev pub AreChosen : Option Bytes → Bool → Bytes → Option Bytes → Type 0
+AreChosen (Some given) depends output path = path ≡ Some given
+AreChosen None true output path = (chosen : Bytes) × (path ≡ Some chosen) × IsDependencyPath output chosen
+AreChosen None false output path = path ≡ None
+
+abbrev pub AreDependencies : Asked → Bytes → Option Bytes → Type 0
+AreDependencies call output path = AreChosen call.dependency_file call.depends output path
+
+-- the paths of a call
+pub record AreBytePaths (call : Asked) (input output : Bytes) (dependencies : Option Bytes) : Type 0 where
+  pub input_is : call.input ≡ Some input
+  pub output_is : IsOutput call.output input output
+  pub dependencies_are : AreDependencies call output dependencies
+
+abbrev pub AreUtf8 : Bytes → Bytes → Option Bytes → Type 0
+AreUtf8 input output dependencies = IsUtf8 input × IsUtf8 output × IfSome dependencies IsUtf8
+
+-- these texts have these bytes
+pub record AreTexts (input output : Bytes) (dependencies : Option Bytes) (paths : CallPaths) : Type 0 where
+  pub input_is : paths.input.now ≡ input
+  pub output_is : string_bytes paths.output ≡ output
+  pub dependencies_are : option_map string_bytes paths.dependencies ≡ dependencies
+
+abbrev pub ArePaths : Asked → CallPaths → Type 0
+ArePaths call paths = AreBytePaths call paths.input.now (string_bytes paths.output) (option_map string_bytes paths.dependencies)
+
+-- the paths of a call are not UTF-8
+pub record HasNoTexts (call : Asked) : Type 0 where
+  pub input : Bytes
+  pub output : Bytes
+  pub dependencies : Option Bytes
+  pub are : AreBytePaths call input output dependencies
+  pub no_texts : ¬ (AreUtf8 input output dependencies)
+
+-- a call has no input, or its paths are not UTF-8
+abbrev pub HasNoPaths : Asked → Type 0
+HasNoPaths call = (call.input ≡ None) ⊎ HasNoTexts call
+
+abbrev pub bytes_or_none : Option Bytes → Bytes
+bytes_or_none None = []
+bytes_or_none (Some bytes) = bytes
+
+-- what a shell is given of a call: a line with the paths, and one with the arguments of the preprocessor
+abbrev pub call_lines : Asked → CallPaths → Bytes
+call_lines call paths =
+    command (paths.input.now ∷ string_bytes paths.output ∷ bytes_or_none (option_map string_bytes paths.dependencies) ∷ [])
+    ++ 10 ∷ preprocessor_command call.keyed ++ 10 ∷ []

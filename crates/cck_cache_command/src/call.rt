@@ -1,12 +1,14 @@
 //! The compilation that a call of a compiler asks for, and the paths of its files.
-ghost use Rattle.std.specs.Prelude.{◌≡◌, ◌++◌, IfOk, OnOk, map, string_bytes};
-ghost use Rattle.cck_cache_command.specs.Call.{IsCallRequest, counted_arguments};
+ghost use Rattle.std.specs.Prelude.{◌≡◌, ◌++◌, IfOk, IsUtf8, MatchOption, OnOk, map, string_bytes};
+ghost use Rattle.std.specs.Option.{option_map};
+ghost use Rattle.cck_cache_command.specs.Call.{AreDependencies, ArePaths, AreTexts, AreUtf8, HasNoPaths, IsCallRequest, IsOutput, call_lines, counted_arguments};
+ghost use Rattle.cck_cache_options.specs.Call.{call_of};
 ghost use Rattle.cck_path.specs.Bytes.{lists_of};
 
 use crate::request::push_argument;
 use anyhow::Result;
 use cck_cache_options::{
-    Call, Keyed, dependency_path, object_path, push_preprocessor_arguments, push_quoted,
+    Call, Keyed, dependency_path, object_path, push_preprocessor_arguments, push_word,
 };
 use cck_cache_words::{CompilerCall, Request};
 use std::alloc::{AllocError, Global};
@@ -24,7 +26,9 @@ pub struct CallPaths<'a> {
 }
 
 // The path of the object.
-fn output_of(alloc: Global, asked: &Call<'_>, input: &[u8]) -> Result<Vec<u8>, AllocError> {
+fn output_of(alloc: Global, asked: &Call<'_>, input: &[u8]) -> Result<Vec<u8>, AllocError>
+    ensures { IfOk result (λ path. IsOutput (call_of asked.now).output input.now path.items) }
+{
     match asked.output {
         Some(path) => path.to_vec(alloc),
         None => object_path(alloc, input),
@@ -36,46 +40,65 @@ fn dependencies_of(
     alloc: Global,
     asked: &Call<'_>,
     output: &[u8],
-) -> Result<Option<Vec<u8>>, AllocError> {
-    Ok(match asked.dependency_file {
-        Some(path) => Some(path.to_vec(alloc)?),
-        None if asked.depends => Some(dependency_path(alloc, output)?),
-        None => None,
-    })
+) -> Result<Option<Vec<u8>>, AllocError>
+    ensures { IfOk result (λ path.
+        AreDependencies (call_of asked.now) output.now (option_map (λ bytes. bytes.items) path)) }
+{
+    match asked.dependency_file {
+        Some(path) => Ok(Some(path.to_vec(alloc)?)),
+        None if asked.depends => Ok(Some(dependency_path(alloc, output)?)),
+        None => Ok(None),
+    }
 }
 
 // A text of these bytes. `None` where they are not UTF-8.
-fn text_of(bytes: Vec<u8>) -> Option<String> {
+fn text_of(bytes: Vec<u8>) -> Option<String>
+    ensures { MatchOption result (¬ (IsUtf8 bytes.items)) (λ text. string_bytes text ≡ bytes.items) }
+{
     match String::from_utf8(bytes) {
         Ok(text) => Some(text),
         Err(_) => None,
     }
 }
 
+// The texts of the paths of a call. `None` where one of them is not UTF-8.
+fn texts_of<'a>(
+    input: &'a [u8],
+    output: Vec<u8>,
+    dependencies: Option<Vec<u8>>,
+) -> Option<CallPaths<'a>>
+    ensures { MatchOption result
+        (¬ (AreUtf8 input.now output.items (option_map (λ bytes. bytes.items) dependencies)))
+        (AreTexts input.now output.items (option_map (λ bytes. bytes.items) dependencies)) }
+{
+    let Ok(input) = std::str::from_utf8(input) else {
+        return None;
+    };
+    let output = text_of(output)?;
+    let dependencies = match dependencies {
+        Some(path) => Some(text_of(path)?),
+        None => None,
+    };
+    Some(CallPaths {
+        input,
+        output,
+        dependencies,
+    })
+}
+
 /// The paths of a call. `None` where there is no input, or a path is not UTF-8.
 ///
 /// The error is lack of memory.
-pub fn paths_of<'a>(alloc: Global, asked: &Call<'a>) -> Result<Option<CallPaths<'a>>, AllocError> {
+pub fn paths_of<'a>(alloc: Global, asked: &Call<'a>) -> Result<Option<CallPaths<'a>>, AllocError>
+    ensures { IfOk result (λ paths.
+        MatchOption paths (HasNoPaths (call_of asked.now)) (ArePaths (call_of asked.now))) }
+{
     let Some(input) = asked.input else {
         return Ok(None);
     };
     let output = output_of(alloc, asked, input)?;
     let dependencies = dependencies_of(alloc, asked, &output)?;
-    let (Ok(input), Some(output)) = (std::str::from_utf8(input), text_of(output)) else {
-        return Ok(None);
-    };
-    let dependencies = match dependencies {
-        Some(path) => match text_of(path) {
-            Some(path) => Some(path),
-            None => return Ok(None),
-        },
-        None => None,
-    };
-    Ok(Some(CallPaths {
-        input,
-        output,
-        dependencies,
-    }))
+    Ok(texts_of(input, output, dependencies))
 }
 
 // Appends copies of arguments.
@@ -129,6 +152,29 @@ pub fn request_of<'a>(
     })
 }
 
+// The lines of a call for a shell: one with its paths, that of no dependency file empty, and one with the
+// arguments of the preprocessor.
+fn call_lines(
+    alloc: Global,
+    asked: &Call<'_>,
+    paths: &CallPaths<'_>,
+) -> Result<Vec<u8>, AllocError>
+    ensures { IfOk result (λ lines. lines.items ≡ call_lines (call_of asked.now) paths.now) }
+{
+    let dependencies = match &paths.dependencies {
+        Some(path) => path.as_str(),
+        None => "",
+    };
+    let mut lines = Vec::new(alloc);
+    push_word(&mut lines, paths.input.as_bytes())?;
+    push_word(&mut lines, paths.output.as_bytes())?;
+    push_word(&mut lines, dependencies.as_bytes())?;
+    lines.push(b'\n')?;
+    push_preprocessor_arguments(&mut lines, &asked.keyed)?;
+    lines.push(b'\n')?;
+    Ok(lines)
+}
+
 /// Prints the paths of a call, and the arguments that the preprocessor has, a line for each. A shell
 /// reads them back. Where no dependency file is written its path is empty.
 ///
@@ -139,19 +185,7 @@ pub fn print_call<W: Write>(
     paths: &CallPaths<'_>,
     writer: &mut W,
 ) -> Result<()> {
-    let mut lines = Vec::new(alloc);
-    push_quoted(&mut lines, paths.input.as_bytes())?;
-    lines.push(b' ')?;
-    push_quoted(&mut lines, paths.output.as_bytes())?;
-    lines.push(b' ')?;
-    let dependencies = match &paths.dependencies {
-        Some(path) => path.as_str(),
-        None => "",
-    };
-    push_quoted(&mut lines, dependencies.as_bytes())?;
-    lines.push(b'\n')?;
-    push_preprocessor_arguments(&mut lines, &asked.keyed)?;
-    lines.push(b'\n')?;
+    let lines = call_lines(alloc, asked, paths)?;
     writer.write_all(&lines)?;
     Ok(())
 }

@@ -9,6 +9,7 @@ mod absence;
 mod call;
 mod environment;
 mod input;
+mod judge;
 mod look;
 mod naming;
 mod outputs;

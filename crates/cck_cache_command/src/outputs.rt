@@ -8,6 +8,7 @@ use cck_cache_files::StoreDirectory;
 use cck_cache_words::Outputs;
 use std::io::Write;
 use std::rt::Files;
+use std::{fs, io};
 
 /// Whether an object file has what is to be written: some dependencies, if there is a path for them.
 pub fn has_outputs(object: &ObjectFile, outputs: &Outputs<'_>) -> bool
@@ -16,12 +17,20 @@ pub fn has_outputs(object: &ObjectFile, outputs: &Outputs<'_>) -> bool
     outputs.dependencies.is_none() || !object.dependencies.is_empty()
 }
 
+// Writes a file at its path, as gcc writes a dependency file: one that is there keeps its mode and its
+// other names.
+fn write_in_place<R: Files>(rt: &R, path: &str, bytes: &[u8]) -> io::Result<()> {
+    let mut file = fs::create(rt, path)?;
+    file.write_all(bytes)
+}
+
 /// Writes the parts of an object file: the dependency file, if there is a path for it, the object, and
-/// the compiler's messages. The object is written after the dependency file, as a compiler does, so that
-/// an object that is there has its dependencies.
+/// the compiler's messages. As gcc does, the dependency file is written in place and before the object,
+/// and the object is made anew: an object that is there has its dependencies.
 ///
 /// The error is of a file that can't be made, written or renamed, of a failed write of the messages, or
-/// lack of memory. What was written before it stays.
+/// lack of memory. What was written before it stays: the dependency file then may have some of its bytes,
+/// as one of a compilation that failed.
 pub fn write_outputs<R: Files + AllocGlobal, E: Write>(
     rt: &R,
     store: &StoreDirectory,
@@ -30,7 +39,7 @@ pub fn write_outputs<R: Files + AllocGlobal, E: Write>(
     errors: &mut E,
 ) -> Result<()> {
     if let Some(path) = outputs.dependencies {
-        store.replace(rt, path, &object.dependencies)?;
+        write_in_place(rt, path, &object.dependencies)?;
     }
     store.replace(rt, outputs.object, &object.object)?;
     errors.write_all(&object.messages)?;

@@ -1,4 +1,4 @@
-//! Whether what a compilation writes may be put in place by a rename.
+//! Whether what a compilation writes may be put at its paths.
 use crate::call::CallPaths;
 use std::fs;
 use std::fs::Metadata;
@@ -6,9 +6,8 @@ use std::io::ErrorKind;
 use std::os::unix::fs::MetadataExt;
 use std::rt::Files;
 
-// Whether a file may be put at a path by a rename: there is nothing, or a regular file that is not the
-// input. A compiler writes through a link and to a device, and does not write to a directory or over its
-// input.
+// Whether a file may be put at a path: there is nothing, or a regular file that is not the input. A
+// compiler writes through a link and to a device, and does not write to a directory or over its input.
 fn is_free<R: Files>(rt: &R, input: &Metadata, path: &str) -> bool {
     match fs::symlink_metadata(rt, path) {
         Ok(found) => found.is_file() && !(found.dev() == input.dev() && found.ino() == input.ino()),
@@ -16,9 +15,8 @@ fn is_free<R: Files>(rt: &R, input: &Metadata, path: &str) -> bool {
     }
 }
 
-/// Whether the files of a compilation may be put at their paths by a rename, and are two files. `-` is
-/// standard output.
-/// `false` where the input can't be looked at.
+/// Whether the files of a compilation may be put at their paths, and are two files. `-` is standard
+/// output. `false` where the input can't be looked at.
 pub fn are_free<R: Files>(rt: &R, paths: &CallPaths<'_>) -> bool {
     let Ok(input) = fs::metadata(rt, paths.input) else {
         return false;

@@ -1,7 +1,8 @@
 //! The program, over any files, reader and writers.
-use crate::call::{CallPaths, paths_of, print_call, request_of};
+use crate::call::{CallPaths, print_call, request_of};
 use crate::environment::Environment;
 use crate::input::input_snapshot;
+use crate::judge::{Judged, Passed, judge};
 use crate::look::{Found, NO_KEY, look};
 use crate::outputs::write_outputs;
 use crate::places::are_free;
@@ -12,9 +13,8 @@ use crate::stats::print_stats;
 use crate::unpack::unpack;
 use crate::why::print_why;
 use anyhow::{Result, bail};
-use cck_cache_entry::has_include_test;
 use cck_cache_files::{Kind, StoreDirectory, open_store};
-use cck_cache_options::{Call, GCC, Parsed, parse, rows_of};
+use cck_cache_options::{Call, GCC, rows_of};
 use cck_cache_words::{
     Action, Compilation, CompilerCall, Look, Outputs, Packed, Request, Task, task_of,
 };
@@ -46,8 +46,8 @@ struct Wanted<'a> {
 }
 
 // Prints why a call is not cached.
-fn print_passed<W: Write>(writer: &mut W, reason: &str) -> Result<u8> {
-    writeln!(writer, "passed {reason}")?;
+fn print_passed<W: Write>(writer: &mut W, reason: Passed) -> Result<u8> {
+    writeln!(writer, "passed {}", reason.as_str())?;
     Ok(MISS)
 }
 
@@ -326,11 +326,6 @@ fn run_action<R: Files + AllocGlobal, I: Read, W: Write, E: Write>(
     }
 }
 
-// Whether an argument tests for the existence of a header.
-fn tests_for_header(arguments: &[Vec<u8>]) -> bool {
-    arguments.iter().any(|argument| has_include_test(argument))
-}
-
 // Does what was asked for with a call of a compiler, or prints why the call is not cached.
 fn run_call<R: Files + AllocGlobal, I: Read, W: Write, E: Write>(
     rt: &R,
@@ -343,18 +338,12 @@ fn run_call<R: Files + AllocGlobal, I: Read, W: Write, E: Write>(
 ) -> Result<u8> {
     let alloc = rt.alloc();
     let rows = rows_of(alloc, GCC)?;
-    let asked = match parse(alloc, &rows, &call.arguments)? {
-        Parsed::Asks(asked) => asked,
-        Parsed::PassedOn(reason) => return print_passed(writer, reason.as_str()),
-    };
-    if tests_for_header(&call.arguments) {
-        return print_passed(writer, "header-test");
-    }
-    let Some(paths) = paths_of(alloc, &asked)? else {
-        return print_passed(writer, "no-input");
+    let (asked, paths) = match judge(alloc, &rows, &call.arguments)? {
+        Judged::Asks(asked, paths) => (asked, paths),
+        Judged::PassedOn(reason) => return print_passed(writer, reason),
     };
     if !are_free(rt, &paths) {
-        return print_passed(writer, "output");
+        return print_passed(writer, Passed::Output);
     }
     let request = request_of(alloc, call, &asked, &paths)?;
     let wanted = Wanted {

@@ -9,7 +9,7 @@ use Rattle.cck_cache_options.specs.declared.table.Cause.TheVariants.{Preprocesso
 use Rattle.cck_cache_options.specs.declared.table.Form.{Form}
 use Rattle.cck_cache_options.specs.declared.table.Form.TheVariants.{Alone, Joined, Separate, Either, Equals}
 use Rattle.cck_cache_options.specs.declared.table.Class.{Class}
-use Rattle.cck_cache_options.specs.declared.table.Class.TheVariants.{Text, Code, Message, Directory, Nothing, Compile, Output, Dependencies, Rule, Target, DependencyFile, PreprocessorDependencyFile, Passed}
+use Rattle.cck_cache_options.specs.declared.table.Class.TheVariants.{Text, Code, Message, CompilerMessage, Directory, Nothing, Compile, Output, Dependencies, Rule, Target, DependencyFile, PreprocessorDependencyFile, Passed}
 use Rattle.cck_cache_options.specs.Table.{Entry, after_name, has_bytes, longest}
 use Rattle.cck_cache_options.specs.Call.{Asked, KeyedArgument, State, advance, flag, go, has_comma, is_keyed, keep, nothing_asked, on_argument, on_dash, on_equals, on_found, on_input, on_known, on_option, on_rest, on_value, refused, start, step, step_unless, stop, take, with_dependency_file, with_input, with_output, with_preprocessor_file}
 use Rattle.cck_cache_options.specs.Laws.{AreInOrder, KeyedInOrder}
@@ -54,6 +54,7 @@ take_same : (call : Asked) (class : Class) (value : List ℕ) → Same call (tak
 take_same call Text value = refl
 take_same call Code value = refl
 take_same call Message value = refl
+take_same call CompilerMessage value = refl
 take_same call Directory value = refl
 take_same call Nothing value = refl
 take_same call Compile value = refl
@@ -70,6 +71,7 @@ flag_same : (call : Asked) (class : Class) → Same call (flag call class)
 flag_same call Text = refl
 flag_same call Code = refl
 flag_same call Message = refl
+flag_same call CompilerMessage = refl
 flag_same call Directory = refl
 flag_same call Nothing = refl
 flag_same call Compile = refl

@@ -4,6 +4,7 @@ pub mod PartLemmas
 pub mod PathLemmas
 pub mod PlainLemmas
 pub mod QuoteLemmas
+pub mod RunLemmas
 pub mod StateLemmas
 pub mod StepLemmas
 pub mod TableLemmas

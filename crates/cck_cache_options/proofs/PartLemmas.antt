@@ -10,7 +10,7 @@ use Rattle.cck_cache_options.specs.declared.table.Cause.TheVariants.{Preprocesso
 use Rattle.cck_cache_options.specs.declared.table.Form.{Form}
 use Rattle.cck_cache_options.specs.declared.table.Form.TheVariants.{Alone, Joined, Separate, Either, Equals}
 use Rattle.cck_cache_options.specs.declared.table.Class.{Class}
-use Rattle.cck_cache_options.specs.declared.table.Class.TheVariants.{Text, Code, Message, Directory, Nothing, Compile, Output, Dependencies, Rule, Target, DependencyFile, PreprocessorDependencyFile, Passed}
+use Rattle.cck_cache_options.specs.declared.table.Class.TheVariants.{Text, Code, Message, CompilerMessage, Directory, Nothing, Compile, Output, Dependencies, Rule, Target, DependencyFile, PreprocessorDependencyFile, Passed}
 use Rattle.cck_cache_options.specs.Table.{Entry, after_name, form_fits, longest, rest_fits}
 use Rattle.cck_cache_options.specs.Call.{Asked, KeyedArgument, State, advance, flag, go, has_comma, keep, nothing_asked, on_dash, on_equals, on_found, on_input, on_known, on_rest, start, step, stop, take, take_preprocessor_file, with_dependency_file, with_input, with_output, with_preprocessor_file}
 use Rattle.cck_cache_options.specs.Laws.{IsLongest}
@@ -68,6 +68,7 @@ took : (call : Asked) (class : Class) (value : List ℕ) (c : Asked) (w : Option
 took call Text value c w e = let s = same call c None w e in record { idle = s.waiting; is = s.call; free = tt }
 took call Code value c w e = let s = same call c None w e in record { idle = s.waiting; is = s.call; free = tt }
 took call Message value c w e = let s = same call c None w e in record { idle = s.waiting; is = s.call; free = tt }
+took call CompilerMessage value c w e = let s = same call c None w e in record { idle = s.waiting; is = s.call; free = tt }
 took call Directory value c w e = let s = same (record call { directories = call.directories ++ value ∷ [] }) c None w e in record { idle = s.waiting; is = s.call; free = tt }
 took call Nothing value c w e = let s = same call c None w e in record { idle = s.waiting; is = s.call; free = tt }
 took call Compile value c w e = let s = same call c None w e in record { idle = s.waiting; is = s.call; free = tt }
@@ -88,6 +89,7 @@ flagged : (call : Asked) (class : Class) (c : Asked) (w : Option Class) → flag
 flagged call Text c w e = let s = same call c None w e in record { idle = s.waiting; is = s.call; free = tt }
 flagged call Code c w e = let s = same call c None w e in record { idle = s.waiting; is = s.call; free = tt }
 flagged call Message c w e = let s = same call c None w e in record { idle = s.waiting; is = s.call; free = tt }
+flagged call CompilerMessage c w e = let s = same call c None w e in record { idle = s.waiting; is = s.call; free = tt }
 flagged call Directory c w e = let s = same call c None w e in record { idle = s.waiting; is = s.call; free = tt }
 flagged call Nothing c w e = let s = same call c None w e in record { idle = s.waiting; is = s.call; free = tt }
 flagged call Compile c w e = let s = same (record call { compiles = true }) c None w e in record { idle = s.waiting; is = s.call; free = tt }
@@ -104,6 +106,7 @@ free_kept : (call : Asked) (keyed : List KeyedArgument) (class : Class) (value :
 free_kept call keyed Text value f = tt
 free_kept call keyed Code value f = tt
 free_kept call keyed Message value f = tt
+free_kept call keyed CompilerMessage value f = tt
 free_kept call keyed Directory value f = tt
 free_kept call keyed Nothing value f = tt
 free_kept call keyed Compile value f = tt

@@ -12,7 +12,7 @@ use Rattle.cck_cache_options.specs.declared.reason.Reason.{Reason}
 use Rattle.cck_cache_options.specs.declared.reason.Reason.TheVariants.{ResponseFile, EmptyArgument, ControlCharacter, UnknownOption, PassedOption, MissingValue, OtherInput, TwoInputs, NoInput, TwoOutputs, TwoDependencyFiles, DependencyOptions, NotCompiling}
 use Rattle.cck_cache_options.specs.declared.table.Cause.TheVariants.{PreprocessorOption}
 use Rattle.cck_cache_options.specs.declared.table.Class.{Class}
-use Rattle.cck_cache_options.specs.declared.table.Class.TheVariants.{Text, Code, Message, Directory, Nothing, Compile, Output, Dependencies, Rule, Target, DependencyFile, PreprocessorDependencyFile, Passed}
+use Rattle.cck_cache_options.specs.declared.table.Class.TheVariants.{Text, Code, Message, CompilerMessage, Directory, Nothing, Compile, Output, Dependencies, Rule, Target, DependencyFile, PreprocessorDependencyFile, Passed}
 use Rattle.cck_cache_options.specs.declared.table.Form.{Form}
 use Rattle.cck_cache_options.specs.declared.table.Form.TheVariants.{Alone, Joined, Separate, Either, Equals}
 use Rattle.cck_cache_options.specs.Table.{Entry, after_name, has_bytes, is_empty, longest}
@@ -74,6 +74,7 @@ abbrev pub is_keyed : Class → Bool
 is_keyed Text = true
 is_keyed Code = true
 is_keyed Message = true
+is_keyed CompilerMessage = true
 is_keyed Directory = true
 is_keyed Nothing = false
 is_keyed Compile = false
@@ -85,11 +86,12 @@ is_keyed DependencyFile = false
 is_keyed PreprocessorDependencyFile = true
 is_keyed (Passed cause) = false
 
--- they count in a key, and are of no dependency file
+-- they count in a key, and are neither of a dependency file nor of the compiler's messages alone
 abbrev pub is_preprocessed : Class → Bool
 is_preprocessed Text = true
 is_preprocessed Code = true
 is_preprocessed Message = true
+is_preprocessed CompilerMessage = false
 is_preprocessed Directory = true
 is_preprocessed Nothing = false
 is_preprocessed Compile = false
@@ -137,6 +139,7 @@ abbrev pub take : Asked → Class → List ℕ → State
 take call Text value = go call None
 take call Code value = go call None
 take call Message value = go call None
+take call CompilerMessage value = go call None
 take call Directory value = go (record call { directories = call.directories ++ value ∷ [] }) None
 take call Nothing value = go call None
 take call Compile value = go call None
@@ -153,6 +156,7 @@ abbrev pub flag : Asked → Class → State
 flag call Text = go call None
 flag call Code = go call None
 flag call Message = go call None
+flag call CompilerMessage = go call None
 flag call Directory = go call None
 flag call Nothing = go call None
 flag call Compile = go (record call { compiles = true }) None

@@ -41,7 +41,8 @@ pub record IsPlain (argument : List ℕ) : Type 0 where
 abbrev pub NoneIsResponseFile : Type 0
 NoneIsResponseFile = (table : List Entry) (arguments : List (List ℕ)) (call : Asked) → parse table arguments ≡ asks call → AllByRecursion IsPlain arguments
 
--- a shell reads from the command of the preprocessor the arguments of the call that count in a key, but for those of a dependency file
+-- a shell reads from the command of the preprocessor the arguments of the call that count in a key, but for those of a dependency file and those of
+-- the compiler's messages alone
 abbrev pub PreprocessorIsRead : Type 0
 PreprocessorIsRead = (table : List Entry) (arguments : List (List ℕ)) (call : Asked) → parse table arguments ≡ asks call
     → shell_words between (preprocessor_command call.keyed) ≡ Some (preprocessor_arguments call.keyed)

@@ -4,4 +4,5 @@ pub mod Parts
 pub mod Paths
 pub mod Quote
 pub mod Reason
+pub mod Runs
 pub mod Table

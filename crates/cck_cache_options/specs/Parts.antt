@@ -3,7 +3,7 @@ use Rattle.std.specs.Prelude.{◌≡◌, ◌≢◌, ◌⊎◌, ℕ, true, false,
 use Rattle.std.specs.List.{ends_with, starts_with}
 use Rattle.cck_cache_options.specs.declared.table.Form.TheVariants.{Alone, Joined, Separate, Either, Equals}
 use Rattle.cck_cache_options.specs.declared.table.Class.{Class}
-use Rattle.cck_cache_options.specs.declared.table.Class.TheVariants.{Text, Code, Message, Directory, Nothing, Compile, Output, Dependencies, Rule, Target, DependencyFile, PreprocessorDependencyFile, Passed}
+use Rattle.cck_cache_options.specs.declared.table.Class.TheVariants.{Text, Code, Message, CompilerMessage, Directory, Nothing, Compile, Output, Dependencies, Rule, Target, DependencyFile, PreprocessorDependencyFile, Passed}
 use Rattle.cck_cache_options.specs.Table.{Entry}
 use Rattle.cck_cache_options.specs.Call.{Asked, asks, has_comma, is_contrary, keep, parse, start}
 use Rattle.cck_cache_options.specs.Laws.{IsLongest}
@@ -29,6 +29,7 @@ abbrev pub with_value : Asked → Class → List ℕ → Asked
 with_value call Text value = call
 with_value call Code value = call
 with_value call Message value = call
+with_value call CompilerMessage value = call
 with_value call Directory value = record call { directories = call.directories ++ value ∷ [] }
 with_value call Nothing value = call
 with_value call Compile value = call
@@ -45,6 +46,7 @@ abbrev pub with_flag : Asked → Class → Asked
 with_flag call Text = call
 with_flag call Code = call
 with_flag call Message = call
+with_flag call CompilerMessage = call
 with_flag call Directory = call
 with_flag call Nothing = call
 with_flag call Compile = record call { compiles = true }
@@ -69,6 +71,7 @@ abbrev pub TakesValue : Asked → Class → List ℕ → Type 0
 TakesValue call Text value = Unit {0}
 TakesValue call Code value = Unit {0}
 TakesValue call Message value = Unit {0}
+TakesValue call CompilerMessage value = Unit {0}
 TakesValue call Directory value = Unit {0}
 TakesValue call Nothing value = Unit {0}
 TakesValue call Compile value = Unit {0}
@@ -84,6 +87,7 @@ abbrev pub TakesFlag : Class → Type 0
 TakesFlag Text = Unit {0}
 TakesFlag Code = Unit {0}
 TakesFlag Message = Unit {0}
+TakesFlag CompilerMessage = Unit {0}
 TakesFlag Directory = Unit {0}
 TakesFlag Nothing = Unit {0}
 TakesFlag Compile = Unit {0}

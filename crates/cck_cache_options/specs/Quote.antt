@@ -21,7 +21,7 @@ command arguments = flat_map quoted_and_space arguments
 abbrev pub preprocessor_argument : KeyedArgument → List ℕ
 preprocessor_argument keyed = cond (is_preprocessed keyed.class) (quoted_and_space keyed.argument) []
 
--- those arguments that are of no dependency file
+-- those arguments that the preprocessor has
 abbrev pub preprocessor_command : List KeyedArgument → List ℕ
 preprocessor_command keyed = flat_map preprocessor_argument keyed
 

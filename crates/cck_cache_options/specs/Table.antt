@@ -5,7 +5,7 @@ use Rattle.std.specs.Str.{bytes_eq}
 use Rattle.cck_cache_options.specs.declared.table.Cause.{Cause}
 use Rattle.cck_cache_options.specs.declared.table.Cause.TheVariants.{Mode, DependencyList, PreprocessorOption, AssemblerOption, Inputs, LinkTimeOptimization, Native, Profile, Precompiled, FurtherOutput, RecordedSwitches, OtherPrograms}
 use Rattle.cck_cache_options.specs.declared.table.Class.{Class}
-use Rattle.cck_cache_options.specs.declared.table.Class.TheVariants.{Text, Code, Message, Directory, Nothing, Compile, Output, Dependencies, Rule, Target, DependencyFile, PreprocessorDependencyFile, Passed}
+use Rattle.cck_cache_options.specs.declared.table.Class.TheVariants.{Text, Code, Message, CompilerMessage, Directory, Nothing, Compile, Output, Dependencies, Rule, Target, DependencyFile, PreprocessorDependencyFile, Passed}
 use Rattle.cck_cache_options.specs.declared.table.Form.{Form}
 use Rattle.cck_cache_options.specs.declared.table.Form.TheVariants.{Alone, Joined, Separate, Either, Equals}
 use Rattle.cck_cache_options.specs.declared.table.Row.{Row}
@@ -77,6 +77,7 @@ kept_class_named name =
     cond (bytes_eq name (codes "text")) (Some Text)
     (cond (bytes_eq name (codes "code")) (Some Code)
     (cond (bytes_eq name (codes "message")) (Some Message)
+    (cond (bytes_eq name (codes "compiler-message")) (Some CompilerMessage)
     (cond (bytes_eq name (codes "directory")) (Some Directory)
     (cond (bytes_eq name (codes "nothing")) (Some Nothing)
     (cond (bytes_eq name (codes "compile")) (Some Compile)
@@ -85,7 +86,7 @@ kept_class_named name =
     (cond (bytes_eq name (codes "rule")) (Some Rule)
     (cond (bytes_eq name (codes "target")) (Some Target)
     (cond (bytes_eq name (codes "dependency-file")) (Some DependencyFile)
-    (cond (bytes_eq name (codes "preprocessor-dependency-file")) (Some PreprocessorDependencyFile) None)))))))))))
+    (cond (bytes_eq name (codes "preprocessor-dependency-file")) (Some PreprocessorDependencyFile) None))))))))))))
 
 abbrev pub cause_named : List ℕ → Option Cause
 cause_named name =

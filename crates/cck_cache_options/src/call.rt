@@ -1,11 +1,13 @@
 //! The arguments of a call.
 ghost use Rattle.std.specs.Prelude.{◌≡◌, IfOk, map};
 ghost use Rattle.std.specs.Option.{option_map};
+ghost use Rattle.cck_cache_options.specs.Runs.{AreRuns, runs_entries};
 ghost use Rattle.cck_cache_options.specs.Table.{entries};
 ghost use Rattle.cck_cache_options.specs.Call.{advance, call_of, conclude, finish, flag, is_contrary, is_keyed, is_preprocessed, keep, next_of, nothing_asked, on_argument, on_dash, on_input, on_option, on_value, outcome_of, parse, refused, step, take, take_dependency_file, take_output, take_preprocessor_file};
 
 use crate::reason::Reason;
-use crate::table::{Cause, Class, Form, Row, after_name, longest};
+use crate::runs::{Runs, longest, runs_of};
+use crate::table::{Cause, Class, Form, Row, after_name};
 use std::alloc::{AllocError, Global};
 
 /// An argument that counts in a key.
@@ -67,6 +69,7 @@ fn is_keyed(class: Class) -> bool
         Class::Text
         | Class::Code
         | Class::Message
+        | Class::CompilerMessage
         | Class::Directory
         | Class::Dependencies
         | Class::Rule
@@ -81,13 +84,15 @@ fn is_keyed(class: Class) -> bool
 }
 
 /// Whether the preprocessor has the arguments of options of this class where it writes no dependency
-/// file: the text may depend on each that counts in a key, but for those of a dependency file.
+/// file: the text may depend on each that counts in a key, but for those of a dependency file and those
+/// of the compiler's messages alone.
 pub(crate) fn is_preprocessed(class: Class) -> bool
     ensures { result ≡ is_preprocessed class }
 {
     match class {
         Class::Text | Class::Code | Class::Message | Class::Directory => true,
-        Class::Dependencies
+        Class::CompilerMessage
+        | Class::Dependencies
         | Class::Rule
         | Class::Target
         | Class::PreprocessorDependencyFile
@@ -227,10 +232,11 @@ fn on_input<'a>(call: Call<'a>, argument: &'a [u8]) -> Result<Next<'a>, AllocErr
 }
 
 // The state after an argument that begins with `-` and is no value.
-fn on_dash<'a>(rows: &[Row<'_>], call: Call<'a>, argument: &'a [u8]) -> Result<Next<'a>, AllocError>
-    ensures { IfOk result (λ next. next_of next ≡ on_dash (entries rows.now) (call_of call.entry) argument.now) }
+fn on_dash<'a>(runs: &Runs<'_>, call: Call<'a>, argument: &'a [u8]) -> Result<Next<'a>, AllocError>
+    requires { AreRuns runs.now }
+    ensures { IfOk result (λ next. next_of next ≡ on_dash (runs_entries runs.now) (call_of call.entry) argument.now) }
 {
-    let Some(row) = longest(rows, argument) else {
+    let Some(row) = longest(runs, argument) else {
         return Ok(Next::Stop(Reason::UnknownOption));
     };
     let Some(rest) = after_name(row.name, argument) else {
@@ -249,18 +255,19 @@ fn on_value<'a>(call: Call<'a>, class: Class, argument: &'a [u8]) -> Result<Next
 
 // The state after an argument that may be cached.
 fn on_argument<'a>(
-    rows: &[Row<'_>],
+    runs: &Runs<'_>,
     call: Call<'a>,
     waiting: Option<Class>,
     argument: &'a [u8],
 ) -> Result<Next<'a>, AllocError>
-    ensures { IfOk result (λ next. next_of next ≡ on_argument (entries rows.now) (call_of call.entry) waiting argument.now) }
+    requires { AreRuns runs.now }
+    ensures { IfOk result (λ next. next_of next ≡ on_argument (runs_entries runs.now) (call_of call.entry) waiting argument.now) }
 {
     if let Some(class) = waiting {
         return on_value(call, class, argument);
     }
     if argument.starts_with(b"-") {
-        on_dash(rows, call, argument)
+        on_dash(runs, call, argument)
     } else {
         on_input(call, argument)
     }
@@ -284,29 +291,27 @@ fn refused(argument: &[u8]) -> Option<Reason>
 
 // The state after an argument.
 fn step<'a>(
-    rows: &[Row<'_>],
+    runs: &Runs<'_>,
     call: Call<'a>,
     waiting: Option<Class>,
     argument: &'a [u8],
 ) -> Result<Next<'a>, AllocError>
-    ensures { IfOk result (λ next. next_of next ≡ step (entries rows.now) (call_of call.entry) waiting argument.now) }
+    requires { AreRuns runs.now }
+    ensures { IfOk result (λ next. next_of next ≡ step (runs_entries runs.now) (call_of call.entry) waiting argument.now) }
 {
     match refused(argument) {
         Some(reason) => Ok(Next::Stop(reason)),
-        None => on_argument(rows, call, waiting, argument),
+        None => on_argument(runs, call, waiting, argument),
     }
 }
 
 // The state after one more argument. A reason stays.
-fn advance<'a>(
-    rows: &[Row<'_>],
-    state: Next<'a>,
-    argument: &'a [u8],
-) -> Result<Next<'a>, AllocError>
-    ensures { IfOk result (λ next. next_of next ≡ advance (entries rows.now) (next_of state.entry) argument.now) }
+fn advance<'a>(runs: &Runs<'_>, state: Next<'a>, argument: &'a [u8]) -> Result<Next<'a>, AllocError>
+    requires { AreRuns runs.now }
+    ensures { IfOk result (λ next. next_of next ≡ advance (runs_entries runs.now) (next_of state.entry) argument.now) }
 {
     match state {
-        Next::On(call, waiting) => step(rows, call, waiting, argument),
+        Next::On(call, waiting) => step(runs, call, waiting, argument),
         Next::Stop(reason) => Ok(Next::Stop(reason)),
     }
 }
@@ -377,9 +382,10 @@ pub fn parse<'a>(
 ) -> Result<Parsed<'a>, AllocError>
     ensures { IfOk result (λ parsed. outcome_of parsed ≡ parse (entries rows.now) (map (λ argument. argument.items) arguments.now)) }
 {
+    let runs = runs_of(alloc, rows)?;
     let mut state = nothing_asked(alloc);
     for argument in arguments {
-        state = advance(rows, state, argument)?;
+        state = advance(&runs, state, argument)?;
     }
     Ok(finish(state))
 }

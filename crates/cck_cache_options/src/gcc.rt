@@ -61,7 +61,7 @@ pub const GCC: &[u8] = b"\
 -l either message\n\
 -lang-asm alone passed-mode\n\
 -Wl, joined message\n\
--w alone message\n\
+-w alone compiler-message\n\
 -W alone message\n\
 -Wno- joined message\n\
 -Werror alone message\n\
@@ -217,7 +217,7 @@ pub const GCC: &[u8] = b"\
 -fmacro-prefix-map equals text\n\
 -fmax-errors equals message\n\
 -fmax-include-depth equals text\n\
--fmessage-length equals message\n\
+-fmessage-length equals compiler-message\n\
 -fopenacc-dim equals code\n\
 -fpack-struct equals code\n\
 -fpatchable-function-entry equals code\n\

@@ -5,8 +5,8 @@
 //!
 //! - [`rows_of`] reads a table of options from its text, and [`GCC`] is that of gcc.
 //! - [`parse`] reads the arguments of a call by the rows of a table.
-//! - [`push_arguments`] appends arguments as a POSIX shell reads them back, and
-//!   [`push_preprocessor_arguments`] those of a call that its preprocessed text depends on.
+//! - [`push_word`] appends an argument as a POSIX shell reads it back, and
+//!   [`push_preprocessor_arguments`] those of a call that the preprocessor has.
 //! - [`object_path`] and [`dependency_path`] are the paths that gcc chooses where a call says none.
 #![tactic(auto)]
 
@@ -16,11 +16,12 @@ pub mod laws;
 mod paths;
 mod quote;
 mod reason;
+mod runs;
 mod table;
 
 pub use call::{Call, Keyed, Parsed, parse};
 pub use gcc::GCC;
 pub use paths::{dependency_path, object_path};
-pub use quote::{push_arguments, push_preprocessor_arguments, push_quoted};
+pub use quote::{push_preprocessor_arguments, push_word};
 pub use reason::Reason;
 pub use table::{Cause, Class, Form, Row, rows_of};

@@ -1,7 +1,7 @@
 //! Arguments as a POSIX shell reads them back.
 ghost use Rattle.std.specs.Prelude.{◌≡◌, ◌++◌, OnOk, map};
 ghost use Rattle.cck_cache_options.specs.Call.{keyed_argument};
-ghost use Rattle.cck_cache_options.specs.Quote.{command, preprocessor_argument, preprocessor_command, quoted, quoted_byte};
+ghost use Rattle.cck_cache_options.specs.Quote.{preprocessor_argument, preprocessor_command, quoted, quoted_and_space, quoted_byte};
 
 use crate::call::{Keyed, is_preprocessed};
 use std::alloc::AllocError;
@@ -17,10 +17,8 @@ fn push_byte(out: &mut Vec<u8>, byte: u8) -> Result<(), AllocError>
     }
 }
 
-/// Appends an argument between single quotes, each single quote of its own as `'\''`.
-///
-/// The only error is lack of memory.
-pub fn push_quoted(out: &mut Vec<u8>, argument: &[u8]) -> Result<(), AllocError>
+// Appends an argument between single quotes, each single quote of its own as `'\''`.
+fn push_quoted(out: &mut Vec<u8>, argument: &[u8]) -> Result<(), AllocError>
     ensures { OnOk result (out.new.items ≡ out.old.items ++ quoted argument.now) }
 {
     out.push(b'\'')?;
@@ -30,32 +28,29 @@ pub fn push_quoted(out: &mut Vec<u8>, argument: &[u8]) -> Result<(), AllocError>
     Ok(out.push(b'\'')?)
 }
 
-/// Appends arguments as a part of a shell's command line: each quoted, and a space after it.
+/// Appends a word of a shell's command line, as POSIX has it: an argument between single quotes, each
+/// single quote of its own as `'\''`, and a space.
 ///
 /// The only error is lack of memory.
-pub fn push_arguments(out: &mut Vec<u8>, arguments: &[Vec<u8>]) -> Result<(), AllocError>
-    ensures { OnOk result (out.new.items ≡ out.old.items ++ command (map (λ argument. argument.items) arguments.now)) }
+pub fn push_word(out: &mut Vec<u8>, argument: &[u8]) -> Result<(), AllocError>
+    ensures { OnOk result (out.new.items ≡ out.old.items ++ quoted_and_space argument.now) }
 {
-    for argument in arguments {
-        push_quoted(out, argument)?;
-        out.push(b' ')?;
-    }
-    Ok(())
+    push_quoted(out, argument)?;
+    Ok(out.push(b' ')?)
 }
 
-// Appends an argument if the preprocessed text depends on its option.
+// Appends an argument if the preprocessor has those of its option.
 fn push_preprocessor_argument(out: &mut Vec<u8>, keyed: &Keyed<'_>) -> Result<(), AllocError>
     ensures { OnOk result (out.new.items ≡ out.old.items ++ preprocessor_argument (keyed_argument keyed.now)) }
 {
     if is_preprocessed(keyed.class) {
-        push_quoted(out, keyed.argument)?;
-        out.push(b' ')?;
+        push_word(out, keyed.argument)?;
     }
     Ok(())
 }
 
-/// Appends those arguments that the preprocessed text depends on, as [`push_arguments`] does: all but
-/// those of a dependency file.
+/// Appends those arguments that the preprocessor has, each as [`push_word`] does. They are all that count
+/// in a key, but for those of a dependency file and those of the compiler's messages alone.
 ///
 /// The only error is lack of memory.
 pub fn push_preprocessor_arguments(

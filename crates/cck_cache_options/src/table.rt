@@ -1,7 +1,7 @@
-//! A table of options, and the row of an argument.
+//! A table of options, and which of its rows an argument is.
 ghost use Rattle.std.specs.Prelude.{◌≡◌, ◌++◌, IfOk, OnOk, map};
 ghost use Rattle.std.specs.Option.{option_map};
-ghost use Rattle.cck_cache_options.specs.Table.{after_name, better, cause_named, class_named, entries, entries_of_lines, entry, entry_of_line, fits, form_fits, form_named, kept_class_named, listed, longest, split_at, table_of};
+ghost use Rattle.cck_cache_options.specs.Table.{after_name, better, cause_named, class_named, entries, entries_of_lines, entry, entry_of_line, fits, form_fits, form_named, kept_class_named, listed, split_at, table_of};
 
 use std::alloc::{AllocError, Global};
 
@@ -58,6 +58,9 @@ pub enum Class {
     Code,
     /// The messages.
     Message,
+    /// The messages, in such a way that a warning of the preprocessor may not be printed, or not on one
+    /// line. The preprocessed text does not depend on it, and the preprocessor is not given it.
+    CompilerMessage,
     /// A directory in which headers are looked for.
     Directory,
     /// Nothing of what is written.
@@ -120,8 +123,8 @@ fn fits(row: &Row<'_>, argument: &[u8]) -> bool
     }
 }
 
-// The one of two rows that an argument fits, and if it fits both, that with the longer name.
-fn better<'t>(argument: &[u8], best: Option<Row<'t>>, row: Row<'t>) -> Option<Row<'t>>
+/// The one of two rows that an argument fits, and if it fits both, that with the longer name.
+pub(crate) fn better<'t>(argument: &[u8], best: Option<Row<'t>>, row: Row<'t>) -> Option<Row<'t>>
     ensures { option_map entry result ≡ better argument.now (option_map entry best.entry) (entry row.entry) }
 {
     if !fits(&row, argument) {
@@ -131,17 +134,6 @@ fn better<'t>(argument: &[u8], best: Option<Row<'t>>, row: Row<'t>) -> Option<Ro
         Some(old) if row.name.len() <= old.name.len() => Some(old),
         _ => Some(row),
     }
-}
-
-/// The row with the longest name of those that an argument fits.
-pub(crate) fn longest<'t>(rows: &[Row<'t>], argument: &[u8]) -> Option<Row<'t>>
-    ensures { option_map entry result ≡ longest (map entry rows.now) argument.now }
-{
-    let mut best = None;
-    for row in rows {
-        best = better(argument, best, *row);
-    }
-    best
 }
 
 // The form of this name.
@@ -173,6 +165,8 @@ fn kept_class_named(name: &[u8]) -> Option<Class>
         Some(Class::Code)
     } else if name == b"message".as_slice() {
         Some(Class::Message)
+    } else if name == b"compiler-message".as_slice() {
+        Some(Class::CompilerMessage)
     } else if name == b"directory".as_slice() {
         Some(Class::Directory)
     } else if name == b"nothing".as_slice() {

@@ -1,0 +1,76 @@
+//! What a call of a compiler asks for, or why it is not cached, by its arguments.
+ghost use Rattle.std.specs.Prelude.{◌≡◌, ◌↔◌, IfOk, IsTrue};
+ghost use Rattle.cck_cache_command.specs.Judge.{IsJudged, TestForHeader, passed_name};
+ghost use Rattle.cck_cache_options.specs.Table.{entries};
+ghost use Rattle.cck_path.specs.Bytes.{lists_of};
+
+use crate::call::{CallPaths, paths_of};
+use cck_cache_entry::has_include_test;
+use cck_cache_options::{Call, Parsed, Reason, Row, parse};
+use std::alloc::{AllocError, Global};
+
+/// Why a call is not cached.
+#[derive(Clone, Copy)]
+pub enum Passed {
+    /// What its arguments say is not cached.
+    Arguments(Reason),
+    /// An argument tests for the existence of a header.
+    HeaderTest,
+    /// A path is not UTF-8.
+    Path,
+    /// What is at the path of an output, or at that of the input, is not as a hit needs it.
+    Output,
+}
+
+impl Passed {
+    /// The name under which it is counted.
+    pub fn as_str(self) -> &'static str
+        ensures { result.now ≡ passed_name self }
+    {
+        match self {
+            Passed::Arguments(reason) => reason.as_str(),
+            Passed::HeaderTest => "header-test",
+            Passed::Path => "path",
+            Passed::Output => "output",
+        }
+    }
+}
+
+/// What a call is found to be by its arguments.
+#[derive(Drop)]
+pub enum Judged<'a> {
+    /// What the arguments say of a call that is cached, and the paths of its files.
+    Asks(Call<'a>, CallPaths<'a>),
+    /// The call is not cached.
+    PassedOn(Passed),
+}
+
+// Whether an argument tests for the existence of a header.
+fn test_for_header(arguments: &[Vec<u8>]) -> bool
+    ensures { IsTrue result ↔ TestForHeader (lists_of arguments.now) }
+{
+    arguments.iter().any(|argument| has_include_test(argument))
+}
+
+/// Judges a call by its arguments and the rows of a table: what it asks for, or why it is not cached.
+///
+/// The error is lack of memory.
+pub fn judge<'a>(
+    alloc: Global,
+    rows: &[Row<'_>],
+    arguments: &'a [Vec<u8>],
+) -> Result<Judged<'a>, AllocError>
+    ensures { IfOk result (IsJudged (entries rows.now) (lists_of arguments.now)) }
+{
+    let asked = match parse(alloc, rows, arguments)? {
+        Parsed::Asks(asked) => asked,
+        Parsed::PassedOn(reason) => return Ok(Judged::PassedOn(Passed::Arguments(reason))),
+    };
+    if test_for_header(arguments) {
+        return Ok(Judged::PassedOn(Passed::HeaderTest));
+    }
+    match paths_of(alloc, &asked)? {
+        Some(paths) => Ok(Judged::Asks(asked, paths)),
+        None => Ok(Judged::PassedOn(Passed::Path)),
+    }
+}

@@ -1,8 +1,0 @@
-use Rattle.std.proofs.Common.{◌≡◌, None, map, take}
-use Rattle.std.specs.Prelude.{fold}
-use Rattle.std.specs.Option.{option_map}
-use Rattle.cck_cache_options.specs.Table.{better, entry}
-use Rattle.cck_cache_options.proofs.table.longest.Given as goal
-
-abbrev pub invariant-loop-row : goal.invariant-loop-row
-invariant-loop-row l = option_map entry l.best ≡ fold (better l.argument) None (map entry (take l.row-index l.rows))
