@@ -3,6 +3,7 @@ mod AssemblerExamples
 pub mod EqualityLemmas
 pub mod NameLemmas
 pub mod ReadingLemmas
+pub mod RuleLemmas
 pub mod SearchLemmas
 pub mod SetLemmas
 pub mod StoredLemmas

@@ -4,6 +4,7 @@ pub mod Files
 pub mod Frames
 pub mod Names
 pub mod Reading
+pub mod Rule
 pub mod SearchList
 pub mod Sets
 pub mod Stored

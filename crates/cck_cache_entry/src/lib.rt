@@ -19,6 +19,7 @@ mod has_include;
 pub mod laws;
 mod names;
 mod object_file;
+mod rule;
 mod search_list;
 mod stored;
 
@@ -27,4 +28,5 @@ pub use assembler::may_include;
 pub use entry_file::EntryFile;
 pub use has_include::has_include_test;
 pub use object_file::ObjectFile;
+pub use rule::rule_names;
 pub use search_list::SearchList;
