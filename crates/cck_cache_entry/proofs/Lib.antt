@@ -1,7 +1,7 @@
 pub mod AbsentLemmas
-mod AssemblerExamples
 pub mod EqualityLemmas
 pub mod NameLemmas
+pub mod ReadLemmas
 pub mod ReadingLemmas
 pub mod RuleLemmas
 pub mod SearchLemmas

@@ -1,8 +1,8 @@
 pub mod Absent
-pub mod Assembler
 pub mod Files
 pub mod Frames
 pub mod Names
+pub mod ReadFiles
 pub mod Reading
 pub mod Rule
 pub mod SearchList

@@ -6,27 +6,27 @@
 //!   frames, under a digest over all of them, so that a file that was cut or changed is not read.
 //! - [`SearchList`] is a compiler's list of directories for headers, as `gcc -v` prints it.
 //! - [`absent_names`] lists the paths at which a named header would have been found earlier.
-//! - [`may_include`] and [`has_include_test`] say whether a text may depend on a file that no line
-//!   marker names.
+//! - [`assembles_alone`] and [`opens_named_alone`] say by dependency files whether the assembler or the
+//!   compiler read other files than those that a text names.
+//! - [`has_include_test`] says whether a source may test for a header that no line marker names.
 //! - [`laws`] states what `==` means for the types.
 #![tactic(auto)]
 
 mod absent;
-mod assembler;
 mod entry_file;
 mod frames;
 mod has_include;
 pub mod laws;
 mod names;
 mod object_file;
+mod read_files;
 mod rule;
 mod search_list;
 mod stored;
 
 pub use absent::absent_names;
-pub use assembler::may_include;
 pub use entry_file::EntryFile;
 pub use has_include::has_include_test;
 pub use object_file::ObjectFile;
-pub use rule::rule_names;
+pub use read_files::{assembles_alone, opens_named_alone};
 pub use search_list::SearchList;

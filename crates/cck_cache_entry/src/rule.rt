@@ -167,7 +167,7 @@ fn ends_rule(rest: &[u8]) -> bool
 /// another backslash is not read: a backslash there may stand for itself or not.
 ///
 /// The only error is lack of memory.
-pub fn rule_names(alloc: Global, rule: &[u8]) -> Result<Option<Vec<Vec<u8>>>, AllocError>
+pub(crate) fn rule_names(alloc: Global, rule: &[u8]) -> Result<Option<Vec<Vec<u8>>>, AllocError>
     ensures { IfOk result (λ found. IsRuleRead rule.now (option_map byte_lists found)) }
 {
     let Some(list) = after_target(rule) else {
