@@ -144,7 +144,8 @@ fn is_target(line: &[u8]) -> bool
 fn are_targets(text: &[u8]) -> bool
     ensures { result ≡ are_targets text.now }
 {
-    text.split(|byte| *byte == b'\n').all(|line| is_target(line))
+    text.split(|byte| *byte == b'\n')
+        .all(|line| is_target(line))
 }
 
 // Whether a rule ends here, and no other names follow.
