@@ -268,10 +268,17 @@ settle
 check '.INCBIN' 'refused-assembler-include *' same -c k3.c
 echo 'asm(".\x69ncbin \"data\"");' >k4.c
 settle
-check '.incbin with an escape by number' '*' same -c k4.c
+check '.incbin with an escape by number' 'refused-assembler-include *' same -c k4.c
 echo three >data
 settle
-check 'its data changed: escapes' 'hit *' differs -c k4.c
+check 'its data changed' 'refused-assembler-include *' same -c k4.c
+printf 'void k5(void) { asm(".inc{bin|bin} \\"data\\"" :: "i"(1)); }\n' >k5.c
+settle
+check '.incbin by the alternatives of dialects' 'refused-assembler-include *' same -c k5.c
+printf 'asm(".ascii \\".include\\"");\n' >k6.c
+settle
+check '.include in a text of the assembler' 'miss *' same -c k6.c
+check 'the same once more' 'hit *' same -c k6.c
 
 # Options, variables, links, times.
 echo 'int p = 1;' >p.h

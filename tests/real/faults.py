@@ -76,15 +76,16 @@ def preprocess(source):
 def compile_(source, name="o"):
     """Compiles to an object and a dependency file of this name."""
     with open("messages", "wb") as messages:
-        subprocess.run(["gcc", *words_of(source), "-MF", name + ".d", "-o", name + ".o"], stderr=messages, check=False)
+        subprocess.run(["gcc", *words_of(source), "-MF", name + ".d", "-o", name + ".o", "-Xassembler", "--MD",
+                        "-Xassembler", "assembled"], stderr=messages, check=False)
 
 
 def start_record(source, missed, store=STORE, **variables):
     """Begins to record what was compiled after this look-up, with more variables of the environment."""
     return subprocess.Popen(
         [PROGRAM, "record", store, "--since", missed[2], "--key", missed[1], "--object", "o.o",
-         "--dependencies", "o.d", "--search", "search", "--messages", "messages", *CALL, "--", *words_of(source),
-         "-MF", "o.d", "-o", "o.o"],
+         "--dependencies", "o.d", "--assembled", "assembled", "--search", "search", "--messages", "messages", *CALL,
+         "--", *words_of(source), "-MF", "o.d", "-o", "o.o"],
         stdin=open("text", "rb"), stdout=subprocess.PIPE, stderr=subprocess.DEVNULL, text=True,
         env={**os.environ, **variables})
 

@@ -8,13 +8,12 @@ use Rattle.cck_cache_base.specs.Text.{AreBases}
 use Rattle.cck_cache_base.specs.declared.base.Words.{Words}
 use Rattle.cck_cache_command.proofs.InputLemmas.{calm_kept, calm_stays, without_fault}
 use Rattle.cck_cache_command.specs.Input.{IsCalm, IsInput, NoFault}
-use Rattle.cck_cache_command.specs.Record.{AreGathered, HasAbsentPaths, IsAsked, IsLocalTime, IsOneDay, IsOutcome, IsOutcomeOver, ObjectShowsBase}
+use Rattle.cck_cache_command.specs.Record.{AreGathered, HasAbsentPaths, IsAsked, IsLocalTime, IsOneDay, IsOutcome, IsOutcomeOver, ObjectShowsBase, ReadsAlone}
 use Rattle.cck_cache_command.specs.Request.{IsRequest, request_words}
 use Rattle.cck_cache_command.specs.declared.environment.Environment.{Environment}
 use Rattle.cck_cache_command.specs.declared.record.Gathered.{Gathered}
 use Rattle.cck_cache_command.specs.declared.record.Outcome.{Outcome}
 use Rattle.cck_cache_command.specs.declared.record.Outcome.TheVariants.{Recorded, Refused}
-use Rattle.cck_cache_entry.specs.Assembler.{may_include}
 use Rattle.cck_cache_entry.specs.declared.object_file.ObjectFile.{ObjectFile}
 use Rattle.cck_cache_files.specs.Snapshot.{ArePut, SnapshotGrows, IsNamedFile}
 use Rattle.cck_cache_words.specs.declared.request.Request.{Request}
@@ -89,8 +88,8 @@ recorded_over asked text before mid after recording put calm first second is rec
     (without_fault (λ (a b : ℕ). IsRecording sha256 mid.files asked (Rose a b) text recording) mid after second (calm_kept before mid first calm) recorded))
 
 -- an outcome over the files that were gathered is the outcome
-pub outcome_all : (environment : Environment) (request : Request) (compilation : Compilation) (text : Bytes) (gathered : Gathered) (outcome : Outcome) → may_include text ≡ false
+pub outcome_all : (environment : Environment) (request : Request) (compilation : Compilation) (text : Bytes) (gathered : Gathered) (outcome : Outcome) → ReadsAlone request text compilation.made
     → AreGathered request compilation.since text gathered.tests_headers gathered.files.files (lists_of gathered.absent_paths.items) → IsOutcomeOver environment request compilation text gathered outcome → IsOutcome environment request compilation text outcome
-outcome_all environment request compilation text gathered (Recorded name) none are is = (none, (gathered.tests_headers, gathered.files.files, lists_of gathered.absent_paths.items, are, is))
-outcome_all environment request compilation text gathered (Refused refusal) none are is =
-    inr (gathered.tests_headers, gathered.is_doubtful, gathered.files.files, lists_of gathered.absent_paths.items, are, is)
+outcome_all environment request compilation text gathered (Recorded name) alone are is = (alone, (gathered.tests_headers, gathered.files.files, lists_of gathered.absent_paths.items, are, is))
+outcome_all environment request compilation text gathered (Refused refusal) alone are is =
+    inr (inr (gathered.tests_headers, gathered.is_doubtful, gathered.files.files, lists_of gathered.absent_paths.items, are, is))

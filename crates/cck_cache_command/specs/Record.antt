@@ -13,16 +13,17 @@ use Rattle.cck_cache_command.specs.declared.record.Outcome.{Outcome}
 use Rattle.cck_cache_command.specs.declared.record.Outcome.TheVariants.{Recorded, Refused}
 use Rattle.cck_cache_command.specs.declared.record.Seen.{Seen}
 use Rattle.cck_cache_command.specs.declared.record.Seen.TheVariants.{Files, Refused as NotSeen}
-use Rattle.cck_cache_entry.specs.Assembler.{may_include}
 use Rattle.cck_cache_entry.specs.Files.{EntryFields}
+use Rattle.cck_cache_entry.specs.ReadFiles.{IsAssembledRule, IsOpenedRule}
 use Rattle.cck_cache_entry.specs.declared.object_file.ObjectFile.{ObjectFile}
 use Rattle.cck_cache_files.specs.declared.path_states.PathStates.{PathStates}
 use Rattle.cck_cache_files.specs.Snapshot.{ArePut, HasNamedTest, IsNamedFile, IsPart}
 use Rattle.cck_cache_rules.specs.Refusal.{IsRefusal}
 use Rattle.cck_cache_rules.specs.declared.refusal.Refusal.{Refusal}
-use Rattle.cck_cache_rules.specs.declared.refusal.Refusal.TheVariants.{HeaderTest, AssemblerInclude, NamedFile, BaseDirectory}
+use Rattle.cck_cache_rules.specs.declared.refusal.Refusal.TheVariants.{HeaderTest, AssemblerInclude, OtherFile, NamedFile, BaseDirectory}
 use Rattle.cck_cache_words.specs.declared.request.Request.{Request}
 use Rattle.cck_cache_words.specs.declared.task.Compilation.{Compilation}
+use Rattle.cck_cache_words.specs.declared.task.Made.{Made}
 use Rattle.cck_files.specs.FileMap.{FileMap}
 use Rattle.cck_markers.specs.Marks.{Mark, Marks}
 use Rattle.cck_path.specs.Bytes.{Bytes, lists_of}
@@ -85,15 +86,39 @@ pub record HasTest (request : Request) (text : Bytes) : Type 0 where
   pub are_marks : Marks true text marks
   pub named : HasNamedTest marks request.directory.now files
 
--- why a compilation is not recorded by its text: an assembler may include files; or a file that it names tests for headers; or a path
+-- why a compilation is not recorded by its text: a file that it names tests for headers; or a path
 abbrev pub IsRefusedByText : Request → Moment → Bytes → Refusal → Type 0
-IsRefusedByText request since text refusal =
-    ((refusal ≡ AssemblerInclude) × (may_include text ≡ true)) ⊎ (((refusal ≡ HeaderTest) × HasTest request text) ⊎ HasPathRefusal request since text refusal)
+IsRefusedByText request since text refusal = ((refusal ≡ HeaderTest) × HasTest request text) ⊎ HasPathRefusal request since text refusal
 
 abbrev pub IsSeen : Request → Moment → Bytes → Seen → Type 0
 IsSeen request since text (Files gathered) =
-    (may_include text ≡ false) × AreGathered request since text gathered.tests_headers gathered.files.files (lists_of gathered.absent_paths.items) × IsCalm gathered.files
+    AreGathered request since text gathered.tests_headers gathered.files.files (lists_of gathered.absent_paths.items) × IsCalm gathered.files
 IsSeen request since text (NotSeen refusal) = IsRefusedByText request since text refusal
+
+-- this does not hold of a dependency file, if there is one
+abbrev pub HoldsNot : (Bytes → Type 0) → Option Bytes → Type 0
+HoldsNot P None = Unit {0}
+HoldsNot P (Some rule) = ¬ P rule
+
+-- there is a dependency file of which this holds; or one of which it does not hold, or none
+abbrev pub IsTold : (Bytes → Type 0) → Bool → Type 0
+IsTold P true = (rule : Bytes) × P rule
+IsTold P false = (rule : Option Bytes) × HoldsNot P rule
+
+-- By the dependency files that they wrote, the assembler read nothing but what the compiler made of the input, and the compiler opened no file but
+-- those that the text names. An object that was not made by this compilation is there.
+abbrev pub ReadsAlone : Request → Bytes → Option Made → Type 0
+ReadsAlone request text None = Unit {0}
+ReadsAlone request text (Some made) = IsTold (IsAssembledRule request.input.now) true × IsTold (IsOpenedRule text) true
+
+-- the assembler read something else, or the compiler opened another file, or it is not known
+abbrev pub IsRefusedByReading : Request → Bytes → Refusal → Type 0
+IsRefusedByReading request text refusal =
+    ((refusal ≡ AssemblerInclude) × IsTold (IsAssembledRule request.input.now) false) ⊎ ((refusal ≡ OtherFile) × IsTold (IsOpenedRule text) false)
+
+abbrev pub IsJudgedByReading : Request → Bytes → Option Made → Option Refusal → Type 0
+IsJudgedByReading request text made None = ReadsAlone request text made
+IsJudgedByReading request text made (Some refusal) = IsRefusedByReading request text refusal
 
 -- why a compilation is not recorded by its input and its time, if it is not
 abbrev pub IsJudgedByInput : Environment → SnapshotRequest → FileMap → Bool → Bytes → Option Refusal → Type 0
@@ -162,9 +187,10 @@ IsOutcomeOver environment request compilation text gathered (Refused refusal) =
 -- The outcome of a recording. What is recorded is recorded over files that were gathered for the text.
 abbrev pub IsOutcome : Environment → Request → Compilation → Bytes → Outcome → Type 0
 IsOutcome environment request compilation text (Recorded name) =
-    (may_include text ≡ false)
+    ReadsAlone request text compilation.made
     × ((tests : Bool) × (files : FileMap) × (paths : List Bytes) × AreGathered request compilation.since text tests files paths × IsRecordedOver environment request compilation text tests files name)
 IsOutcome environment request compilation text (Refused refusal) =
-    IsRefusedByText request compilation.since text refusal
+    IsRefusedByReading request text refusal
+    ⊎ (IsRefusedByText request compilation.since text refusal
     ⊎ ((tests doubtful : Bool) × (files : FileMap) × (paths : List Bytes) × AreGathered request compilation.since text tests files paths
-    × IsRefusedOver environment request compilation text tests doubtful files refusal)
+    × IsRefusedOver environment request compilation text tests doubtful files refusal))

@@ -2,8 +2,9 @@
 ghost use Rattle.std.specs.Prelude.{◌≡◌, ◌↔◌, IfOk, IfSome, IsTrue, MatchOption, OnOk, Some};
 ghost use Rattle.std.specs.Option.{option_map};
 ghost use Rattle.cck_cache_command.specs.Input.{IsCalm};
-ghost use Rattle.cck_cache_command.specs.Record.{HasNoLocalTime, IsJudgedByInput, IsLocalTime, IsOneDay, IsOutcome, IsOutcomeOver, IsRefusedByBase, IsSeen, ObjectShowsBase, recorded_fields};
+ghost use Rattle.cck_cache_command.specs.Record.{HasNoLocalTime, IsJudgedByInput, IsJudgedByReading, IsLocalTime, IsOneDay, IsOutcome, IsOutcomeOver, IsRefusedByBase, IsSeen, IsTold, ObjectShowsBase, recorded_fields};
 ghost use Rattle.cck_cache_entry.specs.Files.{entry_fields};
+ghost use Rattle.cck_cache_entry.specs.ReadFiles.{IsAssembledRule, IsOpenedRule};
 ghost use Rattle.cck_files.specs.Calls.{Keeps};
 ghost use Rattle.cck_files.specs.FileState.{IsQuiet, fault_count};
 ghost use Rattle.cck_path.specs.Bytes.{lists_of};
@@ -16,16 +17,17 @@ use crate::naming::name_in;
 use crate::request::{base_words, hasher_of, snapshot_request};
 use anyhow::Result;
 use cck_cache_base::{bases_of, shows_base};
-use cck_cache_entry::{EntryFile, ObjectFile, may_include};
+use cck_cache_entry::{EntryFile, ObjectFile, assembles_alone, opens_named_alone};
 use cck_cache_files::{Kind, PathStates, StoreDirectory, add_named_files};
 use cck_cache_rules::{Known, Refusal, refusal_of};
-use cck_cache_words::{Compilation, Request};
+use cck_cache_words::{Compilation, Made, Request};
 use cck_files::MapFiles;
 use cck_path::Timestamp;
 use cck_snapshot::{RecordedEntry, Recording, SnapshotRequest, preprocessor_key, record_text};
 use cck_util::Sha256State;
 use jiff::civil::DateTime;
 use jiff::tz::TimeZone;
+use std::io::ErrorKind;
 use std::rt::Files;
 use std::{fs, io};
 
@@ -99,9 +101,6 @@ fn see<R: Files + AllocGlobal>(
     let directory = request.directory;
     let mut states = PathStates::new(rt, compilation.since);
     let printed = fs::read(rt, compilation.search)?;
-    if may_include(rt.alloc(), text)? {
-        return Ok(Seen::Refused(Refusal::AssemblerInclude));
-    }
     let absent_paths = match absence_of(rt, &mut states, directory, text, &printed)? {
         Absence::Refused(refusal) => return Ok(Seen::Refused(refusal)),
         Absence::Paths(paths) => paths,
@@ -116,6 +115,69 @@ fn see<R: Files + AllocGlobal>(
         is_doubtful: named.is_doubtful,
         absent_paths,
     }))
+}
+
+// The contents of the file at this path, and nothing where no path is given or no file is there.
+fn read_if_there<R: Files + AllocGlobal>(rt: &R, path: Option<&str>) -> io::Result<Vec<u8>> {
+    let Some(path) = path else {
+        return Ok(Vec::new(rt.alloc()));
+    };
+    match fs::read(rt, path) {
+        Err(error) if error.kind() == ErrorKind::NotFound => Ok(Vec::new(rt.alloc())),
+        contents => contents,
+    }
+}
+
+// Whether the compiler opened no file but those of a text, by the dependency file at this path. `false`
+// where no path is given.
+fn opens_text_alone<R: Files + AllocGlobal>(rt: &R, path: Option<&str>, text: &[u8]) -> Result<bool>
+    ensures { IfOk result (IsTold (IsOpenedRule text.now)) }
+{
+    if path.is_none() {
+        return Ok(false);
+    }
+    let rule = read_if_there(rt, path)?;
+    Ok(opens_named_alone(rt.alloc(), text, &rule)?)
+}
+
+// Whether the assembler read nothing but what the compiler made of the input, by the dependency file at
+// this path. `false` where there is none.
+fn assembles_input_alone<R: Files + AllocGlobal>(
+    rt: &R,
+    path: Option<&str>,
+    input: &str,
+) -> Result<bool>
+    ensures { IfOk result (IsTold (IsAssembledRule input.now)) }
+{
+    let rule = read_if_there(rt, path)?;
+    Ok(assembles_alone(rt.alloc(), input.as_bytes(), &rule)?)
+}
+
+// Why a compilation is not recorded by what the assembler and the compiler say that they read. An entry
+// that is recorded alone is of an object that is there.
+fn refusal_by_reading<R: Files + AllocGlobal>(
+    rt: &R,
+    request: &Request<'_>,
+    made: Option<&Made<'_>>,
+    text: &[u8],
+) -> Result<Option<Refusal>>
+    ensures { IfOk result (IsJudgedByReading request.now text.now (option_map (λ m. m.now) made.entry)) }
+{
+    let Some(made) = made else {
+        return Ok(None);
+    };
+    if !assembles_input_alone(rt, made.assembled, request.input)? {
+        return Ok(Some(Refusal::AssemblerInclude));
+    }
+    let written = if made.dependencies.is_some() {
+        made.dependencies
+    } else {
+        made.opened
+    };
+    if !opens_text_alone(rt, written, text)? {
+        return Ok(Some(Refusal::OtherFile));
+    }
+    Ok(None)
 }
 
 // What is known of a compilation by its input and its time alone. The borrow checker takes a field that
@@ -356,6 +418,9 @@ pub fn record<R: Files + AllocGlobal>(
 ) -> Result<Outcome>
     ensures { IfOk result (IsOutcome environment.entry.now request.now compilation.now text.now) }
 {
+    if let Some(refusal) = refusal_by_reading(rt, request, compilation.made.as_ref(), text)? {
+        return Ok(Outcome::Refused(refusal));
+    }
     match see(rt, request, compilation, text)? {
         Seen::Refused(refusal) => Ok(Outcome::Refused(refusal)),
         Seen::Files(gathered) => {

@@ -1,9 +1,10 @@
 pub mod AbsentLemmas
-mod AssemblerExamples
 pub mod EqualityLemmas
 pub mod LeftLemmas
 pub mod NameLemmas
+pub mod ReadLemmas
 pub mod ReadingLemmas
+pub mod RuleLemmas
 pub mod SearchLemmas
 pub mod SetLemmas
 pub mod StoredLemmas

@@ -1,8 +1,9 @@
 -- Frames are read in one way.
 use Rattle.std.specs.Str.{bytes_eq}
 use Rattle.std.proofs.lemmas.Slice.Eq.{bytes_eq-Decides}
-use Rattle.std.proofs.Common.{◌≡◌, ◌≢◌, Bool, true, false, not, ℕ, ◌+◌, ◌<◌, List, [], ◌∷◌, ◌++◌, length, Option, Some, None, refl, sym, ap, ◌∙◌, arith, append_assoc}
-use Rattle.std.proofs.lemmas.List.{append-nil, length-append}
+use Rattle.std.proofs.Common.{◌≡◌, ◌≢◌, Bool, true, false, not, ◌==◌, ℕ, ◌+◌, ◌<◌, List, [], ◌∷◌, ◌++◌, length, Option, Some, None, refl, sym, ap, ◌∙◌, arith, append_assoc}
+use Rattle.std.proofs.lemmas.List.{append-nil, length-append, nil_from_length}
+use Rattle.std.proofs.lemmas.Bool.Decides.{Decides-eqb}
 use Rattle.std.specs.List.{flat_map}
 use Rattle.cck_digest.specs.Frames.{frame, length_bytes}
 use Rattle.cck_digest.proofs.FrameLemmas.{frame_reads_back, length_reads_back}
@@ -43,6 +44,15 @@ too_few bytes short other same =
 
 no_bytes : (x : List ℕ) (s : List ℕ) → frame x ++ s ≡ [] → ⊥
 no_bytes x s e = omega (arith, ap length e, length-append (frame x) s, length-frame x)
+
+-- bytes, of which there are none
+pub empty : (xs : List ℕ) → (length xs == 0) ≡ true → xs ≡ []
+empty xs e = nil_from_length xs ((Decides-eqb (length xs) 0).0 e)
+
+-- some bytes
+pub not_empty : (xs : List ℕ) → (length xs == 0) ≡ false → xs ≡ [] → ⊥
+not_empty [] e none = cc
+not_empty (x ∷ xs) e none = cc
 
 -- frames that begin with these frames
 pub record Begins (parts done : List (List ℕ)) (rest : List ℕ) : Type 0 where

@@ -1,11 +1,12 @@
 pub mod Absent
-pub mod Assembler
 pub mod Files
 pub mod Frames
 pub mod Left
 pub mod Names
 pub mod PathTest
+pub mod ReadFiles
 pub mod Reading
+pub mod Rule
 pub mod SearchList
 pub mod Sets
 pub mod Stored

@@ -8,13 +8,13 @@
 //! - [`SearchList`] is a compiler's list of directories for headers, as `gcc -v` prints it.
 //! - [`absent_names`] lists the paths at which a named header would have been found earlier.
 //! - [`left_directories`] lists the directories that names of a text leave by `..`.
-//! - [`may_include`] and [`has_include_test`] say whether a text may depend on a file that no line
-//!   marker names.
+//! - [`assembles_alone`] and [`opens_named_alone`] say by dependency files whether the assembler or the
+//!   compiler read other files than those that a text names.
+//! - [`has_include_test`] says whether a source may test for a header that no line marker names.
 //! - [`laws`] states what `==` means for the types.
 #![tactic(auto)]
 
 mod absent;
-mod assembler;
 mod entry_file;
 mod frames;
 mod has_include;
@@ -23,14 +23,16 @@ mod left;
 mod names;
 mod object_file;
 mod path_test;
+mod read_files;
+mod rule;
 mod search_list;
 mod stored;
 
 pub use absent::absent_names;
-pub use assembler::may_include;
 pub use entry_file::EntryFile;
 pub use has_include::has_include_test;
 pub use left::left_directories;
 pub use object_file::ObjectFile;
 pub use path_test::PathTest;
+pub use read_files::{assembles_alone, opens_named_alone};
 pub use search_list::SearchList;

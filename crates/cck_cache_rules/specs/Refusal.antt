@@ -1,7 +1,7 @@
 -- why a compilation is not recorded
 use Rattle.std.specs.Prelude.{◌≡◌, ◌≢◌, ℕ, List, Bool, true, false, Option, Some, None, codes}
 use Rattle.cck_cache_rules.specs.declared.refusal.Refusal.{Refusal}
-use Rattle.cck_cache_rules.specs.declared.refusal.Refusal.TheVariants.{NoKey, InputChanged, DayChanged, NoSearchList, UnknownHeader, HeaderTest, AssemblerInclude, EarlierPath, NamedFile, BaseDirectory}
+use Rattle.cck_cache_rules.specs.declared.refusal.Refusal.TheVariants.{NoKey, InputChanged, DayChanged, NoSearchList, UnknownHeader, HeaderTest, AssemblerInclude, OtherFile, EarlierPath, NamedFile, BaseDirectory}
 
 -- the name under which it is counted
 abbrev pub refusal_name : Refusal → List ℕ
@@ -12,6 +12,7 @@ refusal_name NoSearchList = codes "refused-no-search-list"
 refusal_name UnknownHeader = codes "refused-unknown-header"
 refusal_name HeaderTest = codes "refused-header-test"
 refusal_name AssemblerInclude = codes "refused-assembler-include"
+refusal_name OtherFile = codes "refused-other-file"
 refusal_name EarlierPath = codes "refused-earlier-path"
 refusal_name NamedFile = codes "refused-named-file"
 refusal_name BaseDirectory = codes "refused-base-directory"
@@ -27,6 +28,7 @@ IsRefusal found key one_day tests (Some HeaderTest) = (found ≡ Some key) × (o
 IsRefusal found key one_day tests (Some NoSearchList) = ⊥
 IsRefusal found key one_day tests (Some UnknownHeader) = ⊥
 IsRefusal found key one_day tests (Some AssemblerInclude) = ⊥
+IsRefusal found key one_day tests (Some OtherFile) = ⊥
 IsRefusal found key one_day tests (Some EarlierPath) = ⊥
 IsRefusal found key one_day tests (Some NamedFile) = ⊥
 IsRefusal found key one_day tests (Some BaseDirectory) = ⊥

@@ -18,8 +18,11 @@ pub enum Refusal {
     UnknownHeader,
     /// A source that is no system header tests for the existence of a header.
     HeaderTest,
-    /// A string of the text may make the assembler include a file.
+    /// The assembler read another file than what the compiler made of the input, or it is not known
+    /// what it read.
     AssemblerInclude,
+    /// The compiler opened a file that the text does not name, or it is not known what it opened.
+    OtherFile,
     /// There is something in doubt where a header would be found earlier, or a precompiled header.
     EarlierPath,
     /// The text is refused, for one of its marks or files.
@@ -41,6 +44,7 @@ impl Refusal {
             Refusal::UnknownHeader => "refused-unknown-header",
             Refusal::HeaderTest => "refused-header-test",
             Refusal::AssemblerInclude => "refused-assembler-include",
+            Refusal::OtherFile => "refused-other-file",
             Refusal::EarlierPath => "refused-earlier-path",
             Refusal::NamedFile => "refused-named-file",
             Refusal::BaseDirectory => "refused-base-directory",

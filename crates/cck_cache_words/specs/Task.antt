@@ -35,24 +35,35 @@ pub record IsPacked (found : Found) (words : PackedWords) : Type 0 where
   pub path : first_value found (codes "object") ≡ Some words.path
   pub outputs : IsOutputs found words.outputs
 
--- what a compiler made: the paths of the object and of the messages, and that of the dependency file, if one is given
+-- what a compiler made: the paths of the object and of the messages; and those of its dependency file, of that of the assembler, and of that which it
+-- wrote beside its outputs, if they are given
 pub record MadeWords : Type 0 where
   pub object : List ℕ
   pub messages : List ℕ
   pub dependencies : Option (List ℕ)
+  pub assembled : Option (List ℕ)
+  pub opened : Option (List ℕ)
 
 abbrev pub made_words : Made → MadeWords
-made_words made = record { object = made.object.now; messages = made.messages.now; dependencies = option_map (λ d. d.now) made.dependencies }
+made_words made = record {
+  object = made.object.now;
+  messages = made.messages.now;
+  dependencies = option_map (λ d. d.now) made.dependencies;
+  assembled = option_map (λ a. a.now) made.assembled;
+  opened = option_map (λ o. o.now) made.opened;
+}
 
--- the path of the dependency file, of which there is none where the compiler made nothing
-abbrev pub made_dependencies : Option MadeWords → Option (List ℕ)
-made_dependencies None = None
-made_dependencies (Some made) = made.dependencies
+-- a path that may be given, of which there is none where the compiler made nothing
+abbrev pub made_path : (MadeWords → Option (List ℕ)) → Option MadeWords → Option (List ℕ)
+made_path path None = None
+made_path path (Some made) = path made
 
 pub record IsMade (found : Found) (made : Option MadeWords) : Type 0 where
   pub object : first_value found (codes "object") ≡ option_map (λ m. m.object) made
   pub messages : first_value found (codes "messages") ≡ option_map (λ m. m.messages) made
-  pub dependencies : first_value found (codes "dependencies") ≡ made_dependencies made
+  pub dependencies : first_value found (codes "dependencies") ≡ made_path (λ m. m.dependencies) made
+  pub assembled : first_value found (codes "assembled") ≡ made_path (λ m. m.assembled) made
+  pub opened : first_value found (codes "opened") ≡ made_path (λ m. m.opened) made
 
 -- the time in the words of `record`
 pub record IsSince (found : Found) (seconds : ℤ) (nanoseconds : ℕ) : Type 0 where

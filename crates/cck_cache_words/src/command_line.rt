@@ -62,7 +62,7 @@ const RECORD_REQUIRED: [OptionWords<'static>; 3] = [
     ("search", "FILE", "What `-E -v` printed on standard error"),
 ];
 
-const RECORD_EXTRA: [OptionWords<'static>; 5] = [
+const RECORD_EXTRA: [OptionWords<'static>; 7] = [
     (
         "object",
         "FILE",
@@ -77,6 +77,16 @@ const RECORD_EXTRA: [OptionWords<'static>; 5] = [
         "dependencies",
         "FILE",
         "The dependency file that the compilation wrote",
+    ),
+    (
+        "assembled",
+        "FILE",
+        "The dependency file that the assembler wrote",
+    ),
+    (
+        "opened",
+        "FILE",
+        "What the compiler wrote for SUNPRO_DEPENDENCIES, where the compilation wrote no dependency file",
     ),
     (
         "entry-out",

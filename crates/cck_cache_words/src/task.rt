@@ -60,6 +60,11 @@ pub struct Made<'a> {
     pub messages: &'a str,
     /// The path of the dependency file, if the compiler wrote one.
     pub dependencies: Option<&'a str>,
+    /// The path of the dependency file that the assembler wrote.
+    pub assembled: Option<&'a str>,
+    /// The path of a dependency file that the compiler wrote and that was not asked for, where it wrote
+    /// no other.
+    pub opened: Option<&'a str>,
 }
 
 /// An object file that is not in the store.
@@ -154,7 +159,7 @@ fn packed_of<'a>(matches: &ArgMatches<'a>) -> Option<Packed<'a>>
 }
 
 // What the compiler made, in the words of `record`: the paths of the object and of the messages, and
-// with them that of the dependency file if it is given; or no path. `None` for all other words.
+// with them those of dependency files if they are given; or no path. `None` for all other words.
 fn made_of<'a>(matches: &ArgMatches<'a>) -> Option<Option<Made<'a>>>
     ensures { MatchOption result ((words : Option MadeWords) → IsMade (found_of matches.now) words → ⊥)
         (λ made. IsMade (found_of matches.now) (option_map made_words made)) }
@@ -163,13 +168,17 @@ fn made_of<'a>(matches: &ArgMatches<'a>) -> Option<Option<Made<'a>>>
         matches.get_str("object"),
         matches.get_str("messages"),
         matches.get_str("dependencies"),
+        matches.get_str("assembled"),
+        matches.get_str("opened"),
     ) {
-        (Some(object), Some(messages), dependencies) => Some(Some(Made {
+        (Some(object), Some(messages), dependencies, assembled, opened) => Some(Some(Made {
             object,
             messages,
             dependencies,
+            assembled,
+            opened,
         })),
-        (None, None, None) => Some(None),
+        (None, None, None, None, None) => Some(None),
         _ => None,
     }
 }
@@ -265,8 +274,8 @@ fn store_task<'a>(name: &str, matches: &ArgMatches<'a>) -> Option<Task<'a>> {
 }
 
 /// Reads what these words ask for. The first is the program's name. `None` is returned where a
-/// stamp is no time, a size no number, one of object and messages is missing, or dependencies come
-/// without an object.
+/// stamp is no time, a size no number, one of object and messages is missing, or a dependency file
+/// comes without an object.
 ///
 /// The error is clap's: for wrong words, for `--help` and for `--version`, with the text to be
 /// printed, or for lack of memory.

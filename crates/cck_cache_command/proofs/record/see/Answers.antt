@@ -1,4 +1,4 @@
-use Rattle.std.proofs.Common.{◌∙◌, inl, inr, true, refl, sym, subst}
+use Rattle.std.proofs.Common.{◌∙◌, inl, true, refl, sym, subst}
 use Rattle.cck_cache_files.specs.Snapshot.{HasNamedTest}
 use Rattle.cck_markers.proofs.EachText.{has_one_list}
 use Rattle.cck_path.specs.Bytes.{Bytes, lists_of}
@@ -10,7 +10,7 @@ pub returns-then-named : goal.returns-then-named
 returns-then-named g c =
     let files = c.add_named_files.new.files.files in
     let list = has_one_list true c.args.text.now in
-    inr (inl (
+    inl (
       refl,
       record {
         files = files;
@@ -18,7 +18,7 @@ returns-then-named g c =
         are_marks = list.1;
         named = subst (λ (d : Bytes). HasNamedTest list.0 d files) c.as_bytes.ensures.value (c.in_ok-named.ensures.tests list.0 list.1 c.if-named.true c.in_ok-files.ensures.calm.quiet);
       },
-    ))
+    )
 
 pub returns : goal.returns
 returns g c =
@@ -36,7 +36,6 @@ returns g c =
       printed = c.deref.result.now;
       paths_are = rw c.in-Paths.is at c.in_ok-refusal.ensures.absence;
     } in (
-      sym c.in_ok-may_include.ensures ∙ c.if-branch.false,
       gathered request since text cwd c.in_ok-files.field-0.tests_headers test before after paths c.in_ok-files.ensures.calm c.in_ok-files.ensures.input c.in_ok-named.ensures.named c.as_bytes.ensures.value c.if-named.false absent,
       calm_grown text cwd test before after c.in_ok-named.ensures.named c.in_ok-files.ensures.calm,
     )

@@ -3,15 +3,8 @@ use Rattle.std.specs.List.{flat_map}
 use Rattle.std.proofs.lemmas.List.{append-nil, length-append, nil_from_length}
 use Rattle.std.proofs.lemmas.Bool.Decides.{Decides-eqb}
 use Rattle.cck_digest.specs.Frames.{frame}
-use Rattle.cck_cache_entry.proofs.ReadingLemmas.{frames_found, no_frames, length-frame}
+use Rattle.cck_cache_entry.proofs.ReadingLemmas.{empty, frames_found, no_frames, not_empty, length-frame}
 use Rattle.cck_cache_entry.proofs.frames.read_frames.Goals as goal
-
-empty : (xs : List ℕ) → (length xs == 0) ≡ true → xs ≡ []
-empty xs e = nil_from_length xs ((Decides-eqb (length xs) 0).0 e)
-
-not_empty : (xs : List ℕ) → (length xs == 0) ≡ false → xs ≡ [] → ⊥
-not_empty [] e none = cc
-not_empty (x ∷ xs) e none = cc
 
 pub returns-in_default : goal.returns-in_default
 returns-in_default c =
