@@ -16,6 +16,7 @@ mod program;
 mod prune;
 mod record;
 mod request;
+mod searched;
 mod stats;
 mod unpack;
 mod why;

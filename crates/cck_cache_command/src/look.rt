@@ -5,14 +5,13 @@ ghost use Rattle.cck_cache_command.specs.Look.{IsLookResult, IsFoundFor, IsInclu
 ghost use Rattle.cck_cache_files.specs.Snapshot.{ArePut};
 ghost use Rattle.cck_include.specs.Include.{includes_in};
 
-use crate::absence::first_present;
 use crate::environment::Environment;
 use crate::input::input_snapshot;
 use crate::outputs::has_outputs;
 use crate::request::{hasher_of, snapshot_request};
 use anyhow::Result;
 use cck_cache_entry::{EntryFile, ObjectFile};
-use cck_cache_files::{Kind, StoreDirectory, add_file};
+use cck_cache_files::{Kind, StoreDirectory, add_file, first_failing};
 use cck_cache_rules::{entry_in, object_in};
 use cck_cache_words::{Look, Outputs};
 use cck_digest::UtilError;
@@ -144,7 +143,7 @@ pub fn add_entry_files<R: Files + AllocGlobal>(
     Ok(true)
 }
 
-// The key of a result in the entry that matches, if what was absent is absent still.
+// The key of a result in the entry that matches, if the tests of paths hold.
 fn matching_key<R: Files + AllocGlobal>(
     rt: &R,
     asked: &SnapshotRequest<'_>,
@@ -155,7 +154,7 @@ fn matching_key<R: Files + AllocGlobal>(
     ensures { IfOk result (λ found. IsCalm files.old → IfSome found
         (IsMatch asked.now files.old.files key.now file.now.entry.items)) }
 {
-    if first_present(rt, &file.absent_paths).is_some() {
+    if first_failing(rt, &file.tests)?.is_some() {
         return Ok(None);
     }
     if !add_entry_files(rt, files, &file.entry)? {
