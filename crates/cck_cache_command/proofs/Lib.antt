@@ -5,3 +5,4 @@ pub mod LookLemmas
 pub mod NamingLemmas
 pub mod RecordLemmas
 pub mod RequestLemmas
+pub mod SearchedLemmas

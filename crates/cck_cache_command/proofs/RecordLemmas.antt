@@ -8,12 +8,13 @@ use Rattle.cck_cache_base.specs.Text.{AreBases}
 use Rattle.cck_cache_base.specs.declared.base.Words.{Words}
 use Rattle.cck_cache_command.proofs.InputLemmas.{calm_kept, calm_stays, without_fault}
 use Rattle.cck_cache_command.specs.Input.{IsCalm, IsInput, NoFault}
-use Rattle.cck_cache_command.specs.Record.{AreGathered, HasAbsentPaths, IsAsked, IsLocalTime, IsOneDay, IsOutcome, IsOutcomeOver, ObjectShowsBase, ReadsAlone}
+use Rattle.cck_cache_command.specs.Record.{AreGathered, HasPathTests, IsAsked, IsLocalTime, IsOneDay, IsOutcome, IsOutcomeOver, ObjectShowsBase, ReadsAlone}
 use Rattle.cck_cache_command.specs.Request.{IsRequest, request_words}
 use Rattle.cck_cache_command.specs.declared.environment.Environment.{Environment}
 use Rattle.cck_cache_command.specs.declared.record.Gathered.{Gathered}
 use Rattle.cck_cache_command.specs.declared.record.Outcome.{Outcome}
 use Rattle.cck_cache_command.specs.declared.record.Outcome.TheVariants.{Recorded, Refused}
+use Rattle.cck_cache_entry.specs.PathTest.{Test, tests_of}
 use Rattle.cck_cache_entry.specs.declared.object_file.ObjectFile.{ObjectFile}
 use Rattle.cck_cache_files.specs.Snapshot.{ArePut, SnapshotGrows, IsNamedFile}
 use Rattle.cck_cache_words.specs.declared.request.Request.{Request}
@@ -37,9 +38,9 @@ use Rattle.sha2.specs.Sha256.{sha256}
 abbrev pub GrewBy : Bytes → Bytes → Bool → FileState → FileState → Type 0
 GrewBy text cwd test before after = (marks : List Mark) → Marks true text marks → SnapshotGrows (IsNamedFile marks cwd test) before after
 
-pub gathered : (request : Request) (since : Moment) (text cwd : Bytes) (tests test : Bool) (before after : FileState) (paths : List Bytes) → IsCalm before → IsInput request before.files tests → GrewBy text cwd test before after → cwd ≡ request.directory.now → test ≡ false
-    → HasAbsentPaths request since text paths → AreGathered request since text tests after.files paths
-gathered request since text cwd tests test before after paths calm is grew same none absent =
+pub gathered : (request : Request) (since : Moment) (text cwd : Bytes) (tests test : Bool) (before after : FileState) (made : List Test) → IsCalm before → IsInput request before.files tests → GrewBy text cwd test before after → cwd ≡ request.directory.now → test ≡ false
+    → HasPathTests request since text made → AreGathered request since text tests after.files made
+gathered request since text cwd tests test before after made calm is grew same none path_tests =
     let list = has_one_list true text in
     let grown = grew list.0 list.1 in
     record {
@@ -49,7 +50,7 @@ gathered request since text cwd tests test before after paths calm is grew same 
       are_marks = list.1;
       put = subst (λ (d : Bytes). ArePut (IsNamedFile list.0 d false) before.files after.files) same (subst (λ (b : Bool). ArePut (IsNamedFile list.0 cwd b) before.files after.files) none grown.put);
       kept = grown.kept calm.quiet;
-      absent = absent;
+      path_tests = path_tests;
     }
 
 pub calm_grown : (text cwd : Bytes) (test : Bool) (before after : FileState) → GrewBy text cwd test before after → IsCalm before → IsCalm after
@@ -89,7 +90,7 @@ recorded_over asked text before mid after recording put calm first second is rec
 
 -- an outcome over the files that were gathered is the outcome
 pub outcome_all : (environment : Environment) (request : Request) (compilation : Compilation) (text : Bytes) (gathered : Gathered) (outcome : Outcome) → ReadsAlone request text compilation.made
-    → AreGathered request compilation.since text gathered.tests_headers gathered.files.files (lists_of gathered.absent_paths.items) → IsOutcomeOver environment request compilation text gathered outcome → IsOutcome environment request compilation text outcome
-outcome_all environment request compilation text gathered (Recorded name) alone are is = (alone, (gathered.tests_headers, gathered.files.files, lists_of gathered.absent_paths.items, are, is))
+    → AreGathered request compilation.since text gathered.tests_headers gathered.files.files (tests_of gathered.tests.items) → IsOutcomeOver environment request compilation text gathered outcome → IsOutcome environment request compilation text outcome
+outcome_all environment request compilation text gathered (Recorded name) alone are is = (alone, (gathered.tests_headers, gathered.files.files, tests_of gathered.tests.items, are, is))
 outcome_all environment request compilation text gathered (Refused refusal) alone are is =
-    inr (inr (gathered.tests_headers, gathered.is_doubtful, gathered.files.files, lists_of gathered.absent_paths.items, are, is))
+    inr (inr (gathered.tests_headers, gathered.is_doubtful, gathered.files.files, tests_of gathered.tests.items, are, is))

@@ -1,10 +1,13 @@
--- the paths that must stay absent for a recorded key
-use Rattle.std.specs.Prelude.{◌≡◌, ◌<◌, ◌⊎◌, Bool, true, false, List, Contains, Option, Some, None, IsTrue, codes, length, nat_eq}
+-- the tests of paths that must hold for a recorded key
+use Rattle.std.specs.Prelude.{◌≡◌, ◌<◌, ◌⊎◌, ◌++◌, Bool, true, false, List, Contains, Option, Some, None, IsTrue, codes, length, map, nat_eq}
 use Rattle.std.specs.List.{ends_with}
 use Rattle.cck_cache_command.specs.declared.absence.Absence.{Absence}
-use Rattle.cck_cache_command.specs.declared.absence.Absence.TheVariants.{Paths, Refused}
+use Rattle.cck_cache_command.specs.declared.absence.Absence.TheVariants.{Tests, Refused}
+use Rattle.cck_cache_command.specs.Searched.{AreSearched, HasDoubtfulDirectory}
 use Rattle.cck_cache_entry.specs.Absent.{AreAbsentNames, IsAbsentName, IsListed}
+use Rattle.cck_cache_entry.specs.Left.{IsLeft}
 use Rattle.cck_cache_entry.specs.Names.{is_system_name}
+use Rattle.cck_cache_entry.specs.PathTest.{Test, Directory, tests_of, Absent as TestAbsent}
 use Rattle.cck_cache_entry.specs.SearchList.{IsSearchList, SearchFields}
 use Rattle.cck_cache_command.specs.declared.absence.PathVerdict.{PathVerdict}
 use Rattle.cck_cache_command.specs.declared.absence.PathVerdict.TheVariants.{Absent, Present, Doubtful}
@@ -15,7 +18,7 @@ use Rattle.cck_cache_files.specs.declared.path_states.PathStates.{PathStates}
 use Rattle.cck_cache_rules.specs.declared.refusal.Refusal.{Refusal}
 use Rattle.cck_cache_rules.specs.declared.refusal.Refusal.TheVariants.{NoKey, InputChanged, DayChanged, NoSearchList, UnknownHeader, HeaderTest, AssemblerInclude, OtherFile, EarlierPath, NamedFile, BaseDirectory}
 use Rattle.cck_markers.specs.Marks.{Mark, Marks}
-use Rattle.cck_path.specs.Bytes.{Bytes, lists_of}
+use Rattle.cck_path.specs.Bytes.{Bytes}
 use Rattle.cck_path.specs.Text.{join_path}
 
 -- There is nothing at the first place on the way to a path that does not lead on; or a file is on the way to the path, so that there is nothing at it.
@@ -60,19 +63,35 @@ abbrev pub AreAbsentPaths : PathStates → Bytes → (Bytes → Type 0) → Opti
 AreAbsentPaths states directory IsName None = (name : Bytes) × IsName name × IsDoubtfulAt states (join_path directory name)
 AreAbsentPaths states directory IsName (Some paths) = ArePathsFor states directory IsName paths
 
--- What is found of the paths of a text, by what the compiler printed of its directories. The list of directories can be read, each system header is
--- in one of them, and no path is in doubt.
-pub record ArePathsOf (states : PathStates) (directory text printed : Bytes) (paths : List Bytes) : Type 0 where
+-- exactly the directories that names among these marks leave
+abbrev pub AreLeft : Bytes → List Mark → List Bytes → Type 0
+AreLeft directory marks fronts = (front : Bytes) → (Contains fronts front → IsLeft directory marks front) × (IsLeft directory marks front → Contains fronts front)
+
+-- The tests of the paths of a text, by what the compiler printed of its directories. The list of directories can be read, each system header is in one
+-- of them, and no path and no directory is in doubt.
+pub record AreTestsOf (states : PathStates) (directory text printed : Bytes) (tests : List Test) : Type 0 where
   pub search : SearchFields
   pub is_search : IsSearchList printed (Some search)
   pub listed : (marks : List Mark) → Marks true text marks → (name : Bytes) → IsTrue (is_system_name marks name) → IsListed search.directories name
+  pub searched : List Test
+  pub are_searched : AreSearched directory search searched
+  pub paths : List Bytes
   pub paths_are : (marks : List Mark) → Marks true text marks → ArePathsFor states directory (IsAbsentName marks search) paths
+  pub fronts : List Bytes
+  pub fronts_are : (marks : List Mark) → Marks true text marks → AreLeft directory marks fronts
+  pub tests_are : tests ≡ (searched ++ map TestAbsent paths) ++ map Directory fronts
 
 -- a path of the text is in doubt
 pub record HasDoubtfulPath (states : PathStates) (directory text printed : Bytes) : Type 0 where
   pub search : SearchFields
   pub is_search : IsSearchList printed (Some search)
   pub doubtful : (marks : List Mark) → Marks true text marks → (name : Bytes) × IsAbsentName marks search name × IsDoubtfulAt states (join_path directory name)
+
+-- the compiler's list is not right for one of its directories
+pub record HasDoubtfulSearch (directory printed : Bytes) : Type 0 where
+  pub search : SearchFields
+  pub is_search : IsSearchList printed (Some search)
+  pub doubtful : HasDoubtfulDirectory directory search
 
 -- a system header is in no directory of the list
 pub record HasUnknownHeader (text printed : Bytes) : Type 0 where
@@ -83,7 +102,7 @@ pub record HasUnknownHeader (text printed : Bytes) : Type 0 where
 abbrev pub IsRefusedByPath : PathStates → Bytes → Bytes → Bytes → Refusal → Type 0
 IsRefusedByPath states directory text printed NoSearchList = IsSearchList printed None
 IsRefusedByPath states directory text printed UnknownHeader = HasUnknownHeader text printed
-IsRefusedByPath states directory text printed EarlierPath = HasDoubtfulPath states directory text printed
+IsRefusedByPath states directory text printed EarlierPath = HasDoubtfulPath states directory text printed ⊎ HasDoubtfulSearch directory printed
 IsRefusedByPath states directory text printed NoKey = ⊥
 IsRefusedByPath states directory text printed InputChanged = ⊥
 IsRefusedByPath states directory text printed DayChanged = ⊥
@@ -95,5 +114,5 @@ IsRefusedByPath states directory text printed BaseDirectory = ⊥
 
 -- what is found of the paths of a text
 abbrev pub IsAbsence : PathStates → Bytes → Bytes → Bytes → Absence → Type 0
-IsAbsence states directory text printed (Paths paths) = ArePathsOf states directory text printed (lists_of paths.items)
+IsAbsence states directory text printed (Tests tests) = AreTestsOf states directory text printed (tests_of tests.items)
 IsAbsence states directory text printed (Refused refusal) = IsRefusedByPath states directory text printed refusal

@@ -3,7 +3,7 @@ use Rattle.std.specs.Prelude.{◌≡◌, ◌⊎◌, ℤ, pos, ◌*ℤ◌, ◌+�
 use Rattle.std.specs.declared.alloc.Global.{Global}
 use Rattle.cck_cache_base.specs.Shown.{ShowsBase}
 use Rattle.cck_cache_base.specs.Text.{AreBases}
-use Rattle.cck_cache_command.specs.Absence.{ArePathsOf, IsRefusedByPath}
+use Rattle.cck_cache_command.specs.Absence.{AreTestsOf, IsRefusedByPath}
 use Rattle.cck_cache_command.specs.Input.{IsCalm, IsInput, NoFault}
 use Rattle.cck_cache_command.specs.Naming.{IsName}
 use Rattle.cck_cache_command.specs.Request.{IsRequest, key_over, request_words}
@@ -14,6 +14,7 @@ use Rattle.cck_cache_command.specs.declared.record.Outcome.TheVariants.{Recorded
 use Rattle.cck_cache_command.specs.declared.record.Seen.{Seen}
 use Rattle.cck_cache_command.specs.declared.record.Seen.TheVariants.{Files, Refused as NotSeen}
 use Rattle.cck_cache_entry.specs.Files.{EntryFields}
+use Rattle.cck_cache_entry.specs.PathTest.{Test, tests_of}
 use Rattle.cck_cache_entry.specs.ReadFiles.{IsAssembledRule, IsOpenedRule}
 use Rattle.cck_cache_entry.specs.declared.object_file.ObjectFile.{ObjectFile}
 use Rattle.cck_cache_files.specs.declared.path_states.PathStates.{PathStates}
@@ -26,7 +27,7 @@ use Rattle.cck_cache_words.specs.declared.task.Compilation.{Compilation}
 use Rattle.cck_cache_words.specs.declared.task.Made.{Made}
 use Rattle.cck_files.specs.FileMap.{FileMap}
 use Rattle.cck_markers.specs.Marks.{Mark, Marks}
-use Rattle.cck_path.specs.Bytes.{Bytes, lists_of}
+use Rattle.cck_path.specs.Bytes.{Bytes}
 use Rattle.cck_path.specs.Timestamp.{Moment}
 use Rattle.cck_snapshot.specs.Recordings.{IsRecording}
 use Rattle.cck_snapshot.specs.declared.recordings.RecordedEntry.{RecordedEntry}
@@ -53,24 +54,24 @@ IsOneDay zone a b true = (x y : DateTime) × IsLocalTime zone a x × IsLocalTime
 IsOneDay zone a b false =
     HasNoLocalTime a ⊎ (HasNoLocalTime b ⊎ ((x y : DateTime) × IsLocalTime zone a x × IsLocalTime zone b y × ¬ (epoch_day x.date ≡ epoch_day y.date)))
 
--- These paths must stay absent, by what the compiler printed of its directories and by states of paths, where a file or a link that changed at this
+-- These tests of paths must hold, by what the compiler printed of its directories and by states of paths, where a file or a link that changed at this
 -- time or later is in doubt.
-pub record HasAbsentPaths (request : Request) (since : Moment) (text : Bytes) (paths : List Bytes) : Type 0 where
+pub record HasPathTests (request : Request) (since : Moment) (text : Bytes) (made : List Test) : Type 0 where
   pub states : PathStates
   pub since_is : states.since ≡ since
   pub printed : Bytes
-  pub paths_are : ArePathsOf states request.directory.now text printed paths
+  pub tests_are : AreTestsOf states request.directory.now text printed made
 
 -- Files that were gathered for a text: the input, and files at the paths of the names of the text, none of which replaced another. Those that test
 -- for headers are of system headers, but for the input. No path at which a header would have been found earlier is in doubt.
-pub record AreGathered (request : Request) (since : Moment) (text : Bytes) (tests : Bool) (files : FileMap) (paths : List Bytes) : Type 0 where
+pub record AreGathered (request : Request) (since : Moment) (text : Bytes) (tests : Bool) (files : FileMap) (made : List Test) : Type 0 where
   pub input : FileMap
   pub is_input : IsInput request input tests
   pub marks : List Mark
   pub are_marks : Marks true text marks
   pub put : ArePut (IsNamedFile marks request.directory.now false) input files
   pub kept : IsPart input files
-  pub absent : HasAbsentPaths request since text paths
+  pub path_tests : HasPathTests request since text made
 
 -- a path keeps a compilation from being recorded
 pub record HasPathRefusal (request : Request) (since : Moment) (text : Bytes) (refusal : Refusal) : Type 0 where
@@ -92,7 +93,7 @@ IsRefusedByText request since text refusal = ((refusal ≡ HeaderTest) × HasTes
 
 abbrev pub IsSeen : Request → Moment → Bytes → Seen → Type 0
 IsSeen request since text (Files gathered) =
-    AreGathered request since text gathered.tests_headers gathered.files.files (lists_of gathered.absent_paths.items) × IsCalm gathered.files
+    AreGathered request since text gathered.tests_headers gathered.files.files (tests_of gathered.tests.items) × IsCalm gathered.files
 IsSeen request since text (NotSeen refusal) = IsRefusedByText request since text refusal
 
 -- this does not hold of a dependency file, if there is one
@@ -134,9 +135,9 @@ ObjectShowsBase bases (Some object) = ShowsBase bases object.object.items ⊎ (S
 abbrev pub IsRefusedByBase : List Bytes → Refusal → Type 0
 IsRefusedByBase bases refusal = (refusal ≡ BaseDirectory) × ((object : ObjectFile) × ObjectShowsBase bases (Some object))
 
--- the entry file of an entry, with these absent paths
-abbrev pub recorded_fields : RecordedEntry → List Bytes → EntryFields
-recorded_fields entry absent = record { preprocessor_key = string_bytes entry.preprocessor_key; entry = entry.bytes.items; absent_paths = absent }
+-- the entry file of an entry, with these tests of paths
+abbrev pub recorded_fields : RecordedEntry → List Test → EntryFields
+recorded_fields entry made = record { preprocessor_key = string_bytes entry.preprocessor_key; entry = entry.bytes.items; tests = made }
 
 -- the request of a compilation over a snapshot, at the time at which its look-up ended
 pub record IsAsked (environment : Environment) (request : Request) (compilation : Compilation) (text : Bytes) (asked : SnapshotRequest) : Type 0 where
@@ -188,9 +189,9 @@ IsOutcomeOver environment request compilation text gathered (Refused refusal) =
 abbrev pub IsOutcome : Environment → Request → Compilation → Bytes → Outcome → Type 0
 IsOutcome environment request compilation text (Recorded name) =
     ReadsAlone request text compilation.made
-    × ((tests : Bool) × (files : FileMap) × (paths : List Bytes) × AreGathered request compilation.since text tests files paths × IsRecordedOver environment request compilation text tests files name)
+    × ((tests : Bool) × (files : FileMap) × (made : List Test) × AreGathered request compilation.since text tests files made × IsRecordedOver environment request compilation text tests files name)
 IsOutcome environment request compilation text (Refused refusal) =
     IsRefusedByReading request text refusal
     ⊎ (IsRefusedByText request compilation.since text refusal
-    ⊎ ((tests doubtful : Bool) × (files : FileMap) × (paths : List Bytes) × AreGathered request compilation.since text tests files paths
+    ⊎ ((tests doubtful : Bool) × (files : FileMap) × (made : List Test) × AreGathered request compilation.since text tests files made
     × IsRefusedOver environment request compilation text tests doubtful files refusal))

@@ -1,14 +1,16 @@
-//! The paths that must stay absent for a recorded key.
-ghost use Rattle.std.specs.Prelude.{Contains, IfOk, IfSome, IsOkUnless, IsTrue, OnOk, map};
+//! The tests of paths that must hold for a recorded key.
+ghost use Rattle.std.specs.Prelude.{◌≡◌, ◌++◌, Contains, IfOk, IsOkUnless, IsTrue, OnOk, map};
 ghost use Rattle.std.specs.Option.{option_map};
 ghost use Rattle.cck_cache_command.specs.Absence.{AreAbsentPaths, GainsPath, IsAbsence, IsVerdict};
+ghost use Rattle.cck_cache_entry.specs.PathTest.{Absent, Directory, tests_of};
 ghost use Rattle.cck_cache_entry.specs.Sets.{has_key};
 ghost use Rattle.cck_cache_files.specs.PathStates.{IsFirstOther, KeepsStates};
 ghost use Rattle.cck_cache_files.specs.declared.path_states.PathStates.{PathStates};
 ghost use Rattle.cck_path.specs.Bytes.{lists_of};
 
-use cck_cache_entry::{SearchList, absent_names};
-use cck_cache_files::{PathState, PathStates, is_absent};
+use crate::searched::searched_tests;
+use cck_cache_entry::{PathTest, SearchList, absent_names, left_directories};
+use cck_cache_files::{PathState, PathStates};
 use cck_cache_rules::Refusal;
 use cck_digest::UtilError;
 use cck_path::join_path;
@@ -16,12 +18,11 @@ use std::alloc::{AllocError, Global};
 use std::collections::BTreeSet;
 use std::rt::Files;
 
-/// What is found of the paths at which a header would have been found earlier.
+/// What is found of the paths that decide where headers were found.
 #[derive(Drop)]
 pub enum Absence {
-    /// There is nothing at these paths. As long as that is so, no header can be found earlier than where
-    /// it was found.
-    Paths(Vec<Vec<u8>>),
+    /// These tests hold. As long as that is so, each header is found where it was found.
+    Tests(Vec<PathTest>),
     /// The compilation is not recorded.
     Refused(Refusal),
 }
@@ -115,8 +116,35 @@ fn absent_paths<R: Files + AllocGlobal>(
     Ok(Some(paths))
 }
 
-/// Judges the paths at which a header that a text names would have been found earlier. `printed` is
-/// what the compiler printed of its directories.
+// Adds the test that there is nothing at each of these paths.
+fn add_absent(alloc: Global, tests: &mut Vec<PathTest>, paths: &[Vec<u8>]) -> Result<(), AllocError>
+    ensures { OnOk result
+        (tests_of tests.new.items ≡ tests_of tests.old.items ++ map Absent (lists_of paths.now)) }
+{
+    for path in paths {
+        tests.push(PathTest::Absent(path.to_vec(alloc)?))?;
+    }
+    Ok(())
+}
+
+// Adds the test that a directory, and no link, is at each of these paths.
+fn add_directories(
+    alloc: Global,
+    tests: &mut Vec<PathTest>,
+    paths: &BTreeSet<Vec<u8>>,
+) -> Result<(), AllocError>
+    ensures { OnOk result
+        (tests_of tests.new.items ≡ tests_of tests.old.items ++ map Directory (lists_of paths.now.keys)) }
+{
+    for path in paths {
+        tests.push(PathTest::Directory(path.to_vec(alloc)?))?;
+    }
+    Ok(())
+}
+
+/// Judges the paths that decide where the headers of a text were found: the directories that the
+/// compiler searches, the paths at which a header would have been found earlier, and the directories
+/// that a name leaves by `..`. `printed` is what the compiler printed of its directories.
 ///
 /// The only error is [`UtilError::Memory`]. The states that were kept are kept, after it too.
 pub fn absence_of<R: Files + AllocGlobal>(
@@ -137,20 +165,14 @@ pub fn absence_of<R: Files + AllocGlobal>(
     let Some(names) = absent_names(alloc, text, &search)? else {
         return Ok(Absence::Refused(Refusal::UnknownHeader));
     };
-    match absent_paths(rt, states, directory.as_bytes(), &names)? {
-        Some(paths) => Ok(Absence::Paths(paths)),
-        None => Ok(Absence::Refused(Refusal::EarlierPath)),
-    }
-}
-
-/// The first of these paths at which there is something.
-pub fn first_present<'a, R: Files>(rt: &R, paths: &'a [Vec<u8>]) -> Option<&'a [u8]>
-    ensures { IfSome result (λ path. Contains (map (λ p. p.items) paths.now) path.now) }
-{
-    for path in paths {
-        if !is_absent(rt, path) {
-            return Some(path);
-        }
-    }
-    None
+    let Some(paths) = absent_paths(rt, states, directory.as_bytes(), &names)? else {
+        return Ok(Absence::Refused(Refusal::EarlierPath));
+    };
+    let Some(mut tests) = searched_tests(rt, directory.as_bytes(), &search)? else {
+        return Ok(Absence::Refused(Refusal::EarlierPath));
+    };
+    add_absent(alloc, &mut tests, &paths)?;
+    let left = left_directories(alloc, directory.as_bytes(), text)?;
+    add_directories(alloc, &mut tests, &left)?;
+    Ok(Absence::Tests(tests))
 }

@@ -5,7 +5,6 @@ ghost use Rattle.cck_cache_command.specs.Look.{IsEntryRead, IsFoundFor, IsInclud
 ghost use Rattle.cck_cache_files.specs.Snapshot.{ArePut};
 ghost use Rattle.cck_include.specs.Include.{includes_in};
 
-use crate::absence::first_present;
 use crate::environment::Environment;
 use crate::input::input_snapshot;
 use crate::naming::name_of;
@@ -13,7 +12,7 @@ use crate::outputs::has_outputs;
 use crate::request::{hasher_of, snapshot_request};
 use anyhow::Result;
 use cck_cache_entry::{EntryFile, ObjectFile};
-use cck_cache_files::{Kind, StoreDirectory, add_file};
+use cck_cache_files::{Kind, StoreDirectory, add_file, first_failing};
 use cck_cache_rules::{entry_in, object_in};
 use cck_cache_words::{Look, Outputs, Request};
 use cck_digest::UtilError;
@@ -145,7 +144,7 @@ pub fn add_entry_files<R: Files + AllocGlobal>(
     Ok(Some(entry))
 }
 
-// The name of the object of a result in the entry that matches, if what was absent is absent still.
+// The name of the object of a result in the entry that matches, if the tests of paths hold.
 fn matching_name<R: Files + AllocGlobal>(
     rt: &R,
     request: &Request<'_>,
@@ -157,7 +156,7 @@ fn matching_name<R: Files + AllocGlobal>(
     ensures { IfOk result (λ found. IsCalm files.old → IfSome found
         (IsNamedMatch request.now asked.now files.old.files key.now file.now.entry.items)) }
 {
-    if first_present(rt, &file.absent_paths).is_some() {
+    if first_failing(rt, &file.tests)?.is_some() {
         return Ok(None);
     }
     let Some(entry) = add_entry_files(rt, files, &file.entry)? else {

@@ -4,6 +4,7 @@ ghost use Rattle.std.specs.Option.{option_map};
 ghost use Rattle.cck_cache_command.specs.Input.{IsCalm};
 ghost use Rattle.cck_cache_command.specs.Record.{HasNoLocalTime, IsJudgedByInput, IsJudgedByReading, IsLocalTime, IsOneDay, IsOutcome, IsOutcomeOver, IsRefusedByBase, IsSeen, IsTold, ObjectShowsBase, recorded_fields};
 ghost use Rattle.cck_cache_entry.specs.Files.{entry_fields};
+ghost use Rattle.cck_cache_entry.specs.PathTest.{tests_of};
 ghost use Rattle.cck_cache_entry.specs.ReadFiles.{IsAssembledRule, IsOpenedRule};
 ghost use Rattle.cck_files.specs.Calls.{Keeps};
 ghost use Rattle.cck_files.specs.FileState.{IsQuiet, fault_count};
@@ -17,7 +18,7 @@ use crate::naming::name_in;
 use crate::request::{base_words, hasher_of, snapshot_request};
 use anyhow::Result;
 use cck_cache_base::{bases_of, shows_base};
-use cck_cache_entry::{EntryFile, ObjectFile, assembles_alone, opens_named_alone};
+use cck_cache_entry::{EntryFile, ObjectFile, PathTest, assembles_alone, opens_named_alone};
 use cck_cache_files::{Kind, PathStates, StoreDirectory, add_named_files};
 use cck_cache_rules::{Known, Refusal, refusal_of};
 use cck_cache_words::{Compilation, Made, Request};
@@ -72,8 +73,8 @@ struct Gathered {
     tests_headers: bool,
     // Whether a name that was left out has the path of one of the files.
     is_doubtful: bool,
-    // The paths that must stay absent.
-    absent_paths: Vec<Vec<u8>>,
+    // The tests of paths that must hold.
+    tests: Vec<PathTest>,
 }
 
 // What a recording looks at.
@@ -84,7 +85,7 @@ enum Seen {
     Refused(Refusal),
 }
 
-// Reads the input and the files that a text names, and lists the paths that must stay absent, by what the
+// Reads the input and the files that a text names, and lists the tests of paths that must hold, by what the
 // compiler printed of its directories; or finds why the compilation is not recorded.
 fn see<R: Files + AllocGlobal>(
     rt: &R,
@@ -101,9 +102,9 @@ fn see<R: Files + AllocGlobal>(
     let directory = request.directory;
     let mut states = PathStates::new(rt, compilation.since);
     let printed = fs::read(rt, compilation.search)?;
-    let absent_paths = match absence_of(rt, &mut states, directory, text, &printed)? {
+    let tests = match absence_of(rt, &mut states, directory, text, &printed)? {
         Absence::Refused(refusal) => return Ok(Seen::Refused(refusal)),
-        Absence::Paths(paths) => paths,
+        Absence::Tests(tests) => tests,
     };
     let named = add_named_files(rt, &mut files, &mut states, directory.as_bytes(), text)?;
     if named.tests_headers {
@@ -113,7 +114,7 @@ fn see<R: Files + AllocGlobal>(
         files,
         tests_headers,
         is_doubtful: named.is_doubtful,
-        absent_paths,
+        tests,
     }))
 }
 
@@ -340,13 +341,13 @@ fn keep<R: Files + AllocGlobal>(
 }
 
 // The entry file of what was recorded.
-fn entry_file_of(entry: RecordedEntry, absent_paths: Vec<Vec<u8>>) -> EntryFile
-    ensures { entry_fields result ≡ recorded_fields entry (lists_of absent_paths.items) }
+fn entry_file_of(entry: RecordedEntry, tests: Vec<PathTest>) -> EntryFile
+    ensures { entry_fields result ≡ recorded_fields entry (tests_of tests.items) }
 {
     EntryFile {
         preprocessor_key: entry.preprocessor_key.into_bytes(),
         entry: entry.bytes,
-        absent_paths,
+        tests,
     }
 }
 
@@ -367,7 +368,7 @@ fn record_over<R: Files + AllocGlobal>(
         mut files,
         tests_headers,
         is_doubtful,
-        absent_paths,
+        tests,
     } = gathered;
     let bases = bases_of(rt.alloc(), &base_words(request), text)?;
     let hasher = hasher_of(rt, environment, request)?;
@@ -393,7 +394,7 @@ fn record_over<R: Files + AllocGlobal>(
         return Ok(Outcome::Refused(Refusal::NamedFile));
     };
     let name = name_in(rt, request, &mut files, object.as_str(), &entry.bytes)?;
-    let file = entry_file_of(entry, absent_paths);
+    let file = entry_file_of(entry, tests);
     match keep(rt, store, compilation, &bases, name.as_str(), &file)? {
         Some(refusal) => Ok(Outcome::Refused(refusal)),
         None => Ok(Outcome::Recorded(name)),

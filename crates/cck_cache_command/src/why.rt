@@ -1,12 +1,11 @@
 //! Says why a look-up misses.
-use crate::absence::first_present;
 use crate::environment::Environment;
 use crate::input::input_snapshot;
 use crate::look::{Kept, NO_KEY, add_entry_files, read_entry};
 use crate::request::request_key;
 use anyhow::Result;
-use cck_cache_entry::EntryFile;
-use cck_cache_files::{Kind, StoreDirectory};
+use cck_cache_entry::{EntryFile, PathTest};
+use cck_cache_files::{Kind, StoreDirectory, first_failing};
 use cck_cache_words::Request;
 use cck_entry::PreprocessorCacheEntry;
 use cck_files::MapFiles;
@@ -53,6 +52,17 @@ fn print_changed<R: AllocGlobal, W: Write>(
     Ok(())
 }
 
+// Prints the path of a test that does not hold.
+fn print_failing<W: Write>(writer: &mut W, test: &PathTest) -> Result<()> {
+    match test {
+        PathTest::Absent(path) => print_path(writer, b"present ", path),
+        PathTest::File(path) => print_path(writer, b"absent ", path),
+        PathTest::Directory(path) | PathTest::Searched { path, .. } => {
+            print_path(writer, b"changed ", path)
+        }
+    }
+}
+
 // Prints what of an entry does not match.
 fn print_entry<R: Files + AllocGlobal, W: Write>(
     rt: &R,
@@ -61,8 +71,8 @@ fn print_entry<R: Files + AllocGlobal, W: Write>(
     file: &EntryFile,
     writer: &mut W,
 ) -> Result<()> {
-    if let Some(path) = first_present(rt, &file.absent_paths) {
-        print_path(writer, b"present ", path)?;
+    if let Some(test) = first_failing(rt, &file.tests)? {
+        print_failing(writer, test)?;
     }
     add_entry_files(rt, files, &file.entry)?;
     let entry = PreprocessorCacheEntry::read(rt.alloc(), &file.entry)?;
@@ -95,8 +105,9 @@ fn print_kept<R: Files + AllocGlobal, W: Write>(
 }
 
 /// Prints what the store has of a request and which paths keep it from matching, a line each:
-/// `key KEY`; `no entry` or `damaged PATH`; `present PATH`, for the first path that was absent when
-/// the entry was recorded and is there now; `result KEY`, and after it `changed PATH` for each
+/// `key KEY`; `no entry` or `damaged PATH`; for the first test of a path that does not hold now
+/// `present PATH`, if the path was absent when the entry was recorded, `absent PATH`, if a file was
+/// there, or `changed PATH`, if a directory was; `result KEY`, and after it `changed PATH` for each
 /// included file that does not match. `false` where the request has no preprocessor key: then a line
 /// says that.
 ///

@@ -1,8 +1,9 @@
 use Rattle.std.proofs.Common.{◌∙◌, inl, true, refl, sym, subst}
 use Rattle.cck_cache_files.specs.Snapshot.{HasNamedTest}
 use Rattle.cck_markers.proofs.EachText.{has_one_list}
-use Rattle.cck_path.specs.Bytes.{Bytes, lists_of}
-use Rattle.cck_cache_command.specs.Record.{HasAbsentPaths}
+use Rattle.cck_cache_entry.specs.PathTest.{tests_of}
+use Rattle.cck_path.specs.Bytes.{Bytes}
+use Rattle.cck_cache_command.specs.Record.{HasPathTests}
 use Rattle.cck_cache_command.proofs.RecordLemmas.{calm_grown, gathered}
 use Rattle.cck_cache_command.proofs.record.see.Goals as goal
 
@@ -29,13 +30,13 @@ returns g c =
     let after = c.add_named_files.new.files in
     let test = c.in_ok-named.named.tests_headers in
     let cwd = c.as_bytes.result.now in
-    let paths = lists_of c.in-Paths.paths.items in
-    let absent : HasAbsentPaths request since text paths = record {
+    let made = tests_of c.in-Tests.tests.items in
+    let path_tests : HasPathTests request since text made = record {
       states = c.absence_of.new.states;
       since_is = c.in_ok-refusal.ensures.kept.since ∙ c.new-states.ensures.since;
       printed = c.deref.result.now;
-      paths_are = rw c.in-Paths.is at c.in_ok-refusal.ensures.absence;
+      tests_are = rw c.in-Tests.is at c.in_ok-refusal.ensures.absence;
     } in (
-      gathered request since text cwd c.in_ok-files.field-0.tests_headers test before after paths c.in_ok-files.ensures.calm c.in_ok-files.ensures.input c.in_ok-named.ensures.named c.as_bytes.ensures.value c.if-named.false absent,
+      gathered request since text cwd c.in_ok-files.field-0.tests_headers test before after made c.in_ok-files.ensures.calm c.in_ok-files.ensures.input c.in_ok-named.ensures.named c.as_bytes.ensures.value c.if-named.false path_tests,
       calm_grown text cwd test before after c.in_ok-named.ensures.named c.in_ok-files.ensures.calm,
     )
