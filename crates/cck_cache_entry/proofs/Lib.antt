@@ -1,8 +1,10 @@
 pub mod AbsentLemmas
 mod AssemblerExamples
 pub mod EqualityLemmas
+pub mod HeaderTestLemmas
 pub mod NameLemmas
 pub mod ReadingLemmas
 pub mod SearchLemmas
 pub mod SetLemmas
 pub mod StoredLemmas
+pub mod TestedLemmas

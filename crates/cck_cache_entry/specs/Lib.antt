@@ -2,8 +2,11 @@ pub mod Absent
 pub mod Assembler
 pub mod Files
 pub mod Frames
+pub mod HeaderTests
 pub mod Names
 pub mod Reading
 pub mod SearchList
 pub mod Sets
+pub mod Splices
 pub mod Stored
+pub mod TestedPaths

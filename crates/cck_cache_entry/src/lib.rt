@@ -6,8 +6,9 @@
 //!   frames, under a digest over all of them, so that a file that was cut or changed is not read.
 //! - [`SearchList`] is a compiler's list of directories for headers, as `gcc -v` prints it.
 //! - [`absent_names`] lists the paths at which a named header would have been found earlier.
-//! - [`may_include`] and [`has_include_test`] say whether a text may depend on a file that no line
-//!   marker names.
+//! - [`may_include`] says whether a text may depend on a file that no line marker names.
+//! - [`header_tests`] and [`has_dependency_pragma`] say on which files a source may depend that it does
+//!   not include. Both read a source without its splices, which [`unspliced`] returns.
 //! - [`laws`] states what `==` means for the types.
 #![tactic(auto)]
 
@@ -15,16 +16,20 @@ mod absent;
 mod assembler;
 mod entry_file;
 mod frames;
-mod has_include;
+mod header_test;
 pub mod laws;
 mod names;
 mod object_file;
 mod search_list;
+mod splices;
 mod stored;
+mod tested_paths;
 
 pub use absent::absent_names;
 pub use assembler::may_include;
 pub use entry_file::EntryFile;
-pub use has_include::has_include_test;
+pub use header_test::{HeaderTest, has_dependency_pragma, header_tests, may_ask_for_file};
 pub use object_file::ObjectFile;
 pub use search_list::SearchList;
+pub use splices::unspliced;
+pub use tested_paths::add_tested_paths;

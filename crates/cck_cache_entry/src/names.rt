@@ -29,7 +29,7 @@ fn is_no_file(name: &[u8]) -> bool
 }
 
 // A name up to its last slash, which is part of it.
-fn directory_of(name: &[u8]) -> &[u8]
+pub fn directory_of(name: &[u8]) -> &[u8]
     ensures { result.now ≡ directory_of name.now }
 {
     match memrchr(b'/', name) {
