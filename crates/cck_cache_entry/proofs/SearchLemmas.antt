@@ -1,5 +1,5 @@
 -- The lines of a list of directories, read one by one.
-use Rattle.std.proofs.Common.{◌≡◌, ◌≢◌, ℕ, suc, ◌+◌, ◌<◌, ◌≤◌, inl, inr, Bool, true, false, not, ◌||◌, cond, ltb, List, [], ◌∷◌, ◌++◌, Option, Some, None, Bor, length, map, take, get_or, refl, sym, ap, ◌∙◌, arith, codes}
+use Rattle.std.proofs.Common.{◌≡◌, ◌≢◌, ℕ, suc, ◌+◌, ◌<◌, ◌≤◌, inl, inr, Bool, true, false, not, ◌||◌, cond, ltb, List, [], ◌∷◌, ◌++◌, Option, Some, None, Bor, length, map, take, get_or, refl, sym, ap, ◌∙◌, arith}
 use Rattle.std.specs.List.{list_any, position_or_len}
 use Rattle.std.specs.Option.{option_map, MatchOption, unwrap_or}
 use Rattle.std.specs.Prelude.{option_to_list}
@@ -7,17 +7,15 @@ use Rattle.std.proofs.lemmas.List.{append_cancel_left, same_from_push, take_more
 use Rattle.std.proofs.lemmas.Bool.{cases_lt, lt-ltb, le-ltb}
 use Rattle.std.proofs.lemmas.List.Sums.{prefix_len-le-length}
 use Rattle.cck_cache_entry.specs.Reading.{AreRead, nothing_read, one_read, ReadsBack}
-use Rattle.cck_cache_entry.specs.SearchList.{missing_line}
+use Rattle.cck_cache_entry.specs.SearchList.{quoted_line}
 
--- what is in a line of a missing directory
-pub missing_read : (line rest : List ℕ) (r : Option (Bor (List ℕ))) → line ≡ codes "ignoring nonexistent directory \"" ++ rest
-    → MatchOption r ((front : List ℕ) → rest ≢ front ++ 34 ∷ []) (λ x. rest ≡ x.now ++ 34 ∷ []) → ReadsBack missing_line line (option_map (λ d. d.now) r)
-missing_read line rest None is none = λ d same.
-    none d (append_cancel_left (codes "ignoring nonexistent directory \"") rest (d ++ 34 ∷ []) (sym is ∙ sym same))
-missing_read line rest (Some x) is ends = (
-  ap (λ r. codes "ignoring nonexistent directory \"" ++ r) (sym ends) ∙ sym is,
-  λ d same.
-      (same_from_push d x.now 34 34 (append_cancel_left (codes "ignoring nonexistent directory \"") (d ++ 34 ∷ []) (x.now ++ 34 ∷ []) (same ∙ (is ∙ ap (λ r. codes "ignoring nonexistent directory \"" ++ r) ends)))).0,
+-- what is in quotes at the end of a line, after these bytes
+pub quoted_read : (front line rest : List ℕ) (r : Option (Bor (List ℕ))) → line ≡ front ++ rest
+    → MatchOption r ((before : List ℕ) → rest ≢ before ++ 34 ∷ []) (λ x. rest ≡ x.now ++ 34 ∷ []) → ReadsBack (quoted_line front) line (option_map (λ d. d.now) r)
+quoted_read front line rest None is none = λ d same. none d (append_cancel_left front rest (d ++ 34 ∷ []) (sym is ∙ sym same))
+quoted_read front line rest (Some x) is ends = (
+  ap (λ r. front ++ r) (sym ends) ∙ sym is,
+  λ d same. (same_from_push d x.now 34 34 (append_cancel_left front (d ++ 34 ∷ []) (x.now ++ 34 ∷ []) (same ∙ (is ∙ ap (λ r. front ++ r) ends)))).0,
 )
 
 module _ {X : Type 0} (write : X → List ℕ) where

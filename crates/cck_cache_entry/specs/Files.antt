@@ -1,7 +1,7 @@
 -- the bytes of entry files and of object files
-use Rattle.std.specs.Prelude.{ℕ, List, [], ◌∷◌, codes}
+use Rattle.std.specs.Prelude.{ℕ, List, [], ◌∷◌, codes, map}
+use Rattle.cck_cache_entry.specs.PathTest.{Test, test_bytes, tests_of}
 use Rattle.cck_cache_entry.specs.Stored.{stored_file}
-use Rattle.cck_cache_entry.specs.Reading.{byte_lists}
 use Rattle.cck_cache_entry.specs.declared.entry_file.EntryFile.{EntryFile}
 use Rattle.cck_cache_entry.specs.declared.object_file.ObjectFile.{ObjectFile}
 
@@ -9,13 +9,13 @@ use Rattle.cck_cache_entry.specs.declared.object_file.ObjectFile.{ObjectFile}
 pub record EntryFields : Type 0 where
   pub preprocessor_key : List ℕ
   pub entry : List ℕ
-  pub absent_paths : List (List ℕ)
+  pub tests : List Test
 
 abbrev pub entry_fields : EntryFile → EntryFields
 entry_fields file = record {
   preprocessor_key = file.preprocessor_key.items;
   entry = file.entry.items;
-  absent_paths = byte_lists file.absent_paths;
+  tests = tests_of file.tests.items;
 }
 
 -- what an object file of the store holds
@@ -33,9 +33,9 @@ object_fields file = record {
   dependencies = file.dependencies.items;
 }
 
--- the parts of an entry file: the preprocessor key, the entry and each absent path
+-- the parts of an entry file: the preprocessor key, the entry and each test
 abbrev pub entry_parts : EntryFields → List (List ℕ)
-entry_parts file = file.preprocessor_key ∷ file.entry ∷ file.absent_paths
+entry_parts file = file.preprocessor_key ∷ file.entry ∷ map test_bytes file.tests
 
 -- the parts of an object file: the key, the object, the messages and the contents of the dependency file
 abbrev pub object_parts : ObjectFields → List (List ℕ)
@@ -43,7 +43,7 @@ object_parts file = file.key ∷ file.object ∷ file.messages ∷ file.dependen
 
 -- an entry file
 abbrev pub entry_file : (List ℕ → List ℕ) → EntryFields → List ℕ
-entry_file hash file = stored_file hash (codes "cck entry 1\n") (entry_parts file)
+entry_file hash file = stored_file hash (codes "cck entry 2\n") (entry_parts file)
 
 -- an object file of the store
 abbrev pub object_file : (List ℕ → List ℕ) → ObjectFields → List ℕ

@@ -3,7 +3,9 @@ pub mod Assembler
 pub mod Files
 pub mod Frames
 pub mod HeaderTests
+pub mod Left
 pub mod Names
+pub mod PathTest
 pub mod Reading
 pub mod SearchList
 pub mod Sets

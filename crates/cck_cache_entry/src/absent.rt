@@ -45,7 +45,7 @@ pub fn path_in(alloc: Global, directory: &[u8], name: &[u8]) -> Result<Vec<u8>, 
     joined(alloc, directory, separator(directory), name)
 }
 
-// Adds a path.
+/// Adds a path.
 pub fn add(paths: &mut BTreeSet<Vec<u8>>, path: Vec<u8>) -> Result<(), AllocError>
     ensures { OnOk result (Adds (λ absent. absent ≡ path.items) paths.old paths.new) }
 {

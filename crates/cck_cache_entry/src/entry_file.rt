@@ -1,15 +1,17 @@
 //! The file that keeps an entry.
-ghost use Rattle.std.specs.Prelude.{◌≡◌, IfOk, IsOkUnless};
+ghost use Rattle.std.specs.Prelude.{◌≡◌, IfOk, IsOkUnless, map};
 ghost use Rattle.std.specs.Option.{option_map};
 ghost use Rattle.cck_cache_entry.specs.Files.{entry_fields, entry_file, entry_parts};
+ghost use Rattle.cck_cache_entry.specs.PathTest.{test_bytes, tests_of};
 ghost use Rattle.cck_cache_entry.specs.Reading.{ReadsBack, byte_lists};
 
+use crate::path_test::PathTest;
 use crate::stored::{read_stored, write_stored};
 use cck_digest::{HashState, UtilError};
 use std::alloc::{AllocError, Global};
 
 /// How an entry file begins.
-const KIND: &[u8] = b"cck entry 1\n";
+const KIND: &[u8] = b"cck entry 2\n";
 
 /// What an entry file holds.
 #[derive(Debug, Drop, PartialEq, Eq)]
@@ -18,11 +20,11 @@ pub struct EntryFile {
     pub preprocessor_key: Vec<u8>,
     /// The bytes of the entry.
     pub entry: Vec<u8>,
-    /// Paths at which there was nothing when the entry was recorded.
-    pub absent_paths: Vec<Vec<u8>>,
+    /// What held of paths when the entry was recorded, and must hold before it is used.
+    pub tests: Vec<PathTest>,
 }
 
-// What these parts say. `None` where there are fewer than two.
+// What these parts say. `None` where there are fewer than two, or another one is no test.
 fn file_of(alloc: Global, parts: Vec<Vec<u8>>) -> Result<Option<EntryFile>, AllocError>
     ensures { IfOk result (λ found. ReadsBack entry_parts (byte_lists parts) (option_map entry_fields found)) }
 {
@@ -30,15 +32,29 @@ fn file_of(alloc: Global, parts: Vec<Vec<u8>>) -> Result<Option<EntryFile>, Allo
     let (Some(preprocessor_key), Some(entry)) = (parts.next(), parts.next()) else {
         return Ok(None);
     };
-    let mut absent_paths = Vec::new(alloc);
-    for path in parts {
-        absent_paths.push(path)?;
+    let mut tests = Vec::new(alloc);
+    for part in parts {
+        let Some(test) = PathTest::read(alloc, &part)? else {
+            return Ok(None);
+        };
+        tests.push(test)?;
     }
     Ok(Some(EntryFile {
         preprocessor_key,
         entry,
-        absent_paths,
+        tests,
     }))
+}
+
+// The bytes of each test.
+fn test_parts(alloc: Global, tests: &[PathTest]) -> Result<Vec<Vec<u8>>, AllocError>
+    ensures { IfOk result (λ parts. byte_lists parts ≡ map test_bytes (tests_of tests.now)) }
+{
+    let mut parts = Vec::new(alloc);
+    for test in tests {
+        parts.push(test.write(alloc)?)?;
+    }
+    Ok(parts)
 }
 
 impl EntryFile {
@@ -49,11 +65,12 @@ impl EntryFile {
         ensures file { IfOk result (λ bytes. bytes.items ≡ entry_file H.hash (entry_fields self.now)) }
         ensures errors { IsOkUnless result UtilError.Memory }
     {
+        let tests = test_parts(alloc, &self.tests)?;
         let mut parts: Vec<&[u8]> = Vec::new(alloc);
         parts.push(&self.preprocessor_key)?;
         parts.push(&self.entry)?;
-        for path in &self.absent_paths {
-            parts.push(path)?;
+        for test in &tests {
+            parts.push(test)?;
         }
         write_stored::<H>(alloc, KIND, &parts)
     }

@@ -8,8 +8,8 @@ ghost use Rattle.cck_cache_entry.specs.Reading.{ReadsBack, byte_lists};
 
 use std::alloc::{AllocError, Global};
 
-// The 8 bytes of a length, the lowest first.
-fn length_of(length: usize) -> [u8; 8]
+/// The 8 bytes of a length, the lowest first.
+pub fn length_of(length: usize) -> [u8; 8]
     ensures { result ≡ length_bytes length }
 {
     let length = length as u64;
@@ -25,8 +25,9 @@ pub fn push_frame(all: &mut Vec<u8>, bytes: &[u8]) -> Result<(), AllocError>
     Ok(())
 }
 
-// The length at the beginning of these bytes, and the bytes after it.
-fn read_length(bytes: &[u8]) -> Option<(u64, &[u8])>
+/// The length at the beginning of these bytes, and the bytes after it. `None` where there are fewer
+/// than 8.
+pub fn read_length(bytes: &[u8]) -> Option<(u64, &[u8])>
     ensures { MatchOption result (length bytes.now < 8) (λ r. bytes.now ≡ length_bytes r.0 ++ r.1.now) }
 {
     if bytes.len() < 8 {

@@ -4,8 +4,10 @@
 //!
 //! - [`EntryFile`] and [`ObjectFile`] are the two kinds of file of a store. Their bytes end in
 //!   frames, under a digest over all of them, so that a file that was cut or changed is not read.
+//! - [`PathTest`] is what must hold of a path before an entry is used.
 //! - [`SearchList`] is a compiler's list of directories for headers, as `gcc -v` prints it.
 //! - [`absent_names`] lists the paths at which a named header would have been found earlier.
+//! - [`left_directories`] lists the directories that names of a text leave by `..`.
 //! - [`may_include`] says whether a text may depend on a file that no line marker names.
 //! - [`header_tests`] and [`has_dependency_pragma`] say on which files a source may depend that it does
 //!   not include. Both read a source without its splices, which [`unspliced`] returns.
@@ -18,8 +20,10 @@ mod entry_file;
 mod frames;
 mod header_test;
 pub mod laws;
+mod left;
 mod names;
 mod object_file;
+mod path_test;
 mod search_list;
 mod splices;
 mod stored;
@@ -29,7 +33,9 @@ pub use absent::absent_names;
 pub use assembler::may_include;
 pub use entry_file::EntryFile;
 pub use header_test::{HeaderTest, has_dependency_pragma, header_tests, may_ask_for_file};
+pub use left::left_directories;
 pub use object_file::ObjectFile;
+pub use path_test::PathTest;
 pub use search_list::SearchList;
 pub use splices::unspliced;
 pub use tested_paths::add_tested_paths;

@@ -3,4 +3,5 @@ pub mod ListingLemmas
 pub mod PathLemmas
 pub mod SnapshotLemmas
 pub mod StateLemmas
+pub mod TestLemmas
 pub mod TimeLemmas

@@ -16,7 +16,7 @@ use Rattle.std.specs.declared.cmp.Ordering.{Ordering}
 use denote.Enum.Bare.{differs_false, sameb}
 use Rattle.cck_cache_files.specs.PathStates.{AreOnTheWay, EndsAt, IsFirstOther, IsStateOf, KeepsStates, LeadsOn, state_at}
 use Rattle.cck_cache_files.specs.declared.path_states.PathState.{PathState}
-use Rattle.cck_cache_files.specs.declared.path_states.PathState.TheVariants.{Absent, Directory, Doubtful}
+use Rattle.cck_cache_files.specs.declared.path_states.PathState.TheVariants.{Directory, Doubtful}
 use Rattle.cck_cache_files.specs.declared.path_states.PathStates.{PathStates}
 use Rattle.cck_cache_files.specs.contracts.path_states.PathState.{the_type}
 
@@ -56,13 +56,13 @@ state_added old new key path state e none updates text =
       no_text = λ _ h. text h;
     }
 
--- a path that is in doubt where it is no text is absent only where it is text
-pub absent_is_text : (path : List ℕ) (state : PathState) (r : Bool) → (¬ (IsUtf8 path) → state ≡ Doubtful) → r ≡ sameb the_type state Absent → IsTrue r → IsUtf8 path
-absent_is_text path state r doubt e h =
+-- a path that is in doubt where it is no text has another state only where it is text
+pub other_is_text : (path : List ℕ) (state wanted : PathState) (r : Bool) → sameb the_type Doubtful wanted ≡ false → (¬ (IsUtf8 path) → state ≡ Doubtful) → r ≡ sameb the_type state wanted → IsTrue r → IsUtf8 path
+other_is_text path state wanted r other doubt e h =
     ⊎_elim
     (λ y. IsUtf8-from_is_utf8 path y)
     (λ n. let is : state ≡ Doubtful = doubt (λ u. let two : false ≡ true = sym n ∙ is_utf8-from_IsUtf8 path u in cc) in
-    let wrong : false ≡ true = ap (λ s. sameb the_type s Absent) (sym is) ∙ sym e ∙ h in cc)
+    let wrong : false ≡ true = sym other ∙ (ap (λ s. sameb the_type s wanted) (sym is) ∙ (sym e ∙ h)) in cc)
     (cases_Bool (is_utf8 path))
 
 -- ---- what is kept

@@ -5,6 +5,7 @@ use Rattle.std.specs.Cmp.{int_chain, int_ranks, ranks}
 use Rattle.std.specs.Int.Signed.{<ℤ_irrefl}
 use Rattle.std.specs.Ordering.{MatchOrdering, is_lt, ordering_then}
 use Rattle.cck_path.specs.Timestamp.{Moment}
+use Rattle.cck_cache_files.specs.Times.{IsEarlier}
 
 less_by_nanoseconds : (s t : ℤ) (m n : ℕ) → s ≡ t → (o : Ordering) → MatchOrdering o (m < n) (m ≡ n) (n < m) → IsTrue (is_lt o) ↔ ((s <ℤ t) ⊎ ((s ≡ t) × (m < n)))
 less_by_nanoseconds s t m n e Less h = (λ _. inr (e, h), λ _. refl)
@@ -23,3 +24,18 @@ pub before_by_parts : (a b : Moment) (r : Bool) → r ≡ is_lt (ordering_then (
 before_by_parts a b r e =
     let P : Bool → Type 0 = λ t. IsTrue t ↔ ((a.seconds <ℤ b.seconds) ⊎ ((a.seconds ≡ b.seconds) × (a.nanoseconds < b.nanoseconds))) in
     subst P (sym e) (less_by_seconds a.seconds b.seconds a.nanoseconds b.nanoseconds (int_cmp a.seconds b.seconds) (int_ranks a.seconds b.seconds))
+
+-- the same where the earlier one has nanoseconds
+pub earlier_by_parts : (a b : Moment) (r : Bool) → 0 < a.nanoseconds → r ≡ is_lt (ordering_then (int_cmp a.seconds b.seconds) (nat_cmp a.nanoseconds b.nanoseconds)) → IsTrue r ↔ IsEarlier a b
+earlier_by_parts a b r some e =
+    let both = before_by_parts a b r e in (
+      λ is. ⊎_elim (λ l. inl l) (λ p. inr (p.0, some, p.1)) (both.0 is),
+      λ is. both.1 (⊎_elim (λ l. inl l) (λ p. inr (p.0, p.2)) is),
+    )
+
+-- and where it has none
+pub earlier_by_seconds : (a b : Moment) (r : Bool) → a.nanoseconds ≡ 0 → IsTrue r ↔ (a.seconds <ℤ b.seconds) → IsTrue r ↔ IsEarlier a b
+earlier_by_seconds a b r none is = (
+  λ less. inl (is.0 less),
+  λ earlier. ⊎_elim (λ l. is.1 l) (λ p. absurd (omega (arith, none, p.1))) earlier,
+)

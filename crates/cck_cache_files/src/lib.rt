@@ -5,6 +5,8 @@
 //!   out.
 //! - [`PathStates`] says of paths whether there is anything at them, and whether a link on the way
 //!   changed since a given time. It looks at each path once.
+//! - [`first_failing`] makes the tests of an entry file, and [`SearchedDirectories`] says which of the
+//!   directories that are searched are the same.
 //! - [`StoreDirectory`] is the directory of a store.
 //! - [`list_files`] and [`list_counts`] list the files of a store.
 //! - [`compiler_digest`] is the digest of a compiler's programs on this machine, and
@@ -12,8 +14,8 @@
 //! - [`laws`] states properties of the definitions.
 //!
 //! No contract says what a disk holds. The contracts here are on values alone: the paths of a
-//! store, the names in a directory, the parts of a time, the states that are kept of paths, and the
-//! lines that are hashed, with some numbers or contents for what was read. Beyond them these calls
+//! store, the names in a directory, the parts of a time, the states that are kept of paths, the places
+//! of directories, and the lines that are hashed, with some numbers or contents for what was read. Beyond them these calls
 //! are proved to be safe.
 #![tactic(auto)]
 
@@ -21,13 +23,17 @@ mod compiler;
 pub mod laws;
 mod listing;
 mod path_states;
+mod path_tests;
+mod searched;
 mod snapshot;
 mod store_directory;
 mod times;
 
 pub use compiler::{compiler_digest, shared_compiler_digest};
 pub use listing::{StoredFile, list_counts, list_files};
-pub use path_states::{PathState, PathStates, is_absent};
+pub use path_states::{PathState, PathStates};
+pub use path_tests::first_failing;
+pub use searched::SearchedDirectories;
 pub use snapshot::{NamedFiles, add_file, add_named_files};
 pub use store_directory::{Kind, StoreDirectory, open_store};
 pub use times::{changed, modified};

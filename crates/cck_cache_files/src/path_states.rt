@@ -88,6 +88,26 @@ pub fn is_absent<R: Files>(rt: &R, path: &[u8]) -> bool
     look_at(rt, path, Timestamp::new(0, 0)) == PathState::Absent
 }
 
+/// Whether a directory is at a path, and no link to one. `false` where that can't be known.
+pub fn is_directory<R: Files>(rt: &R, path: &[u8]) -> bool
+    ensures { IsTrue result → IsUtf8 path.now }
+{
+    look_at(rt, path, Timestamp::new(0, 0)) == PathState::Directory
+}
+
+/// Whether a regular file is at a path, links followed. `false` where that can't be known.
+pub fn is_file<R: Files>(rt: &R, path: &[u8]) -> bool
+    ensures { IsTrue result → IsUtf8 path.now }
+{
+    let Ok(path) = std::str::from_utf8(path) else {
+        return false;
+    };
+    match fs::metadata(rt, path) {
+        Ok(found) => found.is_file(),
+        Err(_) => false,
+    }
+}
+
 impl PathStates {
     /// No states. Files and links must have changed before this time.
     pub fn new<R: AllocGlobal>(rt: &R, since: Timestamp) -> PathStates

@@ -1,6 +1,6 @@
 //! The times of real files.
 ghost use Rattle.std.specs.Prelude.{◌≡◌, ◌<◌, ◌↔◌, IsTrue, MatchOption, pos, ℕ};
-ghost use Rattle.cck_cache_files.specs.Times.{IsTimeBefore, IsSystemTime};
+ghost use Rattle.cck_cache_files.specs.Times.{IsEarlier, IsSystemTime, IsTimeBefore};
 
 use cck_path::Timestamp;
 use std::fs::Metadata;
@@ -30,17 +30,31 @@ pub fn changed(metadata: &Metadata) -> Option<Timestamp> {
     time_of(metadata.ctime(), metadata.ctime_nsec())
 }
 
+// Whether a time is before this one. A time without a fraction may be one of whole seconds, which some
+// file systems keep: it is before only if its second is.
+fn is_earlier(time: Timestamp, since: Timestamp) -> bool
+    ensures { IsTrue result ↔ IsEarlier time since }
+{
+    if time.nanoseconds() == 0 {
+        time.seconds() < since.seconds()
+    } else {
+        time < since
+    }
+}
+
 // Whether a time is known, and before this one.
 fn is_before(time: Option<Timestamp>, since: Timestamp) -> bool
     ensures { IsTrue result ↔ IsTimeBefore time since }
 {
     match time {
-        Some(time) => time < since,
+        Some(time) => is_earlier(time, since),
         None => false,
     }
 }
 
-/// Whether a file last changed before this time, by when its contents and its status last did.
+/// Whether a file last changed before this time, by when its contents and its status last did. On a
+/// file system that keeps whole seconds, a file that changes within a second, after this time, has the
+/// time of the second's begin: so a time without a fraction is before only if its second is.
 pub fn changed_before(
     modified: Option<Timestamp>,
     changed: Option<Timestamp>,

@@ -1,5 +1,7 @@
-use Rattle.cck_cache_files.proofs.StateLemmas.{absent_is_text}
+use Rattle.std.proofs.Common.{refl}
+use Rattle.cck_cache_files.specs.declared.path_states.PathState.TheVariants.{Absent}
+use Rattle.cck_cache_files.proofs.StateLemmas.{other_is_text}
 use Rattle.cck_cache_files.proofs.path_states.is_absent.Goals as goal
 
 pub returns : goal.returns
-returns g c = absent_is_text c.args.path.now c.look_at.result c.eq.result c.look_at.ensures c.eq.ensures
+returns g c = other_is_text c.args.path.now c.look_at.result Absent c.eq.result refl c.look_at.ensures c.eq.ensures

@@ -13,4 +13,4 @@ returns-in_default-clause-read g c =
 
 pub returns-clause-read : goal.returns-clause-read
 returns-clause-read g c =
-    read_twice (stored_file g.H.HashState.hash (codes "cck entry 1\n")) entry_parts c.args.bytes.now (byte_lists c.in-Some.parts) (option_map entry_fields c.in_ok-file_of.field-0) (rw c.in-Some.is at c.in_ok-parts.ensures.read) c.in_ok-file_of.ensures
+    read_twice (stored_file g.H.HashState.hash (codes "cck entry 2\n")) entry_parts c.args.bytes.now (byte_lists c.in-Some.parts) (option_map entry_fields c.in_ok-file_of.field-0) (rw c.in-Some.is at c.in_ok-parts.ensures.read) c.in_ok-file_of.ensures

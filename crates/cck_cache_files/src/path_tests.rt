@@ -1,0 +1,68 @@
+//! Tests of paths, as these are now.
+ghost use Rattle.std.specs.Prelude.{IfOk, MatchBool};
+ghost use Rattle.std.specs.Option.{option_map};
+ghost use Rattle.cck_cache_entry.specs.PathTest.{test_of, tests_of};
+ghost use Rattle.cck_cache_entry.specs.PathTest as spec;
+ghost use Rattle.cck_cache_files.specs.PathTests.{Fails, Holds, IsFirstFailing};
+
+use crate::path_states::{is_absent, is_directory, is_file};
+use crate::searched::SearchedDirectories;
+use cck_cache_entry::PathTest;
+use std::alloc::AllocError;
+use std::rt::Files;
+
+// Whether a directory is at a path, of which the first one that is the same has this place. It is added
+// to those that are searched.
+fn is_searched_at<R: Files + AllocGlobal>(
+    rt: &R,
+    searched: &mut SearchedDirectories,
+    path: &[u8],
+    place: usize,
+) -> Result<bool, AllocError>
+    ensures { IfOk result (λ held. MatchBool held
+        (Holds searched.old.identities.items (spec.Searched path.now place) searched.new.identities.items)
+        (Fails searched.old.identities.items (spec.Searched path.now place))) }
+{
+    match searched.add(rt, path)? {
+        Some(found) => Ok(found == place),
+        None => Ok(false),
+    }
+}
+
+// Whether a test holds now.
+fn holds<R: Files + AllocGlobal>(
+    rt: &R,
+    searched: &mut SearchedDirectories,
+    test: &PathTest,
+) -> Result<bool, AllocError>
+    ensures { IfOk result (λ held. MatchBool held
+        (Holds searched.old.identities.items (test_of test.now) searched.new.identities.items)
+        (Fails searched.old.identities.items (test_of test.now))) }
+{
+    match test {
+        PathTest::Absent(path) => Ok(is_absent(rt, path)),
+        PathTest::File(path) => Ok(is_file(rt, path)),
+        PathTest::Directory(path) => Ok(is_directory(rt, path)),
+        PathTest::Searched { path, place } => is_searched_at(rt, searched, path, *place),
+    }
+}
+
+/// The first of these tests that does not hold now. One of a directory that is searched holds only if
+/// a directory is at its path, and the first that is the same, by device and inode, has its place.
+///
+/// The only error is lack of memory.
+pub fn first_failing<'a, R: Files + AllocGlobal>(
+    rt: &R,
+    tests: &'a [PathTest],
+) -> Result<Option<&'a PathTest>, AllocError>
+    ensures { IfOk result (λ found.
+        IsFirstFailing (tests_of tests.now) (option_map (λ t. test_of t.now) found)) }
+{
+    let mut searched = SearchedDirectories::new(rt);
+    for test in tests {
+        if !holds(rt, &mut searched, test)? {
+            return Ok(Some(test));
+        }
+    }
+    Ok(None)
+}
