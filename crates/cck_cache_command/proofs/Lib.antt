@@ -4,3 +4,4 @@ pub mod InputLemmas
 pub mod LookLemmas
 pub mod RecordLemmas
 pub mod RequestLemmas
+pub mod SourceTestLemmas

@@ -8,13 +8,14 @@ use Rattle.cck_cache_base.specs.Text.{AreBases}
 use Rattle.cck_cache_base.specs.declared.base.Words.{Words}
 use Rattle.cck_cache_command.proofs.InputLemmas.{calm_kept, calm_stays, without_fault}
 use Rattle.cck_cache_command.specs.Input.{IsCalm, IsInput, NoFault}
-use Rattle.cck_cache_command.specs.Record.{AreGathered, HasAbsentPaths, IsAsked, IsLocalTime, IsOneDay, IsOutcome, IsOutcomeOver, ObjectShowsBase}
+use Rattle.cck_cache_command.specs.Record.{AreFilesOf, AreGathered, IsAsked, IsLocalTime, IsOneDay, IsOutcome, IsOutcomeOver, ObjectShowsBase}
 use Rattle.cck_cache_command.specs.Request.{IsRequest, request_words}
 use Rattle.cck_cache_command.specs.declared.environment.Environment.{Environment}
 use Rattle.cck_cache_command.specs.declared.record.Gathered.{Gathered}
 use Rattle.cck_cache_command.specs.declared.record.Outcome.{Outcome}
 use Rattle.cck_cache_command.specs.declared.record.Outcome.TheVariants.{Recorded, Refused}
 use Rattle.cck_cache_entry.specs.Assembler.{may_include}
+use Rattle.cck_cache_entry.specs.PathTest.{tests_of}
 use Rattle.cck_cache_entry.specs.declared.object_file.ObjectFile.{ObjectFile}
 use Rattle.cck_cache_files.specs.Snapshot.{ArePut, SnapshotGrows, IsNamedFile}
 use Rattle.cck_cache_words.specs.declared.request.Request.{Request}
@@ -35,12 +36,11 @@ use Rattle.jiff.specs.Words.{epoch_day}
 use Rattle.sha2.specs.Sha256.{sha256}
 
 -- a snapshot grew by the files of a text
-abbrev pub GrewBy : Bytes → Bytes → Bool → FileState → FileState → Type 0
-GrewBy text cwd test before after = (marks : List Mark) → Marks true text marks → SnapshotGrows (IsNamedFile marks cwd test) before after
+abbrev pub GrewBy : Bytes → Bytes → FileState → FileState → Type 0
+GrewBy text cwd before after = (marks : List Mark) → Marks true text marks → SnapshotGrows (IsNamedFile marks cwd) before after
 
-pub gathered : (request : Request) (since : Moment) (text cwd : Bytes) (tests test : Bool) (before after : FileState) (paths : List Bytes) → IsCalm before → IsInput request before.files tests → GrewBy text cwd test before after → cwd ≡ request.directory.now → test ≡ false
-    → HasAbsentPaths request since text paths → AreGathered request since text tests after.files paths
-gathered request since text cwd tests test before after paths calm is grew same none absent =
+pub files_of : (request : Request) (text cwd : Bytes) (before after : FileState) → IsCalm before → IsInput request before.files → GrewBy text cwd before after → cwd ≡ request.directory.now → AreFilesOf request text after.files
+files_of request text cwd before after calm is grew same =
     let list = has_one_list true text in
     let grown = grew list.0 list.1 in
     record {
@@ -48,13 +48,12 @@ gathered request since text cwd tests test before after paths calm is grew same 
       is_input = is;
       marks = list.0;
       are_marks = list.1;
-      put = subst (λ (d : Bytes). ArePut (IsNamedFile list.0 d false) before.files after.files) same (subst (λ (b : Bool). ArePut (IsNamedFile list.0 cwd b) before.files after.files) none grown.put);
+      put = subst (λ (d : Bytes). ArePut (IsNamedFile list.0 d) before.files after.files) same grown.put;
       kept = grown.kept calm.quiet;
-      absent = absent;
     }
 
-pub calm_grown : (text cwd : Bytes) (test : Bool) (before after : FileState) → GrewBy text cwd test before after → IsCalm before → IsCalm after
-calm_grown text cwd test before after grew =
+pub calm_grown : (text cwd : Bytes) (before after : FileState) → GrewBy text cwd before after → IsCalm before → IsCalm after
+calm_grown text cwd before after grew =
     let list = has_one_list true text in
     calm_stays before after (grew list.0 list.1).calm
 
@@ -90,7 +89,7 @@ recorded_over asked text before mid after recording put calm first second is rec
 
 -- an outcome over the files that were gathered is the outcome
 pub outcome_all : (environment : Environment) (request : Request) (compilation : Compilation) (text : Bytes) (gathered : Gathered) (outcome : Outcome) → may_include text ≡ false
-    → AreGathered request compilation.since text gathered.tests_headers gathered.files.files (lists_of gathered.absent_paths.items) → IsOutcomeOver environment request compilation text gathered outcome → IsOutcome environment request compilation text outcome
-outcome_all environment request compilation text gathered (Recorded key) none are is = (none, (gathered.tests_headers, gathered.files.files, lists_of gathered.absent_paths.items, are, is))
+    → AreGathered request compilation.since text gathered.files.files (lists_of gathered.absent_paths.items) (tests_of gathered.asked_tests.items) → IsOutcomeOver environment request compilation text gathered outcome → IsOutcome environment request compilation text outcome
+outcome_all environment request compilation text gathered (Recorded key) none are is = (none, (gathered.files.files, lists_of gathered.absent_paths.items, tests_of gathered.asked_tests.items, are, is))
 outcome_all environment request compilation text gathered (Refused refusal) none are is =
-    inr (gathered.tests_headers, gathered.is_doubtful, gathered.files.files, lists_of gathered.absent_paths.items, are, is)
+    inr (gathered.is_doubtful, gathered.files.files, lists_of gathered.absent_paths.items, tests_of gathered.asked_tests.items, are, is)

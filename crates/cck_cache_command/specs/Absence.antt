@@ -13,7 +13,7 @@ use Rattle.cck_cache_files.specs.declared.path_states.PathState.{PathState}
 use Rattle.cck_cache_files.specs.declared.path_states.PathState.TheVariants as state
 use Rattle.cck_cache_files.specs.declared.path_states.PathStates.{PathStates}
 use Rattle.cck_cache_rules.specs.declared.refusal.Refusal.{Refusal}
-use Rattle.cck_cache_rules.specs.declared.refusal.Refusal.TheVariants.{NoKey, InputChanged, DayChanged, NoSearchList, UnknownHeader, HeaderTest, AssemblerInclude, EarlierPath, NamedFile, BaseDirectory}
+use Rattle.cck_cache_rules.specs.declared.refusal.Refusal.TheVariants.{NoKey, InputChanged, DayChanged, NoSearchList, UnknownHeader, HeaderTest, DependencyPragma, AssemblerInclude, EarlierPath, NamedFile, BaseDirectory}
 use Rattle.cck_markers.specs.Marks.{Mark, Marks}
 use Rattle.cck_path.specs.Bytes.{Bytes, lists_of}
 use Rattle.cck_path.specs.Text.{join_path}
@@ -88,6 +88,7 @@ IsRefusedByPath states directory text printed NoKey = ⊥
 IsRefusedByPath states directory text printed InputChanged = ⊥
 IsRefusedByPath states directory text printed DayChanged = ⊥
 IsRefusedByPath states directory text printed HeaderTest = ⊥
+IsRefusedByPath states directory text printed DependencyPragma = ⊥
 IsRefusedByPath states directory text printed AssemblerInclude = ⊥
 IsRefusedByPath states directory text printed NamedFile = ⊥
 IsRefusedByPath states directory text printed BaseDirectory = ⊥

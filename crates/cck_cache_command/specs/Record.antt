@@ -1,10 +1,11 @@
 -- what a recording records
-use Rattle.std.specs.Prelude.{◌≡◌, ◌⊎◌, ℤ, pos, ◌*ℤ◌, ◌+ℤ◌, List, Bool, true, false, Option, Some, None, String, string_bytes}
+use Rattle.std.specs.Prelude.{◌≡◌, ◌⊎◌, ℤ, pos, ◌*ℤ◌, ◌+ℤ◌, List, ◌++◌, map, Bool, true, false, Option, Some, None, String, string_bytes}
 use Rattle.std.specs.declared.alloc.Global.{Global}
 use Rattle.cck_cache_base.specs.Shown.{ShowsBase}
 use Rattle.cck_cache_base.specs.Text.{AreBases}
 use Rattle.cck_cache_command.specs.Absence.{ArePathsOf, IsRefusedByPath}
 use Rattle.cck_cache_command.specs.Input.{IsCalm, IsInput, NoFault}
+use Rattle.cck_cache_command.specs.Tested.{AreTestsOf, IsRefusedBySource}
 use Rattle.cck_cache_command.specs.Request.{IsRequest, key_over, request_words}
 use Rattle.cck_cache_command.specs.declared.environment.Environment.{Environment}
 use Rattle.cck_cache_command.specs.declared.record.Gathered.{Gathered}
@@ -14,12 +15,13 @@ use Rattle.cck_cache_command.specs.declared.record.Seen.{Seen}
 use Rattle.cck_cache_command.specs.declared.record.Seen.TheVariants.{Files, Refused as NotSeen}
 use Rattle.cck_cache_entry.specs.Assembler.{may_include}
 use Rattle.cck_cache_entry.specs.Files.{EntryFields}
+use Rattle.cck_cache_entry.specs.PathTest.{Absent, Test, tests_of}
 use Rattle.cck_cache_entry.specs.declared.object_file.ObjectFile.{ObjectFile}
 use Rattle.cck_cache_files.specs.declared.path_states.PathStates.{PathStates}
-use Rattle.cck_cache_files.specs.Snapshot.{ArePut, HasNamedTest, IsNamedFile, IsPart}
+use Rattle.cck_cache_files.specs.Snapshot.{ArePut, IsNamedFile, IsPart}
 use Rattle.cck_cache_rules.specs.Refusal.{IsRefusal}
 use Rattle.cck_cache_rules.specs.declared.refusal.Refusal.{Refusal}
-use Rattle.cck_cache_rules.specs.declared.refusal.Refusal.TheVariants.{HeaderTest, AssemblerInclude, NamedFile, BaseDirectory}
+use Rattle.cck_cache_rules.specs.declared.refusal.Refusal.TheVariants.{AssemblerInclude, NamedFile, BaseDirectory}
 use Rattle.cck_cache_words.specs.declared.request.Request.{Request}
 use Rattle.cck_cache_words.specs.declared.task.Compilation.{Compilation}
 use Rattle.cck_files.specs.FileMap.{FileMap}
@@ -36,8 +38,7 @@ use Rattle.sha2.specs.Sha256.{sha256}
 -- the key of the object that is compiled from this text: that of a recording over a snapshot that has the input alone
 pub record IsObjectKey (environment : Environment) (request : Request) (text : Bytes) (key : String Global) : Type 0 where
   pub input : FileMap
-  pub tests : Bool
-  pub is_input : IsInput request input tests
+  pub is_input : IsInput request input
   pub bases : List Bytes
   pub are_bases : AreBases (request_words request) text bases
   pub asked : SnapshotRequest
@@ -71,16 +72,27 @@ pub record HasAbsentPaths (request : Request) (since : Moment) (text : Bytes) (p
   pub printed : Bytes
   pub paths_are : ArePathsOf states request.directory.now text printed paths
 
--- Files that were gathered for a text: the input, and files at the paths of the names of the text, none of which replaced another. Those that test
--- for headers are of system headers, but for the input. No path at which a header would have been found earlier is in doubt.
-pub record AreGathered (request : Request) (since : Moment) (text : Bytes) (tests : Bool) (files : FileMap) (paths : List Bytes) : Type 0 where
+-- files of a text: the input, and files at the paths of the names of the text, none of which replaced another
+pub record AreFilesOf (request : Request) (text : Bytes) (files : FileMap) : Type 0 where
   pub input : FileMap
-  pub is_input : IsInput request input tests
+  pub is_input : IsInput request input
   pub marks : List Mark
   pub are_marks : Marks true text marks
-  pub put : ArePut (IsNamedFile marks request.directory.now false) input files
+  pub put : ArePut (IsNamedFile marks request.directory.now) input files
   pub kept : IsPart input files
+
+-- these tests are of the paths at which the sources of the text look for headers, in the same way
+pub record HasAskedTests (request : Request) (since : Moment) (text : Bytes) (files : FileMap) (tests : List Test) : Type 0 where
+  pub states : PathStates
+  pub since_is : states.since ≡ since
+  pub printed : Bytes
+  pub tests_are : AreTestsOf states files request.directory.now text printed tests
+
+-- Files that were gathered for a text. No path at which a header would have been found earlier, or at which a source looks for one, is in doubt.
+pub record AreGathered (request : Request) (since : Moment) (text : Bytes) (files : FileMap) (paths : List Bytes) (asked : List Test) : Type 0 where
+  pub are_files : AreFilesOf request text files
   pub absent : HasAbsentPaths request since text paths
+  pub tested : HasAskedTests request since text files asked
 
 -- a path keeps a compilation from being recorded
 pub record HasPathRefusal (request : Request) (since : Moment) (text : Bytes) (refusal : Refusal) : Type 0 where
@@ -89,27 +101,29 @@ pub record HasPathRefusal (request : Request) (since : Moment) (text : Bytes) (r
   pub printed : Bytes
   pub refused : IsRefusedByPath states request.directory.now text printed refusal
 
--- files of a text, in which the contents at the path of a name that is not one of a system header test for headers
-pub record HasTest (request : Request) (text : Bytes) : Type 0 where
+-- what a source asks for keeps a compilation from being recorded, by files that were gathered for the text
+pub record HasSourceRefusal (request : Request) (since : Moment) (text : Bytes) (refusal : Refusal) : Type 0 where
   pub files : FileMap
-  pub marks : List Mark
-  pub are_marks : Marks true text marks
-  pub named : HasNamedTest marks request.directory.now files
+  pub are_files : AreFilesOf request text files
+  pub states : PathStates
+  pub since_is : states.since ≡ since
+  pub printed : Bytes
+  pub refused : IsRefusedBySource states files request.directory.now text printed refusal
 
--- why a compilation is not recorded by its text: an assembler may include files; or a file that it names tests for headers; or a path
+-- why a compilation is not recorded by its text: an assembler may include files; or a source asks for something else; or a path
 abbrev pub IsRefusedByText : Request → Moment → Bytes → Refusal → Type 0
 IsRefusedByText request since text refusal =
-    ((refusal ≡ AssemblerInclude) × (may_include text ≡ true)) ⊎ (((refusal ≡ HeaderTest) × HasTest request text) ⊎ HasPathRefusal request since text refusal)
+    ((refusal ≡ AssemblerInclude) × (may_include text ≡ true)) ⊎ (HasSourceRefusal request since text refusal ⊎ HasPathRefusal request since text refusal)
 
 abbrev pub IsSeen : Request → Moment → Bytes → Seen → Type 0
 IsSeen request since text (Files gathered) =
-    (may_include text ≡ false) × AreGathered request since text gathered.tests_headers gathered.files.files (lists_of gathered.absent_paths.items) × IsCalm gathered.files
+    (may_include text ≡ false) × AreGathered request since text gathered.files.files (lists_of gathered.absent_paths.items) (tests_of gathered.asked_tests.items) × IsCalm gathered.files
 IsSeen request since text (NotSeen refusal) = IsRefusedByText request since text refusal
 
 -- why a compilation is not recorded by its input and its time, if it is not
-abbrev pub IsJudgedByInput : Environment → SnapshotRequest → FileMap → Bool → Bytes → Option Refusal → Type 0
-IsJudgedByInput environment asked files tests key refusal =
-    (one_day : Bool) × IsOneDay (plain_zone asked.zone.now) asked.moment.seconds environment.now.seconds one_day × IsRefusal (key_over asked files) key one_day tests refusal
+abbrev pub IsJudgedByInput : Environment → SnapshotRequest → FileMap → Bytes → Option Refusal → Type 0
+IsJudgedByInput environment asked files key refusal =
+    (one_day : Bool) × IsOneDay (plain_zone asked.zone.now) asked.moment.seconds environment.now.seconds one_day × IsRefusal (key_over asked files) key one_day refusal
 
 -- one of the base directories is in a part of the object file, if there is one
 abbrev pub ObjectShowsBase : List Bytes → Option ObjectFile → Type 0
@@ -120,9 +134,13 @@ ObjectShowsBase bases (Some object) = ShowsBase bases object.object.items ⊎ (S
 abbrev pub IsRefusedByBase : List Bytes → Refusal → Type 0
 IsRefusedByBase bases refusal = (refusal ≡ BaseDirectory) × ((object : ObjectFile) × ObjectShowsBase bases (Some object))
 
--- the entry file of an entry, with these absent paths
-abbrev pub recorded_fields : RecordedEntry → List Bytes → EntryFields
-recorded_fields entry absent = record { preprocessor_key = string_bytes entry.preprocessor_key; entry = entry.bytes.items; absent_paths = absent }
+-- the tests of what the sources ask for, and that there is nothing at these paths
+abbrev pub all_tests : List Bytes → List Test → List Test
+all_tests absent asked = asked ++ map Absent absent
+
+-- the entry file of an entry, with these tests
+abbrev pub recorded_fields : RecordedEntry → List Test → EntryFields
+recorded_fields entry tests = record { preprocessor_key = string_bytes entry.preprocessor_key; entry = entry.bytes.items; tests = tests }
 
 -- the request of a compilation over a snapshot, at the time at which its look-up ended
 pub record IsAsked (environment : Environment) (request : Request) (compilation : Compilation) (text : Bytes) (asked : SnapshotRequest) : Type 0 where
@@ -131,18 +149,18 @@ pub record IsAsked (environment : Environment) (request : Request) (compilation 
   pub is_request : IsRequest environment request compilation.since bases asked
 
 -- the recording over these files has this key and an entry, and neither the input nor the time keeps it from being recorded
-pub record IsRecordedOver (environment : Environment) (request : Request) (compilation : Compilation) (text : Bytes) (tests : Bool) (files : FileMap) (key : String Global) : Type 0 where
+pub record IsRecordedOver (environment : Environment) (request : Request) (compilation : Compilation) (text : Bytes) (files : FileMap) (key : String Global) : Type 0 where
   pub asked : SnapshotRequest
   pub is_asked : IsAsked environment request compilation text asked
-  pub judged : IsJudgedByInput environment asked files tests compilation.key.now None
+  pub judged : IsJudgedByInput environment asked files compilation.key.now None
   pub entry : RecordedEntry
   pub recorded : IsRecording sha256 files asked NoFault text (record { key = key; put = Some entry })
 
 -- the input or the time keeps it from being recorded
-pub record IsRefusedByInput (environment : Environment) (request : Request) (compilation : Compilation) (text : Bytes) (tests : Bool) (files : FileMap) (refusal : Refusal) : Type 0 where
+pub record IsRefusedByInput (environment : Environment) (request : Request) (compilation : Compilation) (text : Bytes) (files : FileMap) (refusal : Refusal) : Type 0 where
   pub asked : SnapshotRequest
   pub is_asked : IsAsked environment request compilation text asked
-  pub judged : IsJudgedByInput environment asked files tests compilation.key.now (Some refusal)
+  pub judged : IsJudgedByInput environment asked files compilation.key.now (Some refusal)
 
 -- the recording has no entry
 pub record RecordsNoEntry (environment : Environment) (request : Request) (compilation : Compilation) (text : Bytes) (files : FileMap) : Type 0 where
@@ -156,23 +174,23 @@ abbrev pub ShowsBaseOf : Request → Bytes → Refusal → Type 0
 ShowsBaseOf request text refusal = (bases : List Bytes) × AreBases (request_words request) text bases × IsRefusedByBase bases refusal
 
 -- why a compilation is not recorded over files: its input or its time; or a name in doubt, or a text that has no entry; or a base directory
-abbrev pub IsRefusedOver : Environment → Request → Compilation → Bytes → Bool → Bool → FileMap → Refusal → Type 0
-IsRefusedOver environment request compilation text tests doubtful files refusal =
-    IsRefusedByInput environment request compilation text tests files refusal
+abbrev pub IsRefusedOver : Environment → Request → Compilation → Bytes → Bool → FileMap → Refusal → Type 0
+IsRefusedOver environment request compilation text doubtful files refusal =
+    IsRefusedByInput environment request compilation text files refusal
     ⊎ (((refusal ≡ NamedFile) × ((doubtful ≡ true) ⊎ RecordsNoEntry environment request compilation text files)) ⊎ ShowsBaseOf request text refusal)
 
 abbrev pub IsOutcomeOver : Environment → Request → Compilation → Bytes → Gathered → Outcome → Type 0
 IsOutcomeOver environment request compilation text gathered (Recorded key) =
-    IsRecordedOver environment request compilation text gathered.tests_headers gathered.files.files key
+    IsRecordedOver environment request compilation text gathered.files.files key
 IsOutcomeOver environment request compilation text gathered (Refused refusal) =
-    IsRefusedOver environment request compilation text gathered.tests_headers gathered.is_doubtful gathered.files.files refusal
+    IsRefusedOver environment request compilation text gathered.is_doubtful gathered.files.files refusal
 
 -- The outcome of a recording. What is recorded is recorded over files that were gathered for the text.
 abbrev pub IsOutcome : Environment → Request → Compilation → Bytes → Outcome → Type 0
 IsOutcome environment request compilation text (Recorded key) =
     (may_include text ≡ false)
-    × ((tests : Bool) × (files : FileMap) × (paths : List Bytes) × AreGathered request compilation.since text tests files paths × IsRecordedOver environment request compilation text tests files key)
+    × ((files : FileMap) × (paths : List Bytes) × (asked : List Test) × AreGathered request compilation.since text files paths asked × IsRecordedOver environment request compilation text files key)
 IsOutcome environment request compilation text (Refused refusal) =
     IsRefusedByText request compilation.since text refusal
-    ⊎ ((tests doubtful : Bool) × (files : FileMap) × (paths : List Bytes) × AreGathered request compilation.since text tests files paths
-    × IsRefusedOver environment request compilation text tests doubtful files refusal)
+    ⊎ ((doubtful : Bool) × (files : FileMap) × (paths : List Bytes) × (asked : List Test) × AreGathered request compilation.since text files paths asked
+    × IsRefusedOver environment request compilation text doubtful files refusal)

@@ -1,5 +1,5 @@
 //! The paths that must stay absent for a recorded key.
-ghost use Rattle.std.specs.Prelude.{Contains, IfOk, IfSome, IsOkUnless, IsTrue, OnOk, map};
+ghost use Rattle.std.specs.Prelude.{Contains, IfOk, IsOkUnless, IsTrue, OnOk};
 ghost use Rattle.std.specs.Option.{option_map};
 ghost use Rattle.cck_cache_command.specs.Absence.{AreAbsentPaths, GainsPath, IsAbsence, IsVerdict};
 ghost use Rattle.cck_cache_entry.specs.Sets.{has_key};
@@ -8,7 +8,7 @@ ghost use Rattle.cck_cache_files.specs.declared.path_states.PathStates.{PathStat
 ghost use Rattle.cck_path.specs.Bytes.{lists_of};
 
 use cck_cache_entry::{SearchList, absent_names};
-use cck_cache_files::{PathState, PathStates, is_absent};
+use cck_cache_files::{PathState, PathStates};
 use cck_cache_rules::Refusal;
 use cck_digest::UtilError;
 use cck_path::join_path;
@@ -26,13 +26,13 @@ pub enum Absence {
     Refused(Refusal),
 }
 
-// What is to be recorded of one path.
-enum PathVerdict<'a> {
-    // There is nothing at this path, which leads to the one that was asked for.
+/// What is to be recorded of one path.
+pub enum PathVerdict<'a> {
+    /// There is nothing at this path, which leads to the one that was asked for.
     Absent(&'a [u8]),
-    // A file is there, and was before the compilation.
+    /// A file is there, and was before the compilation.
     Present,
-    // It is not known what the compiler found there.
+    /// It is not known what the compiler found there.
     Doubtful,
 }
 
@@ -51,8 +51,8 @@ fn file_verdict<'a>(path: &'a [u8], front: &[u8]) -> PathVerdict<'a>
     }
 }
 
-// The verdict on an absolute path.
-fn path_verdict<'a, R: Files + AllocGlobal>(
+/// The verdict on an absolute path.
+pub fn path_verdict<'a, R: Files + AllocGlobal>(
     rt: &R,
     states: &mut PathStates,
     path: &'a [u8],
@@ -141,16 +141,4 @@ pub fn absence_of<R: Files + AllocGlobal>(
         Some(paths) => Ok(Absence::Paths(paths)),
         None => Ok(Absence::Refused(Refusal::EarlierPath)),
     }
-}
-
-/// The first of these paths at which there is something.
-pub fn first_present<'a, R: Files>(rt: &R, paths: &'a [Vec<u8>]) -> Option<&'a [u8]>
-    ensures { IfSome result (λ path. Contains (map (λ p. p.items) paths.now) path.now) }
-{
-    for path in paths {
-        if !is_absent(rt, path) {
-            return Some(path);
-        }
-    }
-    None
 }

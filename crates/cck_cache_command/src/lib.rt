@@ -17,6 +17,7 @@ mod prune;
 mod record;
 mod request;
 mod stats;
+mod tested;
 mod unpack;
 mod why;
 

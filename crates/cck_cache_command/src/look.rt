@@ -5,14 +5,13 @@ ghost use Rattle.cck_cache_command.specs.Look.{IsLookResult, IsFoundFor, IsInclu
 ghost use Rattle.cck_cache_files.specs.Snapshot.{ArePut};
 ghost use Rattle.cck_include.specs.Include.{includes_in};
 
-use crate::absence::first_present;
 use crate::environment::Environment;
 use crate::input::input_snapshot;
 use crate::outputs::has_outputs;
 use crate::request::{hasher_of, snapshot_request};
 use anyhow::Result;
 use cck_cache_entry::{EntryFile, ObjectFile};
-use cck_cache_files::{Kind, StoreDirectory, add_file};
+use cck_cache_files::{Kind, StoreDirectory, add_file, first_failing};
 use cck_cache_rules::{entry_in, object_in};
 use cck_cache_words::{Look, Outputs};
 use cck_digest::UtilError;
@@ -155,7 +154,7 @@ fn matching_key<R: Files + AllocGlobal>(
     ensures { IfOk result (λ found. IsCalm files.old → IfSome found
         (IsMatch asked.now files.old.files key.now file.now.entry.items)) }
 {
-    if first_present(rt, &file.absent_paths).is_some() {
+    if first_failing(rt, &file.tests)?.is_some() {
         return Ok(None);
     }
     if !add_entry_files(rt, files, &file.entry)? {
@@ -269,7 +268,7 @@ pub fn look<R: Files + AllocGlobal>(
 {
     let request = &wanted.request;
     let hasher = hasher_of(rt, environment, request)?;
-    let mut files = input_snapshot(rt, request)?.files;
+    let mut files = input_snapshot(rt, request)?;
     let asked = snapshot_request(
         environment,
         &hasher,

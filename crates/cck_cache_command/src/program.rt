@@ -12,7 +12,7 @@ use crate::stats::print_stats;
 use crate::unpack::unpack;
 use crate::why::print_why;
 use anyhow::{Result, bail};
-use cck_cache_entry::has_include_test;
+use cck_cache_entry::may_ask_for_file;
 use cck_cache_files::{Kind, StoreDirectory, open_store};
 use cck_cache_options::{Call, GCC, Parsed, parse, rows_of};
 use cck_cache_words::{
@@ -330,7 +330,7 @@ fn run_action<R: Files + AllocGlobal, I: Read, W: Write, E: Write>(
 
 // Whether an argument tests for the existence of a header.
 fn tests_for_header(arguments: &[Vec<u8>]) -> bool {
-    arguments.iter().any(|argument| has_include_test(argument))
+    arguments.iter().any(|argument| may_ask_for_file(argument))
 }
 
 // Does what was asked for with a call of a compiler, or prints why the call is not cached.

@@ -2,8 +2,9 @@
 ghost use Rattle.std.specs.Prelude.{◌≡◌, ◌↔◌, IfOk, IfSome, IsTrue, MatchOption, OnOk, Some};
 ghost use Rattle.std.specs.Option.{option_map};
 ghost use Rattle.cck_cache_command.specs.Input.{IsCalm};
-ghost use Rattle.cck_cache_command.specs.Record.{HasNoLocalTime, IsJudgedByInput, IsLocalTime, IsObjectKey, IsOneDay, IsOutcome, IsOutcomeOver, IsRefusedByBase, IsSeen, ObjectShowsBase, recorded_fields};
+ghost use Rattle.cck_cache_command.specs.Record.{HasNoLocalTime, IsJudgedByInput, IsLocalTime, IsObjectKey, IsOneDay, IsOutcome, IsOutcomeOver, IsRefusedByBase, IsSeen, ObjectShowsBase, all_tests, recorded_fields};
 ghost use Rattle.cck_cache_entry.specs.Files.{entry_fields};
+ghost use Rattle.cck_cache_entry.specs.PathTest.{tests_of};
 ghost use Rattle.cck_files.specs.Calls.{Keeps};
 ghost use Rattle.cck_files.specs.FileState.{IsQuiet, fault_count};
 ghost use Rattle.cck_path.specs.Bytes.{lists_of};
@@ -11,11 +12,12 @@ ghost use Rattle.jiff.specs.Words.{plain_zone};
 
 use crate::absence::{Absence, absence_of};
 use crate::environment::Environment;
-use crate::input::{InputSnapshot, input_snapshot};
+use crate::input::input_snapshot;
 use crate::request::{base_words, hasher_of, snapshot_request};
+use crate::tested::{Tested, tested_by};
 use anyhow::Result;
 use cck_cache_base::{bases_of, shows_base};
-use cck_cache_entry::{EntryFile, ObjectFile, may_include};
+use cck_cache_entry::{EntryFile, ObjectFile, PathTest, may_include};
 use cck_cache_files::{Kind, PathStates, StoreDirectory, add_named_files};
 use cck_cache_rules::{Known, Refusal, refusal_of};
 use cck_cache_words::{Compilation, Request};
@@ -25,6 +27,7 @@ use cck_snapshot::{RecordedEntry, Recording, SnapshotRequest, preprocessor_key, 
 use cck_util::Sha256State;
 use jiff::civil::DateTime;
 use jiff::tz::TimeZone;
+use std::alloc::AllocError;
 use std::rt::Files;
 use std::{fs, io};
 
@@ -65,12 +68,12 @@ fn is_one_day(zone: &TimeZone<'_>, a: Timestamp, b: Timestamp) -> bool
 struct Gathered {
     // The input and the files that the text names.
     files: MapFiles,
-    // Whether the input may test for the existence of a header.
-    tests_headers: bool,
     // Whether a name that was left out has the path of one of the files.
     is_doubtful: bool,
     // The paths that must stay absent.
     absent_paths: Vec<Vec<u8>>,
+    // The tests of the paths at which the sources look for headers.
+    asked_tests: Vec<PathTest>,
 }
 
 // What a recording looks at.
@@ -91,10 +94,7 @@ fn see<R: Files + AllocGlobal>(
 ) -> Result<Seen>
     ensures { IfOk result (IsSeen request.now compilation.now.since text.now) }
 {
-    let InputSnapshot {
-        mut files,
-        tests_headers,
-    } = input_snapshot(rt, request)?;
+    let mut files = input_snapshot(rt, request)?;
     let directory = request.directory;
     let mut states = PathStates::new(rt, compilation.since);
     let printed = fs::read(rt, compilation.search)?;
@@ -105,36 +105,29 @@ fn see<R: Files + AllocGlobal>(
         Absence::Refused(refusal) => return Ok(Seen::Refused(refusal)),
         Absence::Paths(paths) => paths,
     };
-    let named = add_named_files(rt, &mut files, &mut states, directory.as_bytes(), text)?;
-    if named.tests_headers {
-        return Ok(Seen::Refused(Refusal::HeaderTest));
+    let is_doubtful = add_named_files(rt, &mut files, &mut states, directory.as_bytes(), text)?;
+    match tested_by(rt, &mut files, &mut states, directory, text, &printed)? {
+        Tested::Refused(refusal) => Ok(Seen::Refused(refusal)),
+        Tested::Tests(asked_tests) => Ok(Seen::Files(Gathered {
+            files,
+            is_doubtful,
+            absent_paths,
+            asked_tests,
+        })),
     }
-    Ok(Seen::Files(Gathered {
-        files,
-        tests_headers,
-        is_doubtful: named.is_doubtful,
-        absent_paths,
-    }))
 }
 
 // What is known of a compilation by its input and its time alone. The borrow checker takes a field that
 // holds a reference only at the lifetime of the struct.
-fn known_of<'a>(
-    found: Option<&'a str>,
-    key: &'a str,
-    is_one_day: bool,
-    tests_headers: bool,
-) -> Known<'a>
+fn known_of<'a>(found: Option<&'a str>, key: &'a str, is_one_day: bool) -> Known<'a>
     ensures found { option_map (λ k. k.now) result.found ≡ option_map (λ k. k.now) found.entry }
     ensures key { result.key.now ≡ key.now }
     ensures is_one_day { result.is_one_day ≡ is_one_day }
-    ensures tests_headers { result.tests_headers ≡ tests_headers }
 {
     Known {
         found,
         key,
         is_one_day,
-        tests_headers,
     }
 }
 
@@ -144,18 +137,17 @@ fn refusal_by_input<R: AllocGlobal>(
     environment: &Environment<'_>,
     asked: &SnapshotRequest<'_>,
     files: &mut MapFiles,
-    tests_headers: bool,
     key: &str,
 ) -> Result<Option<Refusal>>
     ensures judged { IfOk result
-        (IsJudgedByInput environment.entry.now asked.now files.old.files tests_headers key.now) }
+        (IsJudgedByInput environment.entry.now asked.now files.old.files key.now) }
     ensures keeps { OnOk result
         (Keeps (λ files. files.files) fault_count IsQuiet files.old files.new) }
 {
     let found = preprocessor_key::<Sha256State, MapFiles>(rt.alloc(), files, asked)?;
     let is_one_day = is_one_day(asked.zone, asked.moment, environment.now);
     let found = found.as_deref();
-    Ok(refusal_of(&known_of(found, key, is_one_day, tests_headers)))
+    Ok(refusal_of(&known_of(found, key, is_one_day)))
 }
 
 // Writes a file of the store, to this path, if one is given, in place of the store's.
@@ -264,7 +256,7 @@ pub fn object_key<R: Files + AllocGlobal>(
     ensures { IfOk result (IsObjectKey environment.entry.now request.now text.now) }
 {
     let alloc = rt.alloc();
-    let mut files = input_snapshot(rt, request)?.files;
+    let mut files = input_snapshot(rt, request)?;
     let bases = bases_of(alloc, &base_words(request), text)?;
     let hasher = hasher_of(rt, environment, request)?;
     let (directory, now) = (request.directory, environment.now);
@@ -292,14 +284,29 @@ fn keep<R: Files + AllocGlobal>(
     Ok(None)
 }
 
+// The tests that there is nothing at these paths, and then the others.
+fn all_tests(
+    absent_paths: Vec<Vec<u8>>,
+    asked_tests: Vec<PathTest>,
+) -> Result<Vec<PathTest>, AllocError>
+    ensures { IfOk result (λ all. tests_of all.items
+        ≡ all_tests (lists_of absent_paths.items) (tests_of asked_tests.items)) }
+{
+    let mut tests = asked_tests;
+    for path in absent_paths {
+        tests.push(PathTest::Absent(path))?;
+    }
+    Ok(tests)
+}
+
 // The entry file of what was recorded.
-fn entry_file_of(entry: RecordedEntry, absent_paths: Vec<Vec<u8>>) -> EntryFile
-    ensures { entry_fields result ≡ recorded_fields entry (lists_of absent_paths.items) }
+fn entry_file_of(entry: RecordedEntry, tests: Vec<PathTest>) -> EntryFile
+    ensures { entry_fields result ≡ recorded_fields entry (tests_of tests.items) }
 {
     EntryFile {
         preprocessor_key: entry.preprocessor_key.into_bytes(),
         entry: entry.bytes,
-        absent_paths,
+        tests,
     }
 }
 
@@ -318,23 +325,16 @@ fn record_over<R: Files + AllocGlobal>(
 {
     let Gathered {
         mut files,
-        tests_headers,
         is_doubtful,
         absent_paths,
+        asked_tests,
     } = gathered;
     let bases = bases_of(rt.alloc(), &base_words(request), text)?;
     let hasher = hasher_of(rt, environment, request)?;
     let (directory, since) = (request.directory, compilation.since);
     let asked = snapshot_request(environment, &hasher, directory, since, &bases);
     let key = compilation.key;
-    if let Some(refusal) = refusal_by_input(
-        rt,
-        environment,
-        &asked,
-        &mut files,
-        tests_headers,
-        key,
-    )? {
+    if let Some(refusal) = refusal_by_input(rt, environment, &asked, &mut files, key)? {
         return Ok(Outcome::Refused(refusal));
     }
     if is_doubtful {
@@ -348,7 +348,7 @@ fn record_over<R: Files + AllocGlobal>(
     let Some(entry) = put else {
         return Ok(Outcome::Refused(Refusal::NamedFile));
     };
-    let file = entry_file_of(entry, absent_paths);
+    let file = entry_file_of(entry, all_tests(absent_paths, asked_tests)?);
     match keep(rt, store, compilation, &bases, object_key.as_str(), &file)? {
         Some(refusal) => Ok(Outcome::Refused(refusal)),
         None => Ok(Outcome::Recorded(object_key)),

@@ -1,12 +1,11 @@
 //! Says why a look-up misses.
-use crate::absence::first_present;
 use crate::environment::Environment;
 use crate::input::input_snapshot;
 use crate::look::{Kept, NO_KEY, add_entry_files, read_entry};
 use crate::request::request_key;
 use anyhow::Result;
-use cck_cache_entry::EntryFile;
-use cck_cache_files::{Kind, StoreDirectory};
+use cck_cache_entry::{EntryFile, PathTest};
+use cck_cache_files::{Kind, StoreDirectory, first_failing};
 use cck_cache_words::Request;
 use cck_entry::PreprocessorCacheEntry;
 use cck_files::MapFiles;
@@ -21,6 +20,17 @@ fn print_path<W: Write>(writer: &mut W, word: &[u8], path: &[u8]) -> Result<()> 
     writer.write_all(path)?;
     writer.write_all(b"\n")?;
     Ok(())
+}
+
+// Prints a line for a test that fails.
+fn print_test<W: Write>(writer: &mut W, test: &PathTest) -> Result<()> {
+    match test {
+        PathTest::Absent(path) => print_path(writer, b"present ", path),
+        PathTest::File(path) => print_path(writer, b"absent ", path),
+        PathTest::Directory(path) | PathTest::Searched { path, place: _ } => {
+            print_path(writer, b"changed ", path)
+        }
+    }
 }
 
 // Prints the path of each included file that does not match.
@@ -61,8 +71,8 @@ fn print_entry<R: Files + AllocGlobal, W: Write>(
     file: &EntryFile,
     writer: &mut W,
 ) -> Result<()> {
-    if let Some(path) = first_present(rt, &file.absent_paths) {
-        print_path(writer, b"present ", path)?;
+    if let Some(test) = first_failing(rt, &file.tests)? {
+        print_test(writer, test)?;
     }
     add_entry_files(rt, files, &file.entry)?;
     let entry = PreprocessorCacheEntry::read(rt.alloc(), &file.entry)?;
@@ -110,7 +120,7 @@ pub fn print_why<R: Files + AllocGlobal, W: Write>(
     request: &Request<'_>,
     writer: &mut W,
 ) -> Result<bool> {
-    let mut files = input_snapshot(rt, request)?.files;
+    let mut files = input_snapshot(rt, request)?;
     let Some(key) = request_key(rt, environment, request, &mut files)? else {
         writeln!(writer, "{NO_KEY}")?;
         return Ok(false);

@@ -7,10 +7,13 @@
 //! - [`PathTest`] is what must hold of a path before an entry is used.
 //! - [`SearchList`] is a compiler's list of directories for headers, as `gcc -v` prints it.
 //! - [`absent_names`] lists the paths at which a named header would have been found earlier.
+//! - [`file_names`] lists the files that a text names.
 //! - [`left_directories`] lists the directories that names of a text leave by `..`.
 //! - [`may_include`] says whether a text may depend on a file that no line marker names.
 //! - [`header_tests`] and [`has_dependency_pragma`] say on which files a source may depend that it does
 //!   not include. Both read a source without its splices, which [`unspliced`] returns.
+//!   [`add_tested_paths`] lists the paths at which tests look, and [`may_ask_for_file`] finds both in
+//!   an argument.
 //! - [`laws`] states what `==` means for the types.
 #![tactic(auto)]
 
@@ -34,6 +37,7 @@ pub use assembler::may_include;
 pub use entry_file::EntryFile;
 pub use header_test::{HeaderTest, has_dependency_pragma, header_tests, may_ask_for_file};
 pub use left::left_directories;
+pub use names::file_names;
 pub use object_file::ObjectFile;
 pub use path_test::PathTest;
 pub use search_list::SearchList;

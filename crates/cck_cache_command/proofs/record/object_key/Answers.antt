@@ -15,12 +15,11 @@ returns g c =
     let environment = c.args.environment.now in
     let request = c.args.request.now in
     let text = c.args.text.now in
-    let files = c.in_ok-files.field-0.files in
+    let files = c.in_ok-files.files in
     let bases = lists_of c.in_ok-bases.bases.items in
     let asked = c.snapshot_request-asked.result in
     record {
       input = files.files;
-      tests = c.in_ok-files.field-0.tests_headers;
       is_input = c.in_ok-files.ensures.input;
       bases = bases;
       are_bases = subst (λ (ws : WordLists). AreBases ws text bases) c.base_words.ensures c.in_ok-bases.ensures;
