@@ -2,7 +2,7 @@
 use Rattle.std.proofs.Common.{arith, ◌≡◌, true, false, pos, Some, None, codes, refl}
 use Rattle.cck_cache_rules.specs.Age.{IsAbandoned}
 use Rattle.cck_cache_rules.specs.Refusal.{IsRefusal}
-use Rattle.cck_cache_rules.specs.declared.refusal.Refusal.TheVariants.{DayChanged, InputChanged, NoKey}
+use Rattle.cck_cache_rules.specs.declared.refusal.Refusal.TheVariants.{DayChanged, NoKey}
 
 -- an hour and a second
 abandoned : IsAbandoned true (pos 1) (pos 3602)
@@ -14,10 +14,6 @@ not_abandoned h = let old = h.old in omega (arith, old)
 
 renamed : IsAbandoned false (pos 1) (pos 3602) → ⊥
 renamed h = let same : false ≡ true = h.new in absurd cc
-
--- another key counts before another day
-changed : IsRefusal (Some (codes "k")) (codes "l") false (Some InputChanged)
-changed = (codes "k", refl, λ same. cc)
 
 day : IsRefusal (Some (codes "k")) (codes "k") false (Some DayChanged)
 day = (refl, refl)
