@@ -8,14 +8,14 @@ use Rattle.cck_cache_base.specs.Text.{AreBases}
 use Rattle.cck_cache_base.specs.declared.base.Words.{Words}
 use Rattle.cck_cache_command.proofs.InputLemmas.{calm_kept, calm_stays, without_fault}
 use Rattle.cck_cache_command.specs.Input.{IsCalm, IsInput, NoFault}
-use Rattle.cck_cache_command.specs.Record.{AreFilesOf, AreGathered, IsAsked, IsLocalTime, IsOneDay, IsOutcome, IsOutcomeOver, ObjectShowsBase}
+use Rattle.cck_cache_command.specs.Record.{AreFilesOf, AreGathered, HasAbsentPaths, HasAskedTests, IsAsked, IsLocalTime, IsOneDay, IsOutcome, IsOutcomeOver, ObjectShowsBase}
 use Rattle.cck_cache_command.specs.Request.{IsRequest, request_words}
 use Rattle.cck_cache_command.specs.declared.environment.Environment.{Environment}
 use Rattle.cck_cache_command.specs.declared.record.Gathered.{Gathered}
 use Rattle.cck_cache_command.specs.declared.record.Outcome.{Outcome}
 use Rattle.cck_cache_command.specs.declared.record.Outcome.TheVariants.{Recorded, Refused}
 use Rattle.cck_cache_entry.specs.Assembler.{may_include}
-use Rattle.cck_cache_entry.specs.PathTest.{tests_of}
+use Rattle.cck_cache_entry.specs.PathTest.{Test, tests_of}
 use Rattle.cck_cache_entry.specs.declared.object_file.ObjectFile.{ObjectFile}
 use Rattle.cck_cache_files.specs.Snapshot.{ArePut, SnapshotGrows, IsNamedFile}
 use Rattle.cck_cache_words.specs.declared.request.Request.{Request}
@@ -56,6 +56,12 @@ pub calm_grown : (text cwd : Bytes) (before after : FileState) → GrewBy text c
 calm_grown text cwd before after grew =
     let list = has_one_list true text in
     calm_stays before after (grew list.0 list.1).calm
+
+-- what was gathered over files that a call kept
+pub gathered_over : (request : Request) (since : Moment) (text : Bytes) (files new : FileMap) (paths : List Bytes) (asked : List Test) → new ≡ files → AreFilesOf request text files → HasAbsentPaths request since text paths → HasAskedTests request since text files asked
+    → AreGathered request since text new paths asked
+gathered_over request since text files new paths asked same are absent tested =
+    subst (λ (m : FileMap). AreGathered request since text m paths asked) (sym same) (record { are_files = are; absent = absent; tested = tested })
 
 -- a base directory is shown by an object file, so there is one
 pub some_shows : (bases : List Bytes) (o : Option ObjectFile) → ObjectShowsBase bases o → (object : ObjectFile) × ObjectShowsBase bases (Some object)

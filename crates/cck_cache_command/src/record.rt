@@ -27,7 +27,7 @@ use cck_snapshot::{RecordedEntry, Recording, SnapshotRequest, preprocessor_key, 
 use cck_util::Sha256State;
 use jiff::civil::DateTime;
 use jiff::tz::TimeZone;
-use std::alloc::AllocError;
+use std::alloc::{AllocError, Global};
 use std::rt::Files;
 use std::{fs, io};
 
@@ -106,8 +106,10 @@ fn see<R: Files + AllocGlobal>(
         Absence::Paths(paths) => paths,
     };
     let is_doubtful = add_named_files(rt, &mut files, &mut states, directory.as_bytes(), text)?;
-    match tested_by(rt, &mut files, &mut states, directory, text, &printed)? {
-        Tested::Refused(refusal) => Ok(Seen::Refused(refusal)),
+    let mut asked = PathStates::new(rt, compilation.since);
+    let tested = tested_by(rt, &mut files, &mut asked, directory, text, &printed)?;
+    match tested {
+        Tested::Refused(cause) => Ok(Seen::Refused(cause)),
         Tested::Tests(asked_tests) => Ok(Seen::Files(Gathered {
             files,
             is_doubtful,
@@ -284,17 +286,18 @@ fn keep<R: Files + AllocGlobal>(
     Ok(None)
 }
 
-// The tests that there is nothing at these paths, and then the others.
+// These tests, and then those that there is nothing at these paths.
 fn all_tests(
-    absent_paths: Vec<Vec<u8>>,
+    alloc: Global,
     asked_tests: Vec<PathTest>,
+    absent_paths: &[Vec<u8>],
 ) -> Result<Vec<PathTest>, AllocError>
     ensures { IfOk result (λ all. tests_of all.items
-        ≡ all_tests (lists_of absent_paths.items) (tests_of asked_tests.items)) }
+        ≡ all_tests (lists_of absent_paths.now) (tests_of asked_tests.items)) }
 {
     let mut tests = asked_tests;
     for path in absent_paths {
-        tests.push(PathTest::Absent(path))?;
+        tests.push(PathTest::Absent(path.to_vec(alloc)?))?;
     }
     Ok(tests)
 }
@@ -348,7 +351,7 @@ fn record_over<R: Files + AllocGlobal>(
     let Some(entry) = put else {
         return Ok(Outcome::Refused(Refusal::NamedFile));
     };
-    let file = entry_file_of(entry, all_tests(absent_paths, asked_tests)?);
+    let file = entry_file_of(entry, all_tests(rt.alloc(), asked_tests, &absent_paths)?);
     match keep(rt, store, compilation, &bases, object_key.as_str(), &file)? {
         Some(refusal) => Ok(Outcome::Refused(refusal)),
         None => Ok(Outcome::Recorded(object_key)),

@@ -1,0 +1,8 @@
+use Rattle.std.proofs.Common.{◌≡◌, ◌++◌, map, take}
+use Rattle.cck_cache_entry.specs.PathTest.{Absent, tests_of}
+use Rattle.cck_path.specs.Bytes.{lists_of}
+use Rattle.cck_cache_command.proofs.record.all_tests.Given as goal
+
+-- the tests of the paths so far
+abbrev pub invariant-loop-path : goal.invariant-loop-path
+invariant-loop-path l = tests_of l.tests.items ≡ tests_of l.fn.asked_tests.items ++ map Absent (take l.path-index (lists_of l.absent_paths))
