@@ -13,22 +13,22 @@ use Rattle.cck_cache_files.proofs.StateLemmas.{first_other_kept}
 use Rattle.cck_path.specs.Bytes.{Bytes}
 use Rattle.cck_path.specs.Text.{join_path}
 
-absent_kept : (old new : PathStates) (path absent : Bytes) → KeepsStates old new → IsAbsentAt old path absent → IsAbsentAt new path absent
+pub absent_kept : (old new : PathStates) (path absent : Bytes) → KeepsStates old new → IsAbsentAt old path absent → IsAbsentAt new path absent
 absent_kept old new path absent keeps (inl first) = inl (first_other_kept old new path absent state.Absent keeps first)
 absent_kept old new path absent keeps (inr (same, (front, short, first))) = inr (same, (front, short, first_other_kept old new path front state.File keeps first))
 
-present_kept : (old new : PathStates) (path : Bytes) → KeepsStates old new → IsPresentAt old path → IsPresentAt new path
+pub present_kept : (old new : PathStates) (path : Bytes) → KeepsStates old new → IsPresentAt old path → IsPresentAt new path
 present_kept old new path keeps (first, plain) = (first_other_kept old new path path state.File keeps first, plain)
 
 -- one of the first names of a set
 abbrev pub IsAmong : List (Vec ℕ) → ℕ → Bytes → Type 0
 IsAmong keys n name = (i : ℕ) × (i < n) × (get_or (map (λ k. k.items) keys) i [] ≡ name)
 
-more_names : (keys : List (Vec ℕ)) (n : ℕ) (name : Bytes) → IsAmong keys n name → IsAmong keys (n + 1) name
+pub more_names : (keys : List (Vec ℕ)) (n : ℕ) (name : Bytes) → IsAmong keys n name → IsAmong keys (n + 1) name
 more_names keys n name (i, within, is) = (i, omega (arith, within), is)
 
 -- it is among the first ones, or the next
-next_name : (keys : List (Vec ℕ)) (n : ℕ) (name : Bytes) → IsAmong keys (n + 1) name → IsAmong keys n name ⊎ (get_or (map (λ k. k.items) keys) n [] ≡ name)
+pub next_name : (keys : List (Vec ℕ)) (n : ℕ) (name : Bytes) → IsAmong keys (n + 1) name → IsAmong keys n name ⊎ (get_or (map (λ k. k.items) keys) n [] ≡ name)
 next_name keys n name (i, within, is) =
     elim (cases_lt i n) [
       | inl below ↦ inl (i, below, is)

@@ -6,3 +6,4 @@ pub mod NamingLemmas
 pub mod RecordLemmas
 pub mod RequestLemmas
 pub mod SearchedLemmas
+pub mod SourceTestLemmas

@@ -1,5 +1,5 @@
 -- what a look-up finds
-use Rattle.std.proofs.Common.{◌≡◌, ◌∙◌, ◌<◌, ℕ, List, get_or, Bool, Option, Some, None, Ok, String, string_bytes, IfSome, length, map, sym, ap, subst}
+use Rattle.std.proofs.Common.{◌≡◌, ◌∙◌, ◌<◌, ℕ, List, get_or, Option, Some, None, Ok, String, string_bytes, IfSome, length, map, sym, ap, subst}
 use Rattle.std.specs.FinMap.{entries}
 use Rattle.std.specs.List.{Contains, slice_get}
 use Rattle.std.proofs.lemmas.List.{get_or-map, length-map}
@@ -54,13 +54,13 @@ pub contains_map : {X Y : Type 0} (f : X → Y) (xs : List X) (x : X) → Contai
 contains_map f xs x at = (at.0, subst (λ (n : ℕ). at.0 < n) (sym (length-map xs f)) at.1, get_or-map f xs at.0 x (f x) at.1 ∙ ap f at.2)
 
 -- the file of an include of a result
-pub one_of_at : (includes : List IncludeEntry) (i : ℕ) (x : IncludeEntry) (path : Bytes) (tests : Bool) → i < length includes → x ≡ get_or includes i x → path ≡ x.path.items → IsIncludeOf (includes_in includes) path tests
-one_of_at includes i x path tests within is same = (include_in x, contains_map include_in includes x (i, within, sym is), sym same)
+pub one_of_at : (includes : List IncludeEntry) (i : ℕ) (x : IncludeEntry) (path : Bytes) → i < length includes → x ≡ get_or includes i x → path ≡ x.path.items → IsIncludeOf (includes_in includes) path
+one_of_at includes i x path within is same = (include_in x, contains_map include_in includes x (i, within, sym is), sym same)
 
 -- the file of an include of an entry
 pub included_at : (bytes : Bytes) (entry : Entry) (results : List (String Global × Vec IncludeEntry)) (n : ℕ) (r : String Global × Vec IncludeEntry) → Reads (Ok entry) bytes → entries entry ≡ map result_in results → (n < length results) × (slice_get results n ≡ Some r)
-    → (path : Bytes) (tests : Bool) → IsIncludeOf (includes_in r.1.items) path tests → IsIncluded bytes path tests
-included_at bytes entry results n r reads same at path tests one = record {
+    → (path : Bytes) → IsIncludeOf (includes_in r.1.items) path → IsIncluded bytes path
+included_at bytes entry results n r reads same at path one = record {
   entry = entry;
   is_entry = reads;
   found = result_in r;

@@ -8,7 +8,7 @@ use Rattle.cck_cache_base.specs.Text.{AreBases}
 use Rattle.cck_cache_base.specs.declared.base.Words.{Words}
 use Rattle.cck_cache_command.proofs.InputLemmas.{calm_kept, calm_stays, without_fault}
 use Rattle.cck_cache_command.specs.Input.{IsCalm, IsInput, NoFault}
-use Rattle.cck_cache_command.specs.Record.{AreGathered, HasPathTests, IsAsked, IsLocalTime, IsOneDay, IsOutcome, IsOutcomeOver, ObjectShowsBase, ReadsAlone}
+use Rattle.cck_cache_command.specs.Record.{AreFilesOf, AreGathered, HasPathTests, HasAskedTests, IsAsked, IsLocalTime, IsOneDay, IsOutcome, IsOutcomeOver, ObjectShowsBase, ReadsAlone}
 use Rattle.cck_cache_command.specs.Request.{IsRequest, request_words}
 use Rattle.cck_cache_command.specs.declared.environment.Environment.{Environment}
 use Rattle.cck_cache_command.specs.declared.record.Gathered.{Gathered}
@@ -35,12 +35,11 @@ use Rattle.jiff.specs.Words.{epoch_day}
 use Rattle.sha2.specs.Sha256.{sha256}
 
 -- a snapshot grew by the files of a text
-abbrev pub GrewBy : Bytes → Bytes → Bool → FileState → FileState → Type 0
-GrewBy text cwd test before after = (marks : List Mark) → Marks true text marks → SnapshotGrows (IsNamedFile marks cwd test) before after
+abbrev pub GrewBy : Bytes → Bytes → FileState → FileState → Type 0
+GrewBy text cwd before after = (marks : List Mark) → Marks true text marks → SnapshotGrows (IsNamedFile marks cwd) before after
 
-pub gathered : (request : Request) (since : Moment) (text cwd : Bytes) (tests test : Bool) (before after : FileState) (made : List Test) → IsCalm before → IsInput request before.files tests → GrewBy text cwd test before after → cwd ≡ request.directory.now → test ≡ false
-    → HasPathTests request since text made → AreGathered request since text tests after.files made
-gathered request since text cwd tests test before after made calm is grew same none path_tests =
+pub files_of : (request : Request) (text cwd : Bytes) (before after : FileState) → IsCalm before → IsInput request before.files → GrewBy text cwd before after → cwd ≡ request.directory.now → AreFilesOf request text after.files
+files_of request text cwd before after calm is grew same =
     let list = has_one_list true text in
     let grown = grew list.0 list.1 in
     record {
@@ -48,15 +47,20 @@ gathered request since text cwd tests test before after made calm is grew same n
       is_input = is;
       marks = list.0;
       are_marks = list.1;
-      put = subst (λ (d : Bytes). ArePut (IsNamedFile list.0 d false) before.files after.files) same (subst (λ (b : Bool). ArePut (IsNamedFile list.0 cwd b) before.files after.files) none grown.put);
+      put = subst (λ (d : Bytes). ArePut (IsNamedFile list.0 d) before.files after.files) same grown.put;
       kept = grown.kept calm.quiet;
-      path_tests = path_tests;
     }
 
-pub calm_grown : (text cwd : Bytes) (test : Bool) (before after : FileState) → GrewBy text cwd test before after → IsCalm before → IsCalm after
-calm_grown text cwd test before after grew =
+pub calm_grown : (text cwd : Bytes) (before after : FileState) → GrewBy text cwd before after → IsCalm before → IsCalm after
+calm_grown text cwd before after grew =
     let list = has_one_list true text in
     calm_stays before after (grew list.0 list.1).calm
+
+-- what was gathered over files that a call kept
+pub gathered_over : (request : Request) (since : Moment) (text : Bytes) (files new : FileMap) (made asked : List Test) → new ≡ files → AreFilesOf request text files → HasPathTests request since text made → HasAskedTests request since text files asked
+    → AreGathered request since text new made asked
+gathered_over request since text files new made asked same are path_tests tested =
+    subst (λ (m : FileMap). AreGathered request since text m made asked) (sym same) (record { are_files = are; path_tests = path_tests; tested = tested })
 
 -- a base directory is shown by an object file, so there is one
 pub some_shows : (bases : List Bytes) (o : Option ObjectFile) → ObjectShowsBase bases o → (object : ObjectFile) × ObjectShowsBase bases (Some object)
@@ -90,7 +94,7 @@ recorded_over asked text before mid after recording put calm first second is rec
 
 -- an outcome over the files that were gathered is the outcome
 pub outcome_all : (environment : Environment) (request : Request) (compilation : Compilation) (text : Bytes) (gathered : Gathered) (outcome : Outcome) → ReadsAlone request text compilation.made
-    → AreGathered request compilation.since text gathered.tests_headers gathered.files.files (tests_of gathered.tests.items) → IsOutcomeOver environment request compilation text gathered outcome → IsOutcome environment request compilation text outcome
-outcome_all environment request compilation text gathered (Recorded name) alone are is = (alone, (gathered.tests_headers, gathered.files.files, tests_of gathered.tests.items, are, is))
+    → AreGathered request compilation.since text gathered.files.files (tests_of gathered.tests.items) (tests_of gathered.asked_tests.items) → IsOutcomeOver environment request compilation text gathered outcome → IsOutcome environment request compilation text outcome
+outcome_all environment request compilation text gathered (Recorded name) alone are is = (alone, (gathered.files.files, tests_of gathered.tests.items, tests_of gathered.asked_tests.items, are, is))
 outcome_all environment request compilation text gathered (Refused refusal) alone are is =
-    inr (inr (gathered.tests_headers, gathered.is_doubtful, gathered.files.files, tests_of gathered.tests.items, are, is))
+    inr (inr (gathered.is_doubtful, gathered.files.files, tests_of gathered.tests.items, tests_of gathered.asked_tests.items, are, is))

@@ -16,7 +16,7 @@ use Rattle.cck_cache_files.specs.declared.path_states.PathState.{PathState}
 use Rattle.cck_cache_files.specs.declared.path_states.PathState.TheVariants as state
 use Rattle.cck_cache_files.specs.declared.path_states.PathStates.{PathStates}
 use Rattle.cck_cache_rules.specs.declared.refusal.Refusal.{Refusal}
-use Rattle.cck_cache_rules.specs.declared.refusal.Refusal.TheVariants.{NoKey, InputChanged, DayChanged, NoSearchList, UnknownHeader, HeaderTest, AssemblerInclude, OtherFile, EarlierPath, NamedFile, BaseDirectory}
+use Rattle.cck_cache_rules.specs.declared.refusal.Refusal.TheVariants.{NoKey, InputChanged, DayChanged, NoSearchList, UnknownHeader, HeaderTest, DependencyPragma, AssemblerInclude, OtherFile, EarlierPath, NamedFile, BaseDirectory}
 use Rattle.cck_markers.specs.Marks.{Mark, Marks}
 use Rattle.cck_path.specs.Bytes.{Bytes}
 use Rattle.cck_path.specs.Text.{join_path}
@@ -107,6 +107,7 @@ IsRefusedByPath states directory text printed NoKey = ⊥
 IsRefusedByPath states directory text printed InputChanged = ⊥
 IsRefusedByPath states directory text printed DayChanged = ⊥
 IsRefusedByPath states directory text printed HeaderTest = ⊥
+IsRefusedByPath states directory text printed DependencyPragma = ⊥
 IsRefusedByPath states directory text printed AssemblerInclude = ⊥
 IsRefusedByPath states directory text printed OtherFile = ⊥
 IsRefusedByPath states directory text printed NamedFile = ⊥

@@ -1,5 +1,5 @@
 -- the input of a request, in a snapshot
-use Rattle.std.specs.Prelude.{◌≡◌, Bool}
+use Rattle.std.specs.Prelude.{◌≡◌}
 use Rattle.cck_cache_files.specs.Snapshot.{IsNodePut}
 use Rattle.cck_cache_words.specs.declared.request.Request.{Request}
 use Rattle.cck_files.specs.Calls.{Rose}
@@ -12,9 +12,9 @@ use Rattle.cck_path.specs.Text.{join_path}
 abbrev pub request_input_path : Request → Bytes
 request_input_path request = join_path request.directory.now request.input.now
 
--- the input alone, if it can be read, and whether it tests for headers
-abbrev pub IsInput : Request → FileMap → Bool → Type 0
-IsInput request files tests = IsNodePut no_files (request_input_path request) files tests
+-- the input alone, if it can be read
+abbrev pub IsInput : Request → FileMap → Type 0
+IsInput request files = IsNodePut no_files (request_input_path request) files
 
 -- a snapshot met no fault so far, and meets none
 pub record IsCalm (s : FileState) : Type 0 where

@@ -1,15 +1,15 @@
 -- what a call of a compiler asks for, or why it is not cached, by its arguments
-use Rattle.std.specs.Prelude.{◌≡◌, ◌⊎◌, List, codes}
+use Rattle.std.specs.Prelude.{◌≡◌, List, codes}
 use Rattle.std.specs.List.{Any}
 use Rattle.cck_cache_command.specs.Call.{ArePaths, HasNoPaths}
 use Rattle.cck_cache_command.specs.declared.judge.Judged.{Judged}
 use Rattle.cck_cache_command.specs.declared.judge.Judged.TheVariants.{Asks, PassedOn}
 use Rattle.cck_cache_command.specs.declared.judge.Passed.{Passed}
 use Rattle.cck_cache_command.specs.declared.judge.Passed.TheVariants.{Arguments, HeaderTest, Path, Output}
+use Rattle.cck_cache_entry.specs.HeaderTests.{MayAskForFile}
 use Rattle.cck_cache_options.specs.Call.{Asked, asks, call_of, parse, passed}
 use Rattle.cck_cache_options.specs.Reason.{reason_name}
 use Rattle.cck_cache_options.specs.Table.{Entry}
-use Rattle.cck_digest.specs.TimeMacros.{Has}
 use Rattle.cck_path.specs.Bytes.{Bytes}
 
 -- the name under which a call that is passed on is counted
@@ -19,18 +19,15 @@ passed_name HeaderTest = codes "header-test"
 passed_name Path = codes "path"
 passed_name Output = codes "output"
 
--- an argument tests for the existence of a header
-abbrev pub TestsForHeader : Bytes → Type 0
-TestsForHeader argument = Has argument (codes "__has_include") ⊎ Has argument (codes "__has_embed")
+-- an argument may make a source depend on a file that it does not include
+abbrev pub AskForFile : List Bytes → Type 0
+AskForFile arguments = Any MayAskForFile arguments
 
-abbrev pub TestForHeader : List Bytes → Type 0
-TestForHeader arguments = Any TestsForHeader arguments
-
--- A call is cached if its arguments ask for something, by the table, none tests for a header, and its paths are texts. Else it is passed on, and the
+-- A call is cached if its arguments ask for something, by the table, none may make a source depend on another file, and its paths are texts. Else it is passed on, and the
 -- reason is the first of these that does not hold. What is at the paths is no matter here.
 abbrev pub IsJudged : List Entry → List Bytes → Judged → Type 0
-IsJudged table arguments (Asks call paths) = (parse table arguments ≡ asks (call_of call)) × ¬ (TestForHeader arguments) × ArePaths (call_of call) paths
+IsJudged table arguments (Asks call paths) = (parse table arguments ≡ asks (call_of call)) × ¬ (AskForFile arguments) × ArePaths (call_of call) paths
 IsJudged table arguments (PassedOn (Arguments reason)) = parse table arguments ≡ passed reason
-IsJudged table arguments (PassedOn HeaderTest) = (call : Asked) × (parse table arguments ≡ asks call) × TestForHeader arguments
-IsJudged table arguments (PassedOn Path) = (call : Asked) × (parse table arguments ≡ asks call) × ¬ (TestForHeader arguments) × HasNoPaths call
+IsJudged table arguments (PassedOn HeaderTest) = (call : Asked) × (parse table arguments ≡ asks call) × AskForFile arguments
+IsJudged table arguments (PassedOn Path) = (call : Asked) × (parse table arguments ≡ asks call) × ¬ (AskForFile arguments) × HasNoPaths call
 IsJudged table arguments (PassedOn Output) = ⊥

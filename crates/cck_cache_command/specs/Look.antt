@@ -27,8 +27,8 @@ use Rattle.cck_time.specs.declared.error.Error.TheVariants.{Deserialization, Unk
 use Rattle.sha2.specs.Sha256.{sha256}
 
 -- one of these files
-abbrev pub IsIncludeOf : List Include → Bytes → Bool → Type 0
-IsIncludeOf includes path tests = (include : Include) × Contains includes include × (include.path ≡ path)
+abbrev pub IsIncludeOf : List Include → Bytes → Type 0
+IsIncludeOf includes path = (include : Include) × Contains includes include × (include.path ≡ path)
 
 -- the entry that these bytes are read as, if they are: else their first byte is another format, or they are the text of none
 abbrev pub IsEntryRead : Bytes → Option Entry → Type 0
@@ -36,12 +36,12 @@ IsEntryRead bytes (Some entry) = Reads (Ok entry) bytes
 IsEntryRead bytes None = ((format : ℕ) × Reads (Err (UnknownFormat format)) bytes) ⊎ Reads (Err Deserialization) bytes
 
 -- a file that a result of the entry of these bytes included
-pub record IsIncluded (bytes : Bytes) (path : Bytes) (tests : Bool) : Type 0 where
+pub record IsIncluded (bytes : Bytes) (path : Bytes) : Type 0 where
   pub entry : Entry
   pub is_entry : Reads (Ok entry) bytes
   pub found : KeyResult
   pub among : Contains (entries entry) found
-  pub one_of : IsIncludeOf (found.1) path tests
+  pub one_of : IsIncludeOf (found.1) path
 
 -- The look-up of this key in an entry of these bytes, over files that have grown by those that the entry names, returned this key of an object.
 pub record IsMatch (asked : SnapshotRequest) (input : FileMap) (key bytes : Bytes) (object : String Global) : Type 0 where

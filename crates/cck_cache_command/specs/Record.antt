@@ -1,11 +1,12 @@
 -- what a recording records
-use Rattle.std.specs.Prelude.{◌≡◌, ◌⊎◌, ℤ, pos, ◌*ℤ◌, ◌+ℤ◌, List, Bool, true, false, Option, Some, None, String, string_bytes}
+use Rattle.std.specs.Prelude.{◌≡◌, ◌⊎◌, ℤ, pos, ◌*ℤ◌, ◌+ℤ◌, List, ◌++◌, map, Bool, true, false, Option, Some, None, String, string_bytes}
 use Rattle.std.specs.declared.alloc.Global.{Global}
 use Rattle.cck_cache_base.specs.Shown.{ShowsBase}
 use Rattle.cck_cache_base.specs.Text.{AreBases}
 use Rattle.cck_cache_command.specs.Absence.{AreTestsOf, IsRefusedByPath}
 use Rattle.cck_cache_command.specs.Input.{IsCalm, IsInput, NoFault}
 use Rattle.cck_cache_command.specs.Naming.{IsName}
+use Rattle.cck_cache_command.specs.Tested.{AreAskedTests, IsRefusedBySource}
 use Rattle.cck_cache_command.specs.Request.{IsRequest, key_over, request_words}
 use Rattle.cck_cache_command.specs.declared.environment.Environment.{Environment}
 use Rattle.cck_cache_command.specs.declared.record.Gathered.{Gathered}
@@ -18,10 +19,10 @@ use Rattle.cck_cache_entry.specs.PathTest.{Test, tests_of}
 use Rattle.cck_cache_entry.specs.ReadFiles.{IsAssembledRule, IsOpenedRule}
 use Rattle.cck_cache_entry.specs.declared.object_file.ObjectFile.{ObjectFile}
 use Rattle.cck_cache_files.specs.declared.path_states.PathStates.{PathStates}
-use Rattle.cck_cache_files.specs.Snapshot.{ArePut, HasNamedTest, IsNamedFile, IsPart}
+use Rattle.cck_cache_files.specs.Snapshot.{ArePut, IsNamedFile, IsPart}
 use Rattle.cck_cache_rules.specs.Refusal.{IsRefusal}
 use Rattle.cck_cache_rules.specs.declared.refusal.Refusal.{Refusal}
-use Rattle.cck_cache_rules.specs.declared.refusal.Refusal.TheVariants.{HeaderTest, AssemblerInclude, OtherFile, NamedFile, BaseDirectory}
+use Rattle.cck_cache_rules.specs.declared.refusal.Refusal.TheVariants.{AssemblerInclude, OtherFile, NamedFile, BaseDirectory}
 use Rattle.cck_cache_words.specs.declared.request.Request.{Request}
 use Rattle.cck_cache_words.specs.declared.task.Compilation.{Compilation}
 use Rattle.cck_cache_words.specs.declared.task.Made.{Made}
@@ -62,16 +63,27 @@ pub record HasPathTests (request : Request) (since : Moment) (text : Bytes) (mad
   pub printed : Bytes
   pub tests_are : AreTestsOf states request.directory.now text printed made
 
--- Files that were gathered for a text: the input, and files at the paths of the names of the text, none of which replaced another. Those that test
--- for headers are of system headers, but for the input. No path at which a header would have been found earlier is in doubt.
-pub record AreGathered (request : Request) (since : Moment) (text : Bytes) (tests : Bool) (files : FileMap) (made : List Test) : Type 0 where
+-- files of a text: the input, and files at the paths of the names of the text, none of which replaced another
+pub record AreFilesOf (request : Request) (text : Bytes) (files : FileMap) : Type 0 where
   pub input : FileMap
-  pub is_input : IsInput request input tests
+  pub is_input : IsInput request input
   pub marks : List Mark
   pub are_marks : Marks true text marks
-  pub put : ArePut (IsNamedFile marks request.directory.now false) input files
+  pub put : ArePut (IsNamedFile marks request.directory.now) input files
   pub kept : IsPart input files
+
+-- these tests are of the paths at which the sources of the text look for headers, in the same way
+pub record HasAskedTests (request : Request) (since : Moment) (text : Bytes) (files : FileMap) (tests : List Test) : Type 0 where
+  pub states : PathStates
+  pub since_is : states.since ≡ since
+  pub printed : Bytes
+  pub tests_are : AreAskedTests states files request.directory.now text printed tests
+
+-- Files that were gathered for a text. No path at which a header would have been found earlier, or at which a source looks for one, is in doubt.
+pub record AreGathered (request : Request) (since : Moment) (text : Bytes) (files : FileMap) (made asked : List Test) : Type 0 where
+  pub are_files : AreFilesOf request text files
   pub path_tests : HasPathTests request since text made
+  pub tested : HasAskedTests request since text files asked
 
 -- a path keeps a compilation from being recorded
 pub record HasPathRefusal (request : Request) (since : Moment) (text : Bytes) (refusal : Refusal) : Type 0 where
@@ -80,20 +92,22 @@ pub record HasPathRefusal (request : Request) (since : Moment) (text : Bytes) (r
   pub printed : Bytes
   pub refused : IsRefusedByPath states request.directory.now text printed refusal
 
--- files of a text, in which the contents at the path of a name that is not one of a system header test for headers
-pub record HasTest (request : Request) (text : Bytes) : Type 0 where
+-- what a source asks for keeps a compilation from being recorded, by files that were gathered for the text
+pub record HasSourceRefusal (request : Request) (since : Moment) (text : Bytes) (refusal : Refusal) : Type 0 where
   pub files : FileMap
-  pub marks : List Mark
-  pub are_marks : Marks true text marks
-  pub named : HasNamedTest marks request.directory.now files
+  pub are_files : AreFilesOf request text files
+  pub states : PathStates
+  pub since_is : states.since ≡ since
+  pub printed : Bytes
+  pub refused : IsRefusedBySource states files request.directory.now text printed refusal
 
--- why a compilation is not recorded by its text: a file that it names tests for headers; or a path
+-- why a compilation is not recorded by its text: what a source asks for, or a path
 abbrev pub IsRefusedByText : Request → Moment → Bytes → Refusal → Type 0
-IsRefusedByText request since text refusal = ((refusal ≡ HeaderTest) × HasTest request text) ⊎ HasPathRefusal request since text refusal
+IsRefusedByText request since text refusal = HasSourceRefusal request since text refusal ⊎ HasPathRefusal request since text refusal
 
 abbrev pub IsSeen : Request → Moment → Bytes → Seen → Type 0
 IsSeen request since text (Files gathered) =
-    AreGathered request since text gathered.tests_headers gathered.files.files (tests_of gathered.tests.items) × IsCalm gathered.files
+    AreGathered request since text gathered.files.files (tests_of gathered.tests.items) (tests_of gathered.asked_tests.items) × IsCalm gathered.files
 IsSeen request since text (NotSeen refusal) = IsRefusedByText request since text refusal
 
 -- this does not hold of a dependency file, if there is one
@@ -122,9 +136,9 @@ IsJudgedByReading request text made None = ReadsAlone request text made
 IsJudgedByReading request text made (Some refusal) = IsRefusedByReading request text refusal
 
 -- why a compilation is not recorded by its input and its time, if it is not
-abbrev pub IsJudgedByInput : Environment → SnapshotRequest → FileMap → Bool → Bytes → Option Refusal → Type 0
-IsJudgedByInput environment asked files tests key refusal =
-    (one_day : Bool) × IsOneDay (plain_zone asked.zone.now) asked.moment.seconds environment.now.seconds one_day × IsRefusal (key_over asked files) key one_day tests refusal
+abbrev pub IsJudgedByInput : Environment → SnapshotRequest → FileMap → Bytes → Option Refusal → Type 0
+IsJudgedByInput environment asked files key refusal =
+    (one_day : Bool) × IsOneDay (plain_zone asked.zone.now) asked.moment.seconds environment.now.seconds one_day × IsRefusal (key_over asked files) key one_day refusal
 
 -- one of the base directories is in a part of the object file, if there is one
 abbrev pub ObjectShowsBase : List Bytes → Option ObjectFile → Type 0
@@ -147,20 +161,20 @@ pub record IsAsked (environment : Environment) (request : Request) (compilation 
 
 -- The recording over these files has an entry, and neither the input nor the time keeps it from being recorded. The name is that of the object of the
 -- recording's key, by this entry.
-pub record IsRecordedOver (environment : Environment) (request : Request) (compilation : Compilation) (text : Bytes) (tests : Bool) (files : FileMap) (name : String Global) : Type 0 where
+pub record IsRecordedOver (environment : Environment) (request : Request) (compilation : Compilation) (text : Bytes) (files : FileMap) (name : String Global) : Type 0 where
   pub asked : SnapshotRequest
   pub is_asked : IsAsked environment request compilation text asked
-  pub judged : IsJudgedByInput environment asked files tests compilation.key.now None
+  pub judged : IsJudgedByInput environment asked files compilation.key.now None
   pub key : String Global
   pub entry : RecordedEntry
   pub recorded : IsRecording sha256 files asked NoFault text (record { key = key; put = Some entry })
   pub is_name : IsName request files entry.bytes.items (string_bytes key) (string_bytes name)
 
 -- the input or the time keeps it from being recorded
-pub record IsRefusedByInput (environment : Environment) (request : Request) (compilation : Compilation) (text : Bytes) (tests : Bool) (files : FileMap) (refusal : Refusal) : Type 0 where
+pub record IsRefusedByInput (environment : Environment) (request : Request) (compilation : Compilation) (text : Bytes) (files : FileMap) (refusal : Refusal) : Type 0 where
   pub asked : SnapshotRequest
   pub is_asked : IsAsked environment request compilation text asked
-  pub judged : IsJudgedByInput environment asked files tests compilation.key.now (Some refusal)
+  pub judged : IsJudgedByInput environment asked files compilation.key.now (Some refusal)
 
 -- the recording has no entry
 pub record RecordsNoEntry (environment : Environment) (request : Request) (compilation : Compilation) (text : Bytes) (files : FileMap) : Type 0 where
@@ -174,24 +188,24 @@ abbrev pub ShowsBaseOf : Request → Bytes → Refusal → Type 0
 ShowsBaseOf request text refusal = (bases : List Bytes) × AreBases (request_words request) text bases × IsRefusedByBase bases refusal
 
 -- why a compilation is not recorded over files: its input or its time; or a name in doubt, or a text that has no entry; or a base directory
-abbrev pub IsRefusedOver : Environment → Request → Compilation → Bytes → Bool → Bool → FileMap → Refusal → Type 0
-IsRefusedOver environment request compilation text tests doubtful files refusal =
-    IsRefusedByInput environment request compilation text tests files refusal
+abbrev pub IsRefusedOver : Environment → Request → Compilation → Bytes → Bool → FileMap → Refusal → Type 0
+IsRefusedOver environment request compilation text doubtful files refusal =
+    IsRefusedByInput environment request compilation text files refusal
     ⊎ (((refusal ≡ NamedFile) × ((doubtful ≡ true) ⊎ RecordsNoEntry environment request compilation text files)) ⊎ ShowsBaseOf request text refusal)
 
 abbrev pub IsOutcomeOver : Environment → Request → Compilation → Bytes → Gathered → Outcome → Type 0
 IsOutcomeOver environment request compilation text gathered (Recorded name) =
-    IsRecordedOver environment request compilation text gathered.tests_headers gathered.files.files name
+    IsRecordedOver environment request compilation text gathered.files.files name
 IsOutcomeOver environment request compilation text gathered (Refused refusal) =
-    IsRefusedOver environment request compilation text gathered.tests_headers gathered.is_doubtful gathered.files.files refusal
+    IsRefusedOver environment request compilation text gathered.is_doubtful gathered.files.files refusal
 
 -- The outcome of a recording. What is recorded is recorded over files that were gathered for the text.
 abbrev pub IsOutcome : Environment → Request → Compilation → Bytes → Outcome → Type 0
 IsOutcome environment request compilation text (Recorded name) =
     ReadsAlone request text compilation.made
-    × ((tests : Bool) × (files : FileMap) × (made : List Test) × AreGathered request compilation.since text tests files made × IsRecordedOver environment request compilation text tests files name)
+    × ((files : FileMap) × (made asked : List Test) × AreGathered request compilation.since text files made asked × IsRecordedOver environment request compilation text files name)
 IsOutcome environment request compilation text (Refused refusal) =
     IsRefusedByReading request text refusal
     ⊎ (IsRefusedByText request compilation.since text refusal
-    ⊎ ((tests doubtful : Bool) × (files : FileMap) × (made : List Test) × AreGathered request compilation.since text tests files made
-    × IsRefusedOver environment request compilation text tests doubtful files refusal))
+    ⊎ ((doubtful : Bool) × (files : FileMap) × (made asked : List Test) × AreGathered request compilation.since text files made asked
+    × IsRefusedOver environment request compilation text doubtful files refusal))

@@ -75,8 +75,7 @@ key_over asked files = preprocessor_key_of (world_for sha256 no_text asked) (cal
 -- this is the preprocessor key over a snapshot that has the input alone, if it has one
 pub record HasPreprocessorKey (environment : Environment) (request : Request) (key : Option Bytes) : Type 0 where
   pub input : FileMap
-  pub tests : Bool
-  pub is_input : IsInput request input tests
+  pub is_input : IsInput request input
   pub asked : SnapshotRequest
   pub is_request : IsRequest environment request environment.now [] asked
   pub is_key : key_over asked input ≡ key

@@ -27,13 +27,13 @@ pub enum Absence {
     Refused(Refusal),
 }
 
-// What is to be recorded of one path.
-enum PathVerdict<'a> {
-    // There is nothing at this path, which leads to the one that was asked for.
+/// What is to be recorded of one path.
+pub enum PathVerdict<'a> {
+    /// There is nothing at this path, which leads to the one that was asked for.
     Absent(&'a [u8]),
-    // A file is there, and was before the compilation.
+    /// A file is there, and was before the compilation.
     Present,
-    // It is not known what the compiler found there.
+    /// It is not known what the compiler found there.
     Doubtful,
 }
 
@@ -52,8 +52,8 @@ fn file_verdict<'a>(path: &'a [u8], front: &[u8]) -> PathVerdict<'a>
     }
 }
 
-// The verdict on an absolute path.
-fn path_verdict<'a, R: Files + AllocGlobal>(
+/// The verdict on an absolute path.
+pub fn path_verdict<'a, R: Files + AllocGlobal>(
     rt: &R,
     states: &mut PathStates,
     path: &'a [u8],

@@ -1,11 +1,11 @@
 //! What a call of a compiler asks for, or why it is not cached, by its arguments.
 ghost use Rattle.std.specs.Prelude.{◌≡◌, ◌↔◌, IfOk, IsTrue};
-ghost use Rattle.cck_cache_command.specs.Judge.{IsJudged, TestForHeader, passed_name};
+ghost use Rattle.cck_cache_command.specs.Judge.{IsJudged, AskForFile, passed_name};
 ghost use Rattle.cck_cache_options.specs.Table.{entries};
 ghost use Rattle.cck_path.specs.Bytes.{lists_of};
 
 use crate::call::{CallPaths, paths_of};
-use cck_cache_entry::has_include_test;
+use cck_cache_entry::may_ask_for_file;
 use cck_cache_options::{Call, Parsed, Reason, Row, parse};
 use std::alloc::{AllocError, Global};
 
@@ -14,7 +14,7 @@ use std::alloc::{AllocError, Global};
 pub enum Passed {
     /// What its arguments say is not cached.
     Arguments(Reason),
-    /// An argument tests for the existence of a header.
+    /// An argument may make a source test for a header, or compare the times of files.
     HeaderTest,
     /// A path is not UTF-8.
     Path,
@@ -45,11 +45,11 @@ pub enum Judged<'a> {
     PassedOn(Passed),
 }
 
-// Whether an argument tests for the existence of a header.
-fn test_for_header(arguments: &[Vec<u8>]) -> bool
-    ensures { IsTrue result ↔ TestForHeader (lists_of arguments.now) }
+// Whether an argument may make a source depend on a file that it does not include.
+fn ask_for_file(arguments: &[Vec<u8>]) -> bool
+    ensures { IsTrue result ↔ AskForFile (lists_of arguments.now) }
 {
-    arguments.iter().any(|argument| has_include_test(argument))
+    arguments.iter().any(|argument| may_ask_for_file(argument))
 }
 
 /// Judges a call by its arguments and the rows of a table: what it asks for, or why it is not cached.
@@ -66,7 +66,7 @@ pub fn judge<'a>(
         Parsed::Asks(asked) => asked,
         Parsed::PassedOn(reason) => return Ok(Judged::PassedOn(Passed::Arguments(reason))),
     };
-    if test_for_header(arguments) {
+    if ask_for_file(arguments) {
         return Ok(Judged::PassedOn(Passed::HeaderTest));
     }
     match paths_of(alloc, &asked)? {

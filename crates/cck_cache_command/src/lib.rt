@@ -20,6 +20,7 @@ mod record;
 mod request;
 mod searched;
 mod stats;
+mod tested;
 mod unpack;
 mod why;
 

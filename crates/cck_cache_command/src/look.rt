@@ -274,7 +274,7 @@ pub fn look<R: Files + AllocGlobal>(
 {
     let request = &wanted.request;
     let hasher = hasher_of(rt, environment, request)?;
-    let mut files = input_snapshot(rt, request)?.files;
+    let mut files = input_snapshot(rt, request)?;
     let asked = snapshot_request(
         environment,
         &hasher,

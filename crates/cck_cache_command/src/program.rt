@@ -58,7 +58,7 @@ fn run_key<R: Files + AllocGlobal, W: Write>(
     wanted: &Wanted<'_>,
     writer: &mut W,
 ) -> Result<u8> {
-    let mut files = input_snapshot(rt, &wanted.request)?.files;
+    let mut files = input_snapshot(rt, &wanted.request)?;
     match request_key(rt, environment, &wanted.request, &mut files)? {
         Some(key) => {
             writeln!(writer, "{key}")?;

@@ -1,5 +1,5 @@
 //! Records a compilation in the store.
-ghost use Rattle.std.specs.Prelude.{◌≡◌, ◌↔◌, IfOk, IfSome, IsTrue, MatchOption, OnOk, Some};
+ghost use Rattle.std.specs.Prelude.{◌≡◌, ◌++◌, ◌↔◌, IfOk, IfSome, IsTrue, MatchOption, OnOk, Some};
 ghost use Rattle.std.specs.Option.{option_map};
 ghost use Rattle.cck_cache_command.specs.Input.{IsCalm};
 ghost use Rattle.cck_cache_command.specs.Record.{HasNoLocalTime, IsJudgedByInput, IsJudgedByReading, IsLocalTime, IsOneDay, IsOutcome, IsOutcomeOver, IsRefusedByBase, IsSeen, IsTold, ObjectShowsBase, recorded_fields};
@@ -13,9 +13,10 @@ ghost use Rattle.jiff.specs.Words.{plain_zone};
 
 use crate::absence::{Absence, absence_of};
 use crate::environment::Environment;
-use crate::input::{InputSnapshot, input_snapshot};
+use crate::input::input_snapshot;
 use crate::naming::name_in;
 use crate::request::{base_words, hasher_of, snapshot_request};
+use crate::tested::{Tested, tested_by};
 use anyhow::Result;
 use cck_cache_base::{bases_of, shows_base};
 use cck_cache_entry::{EntryFile, ObjectFile, PathTest, assembles_alone, opens_named_alone};
@@ -28,6 +29,7 @@ use cck_snapshot::{RecordedEntry, Recording, SnapshotRequest, preprocessor_key, 
 use cck_util::Sha256State;
 use jiff::civil::DateTime;
 use jiff::tz::TimeZone;
+use std::alloc::AllocError;
 use std::io::ErrorKind;
 use std::rt::Files;
 use std::{fs, io};
@@ -69,12 +71,12 @@ fn is_one_day(zone: &TimeZone<'_>, a: Timestamp, b: Timestamp) -> bool
 struct Gathered {
     // The input and the files that the text names.
     files: MapFiles,
-    // Whether the input may test for the existence of a header.
-    tests_headers: bool,
     // Whether a name that was left out has the path of one of the files.
     is_doubtful: bool,
     // The tests of paths that must hold.
     tests: Vec<PathTest>,
+    // The tests of the paths at which the sources look for headers.
+    asked_tests: Vec<PathTest>,
 }
 
 // What a recording looks at.
@@ -95,10 +97,7 @@ fn see<R: Files + AllocGlobal>(
 ) -> Result<Seen>
     ensures { IfOk result (IsSeen request.now compilation.now.since text.now) }
 {
-    let InputSnapshot {
-        mut files,
-        tests_headers,
-    } = input_snapshot(rt, request)?;
+    let mut files = input_snapshot(rt, request)?;
     let directory = request.directory;
     let mut states = PathStates::new(rt, compilation.since);
     let printed = fs::read(rt, compilation.search)?;
@@ -106,16 +105,18 @@ fn see<R: Files + AllocGlobal>(
         Absence::Refused(refusal) => return Ok(Seen::Refused(refusal)),
         Absence::Tests(tests) => tests,
     };
-    let named = add_named_files(rt, &mut files, &mut states, directory.as_bytes(), text)?;
-    if named.tests_headers {
-        return Ok(Seen::Refused(Refusal::HeaderTest));
+    let is_doubtful = add_named_files(rt, &mut files, &mut states, directory.as_bytes(), text)?;
+    let mut asked = PathStates::new(rt, compilation.since);
+    let tested = tested_by(rt, &mut files, &mut asked, directory, text, &printed)?;
+    match tested {
+        Tested::Refused(cause) => Ok(Seen::Refused(cause)),
+        Tested::Tests(asked_tests) => Ok(Seen::Files(Gathered {
+            files,
+            is_doubtful,
+            tests,
+            asked_tests,
+        })),
     }
-    Ok(Seen::Files(Gathered {
-        files,
-        tests_headers,
-        is_doubtful: named.is_doubtful,
-        tests,
-    }))
 }
 
 // The contents of the file at this path, and nothing where no path is given or no file is there.
@@ -183,22 +184,15 @@ fn refusal_by_reading<R: Files + AllocGlobal>(
 
 // What is known of a compilation by its input and its time alone. The borrow checker takes a field that
 // holds a reference only at the lifetime of the struct.
-fn known_of<'a>(
-    found: Option<&'a str>,
-    key: &'a str,
-    is_one_day: bool,
-    tests_headers: bool,
-) -> Known<'a>
+fn known_of<'a>(found: Option<&'a str>, key: &'a str, is_one_day: bool) -> Known<'a>
     ensures found { option_map (λ k. k.now) result.found ≡ option_map (λ k. k.now) found.entry }
     ensures key { result.key.now ≡ key.now }
     ensures is_one_day { result.is_one_day ≡ is_one_day }
-    ensures tests_headers { result.tests_headers ≡ tests_headers }
 {
     Known {
         found,
         key,
         is_one_day,
-        tests_headers,
     }
 }
 
@@ -208,18 +202,17 @@ fn refusal_by_input<R: AllocGlobal>(
     environment: &Environment<'_>,
     asked: &SnapshotRequest<'_>,
     files: &mut MapFiles,
-    tests_headers: bool,
     key: &str,
 ) -> Result<Option<Refusal>>
     ensures judged { IfOk result
-        (IsJudgedByInput environment.entry.now asked.now files.old.files tests_headers key.now) }
+        (IsJudgedByInput environment.entry.now asked.now files.old.files key.now) }
     ensures keeps { OnOk result
         (Keeps (λ files. files.files) fault_count IsQuiet files.old files.new) }
 {
     let found = preprocessor_key::<Sha256State, MapFiles>(rt.alloc(), files, asked)?;
     let is_one_day = is_one_day(asked.zone, asked.moment, environment.now);
     let found = found.as_deref();
-    Ok(refusal_of(&known_of(found, key, is_one_day, tests_headers)))
+    Ok(refusal_of(&known_of(found, key, is_one_day)))
 }
 
 // Writes a file of the store, to this path, if one is given, in place of the store's.
@@ -340,6 +333,17 @@ fn keep<R: Files + AllocGlobal>(
     Ok(None)
 }
 
+// These tests, and after them the others.
+fn all_tests(tests: Vec<PathTest>, others: Vec<PathTest>) -> Result<Vec<PathTest>, AllocError>
+    ensures { IfOk result (λ all. all.items ≡ tests.items ++ others.items) }
+{
+    let mut all = tests;
+    for test in others {
+        all.push(test)?;
+    }
+    Ok(all)
+}
+
 // The entry file of what was recorded.
 fn entry_file_of(entry: RecordedEntry, tests: Vec<PathTest>) -> EntryFile
     ensures { entry_fields result ≡ recorded_fields entry (tests_of tests.items) }
@@ -366,23 +370,16 @@ fn record_over<R: Files + AllocGlobal>(
 {
     let Gathered {
         mut files,
-        tests_headers,
         is_doubtful,
         tests,
+        asked_tests,
     } = gathered;
     let bases = bases_of(rt.alloc(), &base_words(request), text)?;
     let hasher = hasher_of(rt, environment, request)?;
     let (directory, since) = (request.directory, compilation.since);
     let asked = snapshot_request(environment, &hasher, directory, since, &bases);
     let key = compilation.key;
-    if let Some(refusal) = refusal_by_input(
-        rt,
-        environment,
-        &asked,
-        &mut files,
-        tests_headers,
-        key,
-    )? {
+    if let Some(refusal) = refusal_by_input(rt, environment, &asked, &mut files, key)? {
         return Ok(Outcome::Refused(refusal));
     }
     if is_doubtful {
@@ -394,7 +391,7 @@ fn record_over<R: Files + AllocGlobal>(
         return Ok(Outcome::Refused(Refusal::NamedFile));
     };
     let name = name_in(rt, request, &mut files, object.as_str(), &entry.bytes)?;
-    let file = entry_file_of(entry, tests);
+    let file = entry_file_of(entry, all_tests(tests, asked_tests)?);
     match keep(rt, store, compilation, &bases, name.as_str(), &file)? {
         Some(refusal) => Ok(Outcome::Refused(refusal)),
         None => Ok(Outcome::Recorded(name)),

@@ -157,7 +157,7 @@ pub fn request_key<R: Files + AllocGlobal>(
     request: &Request<'_>,
     files: &mut MapFiles,
 ) -> Result<Option<String>>
-    ensures { IfOk result (λ key. (tests : Bool) → IsInput request.now files.old.files tests
+    ensures { IfOk result (λ key. IsInput request.now files.old.files
         → HasPreprocessorKey environment.entry.now request.now (option_map string_bytes key)) }
 {
     let hasher = hasher_of(rt, environment, request)?;

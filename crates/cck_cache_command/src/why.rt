@@ -22,6 +22,17 @@ fn print_path<W: Write>(writer: &mut W, word: &[u8], path: &[u8]) -> Result<()> 
     Ok(())
 }
 
+// Prints a line for a test that fails.
+fn print_test<W: Write>(writer: &mut W, test: &PathTest) -> Result<()> {
+    match test {
+        PathTest::Absent(path) => print_path(writer, b"present ", path),
+        PathTest::File(path) => print_path(writer, b"absent ", path),
+        PathTest::Directory(path) | PathTest::Searched { path, place: _ } => {
+            print_path(writer, b"changed ", path)
+        }
+    }
+}
+
 // Prints the path of each included file that does not match.
 fn print_changed<R: AllocGlobal, W: Write>(
     rt: &R,
@@ -121,7 +132,7 @@ pub fn print_why<R: Files + AllocGlobal, W: Write>(
     request: &Request<'_>,
     writer: &mut W,
 ) -> Result<bool> {
-    let mut files = input_snapshot(rt, request)?.files;
+    let mut files = input_snapshot(rt, request)?;
     let Some(key) = request_key(rt, environment, request, &mut files)? else {
         writeln!(writer, "{NO_KEY}")?;
         return Ok(false);

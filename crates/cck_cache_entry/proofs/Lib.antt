@@ -1,5 +1,6 @@
 pub mod AbsentLemmas
 pub mod EqualityLemmas
+pub mod HeaderTestLemmas
 pub mod LeftLemmas
 pub mod NameLemmas
 pub mod ReadLemmas
@@ -9,3 +10,4 @@ pub mod SearchLemmas
 pub mod SetLemmas
 pub mod StoredLemmas
 pub mod TestLemmas
+pub mod TestedLemmas

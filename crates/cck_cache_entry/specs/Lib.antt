@@ -1,6 +1,7 @@
 pub mod Absent
 pub mod Files
 pub mod Frames
+pub mod HeaderTests
 pub mod Left
 pub mod Names
 pub mod PathTest
@@ -9,4 +10,6 @@ pub mod Reading
 pub mod Rule
 pub mod SearchList
 pub mod Sets
+pub mod Splices
 pub mod Stored
+pub mod TestedPaths

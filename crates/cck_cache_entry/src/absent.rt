@@ -29,7 +29,7 @@ fn within<'a>(name: &'a [u8], directory: &[u8]) -> Option<&'a [u8]>
 }
 
 // These three, one after the other.
-fn joined(alloc: Global, a: &[u8], b: &[u8], c: &[u8]) -> Result<Vec<u8>, AllocError>
+pub fn joined(alloc: Global, a: &[u8], b: &[u8], c: &[u8]) -> Result<Vec<u8>, AllocError>
     ensures { IfOk result (λ all. all.items ≡ a.now ++ b.now ++ c.now) }
 {
     let mut all = a.to_vec(alloc)?;
@@ -39,7 +39,7 @@ fn joined(alloc: Global, a: &[u8], b: &[u8], c: &[u8]) -> Result<Vec<u8>, AllocE
 }
 
 // The path of a name in a directory.
-fn path_in(alloc: Global, directory: &[u8], name: &[u8]) -> Result<Vec<u8>, AllocError>
+pub fn path_in(alloc: Global, directory: &[u8], name: &[u8]) -> Result<Vec<u8>, AllocError>
     ensures { IfOk result (λ path. path.items ≡ path_in directory.now name.now) }
 {
     joined(alloc, directory, separator(directory), name)

@@ -1,8 +1,9 @@
 //! The files that a preprocessed text names.
-ghost use Rattle.std.specs.Prelude.{◌≡◌, ◌∷◌, ◌++◌, [], IfOk, List, OnOk, true};
+ghost use Rattle.std.specs.Prelude.{◌≡◌, ◌∷◌, ◌++◌, [], IfOk, List, OnOk, true, ℕ};
 ghost use Rattle.cck_markers.specs.Marks as spec;
 ghost use Rattle.cck_markers.specs.Marks.{Marks};
-ghost use Rattle.cck_cache_entry.specs.Names.{AreNames, directory_of, is_no_file};
+ghost use Rattle.cck_cache_entry.specs.Names.{AreNames, directory_of, is_named, is_no_file};
+ghost use Rattle.cck_cache_entry.specs.Sets.{has_key};
 
 use cck_markers::{Mark, Markers};
 use memchr::memrchr;
@@ -29,7 +30,7 @@ fn is_no_file(name: &[u8]) -> bool
 }
 
 // A name up to its last slash, which is part of it.
-pub(crate) fn directory_of(name: &[u8]) -> &[u8]
+pub fn directory_of(name: &[u8]) -> &[u8]
     ensures { result.now ≡ directory_of name.now }
 {
     match memrchr(b'/', name) {
@@ -87,4 +88,20 @@ pub fn names_in(alloc: Global, text: &[u8]) -> Result<Named, AllocError>
         }
     }
     Ok(named)
+}
+
+/// The names of the files that this preprocessed text names, in order and each once: no name of no
+/// file, such as `<built-in>`, and no working directory.
+///
+/// The only error is lack of memory.
+pub fn file_names(alloc: Global, text: &[u8]) -> Result<BTreeSet<Vec<u8>>, AllocError>
+    ensures { IfOk result (λ names. (marks : List spec.Mark) → Marks true text.now marks
+        → (name : List ℕ) → has_key names name ≡ is_named marks name) }
+{
+    let Named {
+        names,
+        systems: _,
+        directories: _,
+    } = names_in(alloc, text)?;
+    Ok(names)
 }

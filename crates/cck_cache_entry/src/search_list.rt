@@ -71,7 +71,7 @@ fn ends_list(line: &[u8]) -> bool
 }
 
 // The lines of a text.
-fn text_lines<'a>(alloc: Global, text: &'a [u8]) -> Result<Vec<&'a [u8]>, AllocError>
+pub fn text_lines<'a>(alloc: Global, text: &'a [u8]) -> Result<Vec<&'a [u8]>, AllocError>
     ensures { IfOk result (λ lines. map (λ line. line.now) lines.items ≡ text_lines text.now) }
 {
     text.split(|byte| *byte == b'\n').collect(alloc)

@@ -5,4 +5,5 @@ pub mod PathTests
 pub mod Paths
 pub mod Searched
 pub mod Snapshot
+pub mod Sources
 pub mod Times

@@ -7,6 +7,7 @@
 //!   changed since a given time. It looks at each path once.
 //! - [`first_failing`] makes the tests of an entry file, and [`SearchedDirectories`] says which of the
 //!   directories that are searched are the same.
+//! - [`asked_by`] says on which other files the sources of a text may depend.
 //! - [`StoreDirectory`] is the directory of a store.
 //! - [`list_files`] and [`list_counts`] list the files of a store.
 //! - [`compiler_digest`] is the digest of a compiler's programs on this machine, and
@@ -26,6 +27,7 @@ mod path_states;
 mod path_tests;
 mod searched;
 mod snapshot;
+mod sources;
 mod store_directory;
 mod times;
 
@@ -34,6 +36,7 @@ pub use listing::{StoredFile, list_counts, list_files};
 pub use path_states::{PathState, PathStates};
 pub use path_tests::first_failing;
 pub use searched::SearchedDirectories;
-pub use snapshot::{NamedFiles, add_file, add_named_files};
+pub use snapshot::{add_file, add_named_files};
+pub use sources::{Asked, asked_by};
 pub use store_directory::{Kind, StoreDirectory, open_store};
 pub use times::{changed, modified};

@@ -1,15 +1,14 @@
 //! Real files, as they are now, in memory.
-ghost use Rattle.std.specs.Prelude.{◌≡◌, [], IfOk, IfSome, IsOkUnless, IsTrue, List, OnErr, true};
+ghost use Rattle.std.specs.Prelude.{◌≡◌, [], IfOk, IfSome, IsOkUnless, IsTrue, List, OnErr, OnOk, true};
 ghost use Rattle.cck_files.specs.Calls.{Keeps};
 ghost use Rattle.cck_files.specs.FileMap.{contents_of_kind};
 ghost use Rattle.cck_files.specs.FileState.{IsQuiet, fault_count};
 ghost use Rattle.cck_markers.specs.Marks.{Marks};
 ghost use Rattle.cck_markers.specs.Marks as marks;
-ghost use Rattle.cck_cache_files.specs.Snapshot.{HasNamedTest, SnapshotGrows, IsAdded, IsNamedFile, IsPart, IsNodePut, StaysCalm};
+ghost use Rattle.cck_cache_files.specs.Snapshot.{SnapshotGrows, IsAdded, IsNamedFile, IsPart, IsNodePut, StaysCalm};
 
 use crate::path_states::{PathState, PathStates};
 use crate::times::{changed, modified};
-use cck_cache_entry::has_include_test;
 use cck_digest::UtilError;
 use cck_files::{Files as FilesInMemory, MapFiles, Node};
 use cck_markers::{Mark, Markers};
@@ -75,27 +74,24 @@ fn read_node<R: Files + AllocGlobal>(rt: &R, path: &str) -> Option<Node>
 }
 
 /// Puts what is at a path into the snapshot, links followed. What can't be read is left out.
-/// Returns whether the contents may test for the existence of a header.
 ///
 /// The only error is [`UtilError::Memory`], and then nothing is changed.
 pub fn add_file<R: Files + AllocGlobal>(
     rt: &R,
     files: &mut MapFiles,
     path: &[u8],
-) -> Result<bool, UtilError>
-    ensures added { IfOk result (IsAdded files.old path.now files.new) }
+) -> Result<(), UtilError>
+    ensures added { OnOk result (IsAdded files.old path.now files.new) }
     ensures kept { OnErr result (files.new ≡ files.old) }
     ensures errors { IsOkUnless result UtilError.Memory }
 {
     let Ok(text) = std::str::from_utf8(path) else {
-        return Ok(false);
+        return Ok(());
     };
-    let Some(node) = read_node(rt, text) else {
-        return Ok(false);
-    };
-    let tests_headers = has_include_test(&node.contents);
-    files.put(path, node)?;
-    Ok(tests_headers)
+    if let Some(node) = read_node(rt, text) {
+        files.put(path, node)?;
+    }
+    Ok(())
 }
 
 // Whether two paths lead to one file.
@@ -140,15 +136,15 @@ fn add_new_file<R: Files + AllocGlobal>(
     rt: &R,
     files: &mut MapFiles,
     path: &[u8],
-) -> Result<bool, UtilError>
-    ensures put { IfOk result (IsNodePut files.old.files path.now files.new.files) }
+) -> Result<(), UtilError>
+    ensures put { OnOk result (IsNodePut files.old.files path.now files.new.files) }
     ensures left { OnErr result (files.new.files ≡ files.old.files) }
     ensures kept { IsQuiet files.old → IsPart files.old.files files.new.files }
     ensures calm { StaysCalm files.old files.new }
     ensures errors { IsOkUnless result UtilError.Memory }
 {
     if files.exists(path) {
-        return Ok(false);
+        return Ok(());
     }
     add_file(rt, files, path)
 }
@@ -165,18 +161,9 @@ fn has_one(files: &mut MapFiles, paths: &[Vec<u8>]) -> bool
     false
 }
 
-/// What is known of the files that a text names.
-#[derive(Debug, Clone, Copy)]
-pub struct NamedFiles {
-    /// Whether one that was put into the snapshot, and is no system header, may test for the
-    /// existence of a header.
-    pub tests_headers: bool,
-    /// Whether the snapshot has a file at the path of a name that was left out.
-    pub is_doubtful: bool,
-}
-
 /// Puts the files that a preprocessed text names into the snapshot. A name is left out if a link on
-/// the way to it is in doubt, or its path with `.` and `..` may lead elsewhere.
+/// the way to it is in doubt, or its path with `.` and `..` may lead elsewhere. Returns whether the
+/// snapshot has something at the path of such a name.
 ///
 /// The only error is [`UtilError::Memory`].
 pub fn add_named_files<R: Files + AllocGlobal>(
@@ -185,19 +172,16 @@ pub fn add_named_files<R: Files + AllocGlobal>(
     states: &mut PathStates,
     cwd: &[u8],
     text: &[u8],
-) -> Result<NamedFiles, UtilError>
-    ensures named { IfOk result (λ named. (marks : List marks.Mark) → Marks true text.now marks
-        → SnapshotGrows (IsNamedFile marks cwd.now named.tests_headers) files.old files.new) }
-    ensures tests { IfOk result (λ named. (marks : List marks.Mark) → Marks true text.now marks
-        → named.tests_headers ≡ true → IsQuiet files.old → HasNamedTest marks cwd.now files.new.files) }
+) -> Result<bool, UtilError>
+    ensures named { OnOk result ((marks : List marks.Mark) → Marks true text.now marks
+        → SnapshotGrows (IsNamedFile marks cwd.now) files.old files.new) }
     ensures errors { IsOkUnless result UtilError.Memory }
 {
     let alloc = rt.alloc();
-    let mut tests_headers = false;
     let mut left_out: Vec<Vec<u8>> = Vec::new(alloc);
     let mut last: &[u8] = b"";
     for mark in Markers::new(text) {
-        let Mark::Name { name, is_system } = mark else {
+        let Mark::Name { name, .. } = mark else {
             continue;
         };
         if name == last {
@@ -207,15 +191,10 @@ pub fn add_named_files<R: Files + AllocGlobal>(
         let joined = join_path(alloc, cwd, name)?;
         let path = normalize_path(alloc, &joined)?;
         if leads_there(rt, states, &joined, &path)? {
-            let tests = add_new_file(rt, files, &path)?;
-            tests_headers = tests_headers || (tests && !is_system);
+            add_new_file(rt, files, &path)?;
         } else {
             left_out.push(path)?;
         }
     }
-    let is_doubtful = has_one(files, &left_out);
-    Ok(NamedFiles {
-        tests_headers,
-        is_doubtful,
-    })
+    Ok(has_one(files, &left_out))
 }

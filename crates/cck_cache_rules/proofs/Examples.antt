@@ -2,7 +2,7 @@
 use Rattle.std.proofs.Common.{arith, ◌≡◌, true, false, pos, Some, None, codes, refl}
 use Rattle.cck_cache_rules.specs.Age.{IsAbandoned}
 use Rattle.cck_cache_rules.specs.Refusal.{IsRefusal}
-use Rattle.cck_cache_rules.specs.declared.refusal.Refusal.TheVariants.{DayChanged, HeaderTest, NoKey}
+use Rattle.cck_cache_rules.specs.declared.refusal.Refusal.TheVariants.{DayChanged, NoKey}
 
 -- an hour and a second
 abandoned : IsAbandoned true (pos 1) (pos 3602)
@@ -15,15 +15,11 @@ not_abandoned h = let old = h.old in omega (arith, old)
 renamed : IsAbandoned false (pos 1) (pos 3602) → ⊥
 renamed h = let same : false ≡ true = h.new in absurd cc
 
--- another day counts before a test for headers
-day : IsRefusal (Some (codes "k")) (codes "k") false true (Some DayChanged)
+day : IsRefusal (Some (codes "k")) (codes "k") false (Some DayChanged)
 day = (refl, refl)
 
-not_header : IsRefusal (Some (codes "k")) (codes "k") false true (Some HeaderTest) → ⊥
-not_header h = let same : false ≡ true = h.1 in absurd cc
-
-no_key : IsRefusal None (codes "k") true false (Some NoKey)
+no_key : IsRefusal None (codes "k") true (Some NoKey)
 no_key = refl
 
-recorded : IsRefusal (Some (codes "k")) (codes "k") true false None
-recorded = (refl, refl, refl)
+recorded : IsRefusal (Some (codes "k")) (codes "k") true None
+recorded = (refl, refl)

@@ -16,8 +16,10 @@ pub enum Refusal {
     NoSearchList,
     /// A system header is in no directory of the list.
     UnknownHeader,
-    /// A source that is no system header tests for the existence of a header.
+    /// A source tests for the existence of a header whose name is not written out there.
     HeaderTest,
+    /// A source may have a pragma that compares the times of files.
+    DependencyPragma,
     /// The assembler read another file than what the compiler made of the input, or it is not known
     /// what it read.
     AssemblerInclude,
@@ -43,6 +45,7 @@ impl Refusal {
             Refusal::NoSearchList => "refused-no-search-list",
             Refusal::UnknownHeader => "refused-unknown-header",
             Refusal::HeaderTest => "refused-header-test",
+            Refusal::DependencyPragma => "refused-dependency-pragma",
             Refusal::AssemblerInclude => "refused-assembler-include",
             Refusal::OtherFile => "refused-other-file",
             Refusal::EarlierPath => "refused-earlier-path",
@@ -61,15 +64,12 @@ pub struct Known<'a> {
     pub key: &'a str,
     /// Whether the look-up and the recording are on one local day.
     pub is_one_day: bool,
-    /// Whether the input may test for the existence of a header.
-    pub tests_headers: bool,
 }
 
 /// Why a compilation is not recorded by what is known of it: that it has no preprocessor key, another
-/// one than before, another day, or an input that tests for a header; the first of these counts.
-/// `None` where none of them holds.
+/// one than before, or another day; the first of these counts. `None` where none of them holds.
 pub fn refusal_of(known: &Known<'_>) -> Option<Refusal>
-    ensures { IsRefusal (option_map (λ k. k.now) known.now.found) known.now.key.now known.now.is_one_day known.now.tests_headers result }
+    ensures { IsRefusal (option_map (λ k. k.now) known.now.found) known.now.key.now known.now.is_one_day result }
 {
     let Some(found) = known.found else {
         return Some(Refusal::NoKey);
@@ -79,9 +79,6 @@ pub fn refusal_of(known: &Known<'_>) -> Option<Refusal>
     }
     if !known.is_one_day {
         return Some(Refusal::DayChanged);
-    }
-    if known.tests_headers {
-        return Some(Refusal::HeaderTest);
     }
     None
 }

@@ -10,9 +10,8 @@ loop-include-init g c = (none_put refl, λ calm. calm)
 pub loop-include-preserved : goal.loop-include-preserved
 loop-include-preserved g c =
     let path = c.deref.result.now in
-    let tests = c.in_ok-add_file.field-0 in
     let within : c.loop-include.include-index < length c.args.includes.now = omega arith in
-    let one = one_of_at c.args.includes.now c.loop-include.include-index c.include-item.result path tests within c.include-item.is c.deref.ensures.value in (
-      one_more c.loop-include.files.files path tests c.loop-include.invariant.0 one c.in_ok-add_file.ensures.added.put,
-      λ calm. calm_added c.loop-include.files c.add_file.new.files path tests c.in_ok-add_file.ensures.added (c.loop-include.invariant.1 calm),
+    let one = one_of_at c.args.includes.now c.loop-include.include-index c.include-item.result path within c.include-item.is c.deref.ensures.value in (
+      one_more c.loop-include.files.files path c.loop-include.invariant.0 one c.in_ok-add_file.ensures.added.put,
+      λ calm. calm_added c.loop-include.files c.add_file.new.files path c.in_ok-add_file.ensures.added (c.loop-include.invariant.1 calm),
     )

@@ -15,13 +15,12 @@ pub returns-in-Some : goal.returns-in-Some
 returns-in-Some g c =
     let environment = c.args.environment.now in
     let wanted = c.args.wanted.now in
-    let files = c.in_ok-files.field-0.files in
+    let files = c.in_ok-files.files in
     let after = c.preprocessor_key.new.snapshot in
     let asked = c.snapshot_request-asked.result in
     let key = c.in-Some.key in
     let has : HasPreprocessorKey environment wanted.request (Some (string_bytes key)) = record {
       input = files.files;
-      tests = c.in_ok-files.field-0.tests_headers;
       is_input = c.in_ok-files.ensures.input;
       asked = asked;
       is_request = c.snapshot_request-asked.ensures wanted.request refl c.in_ok-hasher.ensures;
@@ -34,8 +33,7 @@ returns-in-Some g c =
 
 pub returns : goal.returns
 returns g c = record {
-  input = c.in_ok-files.field-0.files.files;
-  tests = c.in_ok-files.field-0.tests_headers;
+  input = c.in_ok-files.files.files;
   is_input = c.in_ok-files.ensures.input;
   asked = c.snapshot_request-asked.result;
   is_request = c.snapshot_request-asked.ensures c.args.wanted.now.request refl c.in_ok-hasher.ensures;

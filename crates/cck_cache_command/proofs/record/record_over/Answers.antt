@@ -19,7 +19,7 @@ returns-in-Some g c calm =
     inl (record {
       asked = asked;
       is_asked = is_asked;
-      judged = subst (λ (o : Option Refusal). IsJudgedByInput environment asked gathered.files.files gathered.tests_headers compilation.key.now o) c.in-Some.is c.in_ok-refusal.ensures.judged;
+      judged = subst (λ (o : Option Refusal). IsJudgedByInput environment asked gathered.files.files compilation.key.now o) c.in-Some.is c.in_ok-refusal.ensures.judged;
     })
 
 pub returns-in_default-put : goal.returns-in_default-put
@@ -57,7 +57,7 @@ returns g c calm =
     record {
       asked = asked;
       is_asked = is_asked;
-      judged = subst (λ (o : Option Refusal). IsJudgedByInput environment asked gathered.files.files gathered.tests_headers compilation.key.now o) c.in_default.is c.in_ok-refusal.ensures.judged;
+      judged = subst (λ (o : Option Refusal). IsJudgedByInput environment asked gathered.files.files compilation.key.now o) c.in_default.is c.in_ok-refusal.ensures.judged;
       key = key;
       entry = entry;
       recorded = recorded_over asked text gathered.files c.refusal_by_input.new.files c.record_text.new.snapshot c.in_ok-recording.recording (Some entry)

@@ -1,0 +1,50 @@
+-- what the sources of a text ask for beside the files that they include
+use Rattle.std.specs.Prelude.{◌≡◌, ◌⊎◌, ℕ, true, false, List, Option, Some, None, Ok, Err, IsTrue}
+use Rattle.std.specs.BTreeSet.{BTreeSet}
+use Rattle.std.specs.Global.{Vec}
+use Rattle.cck_cache_entry.specs.HeaderTests.{AreTests, TestFields, has_dependency}
+use Rattle.cck_cache_entry.specs.Names.{is_named}
+use Rattle.cck_cache_entry.specs.Sets.{Adds, IsSetOf}
+use Rattle.cck_cache_entry.specs.Splices.{unspliced}
+use Rattle.cck_cache_entry.specs.TestedPaths.{IsPathOfTests}
+use Rattle.cck_cache_files.specs.Snapshot.{named_path}
+use Rattle.cck_cache_files.specs.declared.sources.Asked.{Asked}
+use Rattle.cck_cache_files.specs.declared.sources.Asked.TheVariants.{Paths, Unknown, Time}
+use Rattle.cck_cache_files.specs.declared.sources.SourceVerdict.{SourceVerdict}
+use Rattle.cck_cache_files.specs.declared.sources.SourceVerdict.TheVariants as verdict
+use Rattle.cck_digest.specs.declared.error.FileError.{FileError}
+use Rattle.cck_files.specs.FileMap.{FileMap, contents_at}
+use Rattle.cck_markers.specs.Marks.{Mark}
+use Rattle.cck_path.specs.Bytes.{Bytes}
+use Rattle.cck_path.specs.Path.{components}
+
+-- the contents of the regular file of a name, if there is one
+abbrev pub IsContents : FileMap → Bytes → Bytes → Option Bytes → Type 0
+IsContents files directory name (Some contents) = contents_at files (components (named_path directory name)) ≡ Ok contents
+IsContents files directory name None = (error : FileError) × (contents_at files (components (named_path directory name)) ≡ Err error)
+
+-- a source tests for headers at this path
+abbrev pub AsksFor : List Bytes → Bytes → Bytes → Bytes → Type 0
+AsksFor directories name contents path = (tests : List TestFields) × AreTests (unspliced contents) (Some tests) × IsPathOfTests directories name tests path
+
+-- it is known at which paths a source tests for headers, and it asks for no time
+abbrev pub IsPlainSource : Bytes → Type 0
+IsPlainSource contents = (has_dependency (unspliced contents) ≡ false) × ((tests : List TestFields) × AreTests (unspliced contents) (Some tests))
+
+-- what one source asks for: its paths were added
+abbrev pub SourceAsks : List Bytes → Bytes → Bytes → BTreeSet (Vec ℕ) → BTreeSet (Vec ℕ) → SourceVerdict → Type 0
+SourceAsks directories name contents old new verdict.Paths = IsPlainSource contents × Adds (AsksFor directories name contents) old new
+SourceAsks directories name contents old new verdict.Unknown = AreTests (unspliced contents) None
+SourceAsks directories name contents old new verdict.Time = has_dependency (unspliced contents) ≡ true
+
+-- these are the contents of a source that the marks name
+abbrev pub IsSource : FileMap → Bytes → List Mark → Bytes → Bytes → Type 0
+IsSource files directory marks name contents = IsTrue (is_named marks name) × IsContents files directory name (Some contents)
+
+-- what the sources ask for that the marks name: exactly these paths; or one of them has a test that can't be judged, or asks for a time
+abbrev pub AreAsked : FileMap → Bytes → List Mark → List Bytes → Asked → Type 0
+AreAsked files directory marks directories (Paths paths) =
+    ((name contents : Bytes) → IsSource files directory marks name contents → IsPlainSource contents)
+    × IsSetOf (λ path. (name : Bytes) × (contents : Bytes) × IsSource files directory marks name contents × AsksFor directories name contents path) paths
+AreAsked files directory marks directories Unknown = (name : Bytes) × (contents : Bytes) × IsSource files directory marks name contents × AreTests (unspliced contents) None
+AreAsked files directory marks directories Time = (name : Bytes) × (contents : Bytes) × IsSource files directory marks name contents × (has_dependency (unspliced contents) ≡ true)

@@ -1,0 +1,115 @@
+//! What the sources of a text ask for beside the files that they include.
+ghost use Rattle.std.specs.Prelude.{◌≡◌, IfOk, IsOkUnless, List, Ok, true};
+ghost use Rattle.std.specs.Option.{option_map};
+ghost use Rattle.cck_cache_entry.specs.Sets.{has_key};
+ghost use Rattle.cck_cache_entry.specs.SearchList.{search_fields};
+ghost use Rattle.cck_cache_files.specs.Sources.{AreAsked, AsksFor, IsContents, SourceAsks};
+ghost use Rattle.cck_files.specs.Calls.{Keeps};
+ghost use Rattle.cck_files.specs.FileState.{IsQuiet, fault_count};
+ghost use Rattle.cck_markers.specs.Marks as spec;
+ghost use Rattle.cck_markers.specs.Marks.{Marks};
+
+use cck_cache_entry::{
+    SearchList, add_tested_paths, file_names, has_dependency_pragma, header_tests, unspliced,
+};
+use cck_digest::{FileError, UtilError};
+use cck_file_digest::read_contents;
+use cck_files::MapFiles;
+use cck_path::{join_path, normalize_path};
+use std::alloc::{AllocError, Global};
+use std::collections::BTreeSet;
+
+/// What sources ask for.
+#[derive(Drop)]
+pub enum Asked {
+    /// The headers at these paths: whether there is a file. Paths may be relative to the working
+    /// directory.
+    Paths(BTreeSet<Vec<u8>>),
+    /// A header whose name is not written out where a source tests for it.
+    Unknown,
+    /// The time of a file, by a pragma.
+    Time,
+}
+
+// What one source asks for.
+enum SourceVerdict {
+    // The paths that were added.
+    Paths,
+    // A header whose name is not written out.
+    Unknown,
+    // The time of a file.
+    Time,
+}
+
+// Adds the paths that a source asks for.
+fn add_source(
+    alloc: Global,
+    paths: &mut BTreeSet<Vec<u8>>,
+    name: &[u8],
+    contents: &[u8],
+    search: &SearchList,
+) -> Result<SourceVerdict, AllocError>
+    ensures { IfOk result
+        (SourceAsks (search_fields search.now).directories name.now contents.now paths.old paths.new) }
+{
+    let text = unspliced(alloc, contents)?;
+    if has_dependency_pragma(&text) {
+        return Ok(SourceVerdict::Time);
+    }
+    let Some(tests) = header_tests(alloc, &text)? else {
+        return Ok(SourceVerdict::Unknown);
+    };
+    add_tested_paths(alloc, paths, name, &tests, search)?;
+    Ok(SourceVerdict::Paths)
+}
+
+// The contents of the file of a name in the snapshot. `None` where the snapshot has no regular file
+// there.
+fn contents_of(
+    alloc: Global,
+    files: &mut MapFiles,
+    directory: &[u8],
+    name: &[u8],
+) -> Result<Option<Vec<u8>>, UtilError>
+    ensures keeps { IfOk result (λ _. Keeps (λ files. files.files) fault_count IsQuiet files.old files.new) }
+    ensures contents { IfOk result (λ found.
+        IsContents files.old.files directory.now name.now (option_map (λ c. c.items) found)) }
+{
+    let joined = join_path(alloc, directory, name)?;
+    let path = normalize_path(alloc, &joined)?;
+    match read_contents(alloc, files, &path) {
+        Ok(contents) => Ok(Some(contents)),
+        Err(FileError::NotFound | FileError::OtherKind) => Ok(None),
+        Err(error) => Err(UtilError::from(error)),
+    }
+}
+
+/// What the sources ask for that a preprocessed text names, by their contents in the snapshot. Of a name
+/// without a regular file there nothing is known.
+///
+/// The error is [`UtilError::Memory`], or of a file that can't be read.
+pub fn asked_by(
+    alloc: Global,
+    files: &mut MapFiles,
+    directory: &[u8],
+    text: &[u8],
+    search: &SearchList,
+) -> Result<Asked, UtilError>
+    ensures keeps { IfOk result (λ _. Keeps (λ files. files.files) fault_count IsQuiet files.old files.new) }
+    ensures asked { IfOk result (λ asked. (marks : List spec.Mark) → Marks true text.now marks
+        → AreAsked files.old.files directory.now marks (search_fields search.now).directories asked) }
+{
+    let mut paths = BTreeSet::new(alloc);
+    let names = file_names(alloc, text)?;
+    for name in &names {
+        let Some(contents) = contents_of(alloc, files, directory, name)? else {
+            continue;
+        };
+        match add_source(alloc, &mut paths, name, &contents, search)? {
+            SourceVerdict::Paths => {}
+            SourceVerdict::Unknown => return Ok(Asked::Unknown),
+            SourceVerdict::Time => return Ok(Asked::Time),
+        }
+    }
+    Ok(Asked::Paths(paths))
+}
