@@ -203,7 +203,7 @@ settle
 check 'its text and its line markers in the input' 'miss *' same -c marked.c $depends
 mv marked.first marked.c
 settle
-check 'the first input again: escapes' 'hit *' differs -c marked.c $depends
+check 'the first input again' 'hit *' same -c marked.c $depends
 rm -f "$room/plain.d" "$room/cached.d" "$room/ccached.d"
 work=$room/work
 check_files 'a point in the directory' -MD -I"$work/d2" -I"$work/d1" -c "$work/depends.c" -o a.b/foo

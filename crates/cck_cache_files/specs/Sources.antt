@@ -18,10 +18,14 @@ use Rattle.cck_markers.specs.Marks.{Mark}
 use Rattle.cck_path.specs.Bytes.{Bytes}
 use Rattle.cck_path.specs.Path.{components}
 
--- the contents of the regular file of a name, if there is one
+-- the contents of the regular file at a path, if there is one
+abbrev pub IsContentsAt : FileMap → Bytes → Option Bytes → Type 0
+IsContentsAt files path (Some contents) = contents_at files (components path) ≡ Ok contents
+IsContentsAt files path None = (error : FileError) × (contents_at files (components path) ≡ Err error)
+
+-- the same of the file of a name
 abbrev pub IsContents : FileMap → Bytes → Bytes → Option Bytes → Type 0
-IsContents files directory name (Some contents) = contents_at files (components (named_path directory name)) ≡ Ok contents
-IsContents files directory name None = (error : FileError) × (contents_at files (components (named_path directory name)) ≡ Err error)
+IsContents files directory name = IsContentsAt files (named_path directory name)
 
 -- a source tests for headers at this path
 abbrev pub AsksFor : List Bytes → Bytes → Bytes → Bytes → Type 0
@@ -37,14 +41,18 @@ SourceAsks directories name contents old new verdict.Paths = IsPlainSource conte
 SourceAsks directories name contents old new verdict.Unknown = AreTests (unspliced contents) None
 SourceAsks directories name contents old new verdict.Time = has_dependency (unspliced contents) ≡ true
 
--- these are the contents of a source that the marks name
-abbrev pub IsSource : FileMap → Bytes → List Mark → Bytes → Bytes → Type 0
-IsSource files directory marks name contents = IsTrue (is_named marks name) × IsContents files directory name (Some contents)
+-- these are the contents of a source with one of these names
+abbrev pub IsSourceOf : FileMap → Bytes → (Bytes → Type 0) → Bytes → Bytes → Type 0
+IsSourceOf files directory IsName name contents = IsName name × IsContents files directory name (Some contents)
 
--- what the sources ask for that the marks name: exactly these paths; or one of them has a test that can't be judged, or asks for a time
-abbrev pub AreAsked : FileMap → Bytes → List Mark → List Bytes → Asked → Type 0
-AreAsked files directory marks directories (Paths paths) =
-    ((name contents : Bytes) → IsSource files directory marks name contents → IsPlainSource contents)
-    × IsSetOf (λ path. (name : Bytes) × (contents : Bytes) × IsSource files directory marks name contents × AsksFor directories name contents path) paths
-AreAsked files directory marks directories Unknown = (name : Bytes) × (contents : Bytes) × IsSource files directory marks name contents × AreTests (unspliced contents) None
-AreAsked files directory marks directories Time = (name : Bytes) × (contents : Bytes) × IsSource files directory marks name contents × (has_dependency (unspliced contents) ≡ true)
+-- the same of one that the marks name
+abbrev pub IsSource : FileMap → Bytes → List Mark → Bytes → Bytes → Type 0
+IsSource files directory marks = IsSourceOf files directory (λ name. IsTrue (is_named marks name))
+
+-- what the sources of these names ask for: exactly these paths; or one of them has a test that can't be judged, or asks for a time
+abbrev pub AreAsked : FileMap → Bytes → (Bytes → Type 0) → List Bytes → Asked → Type 0
+AreAsked files directory IsName directories (Paths paths) =
+    ((name contents : Bytes) → IsSourceOf files directory IsName name contents → IsPlainSource contents)
+    × IsSetOf (λ path. (name : Bytes) × (contents : Bytes) × IsSourceOf files directory IsName name contents × AsksFor directories name contents path) paths
+AreAsked files directory IsName directories Unknown = (name : Bytes) × (contents : Bytes) × IsSourceOf files directory IsName name contents × AreTests (unspliced contents) None
+AreAsked files directory IsName directories Time = (name : Bytes) × (contents : Bytes) × IsSourceOf files directory IsName name contents × (has_dependency (unspliced contents) ≡ true)

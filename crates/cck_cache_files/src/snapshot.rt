@@ -88,9 +88,10 @@ pub fn add_file<R: Files + AllocGlobal>(
     let Ok(text) = std::str::from_utf8(path) else {
         return Ok(());
     };
-    if let Some(node) = read_node(rt, text) {
-        files.put(path, node)?;
-    }
+    let Some(node) = read_node(rt, text) else {
+        return Ok(());
+    };
+    files.put(path, node)?;
     Ok(())
 }
 

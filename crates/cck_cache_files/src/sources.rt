@@ -1,9 +1,10 @@
 //! What the sources of a text ask for beside the files that they include.
-ghost use Rattle.std.specs.Prelude.{◌≡◌, IfOk, IsOkUnless, List, Ok, true};
+ghost use Rattle.std.specs.Prelude.{IfOk, IsTrue, List, true};
 ghost use Rattle.std.specs.Option.{option_map};
+ghost use Rattle.cck_cache_entry.specs.Names.{is_named};
 ghost use Rattle.cck_cache_entry.specs.Sets.{has_key};
 ghost use Rattle.cck_cache_entry.specs.SearchList.{search_fields};
-ghost use Rattle.cck_cache_files.specs.Sources.{AreAsked, AsksFor, IsContents, SourceAsks};
+ghost use Rattle.cck_cache_files.specs.Sources.{AreAsked, IsContents, IsContentsAt, SourceAsks};
 ghost use Rattle.cck_files.specs.Calls.{Keeps};
 ghost use Rattle.cck_files.specs.FileState.{IsQuiet, fault_count};
 ghost use Rattle.cck_markers.specs.Marks as spec;
@@ -63,6 +64,24 @@ fn add_source(
     Ok(SourceVerdict::Paths)
 }
 
+// The contents of a regular file. `None` where there is none at the path.
+fn contents_at(
+    alloc: Global,
+    files: &mut MapFiles,
+    path: &[u8],
+) -> Result<Option<Vec<u8>>, UtilError>
+    ensures keeps { IfOk result (λ _. Keeps (λ files. files.files) fault_count IsQuiet files.old files.new) }
+    ensures contents { IfOk result (λ found.
+        IsContentsAt files.old.files path.now (option_map (λ c. c.items) found)) }
+{
+    match read_contents(alloc, files, path) {
+        Ok(contents) => Ok(Some(contents)),
+        Err(FileError::NotFound) => Ok(None),
+        Err(FileError::OtherKind) => Ok(None),
+        Err(error) => Err(UtilError::from(error)),
+    }
+}
+
 // The contents of the file of a name in the snapshot. `None` where the snapshot has no regular file
 // there.
 fn contents_of(
@@ -77,11 +96,35 @@ fn contents_of(
 {
     let joined = join_path(alloc, directory, name)?;
     let path = normalize_path(alloc, &joined)?;
-    match read_contents(alloc, files, &path) {
-        Ok(contents) => Ok(Some(contents)),
-        Err(FileError::NotFound | FileError::OtherKind) => Ok(None),
-        Err(error) => Err(UtilError::from(error)),
+    let found = contents_at(alloc, files, &path)?;
+    Ok(found)
+}
+
+// What the sources of these names ask for.
+fn asked_of(
+    alloc: Global,
+    files: &mut MapFiles,
+    directory: &[u8],
+    names: &BTreeSet<Vec<u8>>,
+    search: &SearchList,
+) -> Result<Asked, UtilError>
+    ensures keeps { IfOk result (λ _. Keeps (λ files. files.files) fault_count IsQuiet files.old files.new) }
+    ensures asked { IfOk result (AreAsked files.old.files directory.now
+        (λ name. IsTrue (has_key names.now name)) (search_fields search.now).directories) }
+{
+    let mut paths = BTreeSet::new(alloc);
+    for name in names {
+        let Some(contents) = contents_of(alloc, files, directory, name)? else {
+            continue;
+        };
+        let verdict = add_source(alloc, &mut paths, name, &contents, search)?;
+        match verdict {
+            SourceVerdict::Paths => {}
+            SourceVerdict::Unknown => return Ok(Asked::Unknown),
+            SourceVerdict::Time => return Ok(Asked::Time),
+        }
     }
+    Ok(Asked::Paths(paths))
 }
 
 /// What the sources ask for that a preprocessed text names, by their contents in the snapshot. Of a name
@@ -97,19 +140,10 @@ pub fn asked_by(
 ) -> Result<Asked, UtilError>
     ensures keeps { IfOk result (λ _. Keeps (λ files. files.files) fault_count IsQuiet files.old files.new) }
     ensures asked { IfOk result (λ asked. (marks : List spec.Mark) → Marks true text.now marks
-        → AreAsked files.old.files directory.now marks (search_fields search.now).directories asked) }
+        → AreAsked files.old.files directory.now (λ name. IsTrue (is_named marks name))
+        (search_fields search.now).directories asked) }
 {
-    let mut paths = BTreeSet::new(alloc);
     let names = file_names(alloc, text)?;
-    for name in &names {
-        let Some(contents) = contents_of(alloc, files, directory, name)? else {
-            continue;
-        };
-        match add_source(alloc, &mut paths, name, &contents, search)? {
-            SourceVerdict::Paths => {}
-            SourceVerdict::Unknown => return Ok(Asked::Unknown),
-            SourceVerdict::Time => return Ok(Asked::Time),
-        }
-    }
-    Ok(Asked::Paths(paths))
+    let asked = asked_of(alloc, files, directory, &names, search)?;
+    Ok(asked)
 }

@@ -1,16 +1,34 @@
-use Rattle.std.proofs.Common.{◌≡◌, ◌∙◌, true, false, List, Some, None, sym, ap, subst}
+use Rattle.std.proofs.Common.{◌≡◌, ◌∙◌, true, false, List, Option, Some, None, map, sym, ap, subst}
+use Rattle.std.specs.Option.{option_map}
 use Rattle.cck_cache_entry.specs.HeaderTests.{AreTests, TestFields, has_dependency, test_fields}
 use Rattle.cck_cache_entry.specs.SearchList.{search_fields}
+use Rattle.cck_cache_entry.specs.Sets.{Adds}
 use Rattle.cck_cache_entry.specs.Splices.{unspliced}
+use Rattle.cck_cache_entry.specs.TestedPaths.{IsPathOfTests}
 use Rattle.cck_path.specs.Bytes.{Bytes}
 use Rattle.cck_cache_files.proofs.SourceLemmas.{asks_by}
 use Rattle.cck_cache_files.proofs.sources.add_source.Goals as goal
 
 pub returns-then-has_dependency_pragma : goal.returns-then-has_dependency_pragma
-returns-then-has_dependency_pragma c = ?
+returns-then-has_dependency_pragma c = ap has_dependency (sym (c.deref.ensures.value ∙ c.in_ok-text.ensures)) ∙ sym c.if-has_dependency_pragma.ensures
 
 pub returns-in_default : goal.returns-in_default
-returns-in_default c = ?
+returns-in_default c =
+    let text : c.deref-2.result.now ≡ unspliced c.args.contents.now = c.deref-2.ensures.value ∙ c.in_ok-text.ensures in
+    let found : AreTests c.deref-2.result.now None = rw c.in_default.is at c.in_ok-tests.ensures in
+    subst (λ (t : Bytes). AreTests t None) text found
 
 pub returns : goal.returns
-returns c = ?
+returns c =
+    let contents = c.args.contents.now in
+    let directories = (search_fields c.args.search.now).directories in
+    let tests = test_fields c.in-Some.tests.items in
+    let none : has_dependency (unspliced contents) ≡ false = ap has_dependency (sym (c.deref.ensures.value ∙ c.in_ok-text.ensures)) ∙ sym c.if-has_dependency_pragma.ensures in
+    let text : c.deref-2.result.now ≡ unspliced contents = c.deref-2.ensures.value ∙ c.in_ok-text.ensures in
+    let found : AreTests c.deref-2.result.now (Some tests) = rw c.in-Some.is at c.in_ok-tests.ensures in
+    let are : AreTests (unspliced contents) (Some tests) = subst (λ (t : Bytes). AreTests t (Some tests)) text found in
+    let added : Adds (IsPathOfTests directories c.args.name.now tests) c.args.paths.now c.add_tested_paths.new.paths =
+    subst (λ (ts : List TestFields). Adds (IsPathOfTests directories c.args.name.now ts) c.args.paths.now c.add_tested_paths.new.paths) (ap test_fields c.deref-3.ensures.value) c.in_ok-add_tested_paths.ensures in (
+      (none, (tests, are)),
+      asks_by directories c.args.name.now contents tests c.args.paths.now c.add_tested_paths.new.paths are added,
+    )

@@ -1,5 +1,13 @@
-use Rattle.std.proofs.Common.{◌≡◌, ◌∙◌}
+use Rattle.std.proofs.Common.{◌∙◌, IsTrue, map, sym, subst}
+use Rattle.cck_cache_entry.specs.Names.{is_named}
+use Rattle.cck_cache_entry.specs.SearchList.{search_fields}
+use Rattle.cck_cache_entry.specs.Sets.{has_key}
+use Rattle.cck_cache_files.proofs.SourceLemmas.{asked_same}
 use Rattle.cck_cache_files.proofs.sources.asked_by.Goals as goal
 
-pub loop-name-preserved : goal.loop-name-preserved
-loop-name-preserved c = ?
+pub returns-clause-asked : goal.returns-clause-asked
+returns-clause-asked c marks are =
+    let names = c.in_ok-names.names in
+    let same = c.in_ok-names.ensures marks are in
+    asked_same c.args.files.now.files c.args.directory.now (λ name. IsTrue (has_key names name)) (λ name. IsTrue (is_named marks name)) (search_fields c.args.search.now).directories c.in_ok-asked.asked
+    (λ name has. sym (same name) ∙ has) (λ name is. same name ∙ is) c.in_ok-asked.ensures.asked

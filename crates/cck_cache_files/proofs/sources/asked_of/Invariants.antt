@@ -5,7 +5,7 @@ use Rattle.cck_cache_entry.proofs.SetLemmas.{Below}
 use Rattle.cck_files.specs.Calls.{Keeps}
 use Rattle.cck_files.specs.FileState.{FileState, IsQuiet, fault_count}
 use Rattle.cck_cache_files.proofs.SourceLemmas.{AsksAt, PlainBelow}
-use Rattle.cck_cache_files.proofs.sources.asked_by.Given as goal
+use Rattle.cck_cache_files.proofs.sources.asked_of.Given as goal
 
 -- what the sources of the names so far ask for
 abbrev pub invariant-loop-name : goal.invariant-loop-name
