@@ -5,7 +5,8 @@ use Rattle.cck_cache_command.specs.Call.{ArePaths, HasNoPaths}
 use Rattle.cck_cache_command.specs.declared.judge.Judged.{Judged}
 use Rattle.cck_cache_command.specs.declared.judge.Judged.TheVariants.{Asks, PassedOn}
 use Rattle.cck_cache_command.specs.declared.judge.Passed.{Passed}
-use Rattle.cck_cache_command.specs.declared.judge.Passed.TheVariants.{Arguments, HeaderTest, Path, Output}
+use Rattle.cck_cache_command.specs.declared.judge.Passed.TheVariants.{Arguments, HeaderTest, ResponseFile, Path, Output}
+use Rattle.cck_cache_command.specs.Response.{MayNameArguments}
 use Rattle.cck_cache_entry.specs.HeaderTests.{MayAskForFile}
 use Rattle.cck_cache_options.specs.Call.{Asked, asks, call_of, parse, passed}
 use Rattle.cck_cache_options.specs.Reason.{reason_name}
@@ -16,6 +17,7 @@ use Rattle.cck_path.specs.Bytes.{Bytes}
 abbrev pub passed_name : Passed → Bytes
 passed_name (Arguments reason) = reason_name reason
 passed_name HeaderTest = codes "header-test"
+passed_name ResponseFile = codes "response-file"
 passed_name Path = codes "path"
 passed_name Output = codes "output"
 
@@ -23,11 +25,16 @@ passed_name Output = codes "output"
 abbrev pub AskForFile : List Bytes → Type 0
 AskForFile arguments = Any MayAskForFile arguments
 
--- A call is cached if its arguments ask for something, by the table, none may make a source depend on another file, and its paths are texts. Else it is passed on, and the
--- reason is the first of these that does not hold. What is at the paths is no matter here.
+-- an argument may name a file of arguments of a program that the compiler runs
+abbrev pub NameArguments : List Bytes → Type 0
+NameArguments arguments = Any MayNameArguments arguments
+
+-- A call is cached if its arguments ask for something, by the table, none may make a source depend on another file or name a file of arguments, and
+-- its paths are texts. Else it is passed on, and the reason is the first of these that does not hold. What is at the paths is no matter here.
 abbrev pub IsJudged : List Entry → List Bytes → Judged → Type 0
-IsJudged table arguments (Asks call paths) = (parse table arguments ≡ asks (call_of call)) × ¬ (AskForFile arguments) × ArePaths (call_of call) paths
+IsJudged table arguments (Asks call paths) = (parse table arguments ≡ asks (call_of call)) × ¬ (AskForFile arguments) × ¬ (NameArguments arguments) × ArePaths (call_of call) paths
 IsJudged table arguments (PassedOn (Arguments reason)) = parse table arguments ≡ passed reason
 IsJudged table arguments (PassedOn HeaderTest) = (call : Asked) × (parse table arguments ≡ asks call) × AskForFile arguments
-IsJudged table arguments (PassedOn Path) = (call : Asked) × (parse table arguments ≡ asks call) × ¬ (AskForFile arguments) × HasNoPaths call
+IsJudged table arguments (PassedOn ResponseFile) = (call : Asked) × (parse table arguments ≡ asks call) × ¬ (AskForFile arguments) × NameArguments arguments
+IsJudged table arguments (PassedOn Path) = (call : Asked) × (parse table arguments ≡ asks call) × ¬ (AskForFile arguments) × ¬ (NameArguments arguments) × HasNoPaths call
 IsJudged table arguments (PassedOn Output) = ⊥

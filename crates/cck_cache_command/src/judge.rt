@@ -1,10 +1,11 @@
 //! What a call of a compiler asks for, or why it is not cached, by its arguments.
 ghost use Rattle.std.specs.Prelude.{◌≡◌, ◌↔◌, IfOk, IsTrue};
-ghost use Rattle.cck_cache_command.specs.Judge.{IsJudged, AskForFile, passed_name};
+ghost use Rattle.cck_cache_command.specs.Judge.{AskForFile, IsJudged, NameArguments, passed_name};
 ghost use Rattle.cck_cache_options.specs.Table.{entries};
 ghost use Rattle.cck_path.specs.Bytes.{lists_of};
 
 use crate::call::{CallPaths, paths_of};
+use crate::response::may_name_arguments;
 use cck_cache_entry::may_ask_for_file;
 use cck_cache_options::{Call, Parsed, Reason, Row, parse};
 use std::alloc::{AllocError, Global};
@@ -16,6 +17,8 @@ pub enum Passed {
     Arguments(Reason),
     /// An argument may make a source test for a header, or compare the times of files.
     HeaderTest,
+    /// A program that the compiler runs may read a file of arguments.
+    ResponseFile,
     /// A path is not UTF-8.
     Path,
     /// What is at the path of an output, or at that of the input, is not as a hit needs it.
@@ -30,6 +33,7 @@ impl Passed {
         match self {
             Passed::Arguments(reason) => reason.as_str(),
             Passed::HeaderTest => "header-test",
+            Passed::ResponseFile => "response-file",
             Passed::Path => "path",
             Passed::Output => "output",
         }
@@ -52,6 +56,13 @@ fn ask_for_file(arguments: &[Vec<u8>]) -> bool
     arguments.iter().any(|argument| may_ask_for_file(argument))
 }
 
+// Whether an argument may name a file of arguments of a program that the compiler runs.
+fn name_arguments(arguments: &[Vec<u8>]) -> bool
+    ensures { IsTrue result ↔ NameArguments (lists_of arguments.now) }
+{
+    arguments.iter().any(|argument| may_name_arguments(argument))
+}
+
 /// Judges a call by its arguments and the rows of a table: what it asks for, or why it is not cached.
 ///
 /// The error is lack of memory.
@@ -68,6 +79,9 @@ pub fn judge<'a>(
     };
     if ask_for_file(arguments) {
         return Ok(Judged::PassedOn(Passed::HeaderTest));
+    }
+    if name_arguments(arguments) {
+        return Ok(Judged::PassedOn(Passed::ResponseFile));
     }
     match paths_of(alloc, &asked)? {
         Some(paths) => Ok(Judged::Asks(asked, paths)),

@@ -18,6 +18,7 @@ mod program;
 mod prune;
 mod record;
 mod request;
+mod response;
 mod searched;
 mod stats;
 mod tested;

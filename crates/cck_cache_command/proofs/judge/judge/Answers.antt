@@ -4,3 +4,7 @@ use Rattle.cck_cache_command.proofs.judge.judge.Goals as goal
 
 pub returns-then-ask_for_file : goal.returns-then-ask_for_file
 returns-then-ask_for_file c = (call_of c.in-Asks.asked, sym c.in_ok-asked.ensures ∙ ap outcome_of c.in-Asks.is, c.ask_for_file.ensures.0 c.if-ask_for_file.true)
+
+pub returns-then-name_arguments : goal.returns-then-name_arguments
+returns-then-name_arguments c =
+    (call_of c.in-Asks.asked, sym c.in_ok-asked.ensures ∙ ap outcome_of c.in-Asks.is, c.ask_for_file.ensures.1 c.if-ask_for_file.false, c.name_arguments.ensures.0 c.if-name_arguments.true)

@@ -1,6 +1,5 @@
-use Rattle.std.proofs.Common.{◌≡◌, ◌∙◌, inl, inr, sym}
+use Rattle.std.proofs.Common.{◌≡◌, ◌∙◌, inl, sym}
 use Rattle.cck_cache_entry.specs.PathTest.{tests_of}
-use Rattle.cck_path.specs.Bytes.{lists_of}
 use Rattle.cck_cache_command.specs.Record.{HasPathTests, HasAskedTests}
 use Rattle.cck_cache_command.proofs.InputLemmas.{calm_kept}
 use Rattle.cck_cache_command.proofs.RecordLemmas.{calm_grown, files_of, gathered_over}
@@ -12,14 +11,14 @@ returns-in-Refused-cause g c =
     let text = c.args.text.now in
     let cwd = c.as_bytes.result.now in
     let after = c.add_named_files.new.files in
-    inr (inl (record {
+    inl (record {
       files = after.files;
       are_files = files_of request text cwd c.in_ok-files.files after c.in_ok-files.ensures.calm c.in_ok-files.ensures.input c.in_ok-is_doubtful.ensures.named c.as_bytes.ensures.value;
       states = c.tested_by.new.states;
       since_is = c.tested_by.ensures.kept.since ∙ c.new-asked.ensures.since;
       printed = c.deref-2.result.now;
       refused = rw c.in-Refused-cause.is at c.in_ok-tested.ensures.tested;
-    }))
+    })
 
 pub returns : goal.returns
 returns g c =
@@ -30,22 +29,21 @@ returns g c =
     let before = c.in_ok-files.files in
     let after = c.add_named_files.new.files in
     let new = c.tested_by.new.files in
-    let paths = lists_of c.in-Paths.paths.items in
-    let tests = tests_of c.in-Tests.asked_tests.items in
-    let absent : HasAbsentPaths request since text paths = record {
+    let made = tests_of c.in-Tests.tests.items in
+    let tests = tests_of c.in-Tests-asked_tests.asked_tests.items in
+    let path_tests : HasPathTests request since text made = record {
       states = c.absence_of.new.states;
       since_is = c.in_ok-refusal.ensures.kept.since ∙ c.new-states.ensures.since;
       printed = c.deref.result.now;
-      paths_are = rw c.in-Paths.is at c.in_ok-refusal.ensures.absence;
+      tests_are = rw c.in-Tests.is at c.in_ok-refusal.ensures.absence;
     } in
     let tested : HasAskedTests request since text after.files tests = record {
       states = c.tested_by.new.states;
       since_is = c.tested_by.ensures.kept.since ∙ c.new-asked.ensures.since;
       printed = c.deref-2.result.now;
-      tests_are = rw c.in-Tests.is at c.in_ok-tested.ensures.tested;
+      tests_are = rw c.in-Tests-asked_tests.is at c.in_ok-tested.ensures.tested;
     } in
     let are = files_of request text cwd before after c.in_ok-files.ensures.calm c.in_ok-files.ensures.input c.in_ok-is_doubtful.ensures.named c.as_bytes.ensures.value in (
-      sym c.in_ok-may_include.ensures ∙ c.if-branch.false,
-      gathered_over request since text after.files new.files paths tests c.in_ok-tested.ensures.keeps.same_map are absent tested,
+      gathered_over request since text after.files new.files made tests c.in_ok-tested.ensures.keeps.same_map are path_tests tested,
       calm_kept after new c.in_ok-tested.ensures.keeps (calm_grown text cwd before after c.in_ok-is_doubtful.ensures.named c.in_ok-files.ensures.calm),
     )
