@@ -1,12 +1,12 @@
 -- The names of files that a program read, beside those of a text.
-use Rattle.std.proofs.Common.{◌≡◌, ℕ, ◌≤◌, ◌⊎◌, inl, inr, Bool, true, false, cond, ◌||◌, ◌==◌, List, [], ◌∷◌, IsTrue, length, map, refl, sym, ap, subst, ◌∙◌, arith}
+use Rattle.std.proofs.Common.{◌≡◌, ℕ, ◌≤◌, inl, inr, Bool, true, false, cond, ◌==◌, List, [], ◌∷◌, IsTrue, length, map, refl, sym, ap, subst, ◌∙◌, arith}
 use Rattle.std.specs.Global.{Vec}
 use Rattle.std.specs.List.{list_all, list_any}
 use Rattle.std.specs.Str.{bytes_eq}
 use Rattle.std.proofs.lemmas.Bool.{and_from, and_parts, or_cases, or_left, or_right}
 use Rattle.std.proofs.lemmas.Slice.Eq.{bytes_eq-Decides}
 use Rattle.cck_markers.specs.Marks.{Mark}
-use Rattle.cck_cache_entry.specs.Names.{AreNames, directory_of, is_named}
+use Rattle.cck_cache_entry.specs.Names.{AreNames, directory_of}
 use Rattle.cck_cache_entry.specs.ReadFiles.{AreListed, AreNamesOf, IsNameOf, is_name_of, without_dots}
 use Rattle.cck_cache_entry.specs.Rule.{IsRule}
 use Rattle.cck_cache_entry.specs.Sets.{has_key}

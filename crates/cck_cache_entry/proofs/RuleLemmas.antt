@@ -1,10 +1,10 @@
 -- The names of a rule are read in one way.
-use Rattle.std.proofs.Common.{◌≡◌, ℕ, Bool, true, false, ◌&&◌, ◌==◌, List, [], ◌∷◌, ◌++◌, Some, refl, sym, ap, inl, inr, ◌∙◌, append_assoc}
+use Rattle.std.proofs.Common.{◌≡◌, ℕ, true, ◌&&◌, ◌==◌, List, [], ◌∷◌, ◌++◌, Some, refl, sym, ap, inl, inr, ◌∙◌, append_assoc}
 use Rattle.std.specs.List.{flat_map, list_all}
 use Rattle.std.proofs.lemmas.Bool.{or_cases, and_parts}
 use Rattle.std.proofs.lemmas.Bool.Decides.{Decides-eqb}
 use Rattle.std.proofs.lemmas.List.{append-nil}
-use Rattle.cck_cache_entry.specs.Rule.{IsRule, after_target, are_targets, ends_rule, is_pair, is_piece, is_quoted, is_single, names_of, piece_text}
+use Rattle.cck_cache_entry.specs.Rule.{IsRule, after_target, ends_rule, is_pair, is_piece, is_quoted, is_single, names_of, piece_text}
 use Rattle.cck_cache_entry.specs.declared.rule.Piece.{Piece}
 use Rattle.cck_cache_entry.specs.declared.rule.Piece.TheVariants.{One, Two}
 

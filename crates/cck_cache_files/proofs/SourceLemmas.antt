@@ -1,5 +1,5 @@
 -- What sources ask for, name by name.
-use Rattle.std.proofs.Common.{◌≡◌, ℕ, ◌+◌, ◌<◌, ◌⊎◌, inl, inr, true, false, List, [], Some, None, Ok, Err, IsTrue, length, map, get_or, refl, sym, ap, ◌∙◌, arith, subst}
+use Rattle.std.proofs.Common.{◌≡◌, ℕ, ◌+◌, ◌<◌, ◌⊎◌, inl, inr, true, false, List, [], Some, None, Result, Ok, Err, IsTrue, length, map, get_or, refl, sym, ap, ◌∙◌, arith, subst}
 use Rattle.std.specs.BTreeSet.{BTreeSet}
 use Rattle.std.specs.Global.{Vec}
 use Rattle.std.proofs.lemmas.Bool.{cases_lt}
@@ -82,17 +82,17 @@ pub asks_here : (files : FileMap) (directory : Bytes) (directories names : List 
 asks_here files directory directories names n contents old middle new is here before =
     adds_more (AsksAt files directory directories names) n old middle new before
     (adds_as (AsksFor directories (get_or names n []) contents) (AsksAt files directory directories names n) middle new (λ path asks. (contents, is, asks))
-    (λ path asks. subst (λ (b : Bytes). AsksFor directories (get_or names n []) b path) (one asks.0 contents (sym asks.1 ∙ is)) asks.2) here)
+    (λ path asks. subst (λ (b : Bytes). AsksFor directories (get_or names n []) b path) (one asks.0 contents asks.1 is) asks.2) here)
   where
-    one : (a b : Bytes) → Ok {E = FileError} a ≡ Ok b → a ≡ b
-    one a b e = cc
+    one : {x : Result Bytes FileError} (a b : Bytes) → x ≡ Ok a → x ≡ Ok b → a ≡ b
+    one a b first second = cc
 
 pub plain_here : (files : FileMap) (directory : Bytes) (names : List Bytes) (n : ℕ) (contents : Bytes) → IsContents files directory (get_or names n []) (Some contents) → IsPlainSource contents → PlainBelow files directory names n → PlainBelow files directory names (n + 1)
 plain_here files directory names n contents is plain before =
-    plain_more files directory names n (λ other other_is. subst IsPlainSource (one contents other (sym is ∙ other_is)) plain) before
+    plain_more files directory names n (λ other other_is. subst IsPlainSource (one contents other is other_is) plain) before
   where
-    one : (a b : Bytes) → Ok {E = FileError} a ≡ Ok b → a ≡ b
-    one a b e = cc
+    one : {x : Result Bytes FileError} (a b : Bytes) → x ≡ Ok a → x ≡ Ok b → a ≡ b
+    one a b first second = cc
 
 -- what the sources of names ask for, by other words for the names
 pub asked_same : (files : FileMap) (directory : Bytes) (P Q : Bytes → Type 0) (directories : List Bytes) (asked : Asked) → ((name : Bytes) → P name → Q name) → ((name : Bytes) → Q name → P name) → AreAsked files directory P directories asked → AreAsked files directory Q directories asked

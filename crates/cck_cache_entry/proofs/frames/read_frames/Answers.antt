@@ -1,7 +1,6 @@
-use Rattle.std.proofs.Common.{◌≡◌, true, false, ◌==◌, ℕ, List, [], ◌∷◌, ◌++◌, length, map, arith, sym, ◌∙◌, ap}
+use Rattle.std.proofs.Common.{◌≡◌, [], ◌++◌, length, map, arith, sym, ◌∙◌, ap}
 use Rattle.std.specs.List.{flat_map}
-use Rattle.std.proofs.lemmas.List.{append-nil, length-append, nil_from_length}
-use Rattle.std.proofs.lemmas.Bool.Decides.{Decides-eqb}
+use Rattle.std.proofs.lemmas.List.{append-nil, length-append}
 use Rattle.cck_digest.specs.Frames.{frame}
 use Rattle.cck_cache_entry.proofs.ReadingLemmas.{empty, frames_found, no_frames, not_empty, length-frame}
 use Rattle.cck_cache_entry.proofs.frames.read_frames.Goals as goal

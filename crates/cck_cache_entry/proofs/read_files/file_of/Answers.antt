@@ -1,4 +1,3 @@
-use Rattle.std.proofs.Common.{◌≤◌, length, subst}
 use Rattle.cck_cache_entry.proofs.ReadLemmas.{directory_within}
 use Rattle.cck_cache_entry.proofs.read_files.file_of.Goals as goal
 

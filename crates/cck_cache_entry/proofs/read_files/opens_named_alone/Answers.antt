@@ -1,4 +1,4 @@
-use Rattle.std.proofs.Common.{◌≡◌, ◌↔◌, IsTrue, [], true, Some, map, refl, sym}
+use Rattle.std.proofs.Common.{◌↔◌, IsTrue, [], true, Some, map, refl, sym}
 use Rattle.std.proofs.lemmas.Result.{IfOk-weaker}
 use Rattle.cck_markers.proofs.EachText.{has_one_list}
 use Rattle.cck_cache_entry.specs.ReadFiles.{AreNamesOf, IsOpenedRule}

@@ -5,7 +5,7 @@ use Rattle.cck_cache_files.proofs.snapshot.add_file.Goals as goal
 pub returns-in_default-clause-added : goal.returns-in_default-clause-added
 returns-in_default-clause-added g c = added_none c.args.files.now c.args.path.now
 
-pub returns-in_default-read_node-clause-added : goal.returns-in_default-node-clause-added
+pub returns-in_default-read_node-clause-added : goal.returns-in_default-read_node-clause-added
 returns-in_default-read_node-clause-added g c = added_none c.args.files.now c.args.path.now
 
 pub returns-clause-added : goal.returns-clause-added
