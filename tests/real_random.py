@@ -9,7 +9,6 @@ With --planted programs with an error stand before the program, and each has to 
 import argparse
 import collections
 import concurrent.futures
-import glob
 import json
 import os
 import subprocess
@@ -59,10 +58,9 @@ def arguments():
     parser.add_argument("--steps", type=int, default=1000, help="how many calls are made")
     parser.add_argument("--compiler", default="gcc")
     parser.add_argument("--jobs", type=int, default=1, help="projects side by side")
-    parser.add_argument("--keep", metavar="DIRECTORY", help="write the history of each failure to a file there")
+    parser.add_argument("--keep", metavar="DIRECTORY", help="write the history of each failure to a file there; with a file `stop` in it no further project begins")
     parser.add_argument("--replay", metavar="FILE", help="play the history of a file")
     parser.add_argument("--shrink-seconds", type=float, default=60, help="the time to shrink one failure")
-    parser.add_argument("--first", action="store_true", help="end after the first difference")
     parser.add_argument("--planted", action="store_true", help="look for planted errors instead, each in so many calls")
     return parser.parse_args()
 
@@ -101,9 +99,10 @@ def report(options, name, history, judged):
 
 
 def project(options, name):
-    """Plays a random project."""
+    """Plays a random project, unless the run is to end."""
     made = Project(name)
-    return played(options, name, made.steps(), made)
+    is_over = options.keep and os.path.exists(options.keep + "/stop")
+    return played(options, name, [] if is_over else made.steps(), made)
 
 
 def replay(options):
@@ -121,14 +120,36 @@ def play_all(options):
         waiting = [pool.submit(project, options, name) for name in names]
         for done in concurrent.futures.as_completed(waiting):
             yield done.result()
-            if options.first and done.result()[1]:
-                pool.shutdown(cancel_futures=True)
-                return
+
+
+def shows(path, program):
+    """Whether a program shows a difference in the history of a file."""
+    return subprocess.run([sys.executable, os.path.abspath(__file__), "--replay", path, "--shrink-seconds", "0"],
+                          env={**os.environ, "CCK_PROGRAM": program}, capture_output=True, check=False).returncode != 0
+
+
+def find(options, program, directory):
+    """Plays random projects with a program that has an error, and prints the first difference that the program without
+    the error does not have. It returns whether there is one."""
+    words = ["--keep", directory] + [word for name in ("seed", "steps", "jobs", "compiler") for word in (
+        f"--{name}", str(getattr(options, name)))] + ["--shrink-seconds", str(options.shrink_seconds)]
+    run = subprocess.Popen([sys.executable, os.path.abspath(__file__), *words], env={**os.environ, "CCK_PROGRAM": program},
+                           stdout=subprocess.PIPE, text=True)
+    is_found, lines = False, []
+    for line in run.stdout:
+        lines = [line] if line.startswith("FAILED") else lines + [line]
+        path = line.strip()[2:]
+        if path.startswith(directory) and shows(path, program) and not shows(path, PROGRAM):
+            print("".join(lines), end="")
+            is_found = True
+            break
+    open(directory + "/stop", "wb").close()
+    run.communicate()
+    return is_found
 
 
 def find_planted(options):
-    """Looks for each planted error, and returns how many were not found. A difference counts if the program without the
-    error does not have it."""
+    """Looks for each planted error, and returns how many were not found."""
     missing = 0
     for what, text in PLANTED.items():
         with tempfile.TemporaryDirectory(prefix="cck-") as directory:
@@ -136,18 +157,10 @@ def find_planted(options):
             with open(program, "w", encoding="utf-8") as file:
                 file.write(f'#!/bin/sh{text}\nexec "{PROGRAM}" "$@"\n')
             os.chmod(program, 0o755)
-            again = [sys.executable, os.path.abspath(__file__), "--compiler", options.compiler]
-            done = subprocess.run(
-                again + ["--first", "--keep", directory, "--seed", options.seed, "--steps", str(options.steps), "--jobs",
-                         str(options.jobs), "--shrink-seconds", str(options.shrink_seconds)],
-                env={**os.environ, "CCK_PROGRAM": program}, capture_output=True, text=True, check=False)
-            differences = glob.glob(directory + "/*.json")
-            others = [path for path in differences
-                      if subprocess.run(again + ["--replay", path], capture_output=True, check=False).returncode]
-        print(done.stdout, end="")
-        is_found = len(others) < len(differences)
+            start = time.time()
+            is_found = find(options, program, directory)
         missing += not is_found
-        print(f"found: {what}" if is_found else f"FAILED: not found: {what}", flush=True)
+        print(f"{'found' if is_found else 'FAILED: not found'}: {what} ({time.time() - start:.0f} seconds)", flush=True)
     return missing
 
 

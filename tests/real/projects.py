@@ -2,6 +2,7 @@
 of steps, each a dictionary of JSON: something done to the tree, or a call. `@root` is the top of the tree."""
 import os
 import random
+import re
 
 from tables import OPTIONS, SNIPPETS, VARIABLES
 
@@ -40,6 +41,8 @@ def rows(table):
 SNIPPET_ROWS, OPTION_ROWS, VARIABLE_ROWS = rows(SNIPPETS), rows(OPTIONS), rows(VARIABLES)
 # What most compilers refuse, or what the wrapper may pass on: mostly for one call.
 ODD_OPTIONS = {row for row, weight in zip(*OPTION_ROWS) if weight <= 1.5}
+# What a cache may refuse to record: a project has snippets of few of these kinds.
+KINDS = ("__TI|__DATE|__TIMES|T@m", "__has_|E@m", "asm", "dep")
 
 
 class Project:
@@ -48,6 +51,7 @@ class Project:
     def __init__(self, seed):
         self.chance = random.Random(seed)
         self.history, self.past, self.calls, self.number, self.recent = [], {}, [], 0, None
+        self.without = re.compile("|".join(kind for kind in KINDS if not self.is_rare(0.25)) or "$^")
         # What is at each path, as the step that put it there.
         self.tree = {}
         self.call = None
@@ -146,7 +150,7 @@ class Project:
             place, text = self.pick(*SNIPPET_ROWS).split(" ", 1)
             names = self.includable(path, text)
             if (place in ("any", "h" if path.endswith(".h") else "c") and text.startswith(start)
-                    and (names or "@h" not in text)):
+                    and (names or "@h" not in text) and not self.without.search(text)):
                 break
         self.number += 1
         parts = {"@n": self.number, "@k": self.chance.randrange(10), "@m": self.chance.randrange(3),
@@ -191,7 +195,7 @@ class Project:
         self.call = {"mode": ["-c"], "output": self.pick(OUTPUTS), "input": ["x.c"], "options": options,
                      "variables": {}, "directory": "work", "umask": 0o022}
         for _ in range(self.chance.randint(0, 5)):
-            self.add_option()
+            self.add_option(is_usual=True)
 
     def spelled(self, directory):
         return self.pick(SPELLINGS).format(directory) if self.is_rare(0.6) else directory
@@ -207,8 +211,10 @@ class Project:
                              "waits": not self.is_rare(0.12), **({"late": self.pending} if self.pending else {})})
         self.calls.append({**call, "options": options, "variables": dict(call["variables"])})
 
-    def option(self):
+    def option(self, is_usual):
         row = self.pick(*OPTION_ROWS)
+        while is_usual and row in ODD_OPTIONS:
+            row = self.pick(*OPTION_ROWS)
         form, *rest = row.split(" ")
         self.undone = 0.9 if row in ODD_OPTIONS else 0.2
         if form == "words":
@@ -226,9 +232,9 @@ class Project:
             return [name, value]
         return [name + value]
 
-    def add_option(self):
+    def add_option(self, is_usual=False):
         options = self.call["options"] = list(self.call["options"])
-        options.insert(self.chance.randint(0, len(options)), self.option())
+        options.insert(self.chance.randint(0, len(options)), self.option(is_usual))
 
     def drop_option(self):
         self.call["options"] = list(self.call["options"])
