@@ -194,7 +194,7 @@ class Project:
         self.chance.shuffle(options)
         self.call = {"mode": ["-c"], "output": self.pick(OUTPUTS), "input": ["x.c"], "options": options,
                      "variables": {}, "directory": "work", "umask": 0o022}
-        for _ in range(self.chance.randint(0, 5)):
+        for _ in range(self.chance.randint(1, 7)):
             self.add_option(is_usual=True)
 
     def spelled(self, directory):
@@ -428,7 +428,7 @@ class Project:
         pass
 
     CHANGES = rows("""
-        30 nothing
+        20 nothing
         16 back
         9 call_again
         8 edit
@@ -451,7 +451,7 @@ class Project:
         1.5 mode
         4 add_option
         3 drop_option
-        6 leave_out_option
+        9 leave_out_option
         3 change_option
         3 respell
         2 change_output
