@@ -21,6 +21,7 @@ INPUTS = [["x.c"]] * 14 + [["src/y.c"]] * 3 + [
 ODD_INPUTS = [["x.c", "src/y.c"], ["--", "x.c"], ["-x", "c", "x.c"], ["missing.c"], ["a"], [], ["x.c", "x.c"], ["-"],
               ["copy.i"], ["-xc", "a/h.h"], [""], ["x.c", "-x", "none"]]
 MODES = [["-c"]] * 30 + [["-S"], ["-E"], [], ["-fsyntax-only"], ["-c", "-c"], ["-c", "-E"]]
+SEARCHING = ["-I", "-iquote", "-isystem", "-idirafter"]
 DEPENDENCIES = ["work/out/x.d", "work/x.d", "work/out/y.d"]
 TEXTS = "#define TEXT_(x) #x\n#define TEXT(x) TEXT_(x)\n#define PASTE_(a, b) a##b\n#define PASTE(a, b) PASTE_(a, b)"
 
@@ -335,11 +336,22 @@ class Project:
         seconds = self.pick([None, None, 1000000000 + self.chance.randrange(10**6), 4000000000])
         self.do({"do": "touch", "path": self.pick(sorted(self.tree)), "seconds": seconds})
 
+    def searched(self):
+        """The directories of the call's search list, as paths of the tree, the first ones more often than once."""
+        found = []
+        for option in self.call["options"]:
+            name = next((name for name in SEARCHING if option[0].startswith(name)), None)
+            value = name and (option[1] if len(option) > 1 else option[0][len(name):])
+            if value:
+                found.append(os.path.normpath(value[6:] if value.startswith("@root/") else f"work/{value}"))
+        return [path for path in found[:1] * 3 + found[:2] * 2 + found if path.split("/")[0] in ("work", "other")]
+
     def appear(self):
-        """A header, mostly of a name that there is, in another directory."""
-        name = self.pick([os.path.basename(path) for path in self.headers()] + HEADERS)
-        place = self.pick(PLACES + ["work/missing", "work/c"])
-        self.write(f"{place}/{name}", 0, 3)
+        """A header, mostly of a name that there is, in another directory, mostly one of the search list."""
+        names = [name for name in HEADERS if any(path.endswith("/" + name) for path in self.headers())]
+        name = self.pick(names * 4 + HEADERS)
+        searched = self.searched() if self.is_rare(0.7) else []
+        self.write(f"{self.pick(searched or PLACES + ['work/missing', 'work/c'])}/{name}", 0, 3)
 
     def copied(self):
         """A copy of a header in another directory, with the same time or not."""
@@ -436,7 +448,7 @@ class Project:
         5 comment
         4 same_size
         6 touch
-        9 appear
+        12 appear
         2 copied
         4 remove
         2 rename
