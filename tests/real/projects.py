@@ -347,11 +347,13 @@ class Project:
         return [path for path in found[:1] * 3 + found[:2] * 2 + found if path.split("/")[0] in ("work", "other")]
 
     def appear(self):
-        """A header, mostly of a name that there is, in another directory, mostly one of the search list."""
+        """A header, mostly of a name that there is, in another directory, mostly one of the search list before it."""
         names = [name for name in HEADERS if any(path.endswith("/" + name) for path in self.headers())]
-        name = self.pick(names * 4 + HEADERS)
-        searched = self.searched() if self.is_rare(0.7) else []
-        self.write(f"{self.pick(searched or PLACES + ['work/missing', 'work/c'])}/{name}", 0, 3)
+        earlier = [f"{place}/{name}" for place in self.searched() for name in names if f"{place}/{name}" not in self.tree]
+        if earlier and self.is_rare(0.75):
+            self.write(self.pick(earlier), 0, 3)
+        else:
+            self.write(self.pick(PLACES + ["work/missing", "work/c"]) + "/" + self.pick(names * 2 + HEADERS), 0, 3)
 
     def copied(self):
         """A copy of a header in another directory, with the same time or not."""
