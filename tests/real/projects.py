@@ -72,6 +72,7 @@ class Project:
             if self.pending:
                 self.do(self.pending)
                 self.pending = None
+                continue
             if not self.failed:
                 self.good = dict(self.call), dict(self.tree), given
             elif self.good is None:
@@ -410,12 +411,19 @@ class Project:
         self.do({"do": "hard", "path": path, "to": self.pick(["work/x.c", "work/out/old.o", "work/data"] + self.headers())})
 
     def late(self):
-        """A change so that the call is recorded, and a header or the input that is written while it is."""
-        self.edit()
-        path = self.pick(self.headers() * 2 + ["work/x.c"])
-        step = self.tree.get(path)
-        if step and step["do"] == "write":
-            self.pending = {**step, "path": path, "snippets": step["snippets"] + [self.snippet(path)], "keeps": False}
+        """A change of the input so that the call is recorded, and a header, mostly one that the input includes, that is
+        written while it is."""
+        step = self.tree.get("work/x.c")
+        if not step or step["do"] != "write":
+            return
+        self.rewrite("work/x.c", step["snippets"] + [self.snippet("work/x.c", "int")])
+        text = "".join(step["snippets"])
+        headers = [path for path in self.headers() if self.tree[path]["do"] == "write"]
+        path = self.pick([path for path in headers if any(
+            f"{mark}{name}" in text for mark in '"<' for name in HEADERS if path.endswith("/" + name))] * 3 + headers or [""])
+        if path:
+            snippets = self.tree[path]["snippets"] + [self.snippet(path, "int")]
+            self.pending = {**self.tree[path], "path": path, "snippets": snippets, "keeps": False}
 
     def directory(self):
         self.undone = 0.5
@@ -460,7 +468,7 @@ class Project:
         2 linked
         3 again
         1 hard
-        3 late
+        5 late
         3 data
         1.5 mode
         4 add_option
