@@ -145,8 +145,9 @@ def main():
         for case, done in zip(chosen, pool.map(lambda case: run(case, tools, with_ccache), chosen)):
             failed += bool(done.wrong)
             others += bool(done.others)
-            verdicts = f"FAILED: {case[0]}: {'; '.join(done.wrong)}" if done.wrong else f"{case[0]}: {', '.join(done.verdicts)}"
-            print(verdicts + (f" [ccache: {', '.join(done.others)}]" if done.others else ""), flush=True)
+            said = f"FAILED: {case[0]}: {'; '.join(done.wrong)}"
+            said = said if done.wrong else f"{case[0]}: {', '.join(done.verdicts)}"
+            print(said + (f" [ccache: {', '.join(done.others)}]" if done.others else ""), flush=True)
     if with_ccache:
         print(f"ccache: {others} with another output than {COMPILER}'s")
     print(f"real_cases: {len(chosen) - failed} passed, {failed} failed")

@@ -58,7 +58,8 @@ def arguments():
     parser.add_argument("--steps", type=int, default=1000, help="how many calls are made")
     parser.add_argument("--compiler", default="gcc")
     parser.add_argument("--jobs", type=int, default=1, help="projects side by side")
-    parser.add_argument("--keep", metavar="DIRECTORY", help="write the history of each failure to a file there; with a file `stop` in it no further project begins")
+    parser.add_argument("--keep", metavar="DIRECTORY", help="write the history of each failure to a file there; where it "
+                        "has a file `stop`, no further project begins")
     parser.add_argument("--replay", metavar="FILE", help="play the history of a file")
     parser.add_argument("--shrink-seconds", type=float, default=60, help="the time to shrink one failure")
     parser.add_argument("--planted", action="store_true", help="look for planted errors instead, each in so many calls")
@@ -177,7 +178,8 @@ def main():
         if lines:
             print("\n".join(lines), flush=True)
     calls = counts["equal"] + counts["differing"]
-    print(f"{calls} calls in {time.time() - start:.0f} seconds: " + ", ".join(f"{name} {counts[name]}" for name in COUNTS))
+    print(f"{calls} calls in {time.time() - start:.0f} seconds: " + ", ".join(
+        f"{name} {counts[name]}" for name in COUNTS))
     if 4 * counts["hit"] < calls and calls >= 200:
         print("fewer than a quarter of the calls were hits: this run tests little")
     print(f"real_random: {counts['equal']} passed, {counts['differing']} failed")

@@ -258,7 +258,8 @@ def write_line(step):
 def late_line(late):
     """What makes a program that does what is late and then calls the one of the variable `real`."""
     records = shlex.quote(f'[ "$1" != record ] || (cd "$root/{CWD}"; {write_line(late)})')
-    return f"printf '%s\\n' '#!/bin/sh' {records} 'exec \"$real\" \"$@\"' >\"$root/cck_cache\"; chmod +x \"$root/cck_cache\"; "
+    lines = f"printf '%s\\n' '#!/bin/sh' {records} 'exec \"$real\" \"$@\"'"
+    return f"{lines} >\"$root/cck_cache\"; chmod +x \"$root/cck_cache\"; "
 
 
 def call_line(step, compiler):

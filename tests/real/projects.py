@@ -399,7 +399,8 @@ class Project:
             self.number += 1
             to = f"work/moved{self.number}"
             self.do({"do": "rename", "path": path, "to": to})
-            self.do({"do": "link", "path": path, "to": self.pick([to, to, "work/b", "other"]).replace("work", "@root/work", 1)})
+            to = self.pick([to, to, "work/b", "other"])
+            self.do({"do": "link", "path": path, "to": "@root/" + to})
 
     def again(self):
         """A directory or a file that is removed and made again."""
@@ -437,7 +438,8 @@ class Project:
     def data(self):
         path = self.pick(["work/data", "work/data", "work/@defs", "work/@words", "work/words", "work/missing", "work/copy.i",
                           "work/out/x.o", *DEPENDENCIES])
-        text = {"@defs": ["M1=2", "M0"], "@words": ["-DM2=3", "-O1"], "words": ["a", "b", "M1=3"]}.get(path[5:], ["one", "two", "int copied;"])
+        texts = {"@defs": ["M1=2", "M0"], "@words": ["-DM2=3", "-O1"], "words": ["a", "b", "M1=3"]}
+        text = texts.get(path[5:], ["one", "two", "int copied;"])
         self.do({"do": "write", "path": path, "snippets": [self.pick(text)], "guard": ""})
 
     def back(self):
