@@ -52,13 +52,16 @@ class Project:
     def __init__(self, seed):
         self.chance = random.Random(seed)
         self.history, self.past, self.calls, self.number, self.recent = [], {}, [], 0, None
-        self.without = re.compile("|".join(kind for kind in KINDS if not self.is_rare(0.25)) or "$^")
+        few = re.compile("|".join(kind for kind in KINDS if not self.is_rare(0.4)) or "$^")
+        # Which snippets are not chosen: at the start mostly none of those kinds, so that there is something to find again.
+        self.without = re.compile("|".join(KINDS)) if self.is_rare(0.8) else few
         # What is at each path, as the step that put it there.
         self.tree = {}
         self.call = None
         # How likely the last change of the call is undone after it, and what is written while the next call is recorded.
         self.undone, self.pending = 0, None
         self.start()
+        self.without = few
         # Whether the compiler failed in the last call, as the player says; and what was so when it last did not.
         self.failed, self.good = False, None
 
@@ -272,7 +275,7 @@ class Project:
         self.call["mode"] = self.pick(MODES)
 
     def change_variable(self):
-        self.undone = 0.5
+        self.undone = 0.8
         name, *values = self.pick(*VARIABLE_ROWS).split(" ")
         self.call["variables"] = dict(self.call["variables"])
         if self.call["variables"] and self.is_rare(0.6):
