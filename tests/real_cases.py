@@ -2,7 +2,9 @@
 """A table of calls, tests/real/cases.txt: what the wrapper does in each, and that all its outputs (status, what is
 printed, files with their modes) are the plain compiler's. Where ccache is installed its outputs are compared too,
 and reported. Run by hand; needs gcc and the program (CCK_PROGRAM, by default the one that was proved and built here).
-The arguments are parts of the names of cases, by default all. The last line is `real_cases: N passed, M failed`."""
+The last line is `real_cases: N passed, M failed`."""
+import argparse
+import concurrent.futures
 import os
 import shutil
 import subprocess
@@ -61,9 +63,10 @@ def do(items, place, variables):
 class Case:
     """One case in a room: what was not right of its calls."""
 
-    def __init__(self, room, fields, with_ccache):
+    def __init__(self, room, fields, tools, with_ccache):
         _, files, self.line, change, again, right = fields
         self.room, self.wrong, self.verdicts, self.with_ccache, self.others = room, [], [], with_ccache, []
+        self.variables = {**room.variables, **tools, "CC": COMPILER, "CACHED": f"{WRAPPER} {COMPILER}"}
         second, _, last = right.rpartition(", ")
         self.act(files)
         self.call("first", None)
@@ -79,7 +82,7 @@ class Case:
         place = self.room.root + "/w"
         os.makedirs(place, exist_ok=True)
         try:
-            do(items, place, {**self.room.variables, "CC": COMPILER, "CACHED": f"{WRAPPER} {COMPILER}"})
+            do(items, place, self.variables)
         except (OSError, subprocess.CalledProcessError) as error:
             self.wrong.append(f"not done: {error}")
         time.sleep(PAUSE)
@@ -102,22 +105,49 @@ class Case:
             self.others = difference(judged.wanted, other)
 
 
+def build(directory):
+    """The programs that cases use, by the variables that name them."""
+    sources = TOP + "/tests/real/"
+    subprocess.run([COMPILER, "-O1", "-o", directory + "/stub", sources + "stub.c"], check=True)
+    subprocess.run([COMPILER, "-O1", "-shared", "-fPIC", "-o", directory + "/whole.so", sources + "whole.c", "-ldl"],
+                   check=True)
+    return {"STUB": directory + "/stub", "WHOLE": directory + "/whole.so"}
+
+
+def run(case, tools, with_ccache):
+    """Runs a case in a room of its own."""
+    directory = tempfile.mkdtemp(prefix="cck-")
+    try:
+        return Case(Room(directory), case, tools, with_ccache)
+    finally:
+        shutil.rmtree(directory, ignore_errors=True)
+
+
+def arguments():
+    parser = argparse.ArgumentParser(description=__doc__)
+    parser.add_argument("names", nargs="*", help="parts of the names of cases, by default all")
+    parser.add_argument("--jobs", type=int, default=1, help="cases side by side")
+    return parser.parse_args()
+
+
 def main():
+    options = arguments()
     need_program()
-    chosen = [case for case in cases() if not sys.argv[1:] or any(part in case[0] for part in sys.argv[1:])]
+    chosen = [case for case in cases() if not options.names or any(part in case[0] for part in options.names)]
     for case in chosen:
         if not set(case[5].replace(", ", "/").split("/")) <= set(VERDICTS):
             sys.exit(f"{TABLE}: no verdict: {case[5]}")
     with_ccache = shutil.which("ccache")
     failed = others = 0
-    for case in chosen:
-        directory = tempfile.mkdtemp(prefix="cck-")
-        done = Case(Room(directory), case, with_ccache)
-        shutil.rmtree(directory, ignore_errors=True)
-        failed += bool(done.wrong)
-        others += bool(done.others)
-        said = f"FAILED: {case[0]}: {'; '.join(done.wrong)}" if done.wrong else f"{case[0]}: {', '.join(done.verdicts)}"
-        print(said + (f" [ccache: {', '.join(done.others)}]" if done.others else ""), flush=True)
+    with tempfile.TemporaryDirectory(prefix="cck-") as directory, concurrent.futures.ThreadPoolExecutor(
+            options.jobs) as pool:
+        tools = build(directory)
+        for case, done in zip(chosen, pool.map(lambda case: run(case, tools, with_ccache), chosen)):
+            failed += bool(done.wrong)
+            others += bool(done.others)
+            said = f"FAILED: {case[0]}: {'; '.join(done.wrong)}"
+            said = said if done.wrong else f"{case[0]}: {', '.join(done.verdicts)}"
+            print(said + (f" [ccache: {', '.join(done.others)}]" if done.others else ""), flush=True)
     if with_ccache:
         print(f"ccache: {others} with another output than {COMPILER}'s")
     print(f"real_cases: {len(chosen) - failed} passed, {failed} failed")

@@ -2,22 +2,54 @@
 """Random projects, and random changes between calls: each call by the plain compiler and by the wrapper, compared in
 all outputs (status, what is printed, files with their modes). A difference is shrunk to the smallest list of steps
 and printed as a script of a shell. Run by hand; needs gcc and the program (CCK_PROGRAM, by default the one that was
-proved and built here). The last line is `real_random: N passed, M failed`."""
+proved and built here). The last line is `real_random: N passed, M failed`.
+
+With --planted programs with an error stand before the program, and each has to be found: the last line is
+`all found`."""
 import argparse
 import collections
 import concurrent.futures
 import json
 import os
+import subprocess
 import sys
 import tempfile
-import threading
 import time
 import types
 
 sys.path.insert(0, os.path.join(os.path.dirname(os.path.abspath(__file__)), "real"))
-from calls import need_program  # noqa: E402
+from calls import PROGRAM, need_program  # noqa: E402
 from history import Fresh, Shrink, play, script  # noqa: E402
 from projects import CALLS, Project  # noqa: E402
+
+COUNTS = ("hit", "miss", "passed", "refused", "other", "unstable")
+# Programs that stand before the program, each with an error, by what it is.
+PLANTED = {
+    "a directory is left out of the list that `record` reads": """
+        if [ "$1" = record ]; then
+            for word; do
+                case $word in
+                --search=*) sed -i '/^#include <[.][.][.]> search starts here:/{n;d;}' "${word#--search=}" ;;
+                esac
+            done
+        fi""",
+    "the options -O are left out of the arguments": """
+        for word; do
+            shift
+            case $word in
+            -O*) ;;
+            *) set -- "$@" "$word" ;;
+            esac
+        done""",
+    "a file that changed while the call ran is recorded": """
+        for word; do
+            shift
+            case $word in
+            --since=*) set -- "$@" "$(echo "$word" | sed 's/=./=9/')" ;;
+            *) set -- "$@" "$word" ;;
+            esac
+        done""",
+}
 
 
 def arguments():
@@ -26,75 +58,128 @@ def arguments():
     parser.add_argument("--steps", type=int, default=1000, help="how many calls are made")
     parser.add_argument("--compiler", default="gcc")
     parser.add_argument("--jobs", type=int, default=1, help="projects side by side")
-    parser.add_argument("--keep", action="store_true", help="write the history of each failure to a file")
+    parser.add_argument("--keep", metavar="DIRECTORY", help="write the history of each failure to a file there; where it "
+                        "has a file `stop`, no further project begins")
     parser.add_argument("--replay", metavar="FILE", help="play the history of a file")
     parser.add_argument("--shrink-seconds", type=float, default=60, help="the time to shrink one failure")
+    parser.add_argument("--planted", action="store_true", help="look for planted errors instead, each in so many calls")
     return parser.parse_args()
 
 
-class Run:
-    """What all projects of a run have in common."""
+def played(options, name, steps, project):
+    """Plays a project up to its first difference: the counts, and the lines of a report."""
+    counts, failure = collections.Counter(), None
+    with Fresh() as room:
+        for place, judged in play(steps, options.compiler, room):
+            project.failed = judged.wanted.status != 0
+            counts[judged.verdict] += 1
+            counts["unstable"] += not judged.is_stable
+            counts["differing" if judged.differing else "equal"] += 1
+            if judged.differing:
+                failure = place, judged
+                break
+    if not failure:
+        return counts, []
+    return counts, report(options, name, project.history[:failure[0] + 1], failure[1])
 
-    def __init__(self, options):
-        self.options = options
-        self.counts = collections.Counter()
-        self.lock = threading.Lock()
 
-    def project(self, name):
-        """Plays a random project up to its first difference."""
-        project = Project(name)
-        self.play(name, project.steps(), project)
+def report(options, name, history, judged):
+    """The lines of a report, and a file of the history if that is wished."""
+    shrunk = Shrink(history, judged, options.compiler, options.shrink_seconds)
+    differing = ", ".join(judged.differing)
+    lines = [f"FAILED: project {name}, step {len(history)}: a {judged.verdict}: {differing} differs"]
+    if not shrunk.holds:
+        lines.append("# not seen again")
+    lines += ["    " + line for line in script(shrunk.history, shrunk.judged, options.compiler)]
+    if options.keep:
+        path = os.path.join(options.keep, f"{name}.json")
+        with open(path, "w", encoding="utf-8") as file:
+            json.dump({"compiler": options.compiler, "history": shrunk.history, "whole": history}, file)
+        lines.append(f"    # {path}")
+    return lines
 
-    def play(self, name, steps, project):
-        failure = None
-        with Fresh() as room:
-            for place, judged in play(steps, self.options.compiler, room):
-                project.failed = judged.wanted.status != 0
-                with self.lock:
-                    self.counts[judged.verdict] += 1
-                    self.counts["unstable"] += not judged.is_stable
-                    self.counts["differing" if judged.differing else "equal"] += 1
-                if judged.differing:
-                    failure = place, judged
-                    break
-        if failure:
-            self.report(name, project.history[:failure[0] + 1], failure[1])
 
-    def report(self, name, history, judged):
-        shrunk = Shrink(history, judged, self.options.compiler, self.options.shrink_seconds)
-        differing = ", ".join(judged.differing)
-        lines = [f"FAILED: project {name}, step {len(history)}: a {judged.verdict}: {differing} differs"]
-        if not shrunk.holds:
-            lines.append("# not seen again")
-        lines += ["    " + line for line in script(shrunk.history, shrunk.judged, self.options.compiler)]
-        if self.options.keep:
-            handle, path = tempfile.mkstemp(prefix=f"real_random-{name}-", suffix=".json")
-            with os.fdopen(handle, "w", encoding="utf-8") as file:
-                json.dump({"compiler": self.options.compiler, "history": shrunk.history, "whole": history}, file)
-            lines.append(f"    # {path}")
-        with self.lock:
-            print("\n".join(lines), flush=True)
+def project(options, name):
+    """Plays a random project, unless the run is to end."""
+    made = Project(name)
+    is_over = options.keep and os.path.exists(options.keep + "/stop")
+    return played(options, name, [] if is_over else made.steps(), made)
+
+
+def replay(options):
+    """Plays the history of a file."""
+    with open(options.replay, encoding="utf-8") as file:
+        read = json.load(file)
+    options.compiler = read["compiler"]
+    return played(options, "replay", read["history"], types.SimpleNamespace(history=read["history"]))
+
+
+def play_all(options):
+    """Plays random projects, some side by side, and gives what came of each."""
+    names = [f"{options.seed}.{number}" for number in range(-(-options.steps // CALLS))]
+    with concurrent.futures.ProcessPoolExecutor(options.jobs) as pool:
+        waiting = [pool.submit(project, options, name) for name in names]
+        for done in concurrent.futures.as_completed(waiting):
+            yield done.result()
+
+
+def shows(path, program):
+    """Whether a program shows a difference in the history of a file."""
+    return subprocess.run([sys.executable, os.path.abspath(__file__), "--replay", path, "--shrink-seconds", "0"],
+                          env={**os.environ, "CCK_PROGRAM": program}, capture_output=True, check=False).returncode != 0
+
+
+def find(options, program, directory):
+    """Plays random projects with a program that has an error, and prints the first difference that the program without
+    the error does not have. It returns whether there is one."""
+    words = ["--keep", directory] + [word for name in ("seed", "steps", "jobs", "compiler") for word in (
+        f"--{name}", str(getattr(options, name)))] + ["--shrink-seconds", str(options.shrink_seconds)]
+    run = subprocess.Popen([sys.executable, os.path.abspath(__file__), *words], env={**os.environ, "CCK_PROGRAM": program},
+                           stdout=subprocess.PIPE, text=True)
+    is_found, lines = False, []
+    for line in run.stdout:
+        lines = [line] if line.startswith("FAILED") else lines + [line]
+        path = line.strip()[2:]
+        if path.startswith(directory) and shows(path, program) and not shows(path, PROGRAM):
+            print("".join(lines), end="")
+            is_found = True
+            break
+    open(directory + "/stop", "wb").close()
+    run.communicate()
+    return is_found
+
+
+def find_planted(options):
+    """Looks for each planted error, and returns how many were not found."""
+    missing = 0
+    for what, text in PLANTED.items():
+        with tempfile.TemporaryDirectory(prefix="cck-") as directory:
+            program = directory + "/cck_cache"
+            with open(program, "w", encoding="utf-8") as file:
+                file.write(f'#!/bin/sh{text}\nexec "{PROGRAM}" "$@"\n')
+            os.chmod(program, 0o755)
+            start = time.time()
+            is_found = find(options, program, directory)
+        missing += not is_found
+        print(f"{'found' if is_found else 'FAILED: not found'}: {what} ({time.time() - start:.0f} seconds)", flush=True)
+    return missing
 
 
 def main():
     options = arguments()
     need_program()
-    run = Run(options)
-    start = time.time()
-    if options.replay:
-        with open(options.replay, encoding="utf-8") as file:
-            read = json.load(file)
-        options.compiler = read["compiler"]
-        run.play("replay", read["history"], types.SimpleNamespace(history=read["history"]))
-    else:
-        names = [f"{options.seed}.{number}" for number in range(-(-options.steps // CALLS))]
-        with concurrent.futures.ThreadPoolExecutor(options.jobs) as pool:
-            for done in [pool.submit(run.project, name) for name in names]:
-                done.result()
-    counts = run.counts
+    if options.planted:
+        missing = find_planted(options)
+        print(f"{missing} not found" if missing else "all found")
+        sys.exit(1 if missing else 0)
+    start, counts = time.time(), collections.Counter()
+    for found, lines in [replay(options)] if options.replay else play_all(options):
+        counts += found
+        if lines:
+            print("\n".join(lines), flush=True)
     calls = counts["equal"] + counts["differing"]
     print(f"{calls} calls in {time.time() - start:.0f} seconds: " + ", ".join(
-        f"{name} {counts[name]}" for name in ("hit", "miss", "passed", "refused", "other", "unstable")))
+        f"{name} {counts[name]}" for name in COUNTS))
     if 4 * counts["hit"] < calls and calls >= 200:
         print("fewer than a quarter of the calls were hits: this run tests little")
     print(f"real_random: {counts['equal']} passed, {counts['differing']} failed")

@@ -29,29 +29,45 @@ def need_program():
 
 
 def node_at(path):
-    """What is at a path: its kind, its mode, its contents (those of a link are its target), and its time."""
+    """What is at a path: its kind, its mode, its contents (those of a link are its target), and a file's time."""
     status = os.lstat(path)
-    mode, moment = stat.S_IMODE(status.st_mode), (status.st_atime_ns, status.st_mtime_ns)
+    mode = stat.S_IMODE(status.st_mode)
     if stat.S_ISLNK(status.st_mode):
-        return Node("link", mode, os.fsencode(os.readlink(path)), moment)
+        return Node("link", mode, os.fsencode(os.readlink(path)), 0)
     if stat.S_ISDIR(status.st_mode):
-        return Node("directory", mode, b"", moment)
+        return Node("directory", mode, b"", 0)
     if not stat.S_ISREG(status.st_mode):
-        return Node("other", mode, b"", moment)
+        return Node("other", mode, b"", 0)
     with open(path, "rb") as file:
-        return Node("file", mode, file.read(), moment)
+        return Node("file", mode, file.read(), status.st_mtime_ns)
 
 
-def tree_of(root):
-    """What is at each path below a directory, by the path from there."""
-    found, waiting = {}, [root]
-    while waiting:
-        for entry in os.scandir(waiting.pop()):
-            node = node_at(entry.path)
-            found[entry.path[len(root) + 1:]] = node
-            if node.kind == "directory":
-                waiting.append(entry.path)
-    return found
+class Tree:
+    """What is at each path below a directory, by the path from there. A file whose status did not change is not read
+    again."""
+
+    def __init__(self, root):
+        self.root, self.known = root, {}
+
+    def read(self):
+        found, known, waiting = {}, {}, [self.root]
+        while waiting:
+            for entry in os.scandir(waiting.pop()):
+                status = entry.stat(follow_symlinks=False)
+                state = (status.st_mode, status.st_ino, status.st_size, status.st_mtime_ns, status.st_ctime_ns)
+                before = self.known.get(entry.path)
+                if not before or before[0] != state:
+                    before = state, node_at(entry.path)
+                known[entry.path] = before
+                found[entry.path[len(self.root) + 1:]] = before[1]
+                if before[1].kind == "directory":
+                    waiting.append(entry.path)
+        self.known = known
+        return found
+
+    def forget(self, paths):
+        for path in paths:
+            self.known.pop(f"{self.root}/{path}", None)
 
 
 def remove(path):
@@ -63,7 +79,11 @@ def remove(path):
 
 
 def put_back(root, before, after):
-    """Makes the tree what it was, from what it is, and leaves alone what did not change."""
+    """Makes the tree what it was, from what it is, and leaves alone what did not change. It returns the paths at which
+    something changed."""
+    changed = {path for path in before.keys() | after.keys() if before.get(path) != after.get(path)}
+    before = {path: node for path, node in before.items() if path in changed or node.kind == "directory"}
+    after = {path: node for path, node in after.items() if path in changed or node.kind == "directory"}
     for path in sorted(after):
         if path not in before or (before[path].kind, before[path].kind == "link" and before[path].contents) != (
                 after[path].kind, after[path].kind == "link" and after[path].contents):
@@ -75,18 +95,20 @@ def put_back(root, before, after):
             os.makedirs(place, exist_ok=True)
         elif node.kind == "link" and not is_there:
             os.symlink(node.contents, place)
-        elif node.kind == "file" and (not is_there or (left.contents, left.moment[1]) != (node.contents, node.moment[1])):
+        elif node.kind == "file" and (not is_there or left[2:] != node[2:]):
             with open(place, "wb") as file:
                 file.write(node.contents)
-            os.utime(place, ns=node.moment)
+            os.utime(place, ns=(node.moment, node.moment))
         if node.kind in ("file", "directory") and (not is_there or left.mode != node.mode):
             os.chmod(place, node.mode)
+    return changed
 
 
 def changes(before, after):
     """What is at each path that a call made, changed or removed: kind, mode and contents, or None."""
-    return {path: after[path][:3] if path in after else None for path in sorted(set(before) | set(after))
-            if (before[path][:3] if path in before else None) != (after[path][:3] if path in after else None)}
+    return {path: after[path][:3] if path in after else None for path in sorted(before.keys() | after.keys())
+            if before.get(path) is not after.get(path)
+            and (before[path][:3] if path in before else None) != (after[path][:3] if path in after else None)}
 
 
 def difference(one, other):
@@ -103,28 +125,52 @@ class Room:
     def __init__(self, directory):
         self.top = os.path.realpath(directory)
         self.root, self.log = self.top + "/tree", self.top + "/log"
-        for name in ("tree", "tmp", "home"):
+        for name in ("tree", "tmp", "home", "late"):
             os.makedirs(f"{self.top}/{name}", exist_ok=True)
+        self.tree, self.known = Tree(self.root), {}
         self.variables = {"PATH": os.environ["PATH"], "HOME": self.top + "/home", "TMPDIR": self.top + "/tmp",
                           "CCK_STORE": self.top + "/store", "CCK_LOG": self.log, "CCK_PROGRAM": PROGRAM,
                           "CCACHE_DIR": self.top + "/ccache"}
 
-    def run(self, words, directory, variables, umask):
-        """Makes a call, puts the tree back, and returns the outcome."""
-        before = tree_of(self.root)
+    def run(self, words, directory, variables, umask, is_known=False):
+        """Makes a call, puts the tree back, and returns the outcome. One that is known, of the same call in the same
+        tree, is not made again if that is wished."""
+        before = self.tree.read()
+        call = str((words, directory, variables, umask))
+        if is_known and call in self.known and self.known[call][0] == before:
+            return self.known[call][1]
         place = os.path.join(self.root, directory)
         done = subprocess.run(words, cwd=place, env={**self.variables, "PWD": place, **variables}, umask=umask,
                               capture_output=True, stdin=subprocess.DEVNULL, check=False)
-        after = tree_of(self.root)
-        put_back(self.root, before, after)
-        return Outcome(done.returncode, TEMPORARY.sub(b"/ccTEMP", done.stdout), TEMPORARY.sub(b"/ccTEMP", done.stderr),
-                       changes(before, after))
+        after = self.tree.read()
+        self.tree.forget(put_back(self.root, before, after))
+        outcome = Outcome(done.returncode, TEMPORARY.sub(b"/ccTEMP", done.stdout),
+                          TEMPORARY.sub(b"/ccTEMP", done.stderr), changes(before, after))
+        self.known[call] = before, outcome
+        return outcome
 
-    def run_cached(self, plain, cached):
-        """The outcome of the wrapper, and its verdict: the first word of the log's last line of an outcome."""
+    def run_cached(self, plain, cached, late=None):
+        """The outcome of the wrapper, and its verdict: the first word of the log's last line of an outcome. What is late,
+        a path and a text, is written when the recording begins, and is no part of the outcome."""
         open(self.log, "wb").close()
-        outcome = self.run(cached, *plain[1:])
+        words, directory, variables, umask = cached, *plain[1:]
+        if late:
+            variables = {**variables, "CCK_PROGRAM": self.late(*late)}
+        outcome = self.run(words, directory, variables, umask)
+        if late:
+            outcome.files.pop(late[0], None)
         return outcome, self.verdict()
+
+    def late(self, path, text):
+        """A program that writes a file before it records."""
+        with open(self.top + "/late/text", "w", encoding="utf-8") as file:
+            file.write(text)
+        program = self.top + "/late/cck_cache"
+        with open(program, "w", encoding="utf-8") as file:
+            file.write(f'#!/bin/sh\n[ "$1" != record ] || cp "{self.top}/late/text" "{self.root}/{path}"\n'
+                       f'exec "{PROGRAM}" "$@"\n')
+        os.chmod(program, 0o755)
+        return program
 
     def verdict(self):
         """hit, miss, passed or refused, as the log says it, or `other`. What was not recorded since the compiler
@@ -139,23 +185,32 @@ class Room:
                     verdict = "refused"
         return verdict
 
-    def judge(self, plain, cached, waits=True):
+    def judge(self, plain, cached, waits=True, late=None):
         """Makes a call by the plain compiler and by the wrapper, the latter first if it does not wait. A difference
-        counts if a second plain call differs from the wrapper too, and if plain calls within one second agree."""
+        counts if two further plain calls, each in another second, agree with the first one, or if it is that of a hit:
+        what shows the time is never found again, but within the second."""
         if waits:
-            wanted = self.run(*plain)
+            wanted = self.run(*plain, is_known=True)
             time.sleep(PAUSE)
-            got, verdict = self.run_cached(plain, cached)
+            got, verdict = self.run_cached(plain, cached, late)
         else:
-            got, verdict = self.run_cached(plain, cached)
-            wanted = self.run(*plain)
+            got, verdict = self.run_cached(plain, cached, late)
+            wanted = self.run(*plain, is_known=True)
+        wanted = without(wanted, late)
         differing, is_stable = difference(wanted, got), True
         if differing:
-            again = self.run(*plain)
-            differing = difference(again, got)
-            if differing and difference(wanted, again):
-                time.sleep(1 - time.time() % 1)
-                wanted, again = self.run(*plain), self.run(*plain)
-                is_stable = not difference(wanted, again)
-                differing = difference(wanted, got) if is_stable else []
+            calls = [without(self.run(*plain), late)]
+            differing = difference(calls[0], got)
+        for _ in range(2 if differing else 0):
+            time.sleep(1 - time.time() % 1)
+            calls.append(without(self.run(*plain), late))
+        if differing:
+            is_stable = not any(difference(calls[0], other) for other in calls[1:])
+            if not is_stable and (verdict != "hit" or not all(difference(other, got) for other in calls)):
+                differing = []
         return Judged(verdict, differing, is_stable, wanted, got)
+
+
+def without(outcome, late):
+    """An outcome without the file that is written late."""
+    return outcome._replace(files={path: node for path, node in outcome.files.items() if not late or path != late[0]})

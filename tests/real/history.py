@@ -56,6 +56,34 @@ def rename(step, path, root):
     os.rename(path, to)
 
 
+def exchange(step, path, root):
+    between = path + ".between"
+    to = os.path.join(root, step["to"])
+    if os.path.lexists(to):
+        os.rename(path, between)
+        os.rename(to, path)
+        os.rename(between, to)
+
+
+def hard(step, path, root):
+    """Another name of a file, in the place of what there is."""
+    to = os.path.join(root, step["to"])
+    if os.path.isfile(to) and not (os.path.exists(path) and os.path.samefile(to, path)):
+        remove(path)
+        os.link(os.path.realpath(to), path)
+
+
+def again(step, path, root):
+    """A directory or a file that is removed, and made again with the same contents."""
+    kept = path + ".kept"
+    if os.path.isdir(path) and not os.path.islink(path):
+        shutil.copytree(path, kept, symlinks=True)
+    else:
+        shutil.copy2(path, kept, follow_symlinks=False)
+    remove(path)
+    os.rename(kept, path)
+
+
 def touch(step, path, root):
     os.utime(path, None if step["seconds"] is None else (step["seconds"],) * 2)
 
@@ -65,6 +93,7 @@ def mode(step, path, root):
 
 
 DOES = {"write": write, "mode": mode, "link": link, "directory": directory, "rename": rename, "touch": touch,
+        "exchange": exchange, "hard": hard, "again": again,
         "remove": lambda step, path, root: remove(path), "sleep": lambda step, path, root: time.sleep(step["seconds"])}
 
 
@@ -75,6 +104,12 @@ def call_of(step, root, compiler):
     return [compiler, *words], step["directory"], variables, step["umask"]
 
 
+def late_of(step, root):
+    """What a call has written when its recording begins: the path and the text, or None."""
+    late = step.get("late")
+    return (late["path"], text_of(late).replace("@root", root)) if late else None
+
+
 def play(history, compiler, room):
     """Plays a history, and gives the place and the judgement of each call, which both compilers make."""
     for place, step in enumerate(history):
@@ -82,7 +117,7 @@ def play(history, compiler, room):
             apply(step, room.root)
         elif os.path.isdir(os.path.join(room.root, step["directory"])):
             call = call_of(step, room.root, compiler)
-            yield place, room.judge(call, [WRAPPER, *call[0]], step["waits"])
+            yield place, room.judge(call, [WRAPPER, *call[0]], step["waits"], late_of(step, room.root))
 
 
 class Fresh:
@@ -104,8 +139,8 @@ def last(history, compiler):
                 apply(step, room.root)
             elif os.path.isdir(os.path.join(room.root, step["directory"])):
                 time.sleep(2 * PAUSE if step["waits"] else 0)
-                words, *rest = call_of(step, room.root, compiler)
-                room.run([WRAPPER, *words], *rest)
+                call = call_of(step, room.root, compiler)
+                room.run_cached(call, [WRAPPER, *call[0]], late_of(step, room.root))
         return next((judged for _, judged in play(history[-1:], compiler, room)), None)
 
 
@@ -126,7 +161,7 @@ class Shrink:
         while changed and time.time() < self.end:
             size = self.size()
             for part in (self.drop_calls, self.drop_steps, self.drop_words, self.drop_variables, self.drop_snippets,
-                         self.drop_guards):
+                         self.drop_guards, self.drop_late):
                 part()
             changed = self.size() < size
 
@@ -197,6 +232,9 @@ class Shrink:
         self.each(["write"], lambda step: [step["guard"]] if step.get("guard") else [],
                   lambda step, guard: step.update(guard=""))
 
+    def drop_late(self):
+        self.each(["call"], lambda step: [step["late"]] if step.get("late") else [], lambda step, late: step.pop("late"))
+
 
 # A history as a script.
 
@@ -217,12 +255,22 @@ def write_line(step):
     return f"touch -r {path} ../kept; {line}; touch -r ../kept {path}" if step.get("keeps") else line
 
 
+def late_line(late):
+    """What makes a program that does what is late and then calls the one of the variable `real`."""
+    records = shlex.quote(f'[ "$1" != record ] || (cd "$root/{CWD}"; {write_line(late)})')
+    lines = f"printf '%s\\n' '#!/bin/sh' {records} 'exec \"$real\" \"$@\"'"
+    return f"{lines} >\"$root/cck_cache\"; chmod +x \"$root/cck_cache\"; "
+
+
 def call_line(step, compiler):
     words = " ".join(quoted(word) for group in step["words"] for word in group)
     variables = "".join(f"{name}={quoted(value)} " for name, value in sorted(step["variables"].items()))
     around = "" if step["directory"] == CWD else f"cd {path_in_script(step['directory'])}; "
     around += "" if step["umask"] == 0o022 else f"umask {step['umask']:03o}; "
     line = f"{variables}{compiler} {words}"
+    if step.get("late"):
+        around = late_line(step["late"]) + around
+        line = f"root=$root real=$CCK_PROGRAM CCK_PROGRAM=$root/cck_cache {line}"
     return ("sleep 0.1; " if step["waits"] else "") + (f"({around}{line})" if around else line)
 
 
@@ -240,6 +288,10 @@ LINES = {"write": write_line, "link": link_line, "touch": touch_line,
          "directory": lambda step: "mkdir -p " + path_in_script(step["path"]),
          "remove": lambda step: "rm -rf " + path_in_script(step["path"]),
          "rename": lambda step: f"mv {path_in_script(step['path'])} {path_in_script(step['to'])}",
+         "exchange": lambda step: "mv {0} k; mv {1} {0}; mv k {1}".format(path_in_script(step["path"]),
+                                                                         path_in_script(step["to"])),
+         "hard": lambda step: f"ln -f {path_in_script(step['to'])} {path_in_script(step['path'])}",
+         "again": lambda step: "cp -a {0} k; rm -r {0}; mv k {0}".format(path_in_script(step["path"])),
          "mode": lambda step: f"chmod {step['mode']:03o} {path_in_script(step['path'])}",
          "sleep": lambda step: f"sleep {step['seconds']}"}
 
@@ -251,7 +303,7 @@ def script(history, judged, compiler):
         if step["do"] == "call":
             lines.append(call_line(step, "cckcc " + compiler))
             continue
-        for path in [step["path"]] + ([step["to"]] if step["do"] == "rename" else []):
+        for path in [step["path"]] + ([step["to"]] if step["do"] in ("rename", "exchange") else []):
             if os.path.dirname(path) not in made and step["do"] != "sleep":
                 made.add(os.path.dirname(path))
                 lines.append("mkdir -p " + path_in_script(os.path.dirname(path)))

@@ -2,6 +2,7 @@
 of steps, each a dictionary of JSON: something done to the tree, or a call. `@root` is the top of the tree."""
 import os
 import random
+import re
 
 from tables import OPTIONS, SNIPPETS, VARIABLES
 
@@ -9,7 +10,8 @@ CALLS = 25
 HEADERS = ["h.h", "g.h", "k.h", "c/d.h"]
 PLACES = ["work/a", "work/a", "work/b", "work/b", "work/a/c", "work/inc", "work/src", "work", "other"]
 SPELLINGS = ["{}"] * 6 + ["{}/", "./{}", "{}//", "{}/.", "a/../{}", "../work/{}", "@root/work/{}", "@root/work//{}/"]
-ODD_DIRECTORIES = ["missing", "missing/", "./missing/x", "data", "linked", "linked/", ".", "./", "", "../other", "-"]
+ODD_DIRECTORIES = ["missing", "missing/", "./missing/x", "data", "linked", "linked/", "linked", "linked/..", "linked/../b",
+                   "a/../linked", ".", "./", "", "../other", "-", "@words", "a/c/..", "@root/" + "work/../" * 9 + "work/linked"]
 OUTPUTS = [[]] * 2 + [["-o", "out/x.o"]] * 10 + [["-oout/x.o"]] * 3 + [["-o", "../out/x.o"]] * 4 + [["-o", "x.o"]] * 2
 ODD_OUTPUTS = [["-o", "x.c"], ["-o", "./x.c"], ["-o", "a"], ["-o", "out/link.o"], ["-o", "/dev/null"], ["-o", ""],
                ["-o", "missing/x.o"], ["-o", "out/x.o", "-o", "out/z.o"], ["-o"], ["-o", "out/old.o"], ["-o", "data"],
@@ -19,6 +21,8 @@ INPUTS = [["x.c"]] * 14 + [["src/y.c"]] * 3 + [
 ODD_INPUTS = [["x.c", "src/y.c"], ["--", "x.c"], ["-x", "c", "x.c"], ["missing.c"], ["a"], [], ["x.c", "x.c"], ["-"],
               ["copy.i"], ["-xc", "a/h.h"], [""], ["x.c", "-x", "none"]]
 MODES = [["-c"]] * 30 + [["-S"], ["-E"], [], ["-fsyntax-only"], ["-c", "-c"], ["-c", "-E"]]
+SEARCHING = ["-I", "-iquote", "-isystem", "-idirafter"]
+DEPENDENCIES = ["work/out/x.d", "work/x.d", "work/out/y.d"]
 TEXTS = "#define TEXT_(x) #x\n#define TEXT(x) TEXT_(x)\n#define PASTE_(a, b) a##b\n#define PASTE(a, b) PASTE_(a, b)"
 
 
@@ -38,6 +42,8 @@ def rows(table):
 SNIPPET_ROWS, OPTION_ROWS, VARIABLE_ROWS = rows(SNIPPETS), rows(OPTIONS), rows(VARIABLES)
 # What most compilers refuse, or what the wrapper may pass on: mostly for one call.
 ODD_OPTIONS = {row for row, weight in zip(*OPTION_ROWS) if weight <= 1.5}
+# What a cache may refuse to record: a project has snippets of few of these kinds.
+KINDS = ("__TI|__DATE|__TIMES|T@m", "__has_|E@m", "asm", "dep")
 
 
 class Project:
@@ -46,12 +52,16 @@ class Project:
     def __init__(self, seed):
         self.chance = random.Random(seed)
         self.history, self.past, self.calls, self.number, self.recent = [], {}, [], 0, None
+        few = re.compile("|".join(kind for kind in KINDS if not self.is_rare(0.4)) or "$^")
+        # Which snippets are not chosen: at the start mostly none of those kinds, so that there is something to find again.
+        self.without = re.compile("|".join(KINDS)) if self.is_rare(0.8) else few
         # What is at each path, as the step that put it there.
         self.tree = {}
         self.call = None
-        # How likely the last change of the call is undone after it.
-        self.undone = 0
+        # How likely the last change of the call is undone after it, and what is written while the next call is recorded.
+        self.undone, self.pending = 0, None
         self.start()
+        self.without = few
         # Whether the compiler failed in the last call, as the player says; and what was so when it last did not.
         self.failed, self.good = False, None
 
@@ -62,6 +72,10 @@ class Project:
             self.add_call()
             yield from self.history[given:]
             given = len(self.history)
+            if self.pending:
+                self.do(self.pending)
+                self.pending = None
+                continue
             if not self.failed:
                 self.good = dict(self.call), dict(self.tree), given
             elif self.good is None:
@@ -96,12 +110,26 @@ class Project:
         self.recent = path
         if path in self.tree:
             self.past.setdefault(path, []).append(self.tree[path])
-        if step["do"] in ("remove", "rename"):
-            gone = self.tree.pop(path, None)
-            if step["do"] == "rename" and gone:
-                self.tree[step["to"]] = {**gone, "path": step["to"]}
+        if step["do"] == "remove":
+            self.tree.pop(path, None)
+        elif step["do"] in ("rename", "exchange"):
+            self.moves(path, step["to"], step["do"] == "exchange")
+        elif step["do"] == "hard" and step["to"] in self.tree:
+            self.tree[path] = {**self.tree[step["to"]], "path": path}
         elif step["do"] in ("write", "link", "directory"):
             self.tree[path] = step
+
+    def moves(self, path, to, exchanges):
+        """Keeps that a path and all below it have another name, and the other way round if two are exchanged."""
+        moved = {}
+        for one, step in self.tree.items():
+            for old, new in ((path, to), (to, path if exchanges else None)):
+                if one == old or one.startswith(old + "/"):
+                    one = new and new + one[len(old):]
+                    break
+            if one:
+                moved[one] = {**step, "path": one}
+        self.tree = moved
 
     # The files.
 
@@ -127,7 +155,7 @@ class Project:
             place, text = self.pick(*SNIPPET_ROWS).split(" ", 1)
             names = self.includable(path, text)
             if (place in ("any", "h" if path.endswith(".h") else "c") and text.startswith(start)
-                    and (names or "@h" not in text)):
+                    and (names or "@h" not in text) and not self.without.search(text)):
                 break
         self.number += 1
         parts = {"@n": self.number, "@k": self.chance.randrange(10), "@m": self.chance.randrange(3),
@@ -153,20 +181,26 @@ class Project:
         self.do({"do": "link", "path": "link", "to": "work"})
         for path, to in (("work/linked", "a"), ("work/linked.c", "x.c"), ("work/out/link.o", "x.o")):
             self.do({"do": "link", "path": path, "to": to})
-        for name, text in (("data", "one"), ("@defs", "M1=1"), ("@words", "-DM2=2 -Ib"), ("out/old.o", "old")):
+        for name, text in (("data", "one"), ("@defs", "M1=1"), ("@words", "-DM2=2 -Ib"), ("words", "a"), ("out/old.o", "old")):
             self.do({"do": "write", "path": "work/" + name, "snippets": [text], "guard": ""})
         for _ in range(self.chance.randint(1, 6)):
             self.write(self.pick(PLACES) + "/" + self.pick(HEADERS), 0, 3)
         self.write("work/x.c", 2, 6)
         if self.is_rare(0.4):
             self.write("work/src/y.c", 1, 4)
+        for path in DEPENDENCIES:
+            if self.is_rare(0.1):
+                self.do({"do": "write", "path": path, "snippets": ["old"], "guard": ""})
+                self.do({"do": "mode", "path": path, "mode": self.pick([0o600, 0o444, 0o755])})
         tops = {path[:-len(name) - 1] for path in self.headers() for name in HEADERS if path.endswith("/" + name)}
         options = [["-I" + self.spelled(os.path.relpath(top, "work"))] for top in sorted(tops)]
+        if self.is_rare(0.3):
+            options.append(["-I" + self.pick(["linked", "linked/", "./linked", "b/../linked", "a", "linked/../b"])])
         self.chance.shuffle(options)
         self.call = {"mode": ["-c"], "output": self.pick(OUTPUTS), "input": ["x.c"], "options": options,
                      "variables": {}, "directory": "work", "umask": 0o022}
-        for _ in range(self.chance.randint(0, 3)):
-            self.add_option()
+        for _ in range(self.chance.randint(1, 7)):
+            self.add_option(is_usual=True)
 
     def spelled(self, directory):
         return self.pick(SPELLINGS).format(directory) if self.is_rare(0.6) else directory
@@ -179,11 +213,13 @@ class Project:
         groups = options + [call["mode"], call["output"], call["input"]]
         self.history.append({"do": "call", "words": [group for group in groups if group], "umask": call["umask"],
                              "variables": dict(call["variables"]), "directory": call["directory"],
-                             "waits": not self.is_rare(0.12)})
+                             "waits": not self.is_rare(0.12), **({"late": self.pending} if self.pending else {})})
         self.calls.append({**call, "options": options, "variables": dict(call["variables"])})
 
-    def option(self):
+    def option(self, is_usual):
         row = self.pick(*OPTION_ROWS)
+        while is_usual and row in ODD_OPTIONS:
+            row = self.pick(*OPTION_ROWS)
         form, *rest = row.split(" ")
         self.undone = 0.9 if row in ODD_OPTIONS else 0.2
         if form == "words":
@@ -201,14 +237,19 @@ class Project:
             return [name, value]
         return [name + value]
 
-    def add_option(self):
+    def add_option(self, is_usual=False):
         options = self.call["options"] = list(self.call["options"])
-        options.insert(self.chance.randint(0, len(options)), self.option())
+        options.insert(self.chance.randint(0, len(options)), self.option(is_usual))
 
     def drop_option(self):
         self.call["options"] = list(self.call["options"])
         if self.call["options"]:
             self.call["options"].pop(self.chance.randrange(len(self.call["options"])))
+
+    def leave_out_option(self):
+        """An option is left out, mostly for one call."""
+        self.drop_option()
+        self.undone = 0.9
 
     def change_option(self):
         self.drop_option()
@@ -234,7 +275,7 @@ class Project:
         self.call["mode"] = self.pick(MODES)
 
     def change_variable(self):
-        self.undone = 0.5
+        self.undone = 0.8
         name, *values = self.pick(*VARIABLE_ROWS).split(" ")
         self.call["variables"] = dict(self.call["variables"])
         if self.call["variables"] and self.is_rare(0.6):
@@ -299,11 +340,24 @@ class Project:
         seconds = self.pick([None, None, 1000000000 + self.chance.randrange(10**6), 4000000000])
         self.do({"do": "touch", "path": self.pick(sorted(self.tree)), "seconds": seconds})
 
+    def searched(self):
+        """The directories of the call's search list, as paths of the tree, the first ones more often than once."""
+        found = []
+        for option in self.call["options"]:
+            name = next((name for name in SEARCHING if option[0].startswith(name)), None)
+            value = name and (option[1] if len(option) > 1 else option[0][len(name):])
+            if value:
+                found.append(os.path.normpath(value[6:] if value.startswith("@root/") else f"work/{value}"))
+        return [path for path in found[:1] * 3 + found[:2] * 2 + found if path.split("/")[0] in ("work", "other")]
+
     def appear(self):
-        """A header, mostly of a name that there is, in another directory."""
-        name = self.pick([os.path.basename(path) for path in self.headers()] + HEADERS)
-        place = self.pick(PLACES + ["work/missing", "work/c"])
-        self.write(f"{place}/{name}", 0, 3)
+        """A header, mostly of a name that there is, in another directory, mostly one of the search list before it."""
+        names = [name for name in HEADERS if any(path.endswith("/" + name) for path in self.headers())]
+        earlier = [f"{place}/{name}" for place in self.searched() for name in names if f"{place}/{name}" not in self.tree]
+        if earlier and self.is_rare(0.75):
+            self.write(self.pick(earlier), 0, 3)
+        else:
+            self.write(self.pick(PLACES + ["work/missing", "work/c"]) + "/" + self.pick(names * 2 + HEADERS), 0, 3)
 
     def copied(self):
         """A copy of a header in another directory, with the same time or not."""
@@ -332,18 +386,63 @@ class Project:
             os.path.relpath(other, os.path.dirname(path)) for other in self.headers()])
         self.do({"do": "link", "path": path, "to": to})
 
+    def exchange(self):
+        """Two directories or two headers change places."""
+        self.undone = 0.5
+        pairs = [("work/a", "work/b"), ("work/a", "work/b"), ("work/inc", "work/a"), ("work/src", "work/inc")]
+        headers = self.headers()
+        pairs += [(one, other) for one in headers for other in headers if one < other]
+        path, to = self.pick(pairs)
+        self.do({"do": "exchange", "path": path, "to": to})
+
+    def linked(self):
+        """A directory is moved, and a link comes in its place, to it or to another one."""
+        path = self.pick(["work/a", "work/b", "work/a/c", "work/inc"])
+        if any(other.startswith(path + "/") for other in self.tree):
+            self.number += 1
+            to = f"work/moved{self.number}"
+            self.do({"do": "rename", "path": path, "to": to})
+            to = self.pick([to, to, "work/b", "other"])
+            self.do({"do": "link", "path": path, "to": "@root/" + to})
+
+    def again(self):
+        """A directory or a file that is removed and made again."""
+        self.do({"do": "again", "path": self.pick(["work/a", "work/b", "work/inc", "work/out", "work/x.c"] + self.headers())})
+
+    def hard(self):
+        """Another name of a file."""
+        path = self.pick(["work/out/x.o", *DEPENDENCIES] + self.headers())
+        self.do({"do": "hard", "path": path, "to": self.pick(["work/x.c", "work/out/old.o", "work/data"] + self.headers())})
+
+    def late(self):
+        """A change of the input so that the call is recorded, and a header, mostly one that the input includes, that is
+        written while it is."""
+        step = self.tree.get("work/x.c")
+        if not step or step["do"] != "write":
+            return
+        self.rewrite("work/x.c", step["snippets"] + [self.snippet("work/x.c", "int")])
+        text = "".join(step["snippets"])
+        headers = [path for path in self.headers() if self.tree[path]["do"] == "write"]
+        path = self.pick([path for path in headers if any(
+            f"{mark}{name}" in text for mark in '"<' for name in HEADERS if path.endswith("/" + name))] * 3 + headers or [""])
+        if path:
+            snippets = self.tree[path]["snippets"] + [self.snippet(path, "int")]
+            self.pending = {**self.tree[path], "path": path, "snippets": snippets, "keeps": False}
+
     def directory(self):
         self.undone = 0.5
         others = ["work/missing", "work/data", "work/a/h.h", "work/inc"]
         self.do({"do": "directory", "path": self.pick(self.headers() + others)})
 
     def mode(self):
-        path = self.pick(["work/out/old.o", "work/x.c"] + self.headers())
+        path = self.pick(["work/out/old.o", "work/x.c", *DEPENDENCIES] + self.headers())
         self.do({"do": "mode", "path": path, "mode": self.pick([0o600, 0o444, 0o755, 0o644])})
 
     def data(self):
-        path = self.pick(["work/data", "work/data", "work/@defs", "work/@words", "work/missing", "work/copy.i"])
-        text = {"@defs": ["M1=2", "M0"], "@words": ["-DM2=3", "-O1"]}.get(path[5:], ["one", "two", "int copied;"])
+        path = self.pick(["work/data", "work/data", "work/@defs", "work/@words", "work/words", "work/missing", "work/copy.i",
+                          "work/out/x.o", *DEPENDENCIES])
+        texts = {"@defs": ["M1=2", "M0"], "@words": ["-DM2=3", "-O1"], "words": ["a", "b", "M1=3"]}
+        text = texts.get(path[5:], ["one", "two", "int copied;"])
         self.do({"do": "write", "path": path, "snippets": [self.pick(text)], "guard": ""})
 
     def back(self):
@@ -356,7 +455,7 @@ class Project:
         pass
 
     CHANGES = rows("""
-        30 nothing
+        20 nothing
         16 back
         9 call_again
         8 edit
@@ -364,16 +463,22 @@ class Project:
         5 comment
         4 same_size
         6 touch
-        9 appear
+        12 appear
         2 copied
         4 remove
         2 rename
-        3 link
+        4 link
         2 directory
-        2 data
-        1 mode
+        2 exchange
+        2 linked
+        3 again
+        1 hard
+        5 late
+        3 data
+        1.5 mode
         4 add_option
         3 drop_option
+        9 leave_out_option
         3 change_option
         3 respell
         2 change_output

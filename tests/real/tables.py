@@ -28,6 +28,10 @@ SNIPPETS = r"""
 0.4 any asm(".INCBIN \\"data\\"");
 0.4 any asm(".\\x69ncbin \\"data\\"");
 0.4 any asm(".include \\"@h\\"");
+0.4 any asm(".print \\"said @k\\"");
+0.4 any asm(".warning \\"said @k\\"");
+0.4 any const char *t@n = ".incbin \\"data\\"";
+0.4 any asm(".macro m@n\\n.long @k\\n.endm\\nm@n");
 0.6 c void g@n(void) { __asm__ volatile(".inc{bin|bin} \\"data\\"" :: "i"(@k)); }
 0.6 c void g@n(void) { __asm__(".pushsection .data\\n.i%cncbin \\"data\\"\\n.popsection" :: "i"(@k)); }
 0.8 any const char *t@n = __TIME__;
@@ -99,6 +103,8 @@ OPTIONS = r"""
 6 joined -D M0=7 M1 M2=3 M3=__LINE__ E1=0 M4=__FILE__ N2="g.h"
 3 separate -D M0=7 M1 M2=3
 2 joined -U M0 M1 M2
+0.7 joined -D @words @defs
+0.7 joined -I @words
 3 joined -D T0=__TIME__ T1=__DATE__ T1=__TIMESTAMP__ T0=PASTE(__TI,ME__) T2=__TIMESTAMP__ M3=__TIME__
 3 joined -D E0=__has_include("h.h") E1=__has_include("g.h") E2=__has_include(<c/d.h>) E0=__has_include_next(<k.h>)
 12 either -I @d
@@ -172,5 +178,10 @@ VARIABLES = r"""
 1 COLLECT_AS_OPTIONS -g
 1 GCC_NOAPPORT 1
 1 POSIXLY_CORRECT 1 ''
+1 BINUTILS_ROOT @root/work ''
+1 GCC_ROOT @root/work
+1 LOCPATH @root /usr/lib/locale
+1 GCONV_PATH @root
+1 LD_LIBRARY_PATH a @root/work
 1 CFLAGS -O2
 """
