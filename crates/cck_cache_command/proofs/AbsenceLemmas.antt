@@ -1,16 +1,21 @@
--- the paths that must stay absent for the names of a text
-use Rattle.std.proofs.Common.{◌≡◌, ◌∙◌, ◌<◌, ◌≤◌, ◌+◌, ◌⊎◌, inl, inr, ℕ, List, [], IsTrue, get_or, length, map, refl, sym, ap, subst, arith}
+-- the tests of paths for the names of a text
+use Rattle.std.proofs.Common.{◌≡◌, ◌∙◌, ◌<◌, ◌≤◌, ◌+◌, ◌⊎◌, inl, inr, ℕ, List, [], ◌∷◌, ◌++◌, IsTrue, get_or, length, map, take, refl, sym, ap, ap₂, append_assoc, subst, arith}
 use Rattle.std.specs.BTreeSet.{BTreeSet}
 use Rattle.std.specs.Global.{Vec}
 use Rattle.std.proofs.lemmas.Bool.{cases_lt}
-use Rattle.cck_cache_command.specs.Absence.{ArePathsFor, GainsPath, IsAbsentAt, IsPresentAt}
-use Rattle.cck_cache_entry.specs.Sets.{has_key}
+use Rattle.std.proofs.lemmas.List.{get_or_default, length-map, map-append, take_all, take_more}
+use Rattle.cck_cache_command.specs.Absence.{AreLeft, ArePathsFor, GainsPath, IsAbsentAt, IsPresentAt}
+use Rattle.cck_cache_entry.specs.Left.{IsLeft}
+use Rattle.cck_cache_entry.specs.PathTest.{Test, test_of, tests_of}
+use Rattle.cck_cache_entry.specs.Sets.{IsSetOf, has_key}
+use Rattle.cck_cache_entry.specs.declared.path_test.PathTest.{PathTest}
 use Rattle.cck_cache_entry.proofs.SetLemmas.{has_key_at, key_at}
 use Rattle.cck_cache_files.specs.PathStates.{KeepsStates}
 use Rattle.cck_cache_files.specs.declared.path_states.PathState.TheVariants as state
 use Rattle.cck_cache_files.specs.declared.path_states.PathStates.{PathStates}
 use Rattle.cck_cache_files.proofs.StateLemmas.{first_other_kept}
-use Rattle.cck_path.specs.Bytes.{Bytes}
+use Rattle.cck_markers.specs.Marks.{Mark}
+use Rattle.cck_path.specs.Bytes.{Bytes, lists_of}
 use Rattle.cck_path.specs.Text.{join_path}
 
 pub absent_kept : (old new : PathStates) (path absent : Bytes) → KeepsStates old new → IsAbsentAt old path absent → IsAbsentAt new path absent
@@ -92,3 +97,33 @@ key_among keys name has = key_at keys.keys name has
 
 pub among_keys : (keys : BTreeSet (Vec ℕ)) (n : ℕ) (name : Bytes) → n ≤ length keys.keys → IsAmong keys.keys n name → IsTrue (has_key keys name)
 among_keys keys n name all (i, within, is) = subst (λ (q : Bytes). IsTrue (has_key keys q)) is (has_key_at keys.keys i (omega (arith, within, all)))
+
+-- ---- the tests of paths
+
+-- the test of one more path
+pub one_tested : (make : Bytes → Test) (first : List Test) (before after : List PathTest) (test : PathTest) (paths : List Bytes) (i : ℕ) → i < length paths → test_of test ≡ make (get_or paths i []) → after ≡ before ++ test ∷ []
+    → tests_of before ≡ first ++ map make (take i paths) → tests_of after ≡ first ++ map make (take (i + 1) paths)
+one_tested make first before after test paths i within is pushed so_far =
+    ap tests_of pushed
+    ∙ (map-append test_of before (test ∷ [])
+    ∙ (ap₂ (λ (xs : List Test) (x : Test). xs ++ x ∷ []) so_far is
+    ∙ (append_assoc first (map make (take i paths)) (make (get_or paths i []) ∷ [])
+    ∙ ap (λ (xs : List Test). first ++ xs) (sym (map-append make (take i paths) (get_or paths i [] ∷ [])) ∙ ap (λ (ps : List Bytes). map make ps) (sym (take_more paths i [] within))))))
+
+-- the tests of all paths
+pub all_tested : (make : Bytes → Test) (first : List Test) (tests : List PathTest) (paths : List Bytes) (n : ℕ) → length paths ≤ n → tests_of tests ≡ first ++ map make (take n paths) → tests_of tests ≡ first ++ map make paths
+all_tested make first tests paths n all so_far = so_far ∙ ap (λ (ps : List Bytes). first ++ map make ps) (take_all n paths all)
+
+-- ---- the directories that names leave
+
+-- the keys of a set that has exactly these directories
+pub left_keys : (directory : Bytes) (marks : List Mark) (left : BTreeSet (Vec ℕ)) → IsSetOf (IsLeft directory marks) left → AreLeft directory marks (lists_of left.keys)
+left_keys directory marks left is front = (
+  λ at.
+      let within : at.0 < length left.keys = omega (arith, at.1, length-map left.keys (λ k. k.items)) in
+      (is front).0 (subst (λ (q : Bytes). IsTrue (has_key left q)) (get_or_default (lists_of left.keys) at.0 [] front at.1 ∙ at.2) (has_key_at left.keys at.0 within)),
+  λ leaves.
+      let at = key_at left.keys front ((is front).1 leaves) in
+      let within : at.0 < length (lists_of left.keys) = omega (arith, at.1, length-map left.keys (λ k. k.items)) in
+      (at.0, within, get_or_default (lists_of left.keys) at.0 front [] within ∙ at.2),
+)

@@ -16,13 +16,13 @@ use Rattle.cck_cache_command.specs.Searched.{AddsRight, AddsWrong, IsRight, IsWr
 names_taken : (names : List (Vec ℕ)) (i : ℕ) (name : Vec ℕ) → i < length names → name ≡ get_or names i name → lists_of (take (i + 1) names) ≡ lists_of (take i names) ++ name.items ∷ []
 names_taken names i name within is =
     ap lists_of (take_more names i name within)
-        ∙ (map-append (λ (v : Vec ℕ). v.items) (take i names) (get_or names i name ∷ []) ∙ ap (λ (v : Vec ℕ). lists_of (take i names) ++ v.items ∷ []) (sym is))
+    ∙ (map-append (λ (v : Vec ℕ). v.items) (take i names) (get_or names i name ∷ []) ∙ ap (λ (v : Vec ℕ). lists_of (take i names) ++ v.items ∷ []) (sym is))
 
 names_parted : (names : List (Vec ℕ)) (i : ℕ) (name : Vec ℕ) → i < length names → name ≡ get_or names i name → lists_of names ≡ lists_of (take i names) ++ name.items ∷ lists_of (drop (i + 1) names)
 names_parted names i name within is =
     let left : drop i names ≡ name ∷ drop (i + 1) names = rw (add-one, drop-cons names i name) (ap (λ (v : Vec ℕ). v ∷ drop (suc i) names) (sym is)) in
     ap lists_of (sym (take-append-drop i names))
-        ∙ (map-append (λ (v : Vec ℕ). v.items) (take i names) (drop i names) ∙ ap (λ (vs : List (Vec ℕ)). lists_of (take i names) ++ lists_of vs) left)
+    ∙ (map-append (λ (v : Vec ℕ). v.items) (take i names) (drop i names) ∙ ap (λ (vs : List (Vec ℕ)). lists_of (take i names) ++ lists_of vs) left)
 
 module _ (directory : Bytes) (search : SearchFields) where
   -- what was found at a name for which the list is right

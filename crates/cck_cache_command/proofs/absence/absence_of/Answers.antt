@@ -1,13 +1,16 @@
-use Rattle.std.proofs.Common.{Option, Some, None, List, ℕ, IsTrue, true, subst}
+use Rattle.std.proofs.Common.{◌∙◌, ◌++◌, ◌≡◌, Option, Some, None, List, ℕ, IsTrue, inl, inr, true, ap, map, subst}
 use Rattle.std.specs.BTreeSet.{BTreeSet}
 use Rattle.std.specs.Global.{Vec}
 use Rattle.cck_cache_entry.specs.Absent.{AreAbsentNames, IsAbsentName}
+use Rattle.cck_cache_entry.specs.Left.{IsLeft}
+use Rattle.cck_cache_entry.specs.PathTest.{Absent, Directory, Test, tests_of}
 use Rattle.cck_cache_entry.specs.SearchList.{search_fields}
-use Rattle.cck_cache_entry.specs.Sets.{has_key}
+use Rattle.cck_cache_entry.specs.Sets.{IsSetOf, has_key}
 use Rattle.cck_markers.specs.Marks.{Mark, Marks}
 use Rattle.cck_path.specs.Bytes.{Bytes, lists_of}
 use Rattle.cck_cache_command.specs.Absence.{AreAbsentPaths, ArePathsFor}
-use Rattle.cck_cache_command.proofs.AbsenceLemmas.{paths_for_same}
+use Rattle.cck_cache_command.specs.Searched.{AreSearched, HasDoubtfulDirectory}
+use Rattle.cck_cache_command.proofs.AbsenceLemmas.{left_keys, paths_for_same}
 use Rattle.cck_cache_command.proofs.absence.absence_of.Goals as goal
 
 pub returns-in_default-2-clause-absence : goal.returns-in_default-2-clause-absence
@@ -17,35 +20,52 @@ returns-in_default-2-clause-absence g c = record {
   unknown = λ marks are. subst (λ (o : Option (BTreeSet (Vec ℕ))). AreAbsentNames marks (search_fields c.in-Some.search) o) c.in_default-2.is (c.in_ok-names.ensures marks are);
 }
 
-pub returns-in-Some-3-clause-absence : goal.returns-in-Some-3-clause-absence
-returns-in-Some-3-clause-absence g c =
-    let search = search_fields c.in-Some.search in
-    let names = c.in-Some-2.names in
-    let states = c.absent_paths.new.states in
-    let paths = lists_of c.in-Some-3.paths.items in
-    let IsName : Bytes → Type 0 = λ name. IsTrue (has_key names name) in
-    let named : (marks : List Mark) → Marks true c.args.text.now marks → AreAbsentNames marks search (Some names) =
-    λ marks are. subst (λ (o : Option (BTreeSet (Vec ℕ))). AreAbsentNames marks search o) c.in-Some-2.is (c.in_ok-names.ensures marks are) in
-    let found : ArePathsFor states c.args.directory.now IsName paths = subst (λ (d : Bytes). ArePathsFor states d IsName paths) c.as_bytes.ensures.value (rw c.in-Some-3.is at c.in_ok-paths.ensures.paths) in
-    record {
-      search = search;
-      is_search = rw c.in-Some.is at c.in_ok-search.ensures;
-      listed = λ marks are. (named marks are).0;
-      paths_are = λ marks are. paths_for_same states c.args.directory.now IsName (IsAbsentName marks search) paths
-          (λ name has. ((named marks are).1 name).0 has) (λ name is. ((named marks are).1 name).1 is) found;
-    }
-
-pub returns-clause-absence : goal.returns-clause-absence
-returns-clause-absence g c =
+pub returns-in_default-3-clause-absence : goal.returns-in_default-3-clause-absence
+returns-in_default-3-clause-absence g c =
     let search = search_fields c.in-Some.search in
     let names = c.in-Some-2.names in
     let states = c.absent_paths.new.states in
     let found : AreAbsentPaths states c.args.directory.now (λ name. IsTrue (has_key names name)) None =
-    subst (λ (d : Bytes). AreAbsentPaths states d (λ name. IsTrue (has_key names name)) None) c.as_bytes.ensures.value (rw c.in-None.is at c.in_ok-paths.ensures.paths) in
-    record {
+    subst (λ (d : Bytes). AreAbsentPaths states d (λ name. IsTrue (has_key names name)) None) c.as_bytes.ensures.value (rw c.in_default-3.is at c.in_ok-paths.ensures.paths) in
+    inl (record {
       search = search;
       is_search = rw c.in-Some.is at c.in_ok-search.ensures;
       doubtful = λ marks are.
           let named = subst (λ (o : Option (BTreeSet (Vec ℕ))). AreAbsentNames marks search o) c.in-Some-2.is (c.in_ok-names.ensures marks are) in
           (found.0, (named.1 found.0).0 found.1, found.2);
+    })
+
+pub returns-in_default-4-clause-absence : goal.returns-in_default-4-clause-absence
+returns-in_default-4-clause-absence g c =
+    let search = search_fields c.in-Some.search in
+    let found : HasDoubtfulDirectory c.args.directory.now search =
+    subst (λ (d : Bytes). HasDoubtfulDirectory d search) c.as_bytes-2.ensures.value (rw c.in_default-4.is at c.in_ok-tests.ensures.tests) in
+    inr (record { search = search; is_search = rw c.in-Some.is at c.in_ok-search.ensures; doubtful = found })
+
+pub returns-clause-absence : goal.returns-clause-absence
+returns-clause-absence g c =
+    let directory = c.args.directory.now in
+    let search = search_fields c.in-Some.search in
+    let names = c.in-Some-2.names in
+    let states = c.absent_paths.new.states in
+    let paths = lists_of c.in-Some-3.paths.items in
+    let searched = tests_of c.in-Some-4.tests.items in
+    let left = c.in_ok-left.left in
+    let IsName : Bytes → Type 0 = λ name. IsTrue (has_key names name) in
+    let named : (marks : List Mark) → Marks true c.args.text.now marks → AreAbsentNames marks search (Some names) =
+    λ marks are. subst (λ (o : Option (BTreeSet (Vec ℕ))). AreAbsentNames marks search o) c.in-Some-2.is (c.in_ok-names.ensures marks are) in
+    let found : ArePathsFor states directory IsName paths = subst (λ (d : Bytes). ArePathsFor states d IsName paths) c.as_bytes.ensures.value (rw c.in-Some-3.is at c.in_ok-paths.ensures.paths) in
+    record {
+      search = search;
+      is_search = rw c.in-Some.is at c.in_ok-search.ensures;
+      listed = λ marks are. (named marks are).0;
+      searched = searched;
+      are_searched = subst (λ (d : Bytes). AreSearched d search searched) c.as_bytes-2.ensures.value (rw c.in-Some-4.is at c.in_ok-tests.ensures.tests);
+      paths = paths;
+      paths_are = λ marks are. paths_for_same states directory IsName (IsAbsentName marks search) paths
+          (λ name has. ((named marks are).1 name).0 has) (λ name is. ((named marks are).1 name).1 is) found;
+      fronts = lists_of left.keys;
+      fronts_are = λ marks are. left_keys directory marks left (subst (λ (d : Bytes). IsSetOf (IsLeft d marks) left) c.as_bytes-3.ensures.value (c.in_ok-left.ensures.left marks are));
+      tests_are = c.in_ok-add_directories.ensures
+          ∙ ap (λ (tests : List Test). tests ++ map Directory (lists_of left.keys)) (c.in_ok-add_absent.ensures ∙ ap (λ (ps : List (Vec ℕ)). searched ++ map Absent (lists_of ps)) c.deref.ensures.value);
     }

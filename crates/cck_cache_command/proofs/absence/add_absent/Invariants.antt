@@ -5,4 +5,4 @@ use Rattle.cck_cache_command.proofs.absence.add_absent.Given as goal
 
 -- the tests of the paths so far were added
 abbrev pub invariant-loop-path : goal.invariant-loop-path
-invariant-loop-path l = tests_of l.tests.items ≡ tests_of l.fn.tests.items ++ map Absent (lists_of (take l.path-index l.paths))
+invariant-loop-path l = tests_of l.tests.items ≡ tests_of l.fn.tests.items ++ map Absent (take l.path-index (lists_of l.paths))

@@ -5,4 +5,4 @@ use Rattle.cck_cache_command.proofs.absence.add_directories.Given as goal
 
 -- the tests of the paths so far were added
 abbrev pub invariant-loop-path : goal.invariant-loop-path
-invariant-loop-path l = tests_of l.tests.items ≡ tests_of l.fn.tests.items ++ map Directory (lists_of (take (length l.yielded) l.paths.keys))
+invariant-loop-path l = tests_of l.tests.items ≡ tests_of l.fn.tests.items ++ map Directory (take (length l.yielded) (lists_of l.paths.keys))
