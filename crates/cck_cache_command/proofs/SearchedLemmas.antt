@@ -1,12 +1,13 @@
 -- The tests of the directories that a preprocessor searches.
-use Rattle.std.proofs.Common.{◌≡◌, ◌∙◌, ℕ, suc, ◌<◌, ◌+◌, true, false, List, [], ◌∷◌, ◌++◌, Option, Some, None, get_or, length, map, take, drop, sym, ap, subst, add-one, drop-cons}
+use Rattle.std.proofs.Common.{◌≡◌, ◌∙◌, ℕ, ◌<◌, ◌+◌, true, false, List, [], ◌∷◌, ◌++◌, Option, Some, None, get_or, length, map, take, drop, sym, ap, ap₂, subst, add-one, drop-cons}
 use Rattle.std.specs.Global.{Vec}
+use Rattle.std.specs.Option.{unwrap_or}
 use Rattle.std.proofs.lemmas.List.{length-map, map-append, take-append-drop, take_more}
 use Rattle.cck_cache_entry.specs.PathTest.{Test, Searched, test_of, tests_of}
 use Rattle.cck_cache_entry.specs.SearchList.{SearchFields}
 use Rattle.cck_cache_entry.specs.declared.path_test.PathTest.{PathTest}
 use Rattle.cck_cache_entry.specs.declared.path_test.PathTest.TheVariants as program
-use Rattle.cck_cache_files.specs.Searched.{AddsDirectory, IsFirstSame, IsPlaceOf}
+use Rattle.cck_cache_files.specs.Searched.{AddsDirectory, IsPlaceOf}
 use Rattle.cck_cache_files.specs.declared.searched.Identity.{Identity}
 use Rattle.cck_path.specs.Bytes.{Bytes, lists_of}
 use Rattle.cck_path.specs.Text.{join_path}
@@ -20,9 +21,15 @@ names_taken names i name within is =
 
 names_parted : (names : List (Vec ℕ)) (i : ℕ) (name : Vec ℕ) → i < length names → name ≡ get_or names i name → lists_of names ≡ lists_of (take i names) ++ name.items ∷ lists_of (drop (i + 1) names)
 names_parted names i name within is =
-    let left : drop i names ≡ name ∷ drop (i + 1) names = rw (add-one, drop-cons names i name) (ap (λ (v : Vec ℕ). v ∷ drop (suc i) names) (sym is)) in
+    let left : drop i names ≡ name ∷ drop (i + 1) names = drop-cons names i name within ∙ ap₂ (λ (v : Vec ℕ) (n : ℕ). v ∷ drop n names) (sym is) (sym (add-one i)) in
     ap lists_of (sym (take-append-drop i names))
     ∙ (map-append (λ (v : Vec ℕ). v.items) (take i names) (drop i names) ∙ ap (λ (vs : List (Vec ℕ)). lists_of (take i names) ++ lists_of vs) left)
+
+-- a place that is not the right one, where one place was found
+pub one_unexpected : (search : SearchFields) (place first : ℕ) (found : Option ℕ) → found ≡ Some first → is_expected search place first ≡ false → (other : ℕ) → found ≡ Some other → is_expected search place other ≡ false
+one_unexpected search place first found is unexpected other same =
+    let one : first ≡ other = ap (λ (o : Option ℕ). unwrap_or o first) (sym is ∙ same) in
+    subst (λ (n : ℕ). is_expected search place n ≡ false) one unexpected
 
 module _ (directory : Bytes) (search : SearchFields) where
   -- what was found at a name for which the list is right
@@ -31,7 +38,7 @@ module _ (directory : Bytes) (search : SearchFields) where
   is_right name path before after some all first adds right test = go adds.identity adds.added adds.place_is
     where
       go : (identity : Option Identity) → after ≡ before ++ identity ∷ [] → IsPlaceOf after identity (Some first) → IsRight directory search name before some after all
-      go None is no = absurd cc
+      go None is none = absurd cc
       go (Some identity) is same = record { identity = identity; first = first; found = is; is_first = same; expected = right; test = test }
 
   is_wrong : (path : Bytes) (before after : List (Option Identity)) (some : List Test) (first : Option ℕ) → AddsDirectory before path after first

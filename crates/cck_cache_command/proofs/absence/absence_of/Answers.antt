@@ -1,4 +1,4 @@
-use Rattle.std.proofs.Common.{◌∙◌, ◌++◌, ◌≡◌, Option, Some, None, List, ℕ, IsTrue, inl, inr, true, ap, map, subst}
+use Rattle.std.proofs.Common.{◌∙◌, ◌++◌, Option, Some, None, List, ℕ, IsTrue, inl, inr, true, ap, map, subst}
 use Rattle.std.specs.BTreeSet.{BTreeSet}
 use Rattle.std.specs.Global.{Vec}
 use Rattle.cck_cache_entry.specs.Absent.{AreAbsentNames, IsAbsentName}
