@@ -1,7 +1,8 @@
 -- The tests of the directories that a preprocessor searches.
-use Rattle.std.proofs.Common.{◌≡◌, ◌∙◌, ℕ, ◌<◌, ◌+◌, true, false, List, [], ◌∷◌, ◌++◌, Option, Some, None, get_or, length, map, take, drop, sym, ap, ap₂, subst, add-one, drop-cons}
+use Rattle.std.proofs.Common.{◌≡◌, ◌≢◌, ◌∙◌, ℕ, ◌<◌, ◌+◌, true, false, List, [], ◌∷◌, ◌++◌, Option, Some, None, get_or, length, take, drop, sym, ap, ap₂, subst, add-one, drop-cons}
 use Rattle.std.specs.Global.{Vec}
 use Rattle.std.specs.Option.{unwrap_or}
+use Rattle.std.specs.Prelude.{IsUtf8}
 use Rattle.std.proofs.lemmas.List.{length-map, map-append, take-append-drop, take_more}
 use Rattle.cck_cache_entry.specs.PathTest.{Test, Searched, test_of, tests_of}
 use Rattle.cck_cache_entry.specs.SearchList.{SearchFields}
@@ -33,13 +34,13 @@ one_unexpected search place first found is unexpected other same =
 
 module _ (directory : Bytes) (search : SearchFields) where
   -- what was found at a name for which the list is right
-  is_right : (name path : Bytes) (before after : List (Option Identity)) (some all : List Test) (first : ℕ) → AddsDirectory before path after (Some first) → is_expected search (length some) first ≡ true
+  is_right : (name path : Bytes) (before after : List (Option Identity)) (some all : List Test) (first : ℕ) → path ≡ join_path directory name → AddsDirectory before path after (Some first) → is_expected search (length some) first ≡ true
       → all ≡ some ++ Searched (join_path directory name) first ∷ [] → IsRight directory search name before some after all
-  is_right name path before after some all first adds right test = go adds.identity adds.added adds.place_is
+  is_right name path before after some all first path_is adds right test = go adds.identity adds.added adds.place_is adds.text
     where
-      go : (identity : Option Identity) → after ≡ before ++ identity ∷ [] → IsPlaceOf after identity (Some first) → IsRight directory search name before some after all
-      go None is none = absurd cc
-      go (Some identity) is same = record { identity = identity; first = first; found = is; is_first = same; expected = right; test = test }
+      go : (identity : Option Identity) → after ≡ before ++ identity ∷ [] → IsPlaceOf after identity (Some first) → (identity ≢ None → IsUtf8 path) → IsRight directory search name before some after all
+      go None is none _ = absurd cc
+      go (Some identity) is same text = record { identity = identity; first = first; found = is; is_first = same; text = subst IsUtf8 path_is (text (λ e. absurd cc)); expected = right; test = test }
 
   is_wrong : (path : Bytes) (before after : List (Option Identity)) (some : List Test) (first : Option ℕ) → AddsDirectory before path after first
       → ((place : ℕ) → first ≡ Some place → is_expected search (length some) place ≡ false) → IsWrong search before some
@@ -52,15 +53,15 @@ module _ (directory : Bytes) (search : SearchFields) where
 
   module _ (found : List (Option Identity)) (tests : List Test) (names : List (Vec ℕ)) (i : ℕ) (name : Vec ℕ) (within : i < length names) (is : name ≡ get_or names i name) where
     -- the list is right for one more name
-    pub right_more : (before after : List (Option Identity)) (some all : List PathTest) (path : Vec ℕ) (looked : Bytes) (place first : ℕ) → path.items ≡ join_path directory name.items → place ≡ length some
+    pub right_more : (before after : List (Option Identity)) (some all : List PathTest) (path : Vec ℕ) (looked : Bytes) (place first : ℕ) → path.items ≡ join_path directory name.items → looked ≡ path.items → place ≡ length some
         → AddsDirectory before looked after (Some first) → is_expected search place first ≡ true → all ≡ some ++ program.Searched path first ∷ []
         → AddsRight directory search found tests (lists_of (take i names)) before (tests_of some) → AddsRight directory search found tests (lists_of (take (i + 1) names)) after (tests_of all)
-    right_more before after some all path looked place first path_is place_is adds right pushed so_far =
+    right_more before after some all path looked place first path_is looked_is place_is adds right pushed so_far =
         let size : place ≡ length (tests_of some) = place_is ∙ sym (length-map some test_of) in
         let test : tests_of all ≡ tests_of some ++ Searched (join_path directory name.items) first ∷ [] =
         ap tests_of pushed ∙ (map-append test_of some (program.Searched path first ∷ []) ∙ ap (λ (p : Bytes). tests_of some ++ Searched p first ∷ []) path_is) in
         one_added name.items so_far
-        (is_right name.items looked before after (tests_of some) (tests_of all) first adds (subst (λ (n : ℕ). is_expected search n first ≡ true) size right) test)
+        (is_right name.items looked before after (tests_of some) (tests_of all) first (looked_is ∙ path_is) adds (subst (λ (n : ℕ). is_expected search n first ≡ true) size right) test)
         (names_taken names i name within is)
 
     -- and for the next one it is not

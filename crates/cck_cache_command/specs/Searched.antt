@@ -1,5 +1,5 @@
 -- the tests of the directories that a preprocessor searches
-use Rattle.std.specs.Prelude.{◌≡◌, ◌⊎◌, ℕ, Bool, true, false, ◌==◌, ◌&&◌, ◌||◌, if◌then◌else◌, nat_le, nat_lt, List, [], ◌∷◌, ◌++◌, Option, Some, None, length}
+use Rattle.std.specs.Prelude.{◌≡◌, ◌⊎◌, ℕ, Bool, true, false, ◌==◌, ◌&&◌, ◌||◌, if◌then◌else◌, nat_le, nat_lt, List, [], ◌∷◌, ◌++◌, Option, Some, None, IsUtf8, length}
 use Rattle.cck_cache_entry.specs.PathTest.{Test, Searched}
 use Rattle.cck_cache_entry.specs.SearchList.{SearchFields}
 use Rattle.cck_cache_files.specs.Searched.{IsFirstSame, IsPlaceOf}
@@ -13,12 +13,13 @@ abbrev pub is_expected : SearchFields → ℕ → ℕ → Bool
 is_expected search place first =
     if nat_lt place (length search.directories) then (first == place || (nat_le search.quoted place && nat_lt first search.quoted)) else nat_lt first (length search.directories)
 
--- a directory was found at this name, for which the list is right
+-- a directory was found at this name, for which the list is right; a directory is found only at a path that is UTF-8
 pub record IsRight (directory : Bytes) (search : SearchFields) (name : Bytes) (before : List (Option Identity)) (tests : List Test) (after : List (Option Identity)) (all : List Test) : Type 0 where
   pub identity : Identity
   pub first : ℕ
   pub found : after ≡ before ++ Some identity ∷ []
   pub is_first : IsFirstSame after identity first
+  pub text : IsUtf8 (join_path directory name)
   pub expected : is_expected search (length tests) first ≡ true
   pub test : all ≡ tests ++ Searched (join_path directory name) first ∷ []
 

@@ -154,11 +154,7 @@ pub fn request_of<'a>(
 
 // The lines of a call for a shell: one with its paths, that of no dependency file empty, and one with the
 // arguments of the preprocessor.
-fn call_lines(
-    alloc: Global,
-    asked: &Call<'_>,
-    paths: &CallPaths<'_>,
-) -> Result<Vec<u8>, AllocError>
+fn call_lines(alloc: Global, asked: &Call<'_>, paths: &CallPaths<'_>) -> Result<Vec<u8>, AllocError>
     ensures { IfOk result (λ lines. lines.items ≡ call_lines (call_of asked.now) paths.now) }
 {
     let dependencies = match &paths.dependencies {

@@ -60,7 +60,9 @@ fn ask_for_file(arguments: &[Vec<u8>]) -> bool
 fn name_arguments(arguments: &[Vec<u8>]) -> bool
     ensures { IsTrue result ↔ NameArguments (lists_of arguments.now) }
 {
-    arguments.iter().any(|argument| may_name_arguments(argument))
+    arguments
+        .iter()
+        .any(|argument| may_name_arguments(argument))
 }
 
 /// Judges a call by its arguments and the rows of a table: what it asks for, or why it is not cached.

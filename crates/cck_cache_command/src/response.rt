@@ -22,9 +22,7 @@ fn is_name(front: &[u8]) -> bool
 fn may_begin(front: &[u8]) -> bool
     ensures { result ≡ may_begin front.now }
 {
-    front.ends_with(b"/")
-        || is_name(front)
-        || front.starts_with(b"--") && front.ends_with(b"=")
+    front.ends_with(b"/") || is_name(front) || front.starts_with(b"--") && front.ends_with(b"=")
 }
 
 // Whether a program that the compiler runs may read a file of arguments that this argument names at this

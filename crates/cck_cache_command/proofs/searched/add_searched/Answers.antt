@@ -16,12 +16,12 @@ pub loop-name-preserved : goal.loop-name-preserved
 loop-name-preserved g c =
     let search = search_fields c.args.search.now in
     let path_is : c.in_ok-path.path.items ≡ join_path c.args.directory.now c.name-item.result.items =
-    c.in_ok-path.ensures.bytes ∙ ap (λ (n : Bytes). join_path c.args.directory.now n) c.deref.ensures.value in
+    ◌∙◌ {b = join_path c.args.directory.now c.deref.result.now} c.in_ok-path.ensures.bytes (ap (λ (n : Bytes). join_path c.args.directory.now n) c.deref.ensures.value) in
     let place_is : c.len-place.result ≡ length c.loop-name.tests.items = omega arith in
     let expected : is_expected search c.len-place.result c.in-Some.first ≡ true = sym c.is_expected.ensures ∙ c.if-not-is_expected.false in
     right_more c.args.directory.now search c.args.searched.now.identities.items (tests_of c.args.tests.now.items) c.args.names.now c.loop-name.name-index c.name-item.result c.loop-name-test.true c.name-item.is
     c.loop-name.searched.identities.items c.add.new.self.identities.items c.loop-name.tests.items c.push.new.self.items c.in_ok-path.path c.deref-in-loop-name.result.now c.len-place.result c.in-Some.first
-    path_is place_is (rw c.in-Some.is at c.in_ok-first.ensures.added) expected c.in_ok-push.ensures.items c.loop-name.invariant
+    path_is c.deref-in-loop-name.ensures.value place_is (rw c.in-Some.is at c.in_ok-first.ensures.added) expected c.in_ok-push.ensures.items c.loop-name.invariant
 
 pub returns-in_default-clause-added : goal.returns-in_default-clause-added
 returns-in_default-clause-added g c =

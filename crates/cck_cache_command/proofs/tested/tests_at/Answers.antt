@@ -34,7 +34,7 @@ returns-in_default-clause-tests g c =
     ◌∙◌ {b = c.in_ok-path.path.items} c.deref-in-loop-name.ensures.value (c.in_ok-path.ensures.bytes ∙ ap (λ (n : Bytes). join_path c.args.directory.now n) (c.deref.ensures.value ∙ sym turn.1)) in (
       name,
       among_keys c.args.names.now (i + 1) name (omega (arith, turn.0)) (i, omega arith, refl),
-      subst (λ (p : Bytes). IsDoubtfulAt c.test_at.new.states p) path_is c.in_default.ensures.test,
+      subst (λ (p : Bytes). IsDoubtfulAt c.test_at.new.states p) path_is (rw c.in_default.is at c.in_ok-test.ensures.test),
     )
 
 pub returns-in_default-clause-kept : goal.returns-in_default-clause-kept
@@ -54,12 +54,12 @@ loop-name-preserved g c =
     let path = c.deref-in-loop-name.result.now in
     let path_is : path ≡ join_path directory (get_or (map (λ (k : Vec ℕ). k.items) keys) i []) =
     ◌∙◌ {b = c.in_ok-path.path.items} c.deref-in-loop-name.ensures.value (c.in_ok-path.ensures.bytes ∙ ap (λ (n : Bytes). join_path directory n) (c.deref.ensures.value ∙ sym turn.1)) in
-    let test = c.in-Some-test.test in
+    let test = c.in-Some-2.test in
     let grown : tests_of c.push.new.self.items ≡ tests_of c.loop-name.tests.items ++ test_of test ∷ [] =
     ap tests_of c.in_ok-push.ensures.items ∙ map-append test_of c.loop-name.tests.items (test ∷ []) in (
       KeepsStates-trans c.args.states.now old new c.loop-name.invariant.0 keeps,
       rw (length_push c.loop-name.yielded c.in-Some.name)
-          (next_test old new directory keys i keeps path (test_of test) (tests_of c.loop-name.tests.items) (tests_of c.push.new.self.items) path_is c.in-Some-test.ensures.test grown c.loop-name.invariant.1),
+          (next_test old new directory keys i keeps path (test_of test) (tests_of c.loop-name.tests.items) (tests_of c.push.new.self.items) path_is (rw c.in-Some-2.is at c.in_ok-test.ensures.test) grown c.loop-name.invariant.1),
     )
 
 pub returns-clause-tests : goal.returns-clause-tests
