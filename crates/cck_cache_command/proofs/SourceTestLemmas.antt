@@ -1,5 +1,5 @@
 -- The tests of the paths at which sources look for headers.
-use Rattle.std.proofs.Common.{◌≡◌, ◌∙◌, ◌<◌, ◌+◌, ◌⊎◌, inl, inr, ℕ, List, [], ◌∷◌, ◌++◌, Some, None, IsTrue, true, get_or, length, map, refl, sym, ap, subst, arith}
+use Rattle.std.proofs.Common.{◌≡◌, ◌∙◌, ◌+◌, inl, inr, ℕ, List, [], ◌∷◌, ◌++◌, Some, None, IsTrue, true, get_or, map, refl, sym, ap, subst, arith}
 use Rattle.std.specs.BTreeSet.{BTreeSet}
 use Rattle.std.specs.Global.{Vec}
 use Rattle.std.specs.Prelude.{Contains}

@@ -5,8 +5,8 @@ use Rattle.cck_cache_command.proofs.InputLemmas.{calm_kept}
 use Rattle.cck_cache_command.proofs.RecordLemmas.{calm_grown, files_of, gathered_over}
 use Rattle.cck_cache_command.proofs.record.see.Goals as goal
 
-pub returns-in-Refused-cause : goal.returns-in-Refused-cause
-returns-in-Refused-cause g c =
+pub returns-in-Refused-tested : goal.returns-in-Refused-tested
+returns-in-Refused-tested g c =
     let request = c.args.request.now in
     let text = c.args.text.now in
     let cwd = c.as_bytes.result.now in
@@ -17,11 +17,11 @@ returns-in-Refused-cause g c =
       states = c.tested_by.new.states;
       since_is = c.tested_by.ensures.kept.since ∙ c.new-asked.ensures.since;
       printed = c.deref-2.result.now;
-      refused = rw c.in-Refused-cause.is at c.in_ok-tested.ensures.tested;
+      refused = rw c.in-Refused-tested.is at c.in_ok-tested.ensures.tested;
     })
 
-pub returns : goal.returns
-returns g c =
+pub returns-in-Tests-tested : goal.returns-in-Tests-tested
+returns-in-Tests-tested g c =
     let request = c.args.request.now in
     let since = c.args.compilation.now.since in
     let text = c.args.text.now in
@@ -30,7 +30,7 @@ returns g c =
     let after = c.add_named_files.new.files in
     let new = c.tested_by.new.files in
     let made = tests_of c.in-Tests.tests.items in
-    let tests = tests_of c.in-Tests-asked_tests.asked_tests.items in
+    let tests = tests_of c.in-Tests-tested.asked_tests.items in
     let path_tests : HasPathTests request since text made = record {
       states = c.absence_of.new.states;
       since_is = c.in_ok-refusal.ensures.kept.since ∙ c.new-states.ensures.since;
@@ -41,7 +41,7 @@ returns g c =
       states = c.tested_by.new.states;
       since_is = c.tested_by.ensures.kept.since ∙ c.new-asked.ensures.since;
       printed = c.deref-2.result.now;
-      tests_are = rw c.in-Tests-asked_tests.is at c.in_ok-tested.ensures.tested;
+      tests_are = rw c.in-Tests-tested.is at c.in_ok-tested.ensures.tested;
     } in
     let are = files_of request text cwd before after c.in_ok-files.ensures.calm c.in_ok-files.ensures.input c.in_ok-is_doubtful.ensures.named c.as_bytes.ensures.value in (
       gathered_over request since text after.files new.files made tests c.in_ok-tested.ensures.keeps.same_map are path_tests tested,
