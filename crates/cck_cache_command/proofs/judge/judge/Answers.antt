@@ -1,4 +1,5 @@
 use Rattle.std.proofs.Common.{ap, sym, ◌∙◌}
+use Rattle.std.proofs.lemmas.Bool.{false≢true}
 use Rattle.cck_cache_options.specs.Call.{call_of, outcome_of}
 use Rattle.cck_cache_command.proofs.judge.judge.Goals as goal
 
@@ -7,4 +8,4 @@ returns-then-ask_for_file c = (call_of c.in-Asks.asked, sym c.in_ok-asked.ensure
 
 pub returns-then-name_arguments : goal.returns-then-name_arguments
 returns-then-name_arguments c =
-    (call_of c.in-Asks.asked, sym c.in_ok-asked.ensures ∙ ap outcome_of c.in-Asks.is, c.ask_for_file.ensures.1 c.if-ask_for_file.false, c.name_arguments.ensures.0 c.if-name_arguments.true)
+    (call_of c.in-Asks.asked, sym c.in_ok-asked.ensures ∙ ap outcome_of c.in-Asks.is, λ asks. false≢true (sym c.if-ask_for_file.false ∙ c.ask_for_file.ensures.1 asks), c.name_arguments.ensures.0 c.if-name_arguments.true)
