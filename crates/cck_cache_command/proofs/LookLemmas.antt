@@ -6,23 +6,18 @@ use Rattle.std.proofs.lemmas.List.{get_or-map, length-map}
 use Rattle.std.proofs.lemmas.Option.{get_or_from_slice_get}
 use Rattle.std.specs.Global.{Vec}
 use Rattle.std.specs.declared.alloc.Global.{Global}
-use Rattle.cck_cache_command.specs.Look.{IsFoundFor, IsIncludeOf, IsIncluded, IsKeptObject, IsLookMiss, IsLookResult, IsMatch, IsNameOfKey, IsNamedMatch}
-use Rattle.cck_cache_command.specs.Input.{NoFault}
+use Rattle.cck_cache_command.specs.Look.{IsFoundFor, IsIncludeOf, IsIncluded, IsKeptObject, IsLookMiss, IsLookResult, IsNameOfKey}
 use Rattle.cck_cache_command.specs.Request.{HasPreprocessorKey}
 use Rattle.cck_cache_command.specs.declared.environment.Environment.{Environment}
 use Rattle.cck_cache_command.specs.declared.look.Found.{Found}
 use Rattle.cck_cache_command.specs.declared.look.Found.TheVariants.{Hit, Miss, NoKey}
-use Rattle.cck_cache_files.specs.Snapshot.{ArePut}
 use Rattle.cck_cache_words.specs.declared.task.Look.{Look}
-use Rattle.cck_cache_words.specs.declared.task.Outputs.{Outputs}
 use Rattle.cck_entry.specs.Entry.{Entry, Reads}
 use Rattle.cck_entry.specs.Results.{KeyResult, result_in}
 use Rattle.cck_files.specs.FileMap.{FileMap}
 use Rattle.cck_include.specs.Include.{include_in, includes_in}
 use Rattle.cck_include.specs.declared.include.IncludeEntry.{IncludeEntry}
 use Rattle.cck_path.specs.Bytes.{Bytes}
-use Rattle.cck_snapshot.specs.Snapshot.{IsLookedUp}
-use Rattle.sha2.specs.Sha256.{sha256}
 use Rattle.cck_snapshot.specs.declared.requests.SnapshotRequest.{SnapshotRequest}
 
 -- an object file that was found under the name of a match

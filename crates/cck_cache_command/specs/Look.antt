@@ -1,5 +1,5 @@
 -- what a look-up finds
-use Rattle.std.specs.Prelude.{◌≡◌, ◌⊎◌, List, Contains, Bool, true, false, Option, Some, None, Ok, Err, IfSome, String, string_bytes, ℕ}
+use Rattle.std.specs.Prelude.{◌≡◌, ◌⊎◌, List, Contains, true, Option, Some, None, Ok, Err, IfSome, String, string_bytes, ℕ}
 use Rattle.std.specs.FinMap.{entries}
 use Rattle.std.specs.declared.alloc.Global.{Global}
 use Rattle.cck_cache_command.specs.Input.{NoFault}

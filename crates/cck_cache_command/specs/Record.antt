@@ -1,5 +1,5 @@
 -- what a recording records
-use Rattle.std.specs.Prelude.{◌≡◌, ◌⊎◌, ℤ, pos, ◌*ℤ◌, ◌+ℤ◌, List, ◌++◌, map, Bool, true, false, Option, Some, None, String, string_bytes}
+use Rattle.std.specs.Prelude.{◌≡◌, ◌⊎◌, ℤ, pos, ◌*ℤ◌, ◌+ℤ◌, List, Bool, true, false, Option, Some, None, String, string_bytes}
 use Rattle.std.specs.declared.alloc.Global.{Global}
 use Rattle.cck_cache_base.specs.Shown.{ShowsBase}
 use Rattle.cck_cache_base.specs.Text.{AreBases}

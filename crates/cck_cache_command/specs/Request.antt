@@ -1,5 +1,5 @@
 -- requests as requests over snapshots
-use Rattle.std.specs.Prelude.{◌≡◌, List, [], ◌∷◌, ◌++◌, Bool, false, Option, Some, None, codes}
+use Rattle.std.specs.Prelude.{◌≡◌, List, [], ◌∷◌, ◌++◌, false, Option, Some, None, codes}
 use Rattle.std.specs.Option.{option_map}
 use Rattle.c_cache_keys.specs.Keys.{preprocessor_key_of}
 use Rattle.c_cache_keys.specs.declared.call.CacheControl.TheVariants.{Default}

@@ -1,5 +1,5 @@
 -- files of arguments that an argument may name
-use Rattle.std.specs.Prelude.{◌≡◌, ℕ, ◌<◌, Bool, ◌&&◌, ◌||◌, ◌==◌, List, IsTrue, codes, get_or, length, nat_eq, take}
+use Rattle.std.specs.Prelude.{ℕ, ◌<◌, Bool, ◌&&◌, ◌||◌, ◌==◌, IsTrue, codes, get_or, length, nat_eq, take}
 use Rattle.std.specs.Char.{is_ascii_alphabetic}
 use Rattle.std.specs.List.{ends_with, list_all, starts_with}
 use Rattle.cck_path.specs.Bytes.{Bytes}

@@ -1,7 +1,6 @@
 use Rattle.std.proofs.Common.{ℕ, Option, Some, String, string_bytes, subst}
 use Rattle.std.specs.declared.alloc.Global.{Global}
 use Rattle.cck_cache_files.specs.Snapshot.{ArePut}
-use Rattle.cck_entry.specs.Entry.{Entry}
 use Rattle.cck_files.specs.Calls.{Rose}
 use Rattle.cck_files.specs.FileMap.{FileMap}
 use Rattle.cck_path.specs.Bytes.{Bytes}

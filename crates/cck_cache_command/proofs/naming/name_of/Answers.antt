@@ -1,4 +1,4 @@
-use Rattle.std.proofs.Common.{◌≡◌, ◌∙◌, Option, Some, Bor, List, ℕ, string_bytes, subst}
+use Rattle.std.proofs.Common.{◌≡◌, ◌∙◌, Some, Bor, List, ℕ, string_bytes, subst}
 use Rattle.std.specs.Option.{option_map}
 use Rattle.cck_cache_base.specs.Base.{BaseOf, WordLists}
 use Rattle.cck_cache_rules.specs.ObjectName.{object_name}

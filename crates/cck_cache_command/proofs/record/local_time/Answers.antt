@@ -1,4 +1,4 @@
-use Rattle.std.proofs.Common.{◌≡◌, ◌∙◌, ◌+ℤ◌, ℤ, refl, ap, subst, sym, rules, FitsSigned, w64}
+use Rattle.std.proofs.Common.{◌∙◌, ◌+ℤ◌, ℤ, refl, ap, subst, sym, rules, FitsSigned, w64}
 use Rattle.std.proofs.lemmas.Bool.{false≢true}
 use Rattle.std.proofs.lemmas.Int.{to_z-of_z}
 use Rattle.jiff.specs.Words.{IsTimestampNanos, nanos_of_seconds, offset_at, plain_zone}

@@ -1,4 +1,4 @@
-use Rattle.std.proofs.Common.{◌≡◌, ◌∙◌, inl, sym}
+use Rattle.std.proofs.Common.{◌∙◌, inl}
 use Rattle.cck_cache_entry.specs.PathTest.{tests_of}
 use Rattle.cck_cache_command.specs.Record.{HasPathTests, HasAskedTests}
 use Rattle.cck_cache_command.proofs.InputLemmas.{calm_kept}
