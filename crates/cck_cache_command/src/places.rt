@@ -6,29 +6,34 @@ use std::io::ErrorKind;
 use std::os::unix::fs::MetadataExt;
 use std::rt::Files;
 
-// Whether a file may be put at a path: there is nothing, or a regular file that is not the input. A
-// compiler writes through a link and to a device, and does not write to a directory or over its input.
-fn is_free<R: Files>(rt: &R, input: &Metadata, path: &str) -> bool {
+// Whether a file may be put at a path: there is nothing, or a regular file that is not the input and has
+// at least so many bytes. A compiler writes through a link and to a device, and does not write to a
+// directory or over its input.
+fn is_free<R: Files>(rt: &R, input: &Metadata, path: &str, least: u64) -> bool {
     match fs::symlink_metadata(rt, path) {
-        Ok(found) => found.is_file() && !(found.dev() == input.dev() && found.ino() == input.ino()),
+        Ok(found) => {
+            let is_input = found.dev() == input.dev() && found.ino() == input.ino();
+            found.is_file() && !is_input && found.len() >= least
+        }
         Err(error) => error.kind() == ErrorKind::NotFound,
     }
 }
 
 /// Whether the files of a compilation may be put at their paths, and are two files. `-` is standard
-/// output. `false` where the input can't be looked at.
+/// output. The assembler removes an object that is there, unless it is empty: that it writes to.
+/// `false` where the input can't be looked at.
 pub fn are_free<R: Files>(rt: &R, paths: &CallPaths<'_>) -> bool {
     let Ok(input) = fs::metadata(rt, paths.input) else {
         return false;
     };
     let output = paths.output.as_str();
-    if output == "-" || !is_free(rt, &input, output) {
+    if output == "-" || !is_free(rt, &input, output, 1) {
         return false;
     }
     match &paths.dependencies {
         Some(path) => {
             let path = path.as_str();
-            path != "-" && path != output && is_free(rt, &input, path)
+            path != "-" && path != output && is_free(rt, &input, path, 0)
         }
         None => true,
     }
