@@ -181,7 +181,7 @@ class Room:
                 word = (line.split() + ["", ""])[1]
                 if word in ("hit", "miss", "passed"):
                     verdict = word
-                elif word.startswith("refused-") or word == "not":
+                elif word.startswith("refused-") or word in ("not", "error:"):
                     verdict = "refused"
         return verdict
 
