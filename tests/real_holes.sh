@@ -235,14 +235,14 @@ check 'the second one changed: escapes' 'hit *' differs -c once.c
 # Tests for the existence of a header.
 printf '#if __has_include("opt.h")\nint v = 2;\n#else\nint v = 1;\n#endif\n' >y.c
 settle
-check '__has_include' 'refused-header-test *' same -c y.c
+check '__has_include' 'miss *' same -c y.c
 : >opt.h
 settle
-check 'the header appears' 'refused-header-test *' same -c y.c
+check 'the header appears' 'miss *' same -c y.c
 printf '#if __has_include("opt2.h")\nint z = 2;\n#else\nint z = 1;\n#endif\n' >b/z.h
 echo '#include "z.h"' >z.c
 settle
-check '__has_include in a header' 'refused-header-test *' same -c z.c -Ib
+check '__has_include in a header' 'miss *' same -c z.c -Ib
 
 # The assembler.
 echo 'asm(".incbin \"data\"");' >i.c
