@@ -189,6 +189,8 @@ class Room:
         """Makes a call by the plain compiler and by the wrapper, the latter first if it does not wait. A difference
         counts if two further plain calls, each in another second, agree with the first one, or if it is that of a hit:
         what shows the time is never found again, but within the second."""
+        if late:  # The file itself, where a link leads to it.
+            late = (os.path.relpath(os.path.realpath(f"{self.root}/{late[0]}"), self.root), late[1])
         if waits:
             wanted = self.run(*plain, is_known=True)
             time.sleep(PAUSE)
