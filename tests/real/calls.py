@@ -155,11 +155,8 @@ class Room:
         open(self.log, "wb").close()
         words, directory, variables, umask = cached, *plain[1:]
         if late:
-            variables = {**variables, "CCK_PROGRAM": self.late(*late)}
-        outcome = self.run(words, directory, variables, umask)
-        if late:
-            outcome.files.pop(late[0], None)
-        return outcome, self.verdict()
+            variables = {**variables, "CCK_PROGRAM": self.late(*late[:2])}
+        return without(self.run(words, directory, variables, umask), late), self.verdict()
 
     def late(self, path, text):
         """A program that writes a file before it records."""
@@ -185,12 +182,23 @@ class Room:
                     verdict = "refused"
         return verdict
 
+    def names_of(self, path):
+        """The paths in the tree of the file at a path, to which links may lead."""
+        real = os.path.realpath(f"{self.root}/{path}")
+        found = {os.path.relpath(real, self.root)}
+        if os.path.exists(real):
+            node = os.lstat(real)
+            for at, _, names in os.walk(self.root):
+                found |= {os.path.relpath(f"{at}/{name}", self.root) for name in names
+                          if os.path.samestat(node, os.lstat(f"{at}/{name}"))}
+        return found
+
     def judge(self, plain, cached, waits=True, late=None):
         """Makes a call by the plain compiler and by the wrapper, the latter first if it does not wait. A difference
         counts if two further plain calls, each in another second, agree with the first one, or if it is that of a hit:
         what shows the time is never found again, but within the second."""
-        if late:  # The file itself, where a link leads to it.
-            late = (os.path.relpath(os.path.realpath(f"{self.root}/{late[0]}"), self.root), late[1])
+        if late:
+            late = (*late, self.names_of(late[0]))
         if waits:
             wanted = self.run(*plain, is_known=True)
             time.sleep(PAUSE)
@@ -215,4 +223,4 @@ class Room:
 
 def without(outcome, late):
     """An outcome without the file that is written late."""
-    return outcome._replace(files={path: node for path, node in outcome.files.items() if not late or path != late[0]})
+    return outcome._replace(files={path: node for path, node in outcome.files.items() if not late or path not in late[2]})
