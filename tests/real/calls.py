@@ -155,6 +155,7 @@ class Room:
         open(self.log, "wb").close()
         words, directory, variables, umask = cached, *plain[1:]
         if late:
+            late = (*late[:2], self.names_of(late[0]))
             variables = {**variables, "CCK_PROGRAM": self.late(*late[:2])}
         return without(self.run(words, directory, variables, umask), late), self.verdict()
 
