@@ -2,7 +2,7 @@
 use Rattle.std.specs.Prelude.{◌≡◌, ℕ, ◌-◌, ◌<◌, ◌⊎◌, ◌↔◌, Bool, true, false, not, ◌&&◌, ◌||◌, ◌==◌, nat_eq, nat_lt, List, [], ◌∷◌, Contains, IsTrue, count_by, length, take, drop, map, reverse, Option, Some, None, is_some, option_and_then, codes, if◌then◌else◌}
 use Rattle.std.specs.Borrow.{Bor}
 use Rattle.std.specs.Char.{is_ascii_alphanumeric}
-use Rattle.std.specs.List.{ends_with, starts_with, take_while}
+use Rattle.std.specs.List.{ends_with, list_any, starts_with, take_while}
 use Rattle.std.specs.Option.{option_map_or}
 use Rattle.std.specs.Str.{bytes_eq}
 use Rattle.cck_digest.specs.TimeMacros.{has}
@@ -141,10 +141,34 @@ AreTests text (Some tests) =
     ((line : List ℕ) → IsLine text line → IsBlindIn line → ⊥)
     × ((test : TestFields) → Contains tests test ↔ ((line : List ℕ) × IsLine text line × IsTestIn line test))
 
+-- the word `dependency` ends in a line before a blank, a quote or a bracket, as before the name of a file
+abbrev pub is_before_name : List ℕ → Bool
+is_before_name line = has line (codes "dependency ") || has line (codes "dependency\t") || has line (codes "dependency\"") || has line (codes "dependency<")
+
+-- the same, or before a parenthesis or at the end of the line, as where a macro ends
+abbrev pub ends_dependency : List ℕ → Bool
+ends_dependency line = is_before_name line || has line (codes "dependency)") || ends_with nat_eq line (codes "dependency")
+
+-- a line has a directive, or a part of the name of a pragma
+abbrev pub has_directive : List ℕ → Bool
+has_directive line = has line (codes "#") || has line (codes "%:") || has line (codes "??=") || has line (codes "GCC") || has line (codes "ragma")
+
+abbrev pub is_directive_line : List ℕ → Bool
+is_directive_line line = ends_dependency line && has_directive line
+
+-- A line may be of a pragma that compares the times of files, or of a macro that makes one, by itself or with others: the word `dependency` is in it,
+-- and a directive or a part of the name of a pragma, or the name of a file follows.
+abbrev pub is_dependency_line : List ℕ → Bool
+is_dependency_line line = is_directive_line line || has line (codes "dependency \"") || has line (codes "dependency <")
+
 -- a source without its splices may have a pragma that compares the times of files
 abbrev pub has_dependency : List ℕ → Bool
-has_dependency text = has text (codes "dependency") && has text (codes "ragma")
+has_dependency text = has text (codes "dependency") && list_any is_dependency_line (text_lines text)
+
+-- an argument may have such a pragma, or a part of one as the value of a macro
+abbrev pub is_dependency_argument : List ℕ → Bool
+is_dependency_argument text = is_dependency_line text || (ends_dependency text && has text (codes "="))
 
 -- a text has a name of a test for a header, or the beginning of one, or may have a pragma that compares the times of files
 abbrev pub MayAskForFile : List ℕ → Type 0
-MayAskForFile text = ((place : ℕ) × (place < length text) × IsTrue (is_test_word (drop place text))) ⊎ IsTrue (has_dependency text)
+MayAskForFile text = ((place : ℕ) × (place < length text) × IsTrue (is_test_word (drop place text))) ⊎ IsTrue (is_dependency_argument text)

@@ -1,7 +1,8 @@
 //! Tests of a source for the existence of a header, and its pragmas of dependency.
-ghost use Rattle.std.specs.Prelude.{◌≡◌, ◌↔◌, ◌≤◌, ◌==◌, drop, IfOk, IsTrue, length, not, reverse};
+ghost use Rattle.std.specs.Prelude.{◌≡◌, ◌↔◌, ◌≤◌, ◌==◌, drop, IfOk, IsTrue, length, nat_eq, not, reverse};
+ghost use Rattle.std.specs.List.{ends_with};
 ghost use Rattle.std.specs.Option.{option_map};
-ghost use Rattle.cck_cache_entry.specs.HeaderTests.{AreTests, GainsLine, MayAskForFile, after_blanks, closed_name, directive, ends_in_word, has_dependency, is_balanced, is_closed, is_condition, is_harmless, is_include_word, is_operand, is_test, is_test_word, is_word_byte, lent_fields, literal, name_in, named, stripped, test_fields, tested, word_of};
+ghost use Rattle.cck_cache_entry.specs.HeaderTests.{AreTests, GainsLine, MayAskForFile, after_blanks, closed_name, directive, ends_dependency, ends_in_word, has_dependency, has_directive, is_balanced, is_before_name, is_directive_line, is_closed, is_condition, is_dependency_argument, is_dependency_line, is_harmless, is_include_word, is_operand, is_test, is_test_word, is_word_byte, lent_fields, literal, name_in, named, stripped, test_fields, tested, word_of};
 ghost use Rattle.cck_cache_entry.specs.Splices.{is_blank, run_length};
 ghost use Rattle.cck_digest.specs.TimeMacros.{has};
 
@@ -275,15 +276,79 @@ pub fn header_tests(alloc: Global, text: &[u8]) -> Result<Option<Vec<HeaderTest>
     Ok(Some(tests))
 }
 
-/// Whether a source without its splices may have a pragma that compares the times of files.
+// Whether a text ends in this word.
+fn is_last(text: &[u8], word: &[u8]) -> bool
+    ensures { result ≡ ends_with nat_eq text.now word.now }
+{
+    text.ends_with(word)
+}
+
+// Whether the word `dependency` ends in a line as before the name of a file.
+fn is_before_name(line: &[u8]) -> bool
+    ensures { result ≡ is_before_name line.now }
+{
+    has(line, b"dependency ")
+        || has(line, b"dependency\t")
+        || has(line, b"dependency\"")
+        || has(line, b"dependency<")
+}
+
+// The same, or as where a macro ends.
+fn ends_dependency(line: &[u8]) -> bool
+    ensures { result ≡ ends_dependency line.now }
+{
+    is_before_name(line) || has(line, b"dependency)") || is_last(line, b"dependency")
+}
+
+// Whether a line has a directive, or a part of the name of a pragma.
+fn has_directive(line: &[u8]) -> bool
+    ensures { result ≡ has_directive line.now }
+{
+    has(line, b"#")
+        || has(line, b"%:")
+        || has(line, b"??=")
+        || has(line, b"GCC")
+        || has(line, b"ragma")
+}
+
+// Whether a line has the word and a directive.
+fn is_directive_line(line: &[u8]) -> bool
+    ensures { result ≡ is_directive_line line.now }
+{
+    ends_dependency(line) && has_directive(line)
+}
+
+// Whether a line may be of a pragma that compares the times of files, or of a macro that makes one, by
+// itself or with others.
+fn is_dependency_line(line: &[u8]) -> bool
+    ensures { result ≡ is_dependency_line line.now }
+{
+    is_directive_line(line) || has(line, b"dependency \"") || has(line, b"dependency <")
+}
+
+/// Whether a source without its splices may have a pragma that compares the times of files, also by
+/// macros of several files.
+///
+/// Source: "Pragmas" of the manual of GCC's preprocessor.
 pub fn has_dependency_pragma(text: &[u8]) -> bool
     ensures { result ≡ has_dependency text.now }
 {
-    has(text, b"dependency") && has(text, b"ragma")
+    has(text, b"dependency")
+        && text
+            .split(|byte| *byte == b'\n')
+            .any(|line| is_dependency_line(line))
+}
+
+// Whether an argument may have such a pragma, or a part of one as the value of a macro.
+fn is_dependency_argument(argument: &[u8]) -> bool
+    ensures { result ≡ is_dependency_argument argument.now }
+{
+    is_dependency_line(argument) || (ends_dependency(argument) && has(argument, b"="))
 }
 
 /// Whether an argument may make a source depend on a file that it does not include: a name of a test
-/// for a header, or the beginning of one, is in it, or a pragma that compares the times of files.
+/// for a header, or the beginning of one, is in it, or a pragma that compares the times of files, or a
+/// part of one as the value of a macro.
 pub fn may_ask_for_file(argument: &[u8]) -> bool
     ensures { IsTrue result ↔ MayAskForFile argument.now }
 {
@@ -292,5 +357,5 @@ pub fn may_ask_for_file(argument: &[u8]) -> bool
             return true;
         }
     }
-    has_dependency_pragma(argument)
+    is_dependency_argument(argument)
 }

@@ -9,13 +9,12 @@ use Rattle.cck_cache_files.specs.declared.path_states.PathState.{PathState}
 use Rattle.cck_cache_files.specs.declared.path_states.PathState.TheVariants.{Directory, Doubtful, File, Link}
 use Rattle.cck_cache_files.specs.declared.path_states.PathStates.{PathStates}
 
--- A file of this type has this state: a directory whenever it changed, a link or a regular file if it last changed
--- before the given time. All else is in doubt.
+-- A file of this type has this state: that of its type if it was not changed at the given time or later. All else is in doubt.
 pub record IsStateFound (type : FileType) (is_old : Bool) (state : PathState) : Type 0 where
-  pub directory : IsDir type → state ≡ Directory
+  pub directory : IsDir type → is_old ≡ true → state ≡ Directory
   pub link : IsSymlink type → is_old ≡ true → state ≡ Link
   pub file : IsFile type → is_old ≡ true → state ≡ File
-  pub young : ¬ (IsDir type) → is_old ≡ false → state ≡ Doubtful
+  pub young : is_old ≡ false → state ≡ Doubtful
   pub other : ¬ (IsDir type) → ¬ (IsSymlink type) → ¬ (IsFile type) → state ≡ Doubtful
 
 -- the state that is kept of a path

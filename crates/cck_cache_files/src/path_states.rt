@@ -3,7 +3,7 @@ ghost use Rattle.std.specs.Prelude.{◌≡◌, ℕ, List, None, length, IfOk, Is
 ghost use Rattle.std.specs.Fs.{file_type};
 ghost use Rattle.cck_cache_files.specs.PathStates.{AreOnTheWay, HasOther, IsFirstOther, IsStateFound, IsStateOf, IsUnchanged, KeepsStates, LeadsOn, state_at};
 
-use crate::times::{changed, changed_before, modified};
+use crate::times::{changed, is_settled, modified};
 use cck_path::Timestamp;
 use std::alloc::AllocError;
 use std::collections::BTreeMap;
@@ -21,7 +21,8 @@ pub enum PathState {
     Link,
     /// A regular file that last changed before the given time.
     File,
-    /// A directory.
+    /// A directory that was not changed itself, as to another name, at the given time or later. Names may have
+    /// come and gone in it.
     Directory,
     /// What can't be looked at, or changed at or after the given time, or is of another kind.
     Doubtful,
@@ -50,10 +51,10 @@ pub struct PathStates {
 fn state_found(found: &Metadata, is_old: bool) -> PathState
     ensures { IsStateFound (file_type found.now) is_old result }
 {
-    if found.is_dir() {
-        PathState::Directory
-    } else if !is_old {
+    if !is_old {
         PathState::Doubtful
+    } else if found.is_dir() {
+        PathState::Directory
     } else if found.is_symlink() {
         PathState::Link
     } else if found.is_file() {
@@ -75,8 +76,8 @@ fn look_at<R: Files>(rt: &R, path: &[u8], since: Timestamp) -> PathState
         Err(error) if error.kind() == ErrorKind::NotADirectory => PathState::Absent,
         Err(_) => PathState::Doubtful,
         Ok(found) => {
-            let is_old = changed_before(modified(&found), changed(&found), since);
-            state_found(&found, is_old)
+            let (modified, changed) = (modified(&found), changed(&found));
+            state_found(&found, is_settled(found.is_dir(), modified, changed, since))
         }
     }
 }
@@ -92,7 +93,7 @@ pub fn is_absent<R: Files>(rt: &R, path: &[u8]) -> bool
 pub fn is_directory<R: Files>(rt: &R, path: &[u8]) -> bool
     ensures { IsTrue result → IsUtf8 path.now }
 {
-    look_at(rt, path, Timestamp::new(0, 0)) == PathState::Directory
+    look_at(rt, path, Timestamp::new(i64::MAX, 0)) == PathState::Directory
 }
 
 /// Whether a regular file is at a path, links followed. `false` where that can't be known.

@@ -1,6 +1,6 @@
 //! The times of real files.
 ghost use Rattle.std.specs.Prelude.{◌≡◌, ◌<◌, ◌↔◌, IsTrue, MatchOption, pos, ℕ};
-ghost use Rattle.cck_cache_files.specs.Times.{IsEarlier, IsSystemTime, IsTimeBefore};
+ghost use Rattle.cck_cache_files.specs.Times.{IsEarlier, IsSettled, IsSystemTime, IsTimeBefore};
 
 use cck_path::Timestamp;
 use std::fs::Metadata;
@@ -63,6 +63,26 @@ pub fn changed_before(
     ensures { IsTrue result ↔ (IsTimeBefore modified since × IsTimeBefore changed since) }
 {
     is_before(modified, since) && is_before(changed, since)
+}
+
+/// Whether what is at a path was not changed at this time or later, by when its contents and its status
+/// last were. A name that comes or goes in a directory changes both times of the directory to one; a
+/// change of the directory itself, as to another name, changes that of the status alone.
+pub fn is_settled(
+    is_directory: bool,
+    modified: Option<Timestamp>,
+    changed: Option<Timestamp>,
+    since: Timestamp,
+) -> bool
+    ensures { IsTrue result ↔ IsSettled is_directory modified changed since }
+{
+    let (Some(modified), Some(changed)) = (modified, changed) else {
+        return false;
+    };
+    if is_directory && modified == changed {
+        return true;
+    }
+    is_earlier(modified, since) && is_earlier(changed, since)
 }
 
 /// A time as the system has it. `None` for a time before 1970.

@@ -61,6 +61,7 @@ pub const GCC: &[u8] = b"\
 -l either message\n\
 -lang-asm alone passed-mode\n\
 -Wl, joined message\n\
+-P alone compiler-message\n\
 -w alone compiler-message\n\
 -W alone message\n\
 -Wno- joined message\n\
@@ -206,7 +207,11 @@ pub const GCC: &[u8] = b"\
 -ffp-contract equals code\n\
 -fgnat-encodings equals code\n\
 -finline-limit equals code\n\
--finput-charset equals text\n\
+-finput-charset equals passed-preprocessor-option\n\
+-finput-charset=UTF-8 alone text\n\
+-finput-charset=utf-8 alone text\n\
+-finput-charset=latin1 alone text\n\
+-finput-charset=ISO-8859-1 alone text\n\
 -finstrument-functions-exclude-file-list equals code\n\
 -finstrument-functions-exclude-function-list equals code\n\
 -fira-algorithm equals code\n\
