@@ -7,7 +7,7 @@ readelf of binutils; the table was made for gcc 12 and glibc 2.36 on x86-64.
   library logs (tests/real/getenv.c); those that the code of gcc, cc1, the assembler and their libraries gives to `getenv`;
   and those of the section "Environment Variables" of gcc's manual.
 - The names with `key` are exactly those of the two lists of crates/cck_cache_command/src/environment.rt. Those with
-  `passed` are exactly those that examples/cckcc tests for being set, and those with `programs` are exactly those in the
+  `passed` are exactly those that bin/cckcc tests for being set, and those with `programs` are exactly those in the
   context for which it keeps the paths of the compiler's programs.
 - No variable with `none` changes an output of some calls, whatever of some values it has.
 

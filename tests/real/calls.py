@@ -10,7 +10,7 @@ import sys
 import time
 
 TOP = os.path.dirname(os.path.dirname(os.path.dirname(os.path.abspath(__file__))))
-WRAPPER = os.environ.get("CCK_WRAPPER", TOP + "/examples/cckcc")
+WRAPPER = os.environ.get("CCK_WRAPPER", TOP + "/bin/cckcc")
 PROGRAM = os.environ.get("CCK_PROGRAM", TOP + "/crates/cck_cache/out/cck_cache")
 # The names of the compiler's temporary files, which differ from call to call.
 TEMPORARY = re.compile(rb"/cc[A-Za-z0-9]{6}(?![A-Za-z0-9])")
