@@ -1,9 +1,7 @@
 //! The commands, their options and their words.
+use cck_digest::VERSION;
 use clap::{Arg, ArgAction, Command, value_parser};
 use std::alloc::{AllocError, Global};
-
-/// The version of the program.
-const VERSION: &str = "0.19.0";
 
 // The name of an option, that of its value, and its help.
 type OptionWords<'a> = (&'a str, &'a str, &'a str);

@@ -14,6 +14,7 @@
 //! - [`TimeMacroFinder`] finds the time macros in a stream, however the stream is cut, and
 //!   [`WatchedDigest`] feeds it and a digest in one pass. [`SeenMacros`] is its state as values.
 //! - [`UtilError`] and [`FileError`] are the errors of this crate and of the crates above.
+//! - [`VERSION`] is the version of the project.
 //! - [`laws`] states properties of the definitions.
 //!
 //! ```rust
@@ -31,6 +32,7 @@ mod hash;
 pub mod laws;
 mod reader;
 mod stream;
+mod version;
 
 pub use digest::{Digest, hash_len_prefixed, hash_length, hex};
 pub use error::{FileError, UtilError};
@@ -38,3 +40,4 @@ pub use finder::{SeenMacros, TimeMacroFinder};
 pub use hash::{HashState, Sha256State};
 pub use reader::WatchedDigest;
 pub use stream::{HASH_BUFFER_SIZE, Sink, new_hash_buffer, read_all, read_to_end};
+pub use version::VERSION;

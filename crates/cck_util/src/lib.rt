@@ -33,7 +33,7 @@ mod wrapper;
 
 pub use cck_digest::{
     Digest, FileError, HASH_BUFFER_SIZE, HashState, SeenMacros, Sha256State, Sink, TimeMacroFinder,
-    UtilError, WatchedDigest, hash_len_prefixed, hash_length, hex, read_all, read_to_end,
+    UtilError, VERSION, WatchedDigest, hash_len_prefixed, hash_length, hex, read_all, read_to_end,
 };
 pub use cck_file_digest::{
     DigestFiles, feed_file, feed_file_of_size, hash_all, read_contents, read_contents_of_size,
