@@ -7,7 +7,8 @@
 //! - [`HashState`] is the hash function, which the caller chooses; the program's is
 //!   [`Sha256State`].
 //! - [`Digest`] is fed piece by piece and returns the hex digest; [`hash_length`] and
-//!   [`hash_len_prefixed`] feed lengths and frames, and [`hex`] writes bytes as digits.
+//!   [`hash_len_prefixed`] feed lengths and frames, and [`hex`] writes bytes as digits, each a
+//!   [`hex_digit`].
 //! - [`read_to_end`] reads a reader to its end, at most [`HASH_BUFFER_SIZE`] bytes at a time, and
 //!   passes each piece to a [`Sink`]; [`read_all`] returns all that it reads.
 //! - [`Digest::reader_sync`] and its variants compute the digest of what a reader gives.
@@ -34,7 +35,7 @@ mod reader;
 mod stream;
 mod version;
 
-pub use digest::{Digest, hash_len_prefixed, hash_length, hex};
+pub use digest::{Digest, hash_len_prefixed, hash_length, hex, hex_digit};
 pub use error::{FileError, UtilError};
 pub use finder::{SeenMacros, TimeMacroFinder};
 pub use hash::{HashState, Sha256State};
