@@ -9,7 +9,7 @@ import tempfile
 import time
 
 TOP = os.path.dirname(os.path.dirname(os.path.abspath(__file__)))
-WRAPPER = TOP + "/examples/cckcc"
+WRAPPER = TOP + "/bin/cckcc"
 ROUNDS = 15
 
 

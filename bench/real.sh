@@ -42,7 +42,7 @@ parts = {"a process: true": ["true"], "a shell: sh -c :": ["sh", "-c", ":"],
          "a program: cck_cache --version": [program, "--version"]}
 for name in "lvm.c", "lzio.c":
     out = name[:-2] + ".o"
-    parts["cck_cache key, " + name] = [program, "key", *call(name)]
+    parts["cck_cache preprocessor-key, " + name] = [program, "preprocessor-key", *call(name)]
     parts["cck_cache look, " + name] = [program, "look", store, *call(name)]
     parts["cckcc gcc, " + name] = ["cckcc", "gcc", *flags, "-c", name, "-o", out]
     parts["ccache gcc, " + name] = ["ccache", "gcc", *flags, "-c", name, "-o", out]

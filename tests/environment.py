@@ -6,9 +6,9 @@ readelf of binutils; the table was made for gcc 12 and glibc 2.36 on x86-64.
 - Each variable that a program asks for has a line. The names are those that calls of gcc ask for by `getenv`, which a
   library logs (tests/real/getenv.c); those that the code of gcc, cc1, the assembler and their libraries gives to `getenv`;
   and those of the section "Environment Variables" of gcc's manual.
-- The names with `key` are exactly those of the two lists of crates/cck_cache_command/src/environment.rt. Those with
-  `passed` are exactly those that examples/cckcc tests for being set, and those with `programs` are exactly those in the
-  context for which it keeps the paths of the compiler's programs.
+- The names with `key` are exactly those of the lists of crates/cck_util/src/variables.rt and of
+  crates/cck_cache_command/src/environment.rt. Those with `passed` are exactly those that bin/cckcc tests for being set,
+  and those with `programs` are exactly those in the context for which it keeps the paths of the compiler's programs.
 - No variable with `none` changes an output of some calls, whatever of some values it has.
 
 With --print it prints who asks for which name. The last line is `all passed`."""
@@ -23,7 +23,7 @@ sys.path.insert(0, os.path.join(os.path.dirname(os.path.abspath(__file__)), "rea
 from calls import TOP, WRAPPER, Room, difference  # noqa: E402
 
 TABLE = TOP + "/tests/real/variables.txt"
-KEYS = TOP + "/crates/cck_cache_command/src/environment.rt"
+KEYS = [TOP + "/crates/cck_util/src/variables.rt", TOP + "/crates/cck_cache_command/src/environment.rt"]
 LIBRARY = TOP + "/tests/real/getenv.c"
 TREATMENTS = ("key", "passed", "programs", "directory", "none")
 # What "Environment Variables Affecting GCC" of gcc 12's manual has.
@@ -156,7 +156,8 @@ def compare(what, wanted, got):
 def in_code(treated):
     """What the table has otherwise than the code."""
     keys = set()
-    for part in re.findall(r"const \w+: \[&str; \d+\] = \[(.*?)\];", "\n".join(lines_of(KEYS)), re.S):
+    lines = [line for path in KEYS for line in lines_of(path)]
+    for part in re.findall(r"const \w+: \[&(?:str|\[u8\]); \d+\] = \[(.*?)\];", "\n".join(lines), re.S):
         keys |= set(re.findall(r'"(\w+)"', part))
     wrapper = "\n".join(line for line in lines_of(WRAPPER) if not line.lstrip().startswith("#"))
     passed = set(re.findall(r"\$\{([A-Z][A-Z0-9_]*)\+x\}", wrapper))

@@ -15,7 +15,7 @@ BLOCK = re.compile(r"^```.*?^```$", re.M | re.S)
 SPAN = re.compile(r"`[^`]+`")
 LINK = re.compile(r"\[([^\]]*)\]\(([^)\s]+)\)")
 HEADING = re.compile(r"^#+ (.*)", re.M)
-PATH = re.compile(r"(?<![a-z_/.*])(?:\.\.?/)*((?:tests|bench|crates|examples|docs|\.ci)/[\w./*-]*\w)(?![*{])")
+PATH = re.compile(r"(?<![a-z_/.*])(?:\.\.?/)*((?:tests|bench|bin|crates|examples|docs|\.ci)/[\w./*-]*\w)(?![*{])")
 PLACEHOLDER = re.compile(r"\*|\.\.|(?:^|/)[A-Z]{2,}(?:/|$)|/out(?:/|$)|(?:^|/)N\b")
 
 

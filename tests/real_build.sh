@@ -46,7 +46,7 @@ cached() {
     compare "$1" "$2"
     sort "$room/stderr" | cmp -s - "$1/messages" || fault "$name: $2: other messages"
     hits=$(logged hit)
-    misses=$(logged 'miss ')
+    misses=$(logged 'recorded ')
     echo "$name: $2: $hits hits, $misses misses"
     [ "$hits" = "$3" ] || fault "$name: $2: not $3 hits"
     [ "$misses" = "$4" ] || fault "$name: $2: not $4 misses"
@@ -67,7 +67,7 @@ try() {
     plain "$room/changed_$name"
     affected=$(wc -l <"$room/includers")
     cached "$room/changed_$name" "contents of $1" $((files - affected)) "$affected"
-    sed -n 's/^cckcc: miss .* //p' "$CCK_LOG" | sort | cmp -s - "$room/includers" ||
+    sed -n 's/^cckcc: recorded .* //p' "$CCK_LOG" | sort | cmp -s - "$room/includers" ||
         fault "$name: the files that missed are not those that include $1"
 }
 
@@ -117,6 +117,6 @@ for step in cold 'all hits'; do
         cmp -s "$room/whole/$file" "$room/whole_plain/$file" || echo "$file"
     done >"$room/differing"
     [ ! -s "$room/differing" ] || fault "$name: $step: $(wc -l <"$room/differing") objects differ"
-    echo "$name: $step: $(logged hit) hits, $(logged 'miss ') misses, $(logged passed) passed on"
+    echo "$name: $step: $(logged hit) hits, $(logged 'recorded ') misses, $(logged passed) passed on"
 done
 finish

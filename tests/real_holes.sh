@@ -52,7 +52,7 @@ check() {
     fi
     case $did in
     hit*) short=hit ;;
-    'miss '*) short=miss ;;
+    'recorded '*) short=recorded ;;
     *) short=$did ;;
     esac
     echo "$label: $short, $object$other"
@@ -68,7 +68,7 @@ check() {
 check_files() {
     label=$1
     shift
-    for step in plain miss hit; do
+    for step in plain recorded hit; do
         rm -rf "$room/made" "${room:?}/$step"
         mkdir -p "$room/made/a.b" "$room/made/.deps"
         : >"$CCK_LOG"
@@ -76,11 +76,11 @@ check_files() {
         plain) (cd "$room/made" && gcc "$@") ;;
         *)
             (cd "$room/made" && cckcc gcc "$@")
-            grep -q "^cckcc: $step " "$CCK_LOG" || fault "$label: no $step"
+            grep -q "^cckcc: $step " "$CCK_LOG" || fault "$label: not $step"
             ;;
         esac
         mv "$room/made" "$room/$step"
-        diff -r "$room/plain" "$room/$step" >/dev/null || fault "$label: a $step makes other files"
+        diff -r "$room/plain" "$room/$step" >/dev/null || fault "$label: other files where it is $step"
     done
     echo "$label: $(cd "$room/hit" && find . -type f | sort | tr '\n' ' ')"
 }
@@ -120,28 +120,28 @@ mkdir a b
 echo 'int v = 1;' >b/h.h
 echo '#include "h.h"' >x.c
 settle
-check 'a header of a search path' 'miss *' same -c x.c -Ia -Ib
+check 'a header of a search path' 'recorded *' same -c x.c -Ia -Ib
 check 'the same again' 'hit *' same -c x.c -Ia -Ib
 echo 'int v = 2;' >a/h.h
 settle
-check 'a new header earlier in the search path' 'miss *' same -c x.c -Ia -Ib
+check 'a new header earlier in the search path' 'recorded *' same -c x.c -Ia -Ib
 rm a/h.h
-check 'it is removed' 'miss *' same -c x.c -Ia -Ib
+check 'it is removed' 'recorded *' same -c x.c -Ia -Ib
 echo 'int v = 3;' >h.h
 settle
-check 'a new header beside the input' 'miss *' same -c x.c -Ia -Ib
+check 'a new header beside the input' 'recorded *' same -c x.c -Ia -Ib
 rm h.h
-check 'it is removed' 'miss *' same -c x.c -Ia -Ib
+check 'it is removed' 'recorded *' same -c x.c -Ia -Ib
 mkdir n
 echo 'int w = 1;' >b/w.h
 echo '#include <w.h>' >w.c
 settle
-check 'a search path with a missing directory' 'miss *' same -c w.c -Imissing -Ib
+check 'a search path with a missing directory' 'recorded *' same -c w.c -Imissing -Ib
 check 'the same again' 'hit *' same -c w.c -Imissing -Ib
 mkdir missing
 echo 'int w = 2;' >missing/w.h
 settle
-check 'the directory appears' 'miss *' same -c w.c -Imissing -Ib
+check 'the directory appears' 'recorded *' same -c w.c -Imissing -Ib
 
 # A header that was included before, and one more place to look for it.
 mkdir s
@@ -149,11 +149,11 @@ echo '#include "g.h"' >s/one.h
 printf '#ifndef G\n#define G\nint g = 1;\n#endif\n' >b/g.h
 printf '#include <g.h>\n#include "s/one.h"\n' >g.c
 settle
-check 'a header that is included twice' 'miss *' same -c g.c -Ib
+check 'a header that is included twice' 'recorded *' same -c g.c -Ib
 check 'the same again' 'hit *' same -c g.c -Ib
 echo 'int more = 1;' >s/g.h
 settle
-check 'a new header where the second include looks first' 'miss *' same -c g.c -Ib
+check 'a new header where the second include looks first' 'recorded *' same -c g.c -Ib
 
 # Dependency files.
 depends="-MD -MP -MT x.o -MF $room/x.d"
@@ -161,30 +161,30 @@ mkdir -p d1 d2
 echo 'int d = 1;' >d2/d.h
 echo '#include "d.h"' >depends.c
 settle
-check 'a dependency file' 'miss *' same -c depends.c -Id1 -Id2 $depends
+check 'a dependency file' 'recorded *' same -c depends.c -Id1 -Id2 $depends
 check 'the same again' 'hit *' same -c depends.c -Id1 -Id2 $depends
 cp d2/d.h d1/d.h
 settle
-check 'the same header earlier in the search path' 'miss *' same -c depends.c -Id1 -Id2 $depends
+check 'the same header earlier in the search path' 'recorded *' same -c depends.c -Id1 -Id2 $depends
 check 'the same again' 'hit *' same -c depends.c -Id1 -Id2 $depends
 rm d1/d.h
-check 'it is removed, and the other takes its place' 'miss *' same -c depends.c -Id1 -Id2 $depends
+check 'it is removed, and the other takes its place' 'recorded *' same -c depends.c -Id1 -Id2 $depends
 check 'the same again' 'hit *' same -c depends.c -Id1 -Id2 $depends
 echo '#include "more.h"' >>d2/d.h
 : >d2/more.h
 settle
-check 'the header includes an empty one' 'miss *' same -c depends.c -Id1 -Id2 $depends
+check 'the header includes an empty one' 'recorded *' same -c depends.c -Id1 -Id2 $depends
 check 'the same again' 'hit *' same -c depends.c -Id1 -Id2 $depends
 mv d2/more.h d1/more.h
-check 'the empty one is in another directory' 'miss *' same -c depends.c -Id1 -Id2 $depends
+check 'the empty one is in another directory' 'recorded *' same -c depends.c -Id1 -Id2 $depends
 check 'the same again' 'hit *' same -c depends.c -Id1 -Id2 $depends
-check 'without system headers' 'miss *' same -c depends.c -Id1 -Id2 -MMD -MQ 'a$b' -MT x.o "-MF$room/x.d"
+check 'without system headers' 'recorded *' same -c depends.c -Id1 -Id2 -MMD -MQ 'a$b' -MT x.o "-MF$room/x.d"
 check 'the same again' 'hit *' same -c depends.c -Id1 -Id2 -MMD -MQ 'a$b' -MT x.o "-MF$room/x.d"
-check 'an imacros file' 'miss *' same -c depends.c -Id1 -Id2 -imacros b/h.h $depends
-check 'no dependency file' 'miss *' same -c depends.c -Id1 -Id2
+check 'an imacros file' 'recorded *' same -c depends.c -Id1 -Id2 -imacros b/h.h $depends
+check 'no dependency file' 'recorded *' same -c depends.c -Id1 -Id2
 check 'a dependency file again' 'hit *' same -c depends.c -Id1 -Id2 $depends
 for file in "$CCK_STORE"/objects/*/*; do printf x | dd of="$file" bs=1 seek=300 conv=notrunc 2>/dev/null; done
-check 'a damaged object with its dependencies' 'miss *' same -c depends.c -Id1 -Id2 $depends
+check 'a damaged object with its dependencies' 'recorded *' same -c depends.c -Id1 -Id2 $depends
 check 'the same again' 'hit *' same -c depends.c -Id1 -Id2 $depends
 check 'a dependency file that is a device' 'passed on (output)*' same -c depends.c -Id1 -Id2 -MD -MF /dev/null
 ln -s "$room/linked.d" linked.d
@@ -197,10 +197,10 @@ echo 'int marked;' >marked.h
 printf '#include "marked.h"\nint w;\n' >marked.c
 cp marked.c marked.first
 settle
-check 'a header' 'miss *' same -c marked.c $depends
+check 'a header' 'recorded *' same -c marked.c $depends
 printf '# 1 "marked.h" 1\nint marked;\n# 2 "marked.c" 2\nint w;\n' >marked.c
 settle
-check 'its text and its line markers in the input' 'miss *' same -c marked.c $depends
+check 'its text and its line markers in the input' 'recorded *' same -c marked.c $depends
 mv marked.first marked.c
 settle
 check 'the first input again' 'hit *' same -c marked.c $depends
@@ -227,7 +227,7 @@ printf '#pragma once\nstatic int n = 1;\n' >d1/once.h
 cp -p d1/once.h d2/once.h
 printf '#include "d1/once.h"\n#include "d2/once.h"\nint f(void) { return n; }\n' >once.c
 settle
-check 'two equal headers of one time with #pragma once' 'miss *' same -c once.c
+check 'two equal headers of one time with #pragma once' 'recorded *' same -c once.c
 printf '#pragma once\nint g(void) { return 2; }\n' >d2/once.h
 settle
 check 'the second one changed: escapes' 'hit *' differs -c once.c
@@ -235,14 +235,14 @@ check 'the second one changed: escapes' 'hit *' differs -c once.c
 # Tests for the existence of a header.
 printf '#if __has_include("opt.h")\nint v = 2;\n#else\nint v = 1;\n#endif\n' >y.c
 settle
-check '__has_include' 'miss *' same -c y.c
+check '__has_include' 'recorded *' same -c y.c
 : >opt.h
 settle
-check 'the header appears' 'miss *' same -c y.c
+check 'the header appears' 'recorded *' same -c y.c
 printf '#if __has_include("opt2.h")\nint z = 2;\n#else\nint z = 1;\n#endif\n' >b/z.h
 echo '#include "z.h"' >z.c
 settle
-check '__has_include in a header' 'miss *' same -c z.c -Ib
+check '__has_include in a header' 'recorded *' same -c z.c -Ib
 
 # The assembler.
 echo 'asm(".incbin \"data\"");' >i.c
@@ -277,17 +277,17 @@ settle
 check '.incbin by the alternatives of dialects' 'refused-assembler-include *' same -c k5.c
 printf 'asm(".ascii \\".include\\"");\n' >k6.c
 settle
-check '.include in a text of the assembler' 'miss *' same -c k6.c
+check '.include in a text of the assembler' 'recorded *' same -c k6.c
 check 'the same once more' 'hit *' same -c k6.c
 
 # Options, variables, links, times.
 echo 'int p = 1;' >p.h
 echo 'int q;' >q.c
 settle
-check '-include' 'miss *' same -c q.c -include p.h
+check '-include' 'recorded *' same -c q.c -include p.h
 echo 'int p = 2;' >p.h
 settle
-check 'its file changed' 'miss *' same -c q.c -include p.h
+check 'its file changed' 'recorded *' same -c q.c -include p.h
 echo 'int g = 1;' >pch.h
 gcc pch.h -o pch.h.gch
 echo 'int g = 2;' >pch.h
@@ -296,7 +296,7 @@ settle
 check 'an old precompiled header beside its header' 'refused-earlier-path *' same -c u.c
 rm pch.h.gch
 settle
-check 'the precompiled header is removed' 'miss *' same -c u.c
+check 'the precompiled header is removed' 'recorded *' same -c u.c
 gcc -x c-header p.h -o pch.h.gch
 check 'a precompiled header appears' 'refused-earlier-path *' same -c u.c
 rm pch.h.gch
@@ -304,9 +304,9 @@ echo '#include <w.h>' >cpath.c
 settle
 CPATH=b
 export CPATH
-check 'CPATH' 'miss *' same -c cpath.c
+check 'CPATH' 'recorded *' same -c cpath.c
 CPATH=missing
-check 'CPATH is another one' 'miss *' same -c cpath.c
+check 'CPATH is another one' 'recorded *' same -c cpath.c
 CPATH=b
 check 'CPATH is the first one again' 'hit *' same -c cpath.c
 unset CPATH
@@ -410,7 +410,7 @@ check_call 'an input that is missing' 'passed on (*' -DVALUE=1 -c missing.c
 mkdir earlier
 PATH=$PWD/earlier:$PATH
 settle
-check 'the compiler of PATH' 'miss *' same -c x.c -Ib -O1
+check 'the compiler of PATH' 'recorded *' same -c x.c -Ib -O1
 check 'the same again' 'hit *' same -c x.c -Ib -O1
 printf '#!/bin/sh\nexec %s -Dv=w "$@"\n' "$(command -v gcc)" >earlier/gcc
 chmod +x earlier/gcc
@@ -429,14 +429,14 @@ echo 'int f(int a) { return a; }' >dbg.c
 echo 'char *f = __FILE__;' >f.c
 settle
 cd n1
-check 'an absolute input and -I. in one directory' 'miss *' same -c "$room/work/abs.c" -I.
-check 'debug information in one directory' 'miss *' same -g -c "$room/work/dbg.c"
+check 'an absolute input and -I. in one directory' 'recorded *' same -c "$room/work/abs.c" -I.
+check 'debug information in one directory' 'recorded *' same -g -c "$room/work/dbg.c"
 cd ../n2
-check 'an absolute input and -I. in another one' 'miss *' same -c "$room/work/abs.c" -I.
-check 'debug information in another one' 'miss *' same -g -c "$room/work/dbg.c"
+check 'an absolute input and -I. in another one' 'recorded *' same -c "$room/work/abs.c" -I.
+check 'debug information in another one' 'recorded *' same -g -c "$room/work/dbg.c"
 cd ..
-check '__FILE__' 'miss *' same -c f.c
-check '__FILE__ of an absolute input' 'miss *' same -c "$room/work/f.c"
+check '__FILE__' 'recorded *' same -c f.c
+check '__FILE__ of an absolute input' 'recorded *' same -c "$room/work/f.c"
 
 # Messages.
 echo 'int f(void) { int unused; return 0; }' >warn.c
@@ -454,15 +454,15 @@ echo "messages: $(wc -l <"$room/second") lines on a hit"
 # A damaged store.
 echo 'int r;' >r.c
 settle
-check 'a file that is recorded' 'miss *' same -c r.c
+check 'a file that is recorded' 'recorded *' same -c r.c
 for file in "$CCK_STORE"/entries/*/*; do printf x | dd of="$file" bs=1 seek=90 conv=notrunc 2>/dev/null; done
-check 'damaged entries' 'miss *' same -c r.c
+check 'damaged entries' 'recorded *' same -c r.c
 for file in "$CCK_STORE"/entries/*/*; do : >"$file"; done
-check 'empty entries' 'miss *' same -c r.c
+check 'empty entries' 'recorded *' same -c r.c
 for file in "$CCK_STORE"/objects/*/*; do printf x | dd of="$file" bs=1 seek=300 conv=notrunc 2>/dev/null; done
-check 'damaged objects' 'miss *' same -c r.c
+check 'damaged objects' 'recorded *' same -c r.c
 for file in "$CCK_STORE"/objects/*/*; do : >"$file"; done
-check 'empty objects' 'miss *' same -c r.c
+check 'empty objects' 'recorded *' same -c r.c
 echo 'another store' >"$CCK_STORE/VERSION"
 check 'a store of another version' 'passed on (error*' same -c r.c
 finish

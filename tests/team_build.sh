@@ -152,7 +152,7 @@ compared 'two builds at once' two
 empty
 : >"$room/log_one"
 (
-    while [ "$(grep -c '^cckcc: miss' "$room/log_one")" -lt $((all / 3)) ]; do sleep 0.05; done
+    while [ "$(grep -c '^cckcc: recorded' "$room/log_one")" -lt $((all / 3)) ]; do sleep 0.05; done
     kill -9 "$(cat "$room/server.pid")"
 ) &
 killer=$!

@@ -10,7 +10,7 @@ import sys
 import time
 
 TOP = os.path.dirname(os.path.dirname(os.path.dirname(os.path.abspath(__file__))))
-WRAPPER = os.environ.get("CCK_WRAPPER", TOP + "/examples/cckcc")
+WRAPPER = os.environ.get("CCK_WRAPPER", TOP + "/bin/cckcc")
 PROGRAM = os.environ.get("CCK_PROGRAM", TOP + "/crates/cck_cache/out/cck_cache")
 # The names of the compiler's temporary files, which differ from call to call.
 TEMPORARY = re.compile(rb"/cc[A-Za-z0-9]{6}(?![A-Za-z0-9])")
@@ -171,14 +171,16 @@ class Room:
         return program
 
     def verdict(self):
-        """hit, miss, passed or refused, as the log says it, or `other`. What was not recorded since the compiler
-        failed is refused too."""
+        """hit, miss, passed or refused, as the log says it, or `other`. What was recorded is a miss, and what was not
+        recorded since the compiler failed is refused too."""
         verdict = "other"
         with open(self.log, encoding="utf-8", errors="replace") as file:
             for line in file:
                 word = (line.split() + ["", ""])[1]
-                if word in ("hit", "miss", "passed"):
+                if word in ("hit", "passed"):
                     verdict = word
+                elif word == "recorded":
+                    verdict = "miss"
                 elif word.startswith("refused-") or word in ("not", "error:"):
                     verdict = "refused"
         return verdict

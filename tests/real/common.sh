@@ -9,7 +9,7 @@ CCK_PROGRAM=${CCK_PROGRAM:-$top/crates/cck_cache/out/cck_cache}
 CCK_STORE=$room/store
 CCK_LOG=$room/log
 export CCK_PROGRAM CCK_STORE CCK_LOG
-PATH=$top/examples:$PATH
+PATH=$top/bin:$PATH
 faults=0
 
 # Fails with a message.

@@ -83,7 +83,7 @@ def compile_(source, name="o"):
 def start_record(source, missed, store=STORE, **variables):
     """Begins to record what was compiled after this look-up, with more variables of the environment."""
     return subprocess.Popen(
-        [PROGRAM, "record", store, "--since", missed[2], "--key", missed[1], "--object", "o.o",
+        [PROGRAM, "record", store, "--since", missed[2], "--preprocessor-key", missed[1], "--compiled", "o.o",
          "--dependencies", "o.d", "--assembled", "assembled", "--search", "search", "--messages", "messages", *CALL,
          "--", *words_of(source), "-MF", "o.d", "-o", "o.o"],
         stdin=open("text", "rb"), stdout=subprocess.PIPE, stderr=subprocess.DEVNULL, text=True,

@@ -58,7 +58,7 @@ fn main(rt: HostRuntime) -> Result<ExitCode> {
     match start(&rt) {
         Ok(status) => Ok(ExitCode::from(status)),
         Err(error) => {
-            println!(rt; "error: {error}")?;
+            println!(rt; "error: {error:#}")?;
             Ok(ExitCode::from(1))
         }
     }

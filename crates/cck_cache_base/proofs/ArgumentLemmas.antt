@@ -7,7 +7,8 @@ use Rattle.std.proofs.lemmas.Bool.{eqb-false, eqb-true, false_from_ne_true, fals
 use Rattle.std.proofs.lemmas.List.{append_cancel_left, take-append-drop}
 use Rattle.memchr.specs.Find.{FindsNeedle, OccursAt}
 use Rattle.memchr.proofs.lemmas.MatchLemmas.{OccursAt-from_part, OccursAt-split}
-use Rattle.cck_cache_base.specs.Argument.{Has, IsMapOfBase, IsPortable, MapsBase, ShowsPaths}
+use Rattle.cck_cache_base.specs.Argument.{IsMapOfBase, IsPortable, MapsBase, ShowsPaths}
+use Rattle.cck_digest.specs.TimeMacros.{Has}
 
 -- a part of a text is at a place of it
 pub occurs : (text word before after : List ℕ) → text ≡ before ++ (word ++ after) → OccursAt text word (length before)

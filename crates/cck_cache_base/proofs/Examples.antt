@@ -5,7 +5,8 @@ use Rattle.std.proofs.lemmas.Bool.{and_parts, false≢true, or_left, or_right}
 use Rattle.std.proofs.lemmas.Bool.Decides.{not_from_Decides}
 use Rattle.std.proofs.lemmas.List.Elements.{All-cons, All-nil}
 use Rattle.std.proofs.lemmas.List.{append-nil, append_cancel_left}
-use Rattle.cck_cache_base.specs.Argument.{AsksForDebug, Begins, Has, IsMapOfBase, IsPortable, MapsBase, ShowsPaths}
+use Rattle.cck_cache_base.specs.Argument.{AsksForDebug, Begins, IsMapOfBase, IsPortable, MapsBase, ShowsPaths}
+use Rattle.cck_digest.specs.TimeMacros.{Has}
 use Rattle.cck_cache_base.specs.Base.{BaseOf, IsBelow, IsPlain, MapDebug, IsPlainByte, WordLists}
 use Rattle.cck_cache_base.specs.Shown.{ShowsBase}
 use Rattle.cck_cache_base.specs.Text.{AreBases, IsDirectoryMarker, IsPortableText}

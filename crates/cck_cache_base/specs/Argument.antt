@@ -1,9 +1,6 @@
 -- what one argument does
 use Rattle.std.specs.Prelude.{◌≡◌, ◌≢◌, ℕ, ◌⊎◌, List, ◌∷◌, ◌++◌, All, codes}
-
--- the word is a contiguous part of the text
-abbrev pub Has : List ℕ → List ℕ → Type 0
-Has text word = (before : List ℕ) × (after : List ℕ) × (text ≡ before ++ (word ++ after))
+use Rattle.cck_digest.specs.TimeMacros.{Has}
 
 abbrev pub Begins : List ℕ → List ℕ → Type 0
 Begins text word = (rest : List ℕ) × (text ≡ word ++ rest)

@@ -1,11 +1,7 @@
 -- the base directories that are cut from the key of words with a text
-use Rattle.std.specs.Prelude.{◌≡◌, ℕ, List, [], ◌∷◌, ◌++◌, map, codes}
-use Rattle.std.specs.Global.{Vec}
+use Rattle.std.specs.Prelude.{◌≡◌, ℕ, List, [], ◌∷◌, ◌++◌, codes}
 use Rattle.cck_cache_base.specs.Argument.{Begins, IsEndOf}
 use Rattle.cck_cache_base.specs.Base.{ArePortable, WordLists}
-
-abbrev pub byte_lists : Vec (Vec ℕ) → List (List ℕ)
-byte_lists parts = map (λ p. p.items) parts.items
 
 -- between these parts of a text begins the directory in a line marker of its own: a line with `# 1 "`, the directory and `//"`
 abbrev pub IsDirectoryMarker : List ℕ → List ℕ → List ℕ → Type 0

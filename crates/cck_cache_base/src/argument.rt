@@ -1,6 +1,7 @@
 //! What one argument of a compilation does.
 ghost use Rattle.std.specs.Prelude.{◌↔◌, IsTrue};
-ghost use Rattle.cck_cache_base.specs.Argument.{AsksForDebug, Has, IsMapOfBase, IsPortable, MapsBase, MapsDebug, ShowsPaths};
+ghost use Rattle.cck_cache_base.specs.Argument.{AsksForDebug, IsMapOfBase, IsPortable, MapsBase, MapsDebug, ShowsPaths};
+ghost use Rattle.cck_digest.specs.TimeMacros.{Has};
 
 use memchr::memmem;
 

@@ -1,7 +1,8 @@
 //! The base directories that are cut from the key of a compilation with a text.
 ghost use Rattle.std.specs.Prelude.{◌↔◌, IfOk, IsTrue};
 ghost use Rattle.cck_cache_base.specs.Base.{word_lists};
-ghost use Rattle.cck_cache_base.specs.Text.{AreBases, IsDirectoryMarker, IsPortableText, byte_lists};
+ghost use Rattle.cck_cache_base.specs.Text.{AreBases, IsDirectoryMarker, IsPortableText};
+ghost use Rattle.cck_path.specs.Bytes.{lists_of};
 
 use crate::base::{Words, base_of};
 use memchr::memmem::Finder;
@@ -41,7 +42,7 @@ fn is_portable_text(text: &[u8], base: &[u8], directory: &[u8]) -> bool
 /// Returns the base directories that are cut from the key of a request with this text: one if the
 /// compilation is portable, and else none. The only error is lack of memory.
 pub fn bases_of(alloc: Global, words: &Words<'_>, text: &[u8]) -> Result<Vec<Vec<u8>>, AllocError>
-    ensures { IfOk result (λ bases. AreBases (word_lists words.now) text.now (byte_lists bases)) }
+    ensures { IfOk result (λ bases. AreBases (word_lists words.now) text.now (lists_of bases.items)) }
 {
     let mut bases = Vec::new(alloc);
     if let Some(base) = base_of(words) {

@@ -1,32 +1,19 @@
 //! What a process is given beside its words.
-ghost use Rattle.std.specs.Prelude.{◌≡◌, map};
+ghost use Rattle.std.specs.Prelude.{◌≡◌, IfOk, map};
 ghost use Rattle.cck_cache_command.specs.Environment.{variable_names};
 ghost use Rattle.cck_time.specs.Config.{activated};
 
 use anyhow::{Result, bail};
 use cck_path::Timestamp;
 use cck_time::PreprocessorCacheModeConfig;
+use cck_util::request_variable_names;
 use jiff::tz::TimeZone;
+use std::alloc::{AllocError, Global};
 use std::env;
 use std::rt::Env;
 
-// The variables that keys and recorded digests depend on, in the order in which they enter keys.
-const VARIABLES: [&str; 14] = [
-    "SCCACHE_C_CUSTOM_CACHE_BUSTER",
-    "MACOSX_DEPLOYMENT_TARGET",
-    "IPHONEOS_DEPLOYMENT_TARGET",
-    "TVOS_DEPLOYMENT_TARGET",
-    "WATCHOS_DEPLOYMENT_TARGET",
-    "SDKROOT",
-    "CCC_OVERRIDE_OPTIONS",
-    "CPATH",
-    "C_INCLUDE_PATH",
-    "CPLUS_INCLUDE_PATH",
-    "OBJC_INCLUDE_PATH",
-    "OBJCPLUS_INCLUDE_PATH",
-    "SCCACHE_DIRECT",
-    "SOURCE_DATE_EPOCH",
-];
+// The variable that turns the preprocessor cache off, and the one that `__DATE__` shows.
+const OTHER_VARIABLES: [&[u8]; 2] = [b"SCCACHE_DIRECT", b"SOURCE_DATE_EPOCH"];
 
 // The variables that the compiler's messages depend on: those of the locale, and those of colours, links,
 // hints and the width of a line. They are part of the keys as arguments.
@@ -67,11 +54,15 @@ impl Environment<'_> {
     }
 }
 
-// The names of the variables that keys and recorded digests depend on.
-fn variable_names() -> &'static [&'static str]
-    ensures { map (λ name. name.now) result.now ≡ variable_names }
+// The names of the variables that keys and recorded digests depend on, in the order in which they
+// enter keys.
+fn variable_names(alloc: Global) -> Result<Vec<&'static [u8]>, AllocError>
+    ensures { IfOk result (λ names. map (λ name. name.now) names.items ≡ variable_names) }
 {
-    &VARIABLES
+    let mut names = Vec::new(alloc);
+    names.extend_from_slice(request_variable_names())?;
+    names.extend_from_slice(&OTHER_VARIABLES)?;
+    Ok(names)
 }
 
 // The value of a variable. One that is no UTF-8 is an error: it never counts as absent.
@@ -90,12 +81,12 @@ fn value_of<R: Env + AllocGlobal>(rt: &R, name: &str) -> Result<Option<String>> 
 pub fn variables<R: Env + AllocGlobal>(rt: &R) -> Result<Vec<(Vec<u8>, Vec<u8>)>> {
     let alloc = rt.alloc();
     let mut found = Vec::new(alloc);
-    for name in variable_names() {
-        if let Some(value) = value_of(rt, name)? {
-            found.push((
-                name.as_bytes().to_vec(alloc)?,
-                value.as_bytes().to_vec(alloc)?,
-            ))?;
+    for name in variable_names(alloc)? {
+        let Ok(text) = std::str::from_utf8(name) else {
+            bail!("the name of a variable is not UTF-8");
+        };
+        if let Some(value) = value_of(rt, text)? {
+            found.push((name.to_vec(alloc)?, value.as_bytes().to_vec(alloc)?))?;
         }
     }
     Ok(found)

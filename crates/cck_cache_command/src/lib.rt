@@ -21,6 +21,7 @@ mod request;
 mod response;
 mod searched;
 mod stats;
+mod store;
 mod tested;
 mod unpack;
 mod why;

@@ -10,7 +10,7 @@ use crate::input::input_snapshot;
 use crate::naming::name_of;
 use crate::outputs::has_outputs;
 use crate::request::{hasher_of, snapshot_request};
-use anyhow::Result;
+use anyhow::{Context, Result};
 use cck_cache_entry::{EntryFile, ObjectFile};
 use cck_cache_files::{Kind, StoreDirectory, add_file, first_failing};
 use cck_cache_rules::{entry_in, object_in};
@@ -95,7 +95,7 @@ pub fn read_entry<R: Files + AllocGlobal>(
 ) -> Result<Kept>
     ensures { IfOk result (IsKeyEntry key.now) }
 {
-    let Some(bytes) = entry_bytes(rt, store, path, key)? else {
+    let Some(bytes) = entry_bytes(rt, store, path, key).context("the entry file")? else {
         return Ok(Kept::Nothing);
     };
     Ok(match entry_in::<Sha256State>(rt.alloc(), key, &bytes)? {

@@ -2,7 +2,7 @@
 ghost use Rattle.std.specs.Prelude.{◌≡◌};
 ghost use Rattle.cck_cache_command.specs.Outputs.{has_outputs};
 
-use anyhow::Result;
+use anyhow::{Context, Result};
 use cck_cache_entry::ObjectFile;
 use cck_cache_files::StoreDirectory;
 use cck_cache_words::Outputs;
@@ -39,9 +39,11 @@ pub fn write_outputs<R: Files + AllocGlobal, E: Write>(
     errors: &mut E,
 ) -> Result<()> {
     if let Some(path) = outputs.dependencies {
-        write_in_place(rt, path, &object.dependencies)?;
+        write_in_place(rt, path, &object.dependencies).context("the dependency file")?;
     }
-    store.replace(rt, outputs.object, &object.object)?;
-    errors.write_all(&object.messages)?;
+    store
+        .replace(rt, outputs.object, &object.object)
+        .context("the object")?;
+    errors.write_all(&object.messages).context("the messages")?;
     Ok(())
 }

@@ -10,10 +10,11 @@ use crate::prune::prune;
 use crate::record::{Outcome, record};
 use crate::request::request_key;
 use crate::stats::print_stats;
+use crate::store::store_in;
 use crate::unpack::unpack;
 use crate::why::print_why;
 use anyhow::{Result, bail};
-use cck_cache_files::{Kind, StoreDirectory, open_store};
+use cck_cache_files::{Kind, StoreDirectory};
 use cck_cache_options::{Call, GCC, rows_of};
 use cck_cache_words::{
     Action, Compilation, CompilerCall, Look, Outputs, Packed, Request, Task, task_of,
@@ -52,7 +53,7 @@ fn print_passed<W: Write>(writer: &mut W, reason: Passed) -> Result<u8> {
 }
 
 // Prints the preprocessor key.
-fn run_key<R: Files + AllocGlobal, W: Write>(
+fn run_preprocessor_key<R: Files + AllocGlobal, W: Write>(
     rt: &R,
     environment: &Environment<'_>,
     wanted: &Wanted<'_>,
@@ -125,7 +126,7 @@ fn run_look<R: Files + AllocGlobal, W: Write, E: Write>(
         outputs,
         request,
     };
-    let store = open_store(rt, wanted.store, environment.id)?;
+    let store = store_in(rt, environment, wanted.store)?;
     match look(rt, environment, &store, &wanted)? {
         Found::Hit {
             preprocessor_key,
@@ -166,10 +167,10 @@ fn run_unpack<R: Files + AllocGlobal, W: Write, E: Write>(
     writer: &mut W,
     errors: &mut E,
 ) -> Result<u8> {
-    let store = open_store(rt, store, environment.id)?;
+    let store = store_in(rt, environment, store)?;
     if unpack(rt, &store, packed, errors)? {
         let _ = store.count(rt, "unpacked");
-        writeln!(writer, "hit {}", packed.key)?;
+        writeln!(writer, "unpacked {}", packed.name)?;
         Ok(DONE)
     } else {
         let _ = store.count(rt, "damaged");
@@ -208,12 +209,12 @@ fn run_record<R: Files + AllocGlobal, I: Read, W: Write>(
     reader: &mut I,
     writer: &mut W,
 ) -> Result<u8> {
-    let store = open_store(rt, store, environment.id)?;
+    let store = store_in(rt, environment, store)?;
     let text = read_text(rt, reader)?;
     match record(rt, environment, &store, request, compilation, &text)? {
         Outcome::Recorded(object_name) => {
             count_outcome(rt, &store, compilation, "recorded");
-            writeln!(writer, "miss {object_name}")?;
+            writeln!(writer, "recorded {object_name}")?;
             Ok(DONE)
         }
         Outcome::Refused(refusal) => {
@@ -232,7 +233,7 @@ fn run_stats<R: Files + AllocGlobal + Clone + Drop, W: Write>(
     store: &str,
     writer: &mut W,
 ) -> Result<u8> {
-    let store = open_store(rt, store, environment.id)?;
+    let store = store_in(rt, environment, store)?;
     print_stats(rt, &store, writer)?;
     Ok(DONE)
 }
@@ -245,7 +246,7 @@ fn run_prune<R: Files + AllocGlobal + Clone + Drop, W: Write>(
     max_size: u64,
     writer: &mut W,
 ) -> Result<u8> {
-    let store = open_store(rt, store, environment.id)?;
+    let store = store_in(rt, environment, store)?;
     prune(rt, environment, &store, max_size, writer)?;
     Ok(DONE)
 }
@@ -258,7 +259,7 @@ fn run_why<R: Files + AllocGlobal, W: Write>(
     request: &Request<'_>,
     writer: &mut W,
 ) -> Result<u8> {
-    let store = open_store(rt, store, environment.id)?;
+    let store = store_in(rt, environment, store)?;
     let has_key = print_why(rt, environment, &store, request, writer)?;
     Ok(if has_key { DONE } else { MISS })
 }
@@ -304,7 +305,7 @@ fn run_action<R: Files + AllocGlobal, I: Read, W: Write, E: Write>(
     errors: &mut E,
 ) -> Result<u8> {
     match action {
-        Action::Key => run_key(rt, environment, &wanted, writer),
+        Action::PreprocessorKey => run_preprocessor_key(rt, environment, &wanted, writer),
         Action::Look { store, entry } => run_look_for_call(
             rt,
             environment,
@@ -401,10 +402,9 @@ fn explain<W: Write, E: Write>(error: &Error, writer: &mut W, errors: &mut E) ->
 }
 
 /// Does what these words ask for, of which the first is the program's name. Returns the exit
-/// status.
+/// status. What is wrong with the words is written to `errors`.
 ///
-/// The error is of what could not be read or written, of a stamp or a size that is no number, of an
-/// option that is missing or needs another one, of a malformed line marker, or lack of memory.
+/// The error is of what could not be read or written, of a malformed line marker, or lack of memory.
 pub fn run<R: Files + AllocGlobal + Clone + Drop, I: Read, W: Write, E: Write>(
     rt: &R,
     environment: &Environment<'_>,
@@ -414,10 +414,7 @@ pub fn run<R: Files + AllocGlobal + Clone + Drop, I: Read, W: Write, E: Write>(
     errors: &mut E,
 ) -> Result<u8> {
     match task_of(rt.alloc(), words) {
-        Ok(Some(task)) => run_task(rt, environment, &task, reader, writer, errors),
-        Ok(None) => bail!(
-            "a stamp or a size is no number, or an option is missing or needs another one"
-        ),
+        Ok(task) => run_task(rt, environment, &task, reader, writer, errors),
         Err(error) => explain(&error, writer, errors),
     }
 }

@@ -9,10 +9,11 @@ ghost use Rattle.cck_compiler.specs.Seen.{arguments_of};
 ghost use Rattle.cck_path.specs.Bytes.{lists_of};
 
 use crate::environment::Environment;
-use anyhow::Result;
+use crate::store::store_in;
+use anyhow::{Context, Result};
 use c_cache_keys::{CCompilerHasher, CCompilerKind, ParsedArguments};
 use cck_cache_base::{Words, base_of};
-use cck_cache_files::{compiler_digest, open_store, shared_compiler_digest};
+use cck_cache_files::{compiler_digest, shared_compiler_digest};
 use cck_cache_words::Request;
 use cck_compiler::copy_lists;
 use cck_files::MapFiles;
@@ -20,7 +21,6 @@ use cck_path::Timestamp;
 use cck_snapshot::{ExternalCompiler, SnapshotRequest, preprocessor_key};
 use cck_util::{Language, Sha256State};
 use std::alloc::{AllocError, Global};
-use std::io;
 use std::rt::Files;
 
 /// The words of a request that its base directory depends on.
@@ -81,19 +81,20 @@ fn parsed(alloc: Global, input: Vec<u8>, common_args: Vec<Vec<u8>>) -> ParsedArg
     arguments
 }
 
-// The digest of the programs of a request.
+// The digest of the programs of a request. The error names the store, or says that it is of a program.
 fn digest_of<R: Files + AllocGlobal>(
     rt: &R,
     environment: &Environment<'_>,
     request: &Request<'_>,
-) -> io::Result<String> {
-    match request.digests {
+) -> Result<String> {
+    let digest = match request.digests {
         Some(directory) => {
-            let store = open_store(rt, directory, environment.id)?;
+            let store = store_in(rt, environment, directory)?;
             shared_compiler_digest(rt, &store, request.compiler)
         }
         None => compiler_digest(rt, request.compiler),
-    }
+    };
+    digest.context("a program of the compiler")
 }
 
 /// The compilation of a request, by gcc. Its digest is also that of its version and its assembler.

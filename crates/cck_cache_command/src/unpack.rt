@@ -1,6 +1,6 @@
 //! Takes an object from an object file.
 use crate::outputs::{has_outputs, write_outputs};
-use anyhow::Result;
+use anyhow::{Context, Result};
 use cck_cache_files::StoreDirectory;
 use cck_cache_rules::object_in;
 use cck_cache_words::Packed;
@@ -10,7 +10,7 @@ use std::io::Write;
 use std::rt::Files;
 
 /// Writes the object that an object file has, the dependency file, if there is a path for it, and the
-/// compiler's messages. `false` where the file is none of this key, or has no dependencies for such a
+/// compiler's messages. `false` where the file is none of this name, or has no dependencies for such a
 /// path: then nothing is written.
 ///
 /// The error is of an object file that can't be read, lack of memory, or that of [`write_outputs`], which
@@ -21,8 +21,8 @@ pub fn unpack<R: Files + AllocGlobal, E: Write>(
     packed: &Packed<'_>,
     errors: &mut E,
 ) -> Result<bool> {
-    let bytes = fs::read(rt, packed.path)?;
-    let Some(object) = object_in::<Sha256State>(rt.alloc(), packed.key, &bytes)? else {
+    let bytes = fs::read(rt, packed.path).context("the object file")?;
+    let Some(object) = object_in::<Sha256State>(rt.alloc(), packed.name, &bytes)? else {
         return Ok(false);
     };
     if !has_outputs(&object, &packed.outputs) {

@@ -116,8 +116,8 @@ fn print_kept<R: Files + AllocGlobal, W: Write>(
 }
 
 /// Prints what the store has of a request and which paths keep it from matching, a line each:
-/// `key KEY`; `no entry` or `damaged PATH`; for the first test of a path that does not hold now
-/// `present PATH`, if the path was absent when the entry was recorded, `absent PATH`, if a file was
+/// `preprocessor-key KEY`; `no entry` or `damaged PATH`; for the first test of a path that does not hold
+/// now `present PATH`, if the path was absent when the entry was recorded, `absent PATH`, if a file was
 /// there, or `changed PATH`, if a directory was; `result KEY`, and after it `changed PATH` for each
 /// included file that does not match. `false` where the request has no preprocessor key: then a line
 /// says that.
@@ -137,7 +137,7 @@ pub fn print_why<R: Files + AllocGlobal, W: Write>(
         writeln!(writer, "{NO_KEY}")?;
         return Ok(false);
     };
-    writeln!(writer, "key {key}")?;
+    writeln!(writer, "preprocessor-key {key}")?;
     print_kept(rt, environment, store, &mut files, key.as_str(), writer)?;
     Ok(true)
 }

@@ -23,16 +23,16 @@ pub record IsOutputs (found : Found) (words : OutputWords) : Type 0 where
 
 -- the words of `unpack` beside its store
 pub record PackedWords : Type 0 where
-  pub key : List ℕ
+  pub name : List ℕ
   pub path : List ℕ
   pub outputs : OutputWords
 
 abbrev pub packed_words : Packed → PackedWords
-packed_words packed = record { key = packed.key.now; path = packed.path.now; outputs = output_words packed.outputs }
+packed_words packed = record { name = packed.name.now; path = packed.path.now; outputs = output_words packed.outputs }
 
 pub record IsPacked (found : Found) (words : PackedWords) : Type 0 where
-  pub key : first_value found (codes "key") ≡ Some words.key
-  pub path : first_value found (codes "object") ≡ Some words.path
+  pub name : first_value found (codes "name") ≡ Some words.name
+  pub path : first_value found (codes "packed") ≡ Some words.path
   pub outputs : IsOutputs found words.outputs
 
 -- what a compiler made: the paths of the object and of the messages; and those of its dependency file, of that of the assembler, and of that which it
@@ -59,7 +59,7 @@ made_path path None = None
 made_path path (Some made) = path made
 
 pub record IsMade (found : Found) (made : Option MadeWords) : Type 0 where
-  pub object : first_value found (codes "object") ≡ option_map (λ m. m.object) made
+  pub object : first_value found (codes "compiled") ≡ option_map (λ m. m.object) made
   pub messages : first_value found (codes "messages") ≡ option_map (λ m. m.messages) made
   pub dependencies : first_value found (codes "dependencies") ≡ made_path (λ m. m.dependencies) made
   pub assembled : first_value found (codes "assembled") ≡ made_path (λ m. m.assembled) made

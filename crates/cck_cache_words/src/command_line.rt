@@ -1,12 +1,21 @@
 //! The commands, their options and their words.
-use clap::{Arg, ArgAction, Command};
+use cck_digest::VERSION;
+use clap::{Arg, ArgAction, Command, value_parser};
 use std::alloc::{AllocError, Global};
-
-/// The version of the program.
-const VERSION: &str = "0.19.0";
 
 // The name of an option, that of its value, and its help.
 type OptionWords<'a> = (&'a str, &'a str, &'a str);
+
+// When an option has to be given.
+#[derive(Clone, Copy)]
+enum Need<'a> {
+    // Always.
+    Always,
+    // Never.
+    Never,
+    // Never, but it comes only with the option of this name.
+    With(&'a str),
+}
 
 const OUT: OptionWords<'static> = ("out", "FILE", "Where the object is written");
 
@@ -39,8 +48,8 @@ const CALL_EXTRA: [OptionWords<'static>; 2] = [
 ];
 
 const UNPACK_REQUIRED: [OptionWords<'static>; 3] = [
-    ("key", "NAME", "The name of the object"),
-    ("object", "FILE", "The object file"),
+    ("name", "NAME", "The name of the object"),
+    ("packed", "FILE", "The object file"),
     OUT,
 ];
 
@@ -55,19 +64,20 @@ const LOOK_EXTRA: [OptionWords<'static>; 1] = [(
 const RECORD_REQUIRED: [OptionWords<'static>; 3] = [
     ("since", "STAMP", "The time that the look-up printed"),
     (
-        "key",
+        "preprocessor-key",
         "PKEY",
         "The preprocessor key that the look-up printed",
     ),
     ("search", "FILE", "What `-E -v` printed on standard error"),
 ];
 
-const RECORD_EXTRA: [OptionWords<'static>; 7] = [
-    (
-        "object",
-        "FILE",
-        "The object; without it the entry alone is recorded",
-    ),
+const COMPILED: OptionWords<'static> = (
+    "compiled",
+    "FILE",
+    "The object that the compiler wrote; without it the entry alone is recorded",
+);
+
+const RECORD_COMPILED: [OptionWords<'static>; 4] = [
     (
         "messages",
         "FILE",
@@ -88,30 +98,27 @@ const RECORD_EXTRA: [OptionWords<'static>; 7] = [
         "FILE",
         "What the compiler wrote for SUNPRO_DEPENDENCIES, where the compilation wrote no dependency file",
     ),
+];
+
+const RECORD_EXTRA: [OptionWords<'static>; 2] = [
     (
         "entry-out",
         "FILE",
         "Where the entry file is written in place of the store's",
     ),
     (
-        "object-out",
+        "packed-out",
         "FILE",
         "Where the object file is written in place of the store's",
     ),
 ];
-
-const PRUNE_REQUIRED: [OptionWords<'static>; 1] = [(
-    "max-size",
-    "BYTES",
-    "The most bytes that the files may have together",
-)];
 
 // A command with these options, which take a value each.
 fn with_options<'a>(
     alloc: Global,
     command: Command<'a>,
     options: &[OptionWords<'a>],
-    are_required: bool,
+    need: Need<'a>,
 ) -> Result<Command<'a>, AllocError> {
     let mut command = command;
     for (name, value, help) in options {
@@ -119,8 +126,12 @@ fn with_options<'a>(
             .long(name)
             .value_name(value)
             .action(ArgAction::Set)
-            .help(help)
-            .required(are_required);
+            .help(help);
+        let option = match need {
+            Need::Always => option.required(true),
+            Need::Never => option,
+            Need::With(other) => option.requires_arg(other)?,
+        };
         command = command.arg(option)?;
     }
     Ok(command)
@@ -128,8 +139,8 @@ fn with_options<'a>(
 
 // A command with the words of a compiler's call after its own.
 fn with_call<'a>(alloc: Global, command: Command<'a>) -> Result<Command<'a>, AllocError> {
-    let command = with_options(alloc, command, &CALL_REQUIRED, true)?;
-    let command = with_options(alloc, command, &CALL_EXTRA, false)?;
+    let command = with_options(alloc, command, &CALL_REQUIRED, Need::Always)?;
+    let command = with_options(alloc, command, &CALL_EXTRA, Need::Never)?;
     command.arg(
         Arg::new(alloc, "ARG")
             .num_args(0..)
@@ -148,24 +159,24 @@ fn with_store<'a>(alloc: Global, command: Command<'a>) -> Result<Command<'a>, Al
     )
 }
 
-// The command `key`.
-fn key_command<'a>(alloc: Global) -> Result<Command<'a>, AllocError> {
-    let command = Command::new(alloc, "key").about("Prints the preprocessor key");
+// The command `preprocessor-key`.
+fn preprocessor_key_command<'a>(alloc: Global) -> Result<Command<'a>, AllocError> {
+    let command = Command::new(alloc, "preprocessor-key").about("Prints the preprocessor key");
     with_call(alloc, command)
 }
 
 // The command `unpack`.
 fn unpack_command<'a>(alloc: Global) -> Result<Command<'a>, AllocError> {
     let command = Command::new(alloc, "unpack").about("Writes the object that an object file has");
-    let command = with_options(alloc, command, &UNPACK_REQUIRED, true)?;
-    let command = with_options(alloc, command, &UNPACK_EXTRA, false)?;
+    let command = with_options(alloc, command, &UNPACK_REQUIRED, Need::Always)?;
+    let command = with_options(alloc, command, &UNPACK_EXTRA, Need::Never)?;
     with_store(alloc, command)
 }
 
 // The command `look`.
 fn look_command<'a>(alloc: Global) -> Result<Command<'a>, AllocError> {
     let command = Command::new(alloc, "look").about("Writes the object from the store");
-    let command = with_options(alloc, command, &LOOK_EXTRA, false)?;
+    let command = with_options(alloc, command, &LOOK_EXTRA, Need::Never)?;
     with_call(alloc, with_store(alloc, command)?)
 }
 
@@ -174,8 +185,10 @@ fn record_command<'a>(alloc: Global) -> Result<Command<'a>, AllocError> {
     let command = Command::new(alloc, "record").about(
         "Records a compilation, whose preprocessed text is read from standard input",
     );
-    let command = with_options(alloc, command, &RECORD_REQUIRED, true)?;
-    let command = with_options(alloc, command, &RECORD_EXTRA, false)?;
+    let command = with_options(alloc, command, &RECORD_REQUIRED, Need::Always)?;
+    let command = with_options(alloc, command, &[COMPILED], Need::With("messages"))?;
+    let command = with_options(alloc, command, &RECORD_COMPILED, Need::With("compiled"))?;
+    let command = with_options(alloc, command, &RECORD_EXTRA, Need::Never)?;
     with_call(alloc, with_store(alloc, command)?)
 }
 
@@ -192,8 +205,13 @@ fn prune_command<'a>(alloc: Global) -> Result<Command<'a>, AllocError> {
     let command = Command::new(alloc, "prune").about(
         "Removes the files that were used longest ago",
     );
-    let command = with_options(alloc, command, &PRUNE_REQUIRED, true)?;
-    with_store(alloc, command)
+    let size = Arg::new(alloc, "max-size")
+        .long("max-size")
+        .value_name("BYTES")
+        .value_parser(value_parser!(u64))
+        .required(true)
+        .help("The most bytes that the files may have together");
+    with_store(alloc, command.arg(size)?)
 }
 
 // The command `why`.
@@ -207,7 +225,7 @@ fn why_command<'a>(alloc: Global) -> Result<Command<'a>, AllocError> {
 // A program with the commands that have the words of a compiler's call.
 fn with_call_commands<'a>(alloc: Global, program: Command<'a>) -> Result<Command<'a>, AllocError> {
     program
-        .subcommand(key_command(alloc)?)?
+        .subcommand(preprocessor_key_command(alloc)?)?
         .subcommand(look_command(alloc)?)?
         .subcommand(record_command(alloc)?)?
         .subcommand(why_command(alloc)?)

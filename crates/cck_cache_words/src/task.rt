@@ -8,8 +8,16 @@ use crate::command_line::program;
 use crate::request::{CompilerCall, Request, call_of};
 use crate::stamp::stamp_of;
 use cck_path::Timestamp;
+use clap::error::ErrorKind;
 use clap::{ArgMatches, Error};
 use std::alloc::{AllocError, Global};
+
+// What is wrong with a time.
+const WRONG_TIME: &str =
+    "the value of --since is not a number of seconds, a point and a number of nanoseconds";
+
+// What is wrong where a word of a command is missing.
+const MISSING: &str = "a word of the command is missing";
 
 /// Where the parts of an object file are written.
 #[derive(Drop)]
@@ -71,7 +79,7 @@ pub struct Made<'a> {
 #[derive(Drop)]
 pub struct Packed<'a> {
     /// The name of the object.
-    pub key: &'a str,
+    pub name: &'a str,
     /// The path of the object file.
     pub path: &'a str,
     /// Where its parts are written.
@@ -82,7 +90,7 @@ pub struct Packed<'a> {
 #[derive(Drop)]
 pub enum Action<'a> {
     /// The preprocessor key is printed.
-    Key,
+    PreprocessorKey,
     /// The object is looked for in the store.
     Look {
         /// The path of the store.
@@ -152,8 +160,8 @@ fn packed_of<'a>(matches: &ArgMatches<'a>) -> Option<Packed<'a>>
         (λ packed. IsPacked (found_of matches.now) (packed_words packed)) }
 {
     Some(Packed {
-        key: matches.get_str("key")?,
-        path: matches.get_str("object")?,
+        name: matches.get_str("name")?,
+        path: matches.get_str("packed")?,
         outputs: outputs_of(matches)?,
     })
 }
@@ -165,7 +173,7 @@ fn made_of<'a>(matches: &ArgMatches<'a>) -> Option<Option<Made<'a>>>
         (λ made. IsMade (found_of matches.now) (option_map made_words made)) }
 {
     match (
-        matches.get_str("object"),
+        matches.get_str("compiled"),
         matches.get_str("messages"),
         matches.get_str("dependencies"),
         matches.get_str("assembled"),
@@ -214,11 +222,11 @@ fn record_action<'a>(matches: &ArgMatches<'a>) -> Option<Action<'a>> {
         store: matches.get_str("STORE")?,
         compilation: Compilation {
             since: since_of(matches)?,
-            key: matches.get_str("key")?,
+            key: matches.get_str("preprocessor-key")?,
             search: matches.get_str("search")?,
             made: made_of(matches)?,
             entry_out: matches.get_str("entry-out"),
-            object_out: matches.get_str("object-out"),
+            object_out: matches.get_str("packed-out"),
         },
     })
 }
@@ -233,7 +241,7 @@ fn why_action<'a>(matches: &ArgMatches<'a>) -> Option<Action<'a>> {
 // What a command of this name does for a call of a compiler.
 fn action_of<'a>(name: &str, matches: &ArgMatches<'a>) -> Option<Action<'a>> {
     match name {
-        "key" => Some(Action::Key),
+        "preprocessor-key" => Some(Action::PreprocessorKey),
         "look" => look_action(matches),
         "record" => record_action(matches),
         "why" => why_action(matches),
@@ -273,19 +281,38 @@ fn store_task<'a>(name: &str, matches: &ArgMatches<'a>) -> Option<Task<'a>> {
     }
 }
 
-/// Reads what these words ask for. The first is the program's name. `None` is returned where a
-/// stamp is no time, a size no number, one of object and messages is missing, or a dependency file
-/// comes without an object.
-///
-/// The error is clap's: for wrong words, for `--help` and for `--version`, with the text to be
-/// printed, or for lack of memory.
-pub fn task_of<'a>(alloc: Global, words: &'a [String]) -> Result<Option<Task<'a>>, Error> {
-    let matches = program(alloc)?.try_get_matches_from(words)?;
+// The task in these matches. `None` where one of its words is missing or has no meaning.
+fn task_in<'a>(alloc: Global, matches: &ArgMatches<'a>) -> Result<Option<Task<'a>>, AllocError> {
     let Some((name, command)) = matches.subcommand() else {
         return Ok(None);
     };
     match name {
         "stats" | "prune" | "unpack" => Ok(store_task(name, command)),
-        _ => Ok(call_task(alloc, name, command)?),
+        _ => call_task(alloc, name, command),
+    }
+}
+
+// Whether there is a time in these matches that is none.
+fn has_wrong_time(matches: &ArgMatches<'_>) -> bool {
+    match matches.subcommand() {
+        Some((_, command)) => command.contains_id("since") && since_of(command).is_none(),
+        None => false,
+    }
+}
+
+/// Reads what these words ask for. The first is the program's name.
+///
+/// The error is clap's, with the text to be printed: for wrong words, among them a stamp that is no
+/// time, for `--help` and for `--version`, or for lack of memory.
+pub fn task_of<'a>(alloc: Global, words: &'a [String]) -> Result<Task<'a>, Error> {
+    let mut program = program(alloc)?;
+    let matches = program.try_get_matches_from_mut(words)?;
+    if has_wrong_time(&matches) {
+        return Err(program.error(ErrorKind::ValueValidation, WRONG_TIME)?);
+    }
+    match task_in(alloc, &matches)? {
+        Some(task) => Ok(task),
+        // The parse lets none of these words pass.
+        None => Err(program.error(ErrorKind::MissingRequiredArgument, MISSING)?),
     }
 }

@@ -8,7 +8,7 @@ use crate::noting_files::NotingFiles;
 use crate::request::GivenRequest;
 use crate::stores::{self, Stores};
 use c_cache_keys::{HashResult, KeyError};
-use cck_cases::{CaseError, CaseLine, Given, Subject, Value, World, bytes_of, find, number};
+use cck_cases::{CaseError, CaseLine, Given, GivenFiles, Subject, Value, bytes_of, find, number};
 use cck_util::MapFiles;
 use std::alloc::Global;
 use std::mem;
@@ -17,7 +17,7 @@ use std::mem;
 #[derive(Drop)]
 pub(crate) struct Calls {
     given: Given,
-    world: World,
+    given_files: GivenFiles,
     request: GivenRequest,
     stores: Stores,
     // What counts calls on one path. Its files are the given ones while a call is made.
@@ -40,18 +40,18 @@ impl Calls {
 
     // Puts the given files where calls on one path are counted, or back.
     fn swap_files(&mut self) {
-        mem::swap(&mut self.world.files, &mut self.noting.files);
+        mem::swap(&mut self.given_files.files, &mut self.noting.files);
     }
 
     // Calls for the key of what is given.
     fn compile(&mut self) -> Result<Result<HashResult, KeyError>, CaseError> {
         self.swap_files();
-        let (request, given, world) = (&self.request, &self.given, &self.world);
+        let (request, given, given_files) = (&self.request, &self.given, &self.given_files);
         let result = if self.stores.is_empty {
             keys::key_of(
                 request,
                 given,
-                world,
+                given_files,
                 &mut self.noting,
                 &mut self.stores.empty,
             )
@@ -59,7 +59,7 @@ impl Calls {
             keys::key_of(
                 request,
                 given,
-                world,
+                given_files,
                 &mut self.noting,
                 &mut self.stores.map,
             )
@@ -73,7 +73,7 @@ impl Calls {
         let text = keys::preprocessed_text(
             &self.request,
             &self.given,
-            &self.world,
+            &self.given_files,
             &mut self.noting,
         );
         self.swap_files();
@@ -103,21 +103,26 @@ impl Calls {
     }
 
     fn compiler_call<'a>(&mut self, call: CompilerCall) -> Result<Value<'a>, CaseError> {
-        compilers::call(call, &mut self.request, &self.given, &mut self.world.files)
+        compilers::call(
+            call,
+            &mut self.request,
+            &self.given,
+            &mut self.given_files.files,
+        )
     }
 
     fn run_calls<'a>(&mut self) -> Result<Value<'a>, CaseError> {
         if self.stores.is_empty {
             lists::run(
                 &self.given,
-                &self.world,
+                &self.given_files,
                 &mut self.stores.empty,
                 &mut self.list,
             )
         } else {
             lists::run(
                 &self.given,
-                &self.world,
+                &self.given_files,
                 &mut self.stores.map,
                 &mut self.list,
             )
@@ -128,7 +133,7 @@ impl Calls {
     fn give_own(&mut self, word: &str, rest: &str) -> Result<bool, CaseError> {
         match word {
             "add_call" => {
-                let mut call = lists::call_of(&self.request, &self.given, &self.world)?;
+                let mut call = lists::call_of(&self.request, &self.given, &self.given_files)?;
                 call.files.is_bytewise = self.noting.is_bytewise;
                 self.list.push(call)?;
             }
@@ -145,7 +150,7 @@ impl Subject for Calls {
     fn new(alloc: Global) -> Calls {
         Calls {
             given: Given::new(alloc),
-            world: World::new(alloc),
+            given_files: GivenFiles::new(alloc),
             request: GivenRequest::new(alloc),
             stores: Stores::new(alloc),
             noting: NotingFiles {
@@ -165,7 +170,7 @@ impl Subject for Calls {
             self.request.give(word, rest)?
                 || self.stores.give(word, rest)?
                 || self.give_own(word, rest)?
-                || self.world.give(word, rest)?
+                || self.given_files.give(word, rest)?
                 || self.given.give(word, rest)?,
         )
     }

@@ -3,7 +3,7 @@ use crate::noting_files::NotingFiles;
 use crate::request::GivenRequest;
 use crate::shown::{error_value, write_result};
 use c_cache_keys::{CCompilerImpl, HashResult, KeyError, PreprocessError, PreprocessorStore};
-use cck_cases::{CaseError, Given, Value, World, zone_of};
+use cck_cases::{CaseError, Given, GivenFiles, Value, zone_of};
 use cck_util::{Files, Sha256State, UtilError};
 use std::alloc::Global;
 
@@ -32,11 +32,11 @@ pub(crate) const CALLS: [(&str, KeyCall); 7] = [
 pub(crate) fn key_of<S: PreprocessorStore>(
     request: &GivenRequest,
     given: &Given,
-    world: &World,
+    given_files: &GivenFiles,
     files: &mut NotingFiles,
     store: &mut S,
 ) -> Result<Result<HashResult, KeyError>, CaseError> {
-    let zone = zone_of(world.zone)?;
+    let zone = zone_of(given_files.zone)?;
     Ok(
         request
             .hasher
@@ -46,9 +46,9 @@ pub(crate) fn key_of<S: PreprocessorStore>(
                 store,
                 &request.cwd,
                 &given.variables,
-                world.moment,
+                given_files.moment,
                 &zone,
-                world.config,
+                given_files.config,
                 &given.basedirs,
                 request.control,
             ),
@@ -97,7 +97,7 @@ pub(crate) fn control_shown<'a>(request: &GivenRequest) -> Result<Value<'a>, Cas
 pub(crate) fn preprocessed_text<'a>(
     request: &GivenRequest,
     given: &Given,
-    world: &World,
+    given_files: &GivenFiles,
     files: &mut NotingFiles,
 ) -> Result<Value<'a>, CaseError> {
     let printed = request.hasher.compiler.preprocess::<NotingFiles>(
@@ -107,7 +107,7 @@ pub(crate) fn preprocessed_text<'a>(
         &request.hasher.parsed_args,
         &request.cwd,
         &given.variables,
-        world.moment,
+        given_files.moment,
     );
     match printed {
         Ok(text) => Ok(Value::Bytes(text)),

@@ -12,7 +12,7 @@
 //! - of the compiler `executable PATH`, `compiler DIGEST`, `kind NAME`, `plusplus`, `version TEXT`,
 //!   `assembler DIGEST`, `printed TEXT`, and instead of a compilation `not_compilation`,
 //!   `cannot_cache` or `cannot_cache_for DETAIL`;
-//! - of the call `cwd PATH`, `recache` or `any_key`, the words of `Given` and `World`, and of the
+//! - of the call `cwd PATH`, `recache` or `any_key`, the words of `Given` and `GivenFiles`, and of the
 //!   store `new_store`, `empty_store`, `store_fail_at N`, `store_fail_after N` and
 //!   `store_forget_at N`;
 //! - `add_call` adds a call of all this to the list that `run_calls` makes. `counted_path PATH` and

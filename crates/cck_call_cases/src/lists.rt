@@ -4,7 +4,7 @@ use crate::noting_files::NotingFiles;
 use crate::request::GivenRequest;
 use crate::shown::{or_out_of_memory, write_result};
 use c_cache_keys::{Call, HashResult, KeyError, PreprocessorStore, run_calls};
-use cck_cases::{CaseError, Given, Value, World, zone_of};
+use cck_cases::{CaseError, Given, GivenFiles, Value, zone_of};
 use cck_script::copy_variables;
 use cck_util::Sha256State;
 use std::alloc::Global;
@@ -16,22 +16,22 @@ pub(crate) type FixedCall = Call<FixedCompiler, NotingFiles>;
 pub(crate) fn call_of(
     request: &GivenRequest,
     given: &Given,
-    world: &World,
+    given_files: &GivenFiles,
 ) -> Result<FixedCall, CaseError> {
     let alloc = request.alloc;
     Ok(Call {
         hasher: or_out_of_memory(request.hasher.copy(alloc))?,
-        files: noting(alloc, world)?,
+        files: noting(alloc, given_files)?,
         cwd: request.cwd.to_vec(alloc)?,
         vars: copy_variables(alloc, &given.variables)?,
-        moment: world.moment,
+        moment: given_files.moment,
         control: request.control,
     })
 }
 
-fn noting(alloc: Global, world: &World) -> Result<NotingFiles, CaseError> {
+fn noting(alloc: Global, given_files: &GivenFiles) -> Result<NotingFiles, CaseError> {
     Ok(NotingFiles {
-        files: world.files.copy(alloc)?,
+        files: given_files.files.copy(alloc)?,
         path: PREPROCESSED.to_vec(alloc)?,
         count: 0,
         is_bytewise: false,
@@ -41,17 +41,17 @@ fn noting(alloc: Global, world: &World) -> Result<NotingFiles, CaseError> {
 /// Makes the calls, and returns a line for each: its result, and how often it preprocessed.
 pub(crate) fn run<'a, S: PreprocessorStore>(
     given: &Given,
-    world: &World,
+    given_files: &GivenFiles,
     store: &mut S,
     calls: &mut [FixedCall],
 ) -> Result<Value<'a>, CaseError> {
     let alloc = given.alloc;
-    let zone = zone_of(world.zone)?;
+    let zone = zone_of(given_files.zone)?;
     let results = run_calls::<Sha256State, FixedCompiler, NotingFiles, S>(
         alloc,
         store,
         &zone,
-        world.config,
+        given_files.config,
         &given.basedirs,
         calls,
     )?;

@@ -6,7 +6,7 @@
 //!
 //! - A library uses [`Subject`] and [`run_file`]. A call returns a [`Value`], or a [`CaseError`]
 //!   as the reason why there is none.
-//! - [`Given`] has what lines give for calls on bytes, and [`World`] what they give for calls on
+//! - [`Given`] has what lines give for calls on bytes, and [`GivenFiles`] what they give for calls on
 //!   files.
 //! - [`find`] looks a word up in a table. [`number`], [`bytes_of`], [`words_of`] and [`moment_of`]
 //!   read the parts of a line.
@@ -19,6 +19,7 @@
 mod case_error;
 mod failing;
 mod given;
+mod given_files;
 mod made;
 mod report;
 mod run;
@@ -27,11 +28,11 @@ mod subject;
 mod table;
 mod text;
 mod value;
-mod world;
 
 pub use case_error::CaseError;
 pub use failing::{FailReader, FailWriter, Failures};
 pub use given::Given;
+pub use given_files::GivenFiles;
 pub use run::run_file;
 pub use subject::{CaseLine, Subject};
 pub use table::find;
@@ -39,4 +40,3 @@ pub use text::{
     byte_of, bytes_of, moment_of, number, optional_moment_of, variables_of, words_of, zone_of,
 };
 pub use value::{Value, end_line, write_cut, write_moment, write_numbers};
-pub use world::World;

@@ -25,7 +25,7 @@
 //! [`laws::headline`](c_cache_keys::laws::headline) holds for these calls: if they meet its
 //! premises, each printed key is the plain key of its call. With or without the premises, each
 //! stored key that matches is printed as a hit, if its call may use the store and doesn't fail for
-//! lack of memory. All this excludes [`Status::Refused`]: input, output or memory then failed, and
+//! lack of memory. All this excludes [`Status::Failed`]: input, output or memory then failed, and
 //! [`refuse`] tried once to say so.
 //!
 //! ```rust

@@ -68,7 +68,7 @@ fn read_script<R: Read>(
 // Reads a script to its end. The output is one line for each of its calls. If a line is wrong, the
 // output is the number of the first such line, and no call is made.
 fn run_output<H: HashState, R: Read>(alloc: Global, reader: &mut R) -> Result<Output, Failed>
-    ensures ended { IfOk result (λ output. output.status ≢ Status.Refused) }
+    ensures ended { IfOk result (λ output. output.status ≢ Status.Failed) }
     ensures wrong { IfOk result (λ output. IfSome (R.remaining reader.old) (λ input. IfSome (wrong_line input) (λ number.
         (output.status ≡ Status.Usage) × (cow_slice_items output.text ≡ wrong_text number)))) }
     ensures ran { IfOk result (λ output. IfSome (R.remaining reader.old) (λ input. wrong_line input ≡ None →
@@ -99,7 +99,7 @@ fn output_of<H: HashState, R: Read>(
     words: &[String],
     reader: &mut R,
 ) -> Result<Output, Failed>
-    ensures ended { IfOk result (λ output. output.status ≢ Status.Refused) }
+    ensures ended { IfOk result (λ output. output.status ≢ Status.Failed) }
     ensures output { IfOk result (λ output. IsOutput H.hash (map string_bytes words.now) (R.remaining reader.old)
         output.status (cow_slice_items output.text)) }
     ensures unread { IsUsageError (map string_bytes words.now) → reader.new ≡ reader.old }
@@ -118,17 +118,17 @@ fn output_of<H: HashState, R: Read>(
 
 /// Tries once to write the line `cck: refused`, which says that input, output or memory failed.
 ///
-/// [`Status::Refused`] is returned whether or not the line could be written. A prefix of the line
+/// [`Status::Failed`] is returned whether or not the line could be written. A prefix of the line
 /// is written, which may be empty or the whole line.
 ///
 /// [`engine`] ends so where it refuses. It is public for the `main` of the program `cck`, which ends
 /// so where it can't read its words and so can't call [`engine`].
 pub fn refuse<W: Write>(writer: &mut W) -> Status
-    ensures status { result ≡ Status.Refused }
+    ensures status { result ≡ Status.Failed }
     ensures begun { AppendsBeginning (W.contents writer.old) (W.contents writer.new) failed_line }
 {
     let _ = print(writer, REFUSED);
-    Status::Refused
+    Status::Failed
 }
 
 /// Runs the program on these words, without the program's name, and writes its output.
@@ -145,7 +145,7 @@ pub fn refuse<W: Write>(writer: &mut W) -> Status
 ///   If the calls meet the premises of [`laws::headline`](c_cache_keys::laws::headline), each
 ///   printed key is the plain key of its call. Whether they do or not, each stored key that matches
 ///   is printed as a hit, if its call may use the store and isn't printed as `error 1`.
-/// - If a read, a write or an allocation outside a call failed, [`Status::Refused`] is returned,
+/// - If a read, a write or an allocation outside a call failed, [`Status::Failed`] is returned,
 ///   after one try to write `cck: refused`. The whole output is made before anything is written.
 ///   So what is written is a prefix of that line, or a prefix of the output and then a prefix of
 ///   that line. How much was read is unspecified.
@@ -155,10 +155,10 @@ pub fn engine<H: HashState, R: Read, W: Write>(
     reader: &mut R,
     writer: &mut W,
 ) -> Status
-    ensures printed { result ≢ Status.Refused → (text : Bytes)
+    ensures printed { result ≢ Status.Failed → (text : Bytes)
         × IsOutput H.hash (map string_bytes words.now) (R.remaining reader.old) result text
         × Appends (W.contents writer.old) (W.contents writer.new) text }
-    ensures errors { result ≡ Status.Refused →
+    ensures errors { result ≡ Status.Failed →
         IsCutShort (IsSomeOutput H.hash (map string_bytes words.now) (R.remaining reader.old))
         (W.contents writer.old) (W.contents writer.new) }
     ensures unread { IsUsageError (map string_bytes words.now) → reader.new ≡ reader.old }

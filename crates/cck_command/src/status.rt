@@ -8,19 +8,19 @@ pub enum Status {
     /// All that was asked for was printed.
     Done,
     /// Input, output or memory failed.
-    Refused,
+    Failed,
     /// The words ask for nothing, or a line of the script is wrong.
     Usage,
 }
 
 impl Status {
-    /// The exit status: 0 for [`Status::Done`], 1 for [`Status::Refused`], 2 for [`Status::Usage`].
+    /// The exit status: 0 for [`Status::Done`], 1 for [`Status::Failed`], 2 for [`Status::Usage`].
     pub fn code(self) -> u8
         ensures { result ≡ status_code self }
     {
         match self {
             Status::Done => 0,
-            Status::Refused => 1,
+            Status::Failed => 1,
             Status::Usage => 2,
         }
     }

@@ -80,15 +80,15 @@ pub fn hash_len_prefixed<H: HashState>(digest: &mut Digest<H>, bytes: &[u8])
     digest.update(bytes);
 }
 
-// The hexadecimal digit of half a byte, in lower case.
-fn digit(half: u8) -> char
+/// The hexadecimal digit of half a byte, in lower case.
+pub fn hex_digit(half: u8) -> u8
     requires { half < 16 }
     ensures { result ≡ hex_digit half }
 {
     if half < 10 {
-        char::from(b'0' + half)
+        b'0' + half
     } else {
-        char::from(b'a' + (half - 10))
+        b'a' + (half - 10)
     }
 }
 
@@ -102,8 +102,8 @@ pub fn hex(alloc: Global, bytes: &[u8]) -> Result<String, UtilError>
 {
     let mut text = String::new(alloc);
     for byte in bytes {
-        text.push(digit(*byte % 16))?;
-        text.push(digit(*byte / 16))?;
+        text.push(char::from(hex_digit(*byte % 16)))?;
+        text.push(char::from(hex_digit(*byte / 16)))?;
     }
     Ok(text)
 }

@@ -7,13 +7,15 @@
 //! - [`HashState`] is the hash function, which the caller chooses; the program's is
 //!   [`Sha256State`].
 //! - [`Digest`] is fed piece by piece and returns the hex digest; [`hash_length`] and
-//!   [`hash_len_prefixed`] feed lengths and frames, and [`hex`] writes bytes as digits.
+//!   [`hash_len_prefixed`] feed lengths and frames, and [`hex`] writes bytes as digits, each a
+//!   [`hex_digit`].
 //! - [`read_to_end`] reads a reader to its end, at most [`HASH_BUFFER_SIZE`] bytes at a time, and
 //!   passes each piece to a [`Sink`]; [`read_all`] returns all that it reads.
 //! - [`Digest::reader_sync`] and its variants compute the digest of what a reader gives.
 //! - [`TimeMacroFinder`] finds the time macros in a stream, however the stream is cut, and
 //!   [`WatchedDigest`] feeds it and a digest in one pass. [`SeenMacros`] is its state as values.
 //! - [`UtilError`] and [`FileError`] are the errors of this crate and of the crates above.
+//! - [`VERSION`] is the version of the project.
 //! - [`laws`] states properties of the definitions.
 //!
 //! ```rust
@@ -31,10 +33,12 @@ mod hash;
 pub mod laws;
 mod reader;
 mod stream;
+mod version;
 
-pub use digest::{Digest, hash_len_prefixed, hash_length, hex};
+pub use digest::{Digest, hash_len_prefixed, hash_length, hex, hex_digit};
 pub use error::{FileError, UtilError};
 pub use finder::{SeenMacros, TimeMacroFinder};
 pub use hash::{HashState, Sha256State};
 pub use reader::WatchedDigest;
 pub use stream::{HASH_BUFFER_SIZE, Sink, new_hash_buffer, read_all, read_to_end};
+pub use version::VERSION;

@@ -7,7 +7,7 @@ use Rattle.clap.specs.declared.error.kind.ErrorKind.{ErrorKind}
 use Rattle.clap.specs.declared.error.kind.ErrorKind.TheVariants.{DisplayHelp, DisplayVersion, OutOfMemory}
 use Rattle.cck_command.specs.Printing.{AppendsBeginning}
 use Rattle.cck_command.specs.declared.status.Status.{Status}
-use Rattle.cck_command.specs.declared.status.Status.TheVariants.{Refused, Usage}
+use Rattle.cck_command.specs.declared.status.Status.TheVariants.{Failed, Usage}
 use Rattle.cck_path.specs.Bytes.{Bytes}
 use Rattle.cck_explain_command.proofs.BufferLemmas.{begun_sooner, if_known}
 use Rattle.cck_explain_command.specs.Run.{StatusOf}
@@ -29,7 +29,7 @@ third_of_three a b c d xs ys zs p q r = then_begun a c d (xs ++ ys) zs (Appends-
 
 -- ---- statuses
 
-pub failed_status : (kind : ErrorKind) → StatusOf kind Refused
+pub failed_status : (kind : ErrorKind) → StatusOf kind Failed
 failed_status DisplayHelp = λ e. cc
 failed_status DisplayVersion = λ e. cc
 failed_status OutOfMemory = refl

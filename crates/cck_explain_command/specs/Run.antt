@@ -2,7 +2,7 @@
 use Rattle.std.specs.Prelude.{◌≡◌, ◌≢◌, ◌∷◌, ◌++◌, [], None, Option, IfSome, codes}
 use Rattle.cck_command.specs.Printing.{AppendsBeginning}
 use Rattle.cck_command.specs.declared.status.Status.{Status}
-use Rattle.cck_command.specs.declared.status.Status.TheVariants.{Done, Refused, Usage}
+use Rattle.cck_command.specs.declared.status.Status.TheVariants.{Done, Failed, Usage}
 use Rattle.cck_explain_entry.specs.Bytes as entry
 use Rattle.cck_explain_markers.specs.Listing.{AreMarkerLines}
 use Rattle.cck_explain_script.specs.Listing as script
@@ -38,7 +38,7 @@ HasErrorLine old new = (why : Bytes) × AppendsBeginning old new (error_line why
 -- what is written for a request, with this status: all of the listing, or a prefix of it
 abbrev pub HasOutcome : (Bytes → Bytes) → ExplainRequest → Option Bytes → Status → Option Bytes → Option Bytes → Type 0
 HasOutcome hash request input Done old new = IfSome input (λ bytes. WritesOf (Lists hash request bytes) old new)
-HasOutcome hash request input Refused old new = IfSome input (λ bytes. BeginsOf (Lists hash request bytes) old new)
+HasOutcome hash request input Failed old new = IfSome input (λ bytes. BeginsOf (Lists hash request bytes) old new)
 HasOutcome hash request input Usage old new = ⊥
 
 -- The status where clap returns an error of this kind. Where it is help or the version, only a failed write or lack of memory gives another.
@@ -46,5 +46,5 @@ HasOutcome hash request input Usage old new = ⊥
 abbrev pub StatusOf : ErrorKind → Status → Type 0
 StatusOf DisplayHelp status = status ≢ Usage
 StatusOf DisplayVersion status = status ≢ Usage
-StatusOf OutOfMemory status = status ≡ Refused
+StatusOf OutOfMemory status = status ≡ Failed
 StatusOf _ status = status ≢ Done

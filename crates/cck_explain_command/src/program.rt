@@ -28,20 +28,20 @@ fn print_error<E: Write>(errors: &mut E, why: &[u8]) -> Result<(), Failed>
 }
 
 /// Tries once to write a line with the program's name and this text, and returns
-/// [`Status::Refused`], whether or not the line could be written.
+/// [`Status::Failed`], whether or not the line could be written.
 pub fn report<E: Write>(errors: &mut E, why: &[u8]) -> Status
-    ensures status { result ≡ Status.Refused }
+    ensures status { result ≡ Status.Failed }
     ensures line { AppendsBeginning (E.contents errors.old) (E.contents errors.new) (error_line why.now) }
 {
     let _ = print_error(errors, why);
-    Status::Refused
+    Status::Failed
 }
 
 // Writes this text, which was asked for in place of a listing.
 fn show<W: Write, E: Write>(alloc: Global, text: &[u8], writer: &mut W, errors: &mut E) -> Status
     ensures status { result ≢ Status.Usage }
     ensures done { result ≡ Status.Done → errors.new ≡ errors.old }
-    ensures errors { result ≡ Status.Refused → HasErrorLine (E.contents errors.old) (E.contents errors.new) }
+    ensures errors { result ≡ Status.Failed → HasErrorLine (E.contents errors.old) (E.contents errors.new) }
 {
     match print(writer, text) {
         Ok(()) => Status::Done,
@@ -60,7 +60,7 @@ fn write_text_of<W: Write, E: Write>(
     ensures status { StatusOf (kind_of error.now) result }
     ensures usage { result ≡ Status.Usage → writer.new ≡ writer.old }
     ensures done { result ≡ Status.Done → errors.new ≡ errors.old }
-    ensures errors { result ≡ Status.Refused → HasErrorLine (E.contents errors.old) (E.contents errors.new) }
+    ensures errors { result ≡ Status.Failed → HasErrorLine (E.contents errors.old) (E.contents errors.new) }
 {
     let Ok(text) = format!(in alloc; "{error}") else {
         return report(errors, OUT_OF_MEMORY.as_bytes());
@@ -79,7 +79,7 @@ fn write_text_of<W: Write, E: Write>(
 
 // Tries once to write which error it was.
 fn report_error<E: Write>(alloc: Global, errors: &mut E, error: ExplainError) -> Status
-    ensures status { result ≡ Status.Refused }
+    ensures status { result ≡ Status.Failed }
     ensures line { HasErrorLine (E.contents errors.old) (E.contents errors.new) }
 {
     match format!(in alloc; "{error}") {
@@ -118,7 +118,7 @@ fn list<H: HashState, R: Read, W: Write, E: Write>(
 ) -> Status
     ensures outcome { HasOutcome H.hash request.now (R.remaining reader.old) result (W.contents writer.old) (W.contents writer.new) }
     ensures done { result ≡ Status.Done → errors.new ≡ errors.old }
-    ensures errors { result ≡ Status.Refused → HasErrorLine (E.contents errors.old) (E.contents errors.new) }
+    ensures errors { result ≡ Status.Failed → HasErrorLine (E.contents errors.old) (E.contents errors.new) }
 {
     match explain::<H, R, W>(alloc, request, reader, writer) {
         Ok(()) => Status::Done,
@@ -130,14 +130,14 @@ fn list<H: HashState, R: Read, W: Write, E: Write>(
 /// writes its listing.
 ///
 /// - A request: all of the input is read. [`Status::Done`] is returned after all of the listing was
-///   written, and nothing to `errors`. [`Status::Refused`] is returned if a read, a write or an
+///   written, and nothing to `errors`. [`Status::Failed`] is returned if a read, a write or an
 ///   allocation failed, the bytes are no entry, or a line of the script is wrong: a prefix of the
 ///   listing is then written, which may be empty or all of it.
 /// - `None`: [`Status::Usage`] is returned. Nothing is read or written.
 /// - Help and the version: the text is written, and [`Status::Done`] is returned.
 /// - Any other error: what is wrong with the words is written to `errors`, and [`Status::Usage`] is
 ///   returned. Nothing is read or written.
-/// - With [`Status::Refused`] there was one try to write a line to `errors` that says why.
+/// - With [`Status::Failed`] there was one try to write a line to `errors` that says why.
 pub fn run<H: HashState, R: Read, W: Write, E: Write>(
     alloc: Global,
     asked: &Result<Option<ExplainRequest<'_>>, Error>,
@@ -152,7 +152,7 @@ pub fn run<H: HashState, R: Read, W: Write, E: Write>(
     ensures unread { IfErr asked.now (λ _. reader.new ≡ reader.old) }
     ensures usage { result ≡ Status.Usage → writer.new ≡ writer.old }
     ensures done { result ≡ Status.Done → errors.new ≡ errors.old }
-    ensures errors { result ≡ Status.Refused → HasErrorLine (E.contents errors.old) (E.contents errors.new) }
+    ensures errors { result ≡ Status.Failed → HasErrorLine (E.contents errors.old) (E.contents errors.new) }
 {
     match asked {
         Ok(Some(request)) => list::<H, R, W, E>(alloc, request, reader, writer, errors),

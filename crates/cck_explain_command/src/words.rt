@@ -1,11 +1,8 @@
 //! The words of the command line.
 use crate::request::{ExplainKeyRequest, ExplainRequest, MarkersRequest};
-use cck_util::Language;
+use cck_util::{Language, VERSION};
 use clap::{Arg, ArgAction, ArgMatches, Command, Error};
 use std::alloc::{AllocError, Global};
-
-/// The version of the program.
-const VERSION: &str = "0.19.0";
 
 // The command `key`, whose language is one of these names.
 fn key_command<'a>(alloc: Global, languages: &'a [&'a str]) -> Result<Command<'a>, AllocError> {

@@ -1,24 +1,12 @@
 //! Escaped bytes.
-ghost use Rattle.std.specs.Prelude.{◌≡◌, ◌<◌, ◌++◌, OnOk};
+ghost use Rattle.std.specs.Prelude.{◌≡◌, ◌++◌, OnOk};
 ghost use Rattle.std.specs.List.{position};
-ghost use Rattle.cck_digest.specs.Digest.{hex_digit};
 ghost use Rattle.cck_path.specs.Escape.{escaped, escaped_byte};
 ghost use Rattle.cck_explain_text.specs.Escaped.{is_escaped};
 ghost use Rattle.cck_explain_text.specs.Quoted.{quoted};
 
+use cck_digest::hex_digit;
 use std::alloc::AllocError;
-
-// The hexadecimal digit of half a byte, in lower case.
-fn digit(half: u8) -> u8
-    requires { half < 16 }
-    ensures { result ≡ hex_digit half }
-{
-    if half < 10 {
-        b'0' + half
-    } else {
-        b'a' + (half - 10)
-    }
-}
 
 // Appends the escape of a byte.
 #[tactic(auto, unfolding(cck_path::specs::Escape::escape_letter))]
@@ -31,7 +19,7 @@ fn push_escaped_byte(line: &mut Vec<u8>, byte: u8) -> Result<(), AllocError>
         b'\n' => line.extend_from_slice(b"\\n"),
         b'\'' | b'"' | b'\\' => line.extend_from_slice(&[b'\\', byte]),
         b' '..=b'~' => line.extend_from_slice(&[byte]),
-        _ => line.extend_from_slice(&[b'\\', b'x', digit(byte / 16), digit(byte % 16)]),
+        _ => line.extend_from_slice(&[b'\\', b'x', hex_digit(byte / 16), hex_digit(byte % 16)]),
     }
 }
 

@@ -1,7 +1,7 @@
 //! The calls of this library.
 use crate::wanted::Wanted;
 use crate::{digests, entries, errors, files, keys, path_map, times};
-use cck_cases::{CaseError, CaseLine, Given, Subject, Value, World, find};
+use cck_cases::{CaseError, CaseLine, Given, GivenFiles, Subject, Value, find};
 use cck_entry::PreprocessorCacheEntry;
 use cck_path_map::PathMap;
 use cck_util::MapFiles;
@@ -15,7 +15,7 @@ pub(crate) struct Cases {
     /// Arguments, variables and what else a key is made of.
     pub(crate) given: Given,
     /// The files, the time of the call and the options.
-    pub(crate) world: World,
+    pub(crate) given_files: GivenFiles,
     /// What else lines give.
     pub(crate) wanted: Wanted,
     /// The map that calls change. Empty at first.
@@ -34,7 +34,7 @@ impl Subject for Cases {
         Cases {
             alloc,
             given: Given::new(alloc),
-            world: World::new(alloc),
+            given_files: GivenFiles::new(alloc),
             wanted: Wanted::new(alloc),
             map: PathMap::new(alloc),
             entry: PreprocessorCacheEntry::new(alloc),
@@ -46,7 +46,7 @@ impl Subject for Cases {
         Ok(
             self.wanted.give(word, rest)?
                 || self.given.give(word, rest)?
-                || self.world.give(word, rest)?,
+                || self.given_files.give(word, rest)?,
         )
     }
 

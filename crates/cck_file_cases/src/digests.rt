@@ -35,7 +35,7 @@ pub(crate) fn call<'a>(
     path: &[u8],
 ) -> Result<Value<'a>, CaseError> {
     let alloc = cases.alloc;
-    let files = &mut cases.world.files;
+    let files = &mut cases.given_files.files;
     match call {
         DigestCall::File => Ok(Value::Text(Digest::<Sha256State>::file(alloc, files, path)?)),
         DigestCall::Reader => Ok(Value::Text(Digest::<Sha256State>::reader(alloc, files, path)?)),
@@ -50,7 +50,7 @@ pub(crate) fn call<'a>(
 fn compiler<'a>(cases: &'a mut Cases, path: &[u8]) -> Result<Value<'a>, CaseError> {
     Ok(Value::Bytes(resolve_compiler_avoiding_wrapper(
         cases.alloc,
-        &mut cases.world.files,
+        &mut cases.given_files.files,
         path,
         &cases.given.variables,
     )?))
@@ -60,7 +60,7 @@ fn compiler<'a>(cases: &'a mut Cases, path: &[u8]) -> Result<Value<'a>, CaseErro
 fn all<'a>(cases: &'a mut Cases) -> Result<Value<'a>, CaseError> {
     let texts = hash_all::<Sha256State, MapFiles>(
         cases.alloc,
-        &mut cases.world.files,
+        &mut cases.given_files.files,
         &cases.wanted.paths,
     )?;
     let mut text = Vec::new(cases.alloc);
@@ -71,7 +71,7 @@ fn all<'a>(cases: &'a mut Cases) -> Result<Value<'a>, CaseError> {
 // The digest of a file, and the macros that were found in the same pass.
 fn watched<'a>(cases: &'a mut Cases, path: &[u8]) -> Result<Value<'a>, CaseError> {
     let mut whole = WatchedDigest::<Sha256State>::new();
-    feed_file(cases.alloc, &mut cases.world.files, path, &mut whole)?;
+    feed_file(cases.alloc, &mut cases.given_files.files, path, &mut whole)?;
     let (mut text, finder) = whole.finish(cases.alloc)?;
     text.push_str(macros_word(&finder))?;
     Ok(Value::Text(text))
@@ -95,7 +95,7 @@ fn macros_word(finder: &TimeMacroFinder) -> &'static str {
 }
 
 fn names<'a>(cases: &'a mut Cases, path: &[u8]) -> Result<Value<'a>, CaseError> {
-    let names = sorted_names(cases.alloc, &mut cases.world.files, path)?;
+    let names = sorted_names(cases.alloc, &mut cases.given_files.files, path)?;
     let mut text = Vec::new(cases.alloc);
     write_names(&mut text, &names)?;
     Ok(Value::Bytes(text))

@@ -184,8 +184,8 @@ fn counts<'a>(cases: &'a Cases) -> Result<Value<'a>, CaseError> {
 // Adds a result of the files that `include` gave, under this key.
 fn add<'a>(cases: &'a mut Cases, key: &str) -> Result<Value<'a>, CaseError> {
     cases.entry.add_result(
-        &mut cases.world.files,
-        cases.world.moment,
+        &mut cases.given_files.files,
+        cases.given_files.moment,
         key,
         &cases.wanted.included,
     )?;
@@ -197,8 +197,8 @@ fn add_each<'a>(cases: &'a mut Cases, count: u64) -> Result<Value<'a>, CaseError
     for number in 0..count {
         let key = format!(in cases.alloc; "{number}")?;
         cases.entry.add_result(
-            &mut cases.world.files,
-            cases.world.moment,
+            &mut cases.given_files.files,
+            cases.given_files.moment,
             &key,
             &cases.wanted.included,
         )?;
@@ -210,8 +210,8 @@ fn add_each<'a>(cases: &'a mut Cases, count: u64) -> Result<Value<'a>, CaseError
 fn gathered<'a>(cases: &'a mut Cases) -> Result<Value<'a>, CaseError> {
     let includes = gather(
         cases.alloc,
-        &mut cases.world.files,
-        cases.world.moment,
+        &mut cases.given_files.files,
+        cases.given_files.moment,
         &cases.wanted.included,
     )?;
     let mut text = Vec::new(cases.alloc);
@@ -224,14 +224,14 @@ fn matches<'a>(cases: &'a mut Cases, key: &str) -> Result<Value<'a>, CaseError> 
     let mut known = KnownFiles::new(cases.alloc);
     let includes = cases.entry.results().get(key).ok_or(CaseError::Line)?;
     let context = JudgeContext {
-        moment: cases.world.moment,
+        moment: cases.given_files.moment,
         zone: &cases.wanted.zone,
         vars: &cases.given.variables,
-        config: cases.world.config,
+        config: cases.given_files.config,
     };
     Ok(Value::Flag(includes_match::<Sha256State, MapFiles>(
         cases.alloc,
-        &mut cases.world.files,
+        &mut cases.given_files.files,
         &mut known,
         includes,
         &context,
@@ -245,11 +245,11 @@ fn shown_look_up<'a>(cases: &'a mut Cases) -> Result<Value<'a>, CaseError> {
     let view = EntryView::read(cases.alloc, &bytes)?;
     let viewed = view.lookup_result_digest::<Sha256State, MapFiles>(
         cases.alloc,
-        &mut cases.world.files.copy(cases.alloc)?,
-        cases.world.moment,
+        &mut cases.given_files.files.copy(cases.alloc)?,
+        cases.given_files.moment,
         &cases.wanted.zone,
         &cases.given.variables,
-        cases.world.config,
+        cases.given_files.config,
     )?;
     let found = look_up(cases)?;
     if viewed.map(|key| key.as_bytes()) != found {
@@ -262,11 +262,11 @@ fn shown_look_up<'a>(cases: &'a mut Cases) -> Result<Value<'a>, CaseError> {
 fn look_up<'a>(cases: &'a mut Cases) -> Result<Option<&'a [u8]>, CaseError> {
     let found = cases.entry.lookup_result_digest::<Sha256State, MapFiles>(
         cases.alloc,
-        &mut cases.world.files,
-        cases.world.moment,
+        &mut cases.given_files.files,
+        cases.given_files.moment,
         &cases.wanted.zone,
         &cases.given.variables,
-        cases.world.config,
+        cases.given_files.config,
     )?;
     match found {
         Some(key) => Ok(Some(key.as_bytes())),

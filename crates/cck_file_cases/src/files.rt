@@ -39,9 +39,11 @@ pub(crate) fn call<'a>(
         FileCall::Metadata => metadata(cases, path),
         FileCall::Read => read_at(cases, path),
         FileCall::Children => read_dir(cases, path),
-        FileCall::Exists => Ok(Value::Flag(cases.world.files.exists(path))),
-        FileCall::Canonical => Ok(Value::Bytes(cases.world.files.canonical(cases.alloc, path)?)),
-        FileCall::Count => Ok(Value::Number(cases.world.files.calls())),
+        FileCall::Exists => Ok(Value::Flag(cases.given_files.files.exists(path))),
+        FileCall::Canonical => Ok(Value::Bytes(
+            cases.given_files.files.canonical(cases.alloc, path)?,
+        )),
+        FileCall::Count => Ok(Value::Number(cases.given_files.files.calls())),
         FileCall::Save => save(cases),
         FileCall::Swap => Ok(swap_saved(cases)),
         FileCall::PutMade => put_made(cases, path),
@@ -49,7 +51,7 @@ pub(crate) fn call<'a>(
 }
 
 fn metadata<'a>(cases: &'a mut Cases, path: &[u8]) -> Result<Value<'a>, CaseError> {
-    let metadata = cases.world.files.metadata(path)?;
+    let metadata = cases.given_files.files.metadata(path)?;
     let mut text = Vec::new(cases.alloc);
     write_metadata(cases.alloc, &mut text, &metadata)?;
     Ok(Value::Bytes(text))
@@ -59,7 +61,7 @@ fn metadata<'a>(cases: &'a mut Cases, path: &[u8]) -> Result<Value<'a>, CaseErro
 fn read_at<'a>(cases: &'a mut Cases, path: &[u8]) -> Result<Value<'a>, CaseError> {
     let wanted = &mut cases.wanted;
     let count = cases
-        .world
+        .given_files
         .files
         .read_at(path, wanted.offset, &mut wanted.buffer)?;
     Ok(Value::Part(wanted.buffer.get(..count)))
@@ -67,7 +69,7 @@ fn read_at<'a>(cases: &'a mut Cases, path: &[u8]) -> Result<Value<'a>, CaseError
 
 // The names of the children, in the order of their bytes.
 fn read_dir<'a>(cases: &'a mut Cases, path: &[u8]) -> Result<Value<'a>, CaseError> {
-    let mut names = cases.world.files.read_dir(cases.alloc, path)?;
+    let mut names = cases.given_files.files.read_dir(cases.alloc, path)?;
     names.sort_unstable();
     let mut text = Vec::new(cases.alloc);
     write_names(&mut text, &names)?;
@@ -76,13 +78,13 @@ fn read_dir<'a>(cases: &'a mut Cases, path: &[u8]) -> Result<Value<'a>, CaseErro
 
 // Puts a copy of the files aside.
 fn save<'a>(cases: &'a mut Cases) -> Result<Value<'a>, CaseError> {
-    cases.saved = cases.world.files.copy(cases.alloc)?;
+    cases.saved = cases.given_files.files.copy(cases.alloc)?;
     Ok(Value::Word("copied"))
 }
 
 // Takes the files that were put aside, and puts the others aside.
 fn swap_saved<'a>(cases: &'a mut Cases) -> Value<'a> {
-    swap(&mut cases.world.files, &mut cases.saved);
+    swap(&mut cases.given_files.files, &mut cases.saved);
     Value::Word("swapped")
 }
 
@@ -94,6 +96,6 @@ fn put_made<'a>(cases: &'a mut Cases, contents: &[u8]) -> Result<Value<'a>, Case
         modified: cases.wanted.modified,
         changed: None,
     };
-    cases.world.files.put(&cases.given.base, node)?;
+    cases.given_files.files.put(&cases.given.base, node)?;
     Ok(Value::Number(contents.len() as u64))
 }

@@ -23,7 +23,7 @@ pub(crate) fn call<'a>(
 }
 
 fn key<'a>(cases: &'a mut Cases, input: &[u8]) -> Result<Value<'a>, CaseError> {
-    let (given, wanted, world) = (&cases.given, &cases.wanted, &mut cases.world);
+    let (given, wanted, given_files) = (&cases.given, &cases.wanted, &mut cases.given_files);
     let key = preprocessor_cache_entry_hash_key::<Sha256State, MapFiles>(
         cases.alloc,
         given.compiler(),
@@ -38,9 +38,9 @@ fn key<'a>(cases: &'a mut Cases, input: &[u8]) -> Result<Value<'a>, CaseError> {
         &wanted.cwd,
         given.plusplus,
         given.multiarch,
-        world.config,
-        &mut world.files,
-        world.moment,
+        given_files.config,
+        &mut given_files.files,
+        given_files.moment,
         &wanted.zone,
     )?;
     Ok(found_text(key))

@@ -29,7 +29,7 @@ pub(crate) fn call<'a>(
     match call {
         TimeCall::Part => part(cases),
         TimeCall::Recorded => recorded(cases, path),
-        TimeCall::Options => options(cases.alloc, cases.world.config),
+        TimeCall::Options => options(cases.alloc, cases.given_files.config),
         TimeCall::DefaultOptions => options(cases.alloc, PreprocessorCacheModeConfig::default()),
     }
 }
@@ -41,7 +41,7 @@ fn part<'a>(cases: &'a Cases) -> Result<Value<'a>, CaseError> {
         wanted.shows_date,
         wanted.shows_timestamp,
         wanted.modified,
-        cases.world.moment,
+        cases.given_files.moment,
         &wanted.zone,
         &cases.given.variables,
     )?))
@@ -50,12 +50,12 @@ fn part<'a>(cases: &'a Cases) -> Result<Value<'a>, CaseError> {
 fn recorded<'a>(cases: &'a mut Cases, path: &[u8]) -> Result<Value<'a>, CaseError> {
     let digest = recorded_digest::<Sha256State, MapFiles>(
         cases.alloc,
-        &mut cases.world.files,
+        &mut cases.given_files.files,
         path,
-        cases.world.moment,
+        cases.given_files.moment,
         &cases.wanted.zone,
         &cases.given.variables,
-        cases.world.config,
+        cases.given_files.config,
     )?;
     Ok(found_text(digest))
 }

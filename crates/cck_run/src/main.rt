@@ -4,15 +4,37 @@
 //! key of the object that a compiler with this digest makes of it. `cck run` reads a script of
 //! calls from standard input and makes them in their order, over files and a store in memory. For
 //! each it prints one line, with its key or its error. All that is printed, errors too, goes to
-//! standard output. `main` only passes the words and the standard streams to [`engine`], which is
-//! what the theorems are about.
+//! standard output. `cck --version` prints the version; other words `main` only passes, with the
+//! standard streams, to [`engine`], which is what the theorems are about.
 #![tactic(auto)]
 
-use cck_command::{engine, refuse};
-use cck_util::Sha256State;
+use cck_command::{Status, engine, print, refuse};
+use cck_util::{Sha256State, VERSION};
+use std::alloc::Global;
 use std::env;
-use std::io::ErrorKind;
+use std::io::{ErrorKind, Read, Write};
 use std::process::ExitCode;
+
+// Prints the version.
+fn print_version<W: Write>(alloc: Global, writer: &mut W) -> Status {
+    match format!(in alloc; "cck {VERSION}\n") {
+        Ok(line) if print(writer, line.as_bytes()).is_ok() => Status::Done,
+        _ => refuse(writer),
+    }
+}
+
+// Does what these words ask for.
+fn run<R: Read, W: Write>(
+    alloc: Global,
+    words: &[String],
+    reader: &mut R,
+    writer: &mut W,
+) -> Status {
+    if words.len() == 1 && words[0].as_str() == "--version" {
+        return print_version(alloc, writer);
+    }
+    engine::<Sha256State, R, W>(alloc, words, reader, writer)
+}
 
 fn main(rt: HostRuntime) -> ExitCode {
     let alloc = rt.alloc();
@@ -25,7 +47,7 @@ fn main(rt: HostRuntime) -> ExitCode {
         Err(_) => None,
     };
     let status = match words {
-        Some(words) => engine::<Sha256State, _, _>(alloc, &words, &mut reader, &mut writer),
+        Some(words) => run(alloc, &words, &mut reader, &mut writer),
         None => refuse(&mut writer),
     };
     ExitCode::from(status.code())

@@ -98,7 +98,7 @@ pub(crate) fn write(
             break;
         }
         count = count.saturating_add(1);
-        if ended.status != Status::Refused || !is_cut(&ended.written, &whole.written) {
+        if ended.status != Status::Failed || !is_cut(&ended.written, &whole.written) {
             wrong = wrong.saturating_add(1);
         }
         digest.update(&ended.written);

@@ -1,6 +1,6 @@
 //! The compiler of scripts.
 use crate::commands::{write_bracketed, write_list};
-use cck_cases::{CaseError, World, words_of};
+use cck_cases::{CaseError, GivenFiles, words_of};
 use cck_command::MiniCompiler;
 use cck_compiler::{CCompilerImpl, ColorMode, CompilerArguments, ParsedArguments, PreprocessError};
 use cck_util::UtilError;
@@ -24,19 +24,19 @@ pub(crate) const CALLS: [(&str, CompilerCall); 3] = [
 pub(crate) fn write(
     call: CompilerCall,
     out: &mut Vec<u8>,
-    world: &mut World,
+    given_files: &mut GivenFiles,
     cwd: &[u8],
     rest: &str,
 ) -> Result<(), CaseError> {
-    let alloc = world.alloc;
+    let alloc = given_files.alloc;
     let made = MiniCompiler {
-        zone_offset: world.zone,
+        zone_offset: given_files.zone,
     };
     let compiler = made.copy(alloc).map_err(|_| UtilError::Memory)?;
     match call {
         CompilerCall::Facts => Ok(write_facts(alloc, out, &compiler)?),
         CompilerCall::CommandLine => write_arguments(alloc, out, &compiler, cwd, rest),
-        CompilerCall::Preprocess => write_preprocessed(out, world, &compiler, cwd, rest),
+        CompilerCall::Preprocess => write_preprocessed(out, given_files, &compiler, cwd, rest),
     }
 }
 
@@ -79,13 +79,13 @@ fn word_of(arguments: &CompilerArguments<ParsedArguments>) -> &'static str {
 // Writes what is printed for a compilation.
 fn write_preprocessed(
     out: &mut Vec<u8>,
-    world: &mut World,
+    given_files: &mut GivenFiles,
     compiler: &MiniCompiler,
     cwd: &[u8],
     rest: &str,
 ) -> Result<(), CaseError> {
-    match parsed_as(world.alloc, compiler, cwd, rest)? {
-        CompilerArguments::Ok(parsed) => write_printed(out, world, compiler, &parsed, cwd),
+    match parsed_as(given_files.alloc, compiler, cwd, rest)? {
+        CompilerArguments::Ok(parsed) => write_printed(out, given_files, compiler, &parsed, cwd),
         other => Ok(out.extend_from_slice(word_of(&other).as_bytes())?),
     }
 }
@@ -155,13 +155,21 @@ fn has_flags(parsed: &ParsedArguments) -> bool {
 // Writes what the preprocessor prints.
 fn write_printed(
     out: &mut Vec<u8>,
-    world: &mut World,
+    given_files: &mut GivenFiles,
     compiler: &MiniCompiler,
     parsed: &ParsedArguments,
     cwd: &[u8],
 ) -> Result<(), CaseError> {
-    let (alloc, moment) = (world.alloc, world.moment);
-    let printed = compiler.preprocess(alloc, &mut world.files, b"/cc", parsed, cwd, &[], moment);
+    let (alloc, moment) = (given_files.alloc, given_files.moment);
+    let printed = compiler.preprocess(
+        alloc,
+        &mut given_files.files,
+        b"/cc",
+        parsed,
+        cwd,
+        &[],
+        moment,
+    );
     match printed {
         Ok(text) => Ok(out.extend_from_slice(&text)?),
         Err(PreprocessError::Memory) => Err(CaseError::Util(UtilError::Memory)),

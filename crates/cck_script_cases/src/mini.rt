@@ -1,5 +1,5 @@
 //! The small preprocessor.
-use cck_cases::{CaseError, World};
+use cck_cases::{CaseError, GivenFiles};
 use cck_mini::{PrintError, print_input};
 use cck_util::UtilError;
 use std::alloc::{AllocError, Global};
@@ -19,16 +19,16 @@ pub(crate) const CALLS: [(&str, MiniCall); 2] = [
 pub(crate) fn write(
     call: MiniCall,
     out: &mut Vec<u8>,
-    world: &mut World,
+    given_files: &mut GivenFiles,
     cwd: &[u8],
     input: &[u8],
 ) -> Result<(), CaseError> {
-    let alloc = world.alloc;
+    let alloc = given_files.alloc;
     match print_input(
         alloc,
-        &mut world.files,
-        world.zone,
-        world.moment,
+        &mut given_files.files,
+        given_files.zone,
+        given_files.moment,
         cwd,
         input,
     ) {

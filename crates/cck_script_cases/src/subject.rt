@@ -2,7 +2,7 @@
 use crate::failing_calls::{self, ListGiven};
 use crate::streams::Streams;
 use crate::{compiler, engine, mini, scripts};
-use cck_cases::{CaseError, CaseLine, Subject, Value, World, bytes_of, find, number};
+use cck_cases::{CaseError, CaseLine, GivenFiles, Subject, Value, bytes_of, find, number};
 use cck_util::{Digest, Sha256State};
 use std::alloc::Global;
 
@@ -27,7 +27,7 @@ const WORDS: [(&str, Word); 5] = [
 #[derive(Drop)]
 pub(crate) struct Scripts {
     alloc: Global,
-    world: World,
+    given_files: GivenFiles,
     streams: Streams,
     // `line TEXT`: a line of the script, without escapes. The bytes of a call are after them.
     lines: Vec<u8>,
@@ -57,7 +57,7 @@ impl Subject for Scripts {
     fn new(alloc: Global) -> Scripts {
         Scripts {
             alloc,
-            world: World::new(alloc),
+            given_files: GivenFiles::new(alloc),
             streams: Streams::new(alloc),
             lines: Vec::new(alloc),
             cwd: Vec::new(alloc),
@@ -72,7 +72,7 @@ impl Subject for Scripts {
 
     fn give(&mut self, name: &str, rest: &str) -> Result<bool, CaseError> {
         let Some(word) = find(&WORDS, name) else {
-            return Ok(self.streams.give(name, rest)? || self.world.give(name, rest)?);
+            return Ok(self.streams.give(name, rest)? || self.given_files.give(name, rest)?);
         };
         match word {
             Word::Line => {
@@ -133,10 +133,10 @@ impl Scripts {
         }
         let cwd = directory(&self.cwd);
         if let Some(call) = find(&mini::CALLS, name) {
-            return mini::write(call, out, &mut self.world, cwd, line.bytes);
+            return mini::write(call, out, &mut self.given_files, cwd, line.bytes);
         }
         if let Some(call) = find(&compiler::CALLS, name) {
-            return compiler::write(call, out, &mut self.world, cwd, line.rest);
+            return compiler::write(call, out, &mut self.given_files, cwd, line.rest);
         }
         Err(CaseError::Line)
     }

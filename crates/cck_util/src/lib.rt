@@ -14,6 +14,7 @@
 //!   that names no language is [`UnknownLanguage`]. [`CACHE_VERSION`] is part of the key too.
 //! - [`hash_text_list`], [`hash_option`], [`hash_variable_list`] and [`hash_request_variables`]
 //!   feed single parts to a digest, so that the end of each is known from the bytes.
+//!   [`request_variable_names`] are the names of the cached variables.
 //! - [`resolve_compiler_avoiding_wrapper`] finds the compiler that a wrapper such as `ccache`
 //!   wraps.
 //! - [`laws`] has what is proved of the definitions alone.
@@ -33,7 +34,7 @@ mod wrapper;
 
 pub use cck_digest::{
     Digest, FileError, HASH_BUFFER_SIZE, HashState, SeenMacros, Sha256State, Sink, TimeMacroFinder,
-    UtilError, WatchedDigest, hash_len_prefixed, hash_length, hex, read_all, read_to_end,
+    UtilError, VERSION, WatchedDigest, hash_len_prefixed, hash_length, hex, read_all, read_to_end,
 };
 pub use cck_file_digest::{
     DigestFiles, feed_file, feed_file_of_size, hash_all, read_contents, read_contents_of_size,
@@ -51,5 +52,5 @@ pub use cck_strip::{
 pub use frames::{hash_option, hash_text_list};
 pub use key::{CACHE_VERSION, HashKeyParams};
 pub use language::{Language, UnknownLanguage};
-pub use variables::{hash_request_variables, hash_variable_list};
+pub use variables::{hash_request_variables, hash_variable_list, request_variable_names};
 pub use wrapper::resolve_compiler_avoiding_wrapper;

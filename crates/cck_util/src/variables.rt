@@ -4,7 +4,7 @@ ghost use Rattle.std.specs.List.{list_any};
 ghost use Rattle.std.specs.Str.{bytes_eq};
 ghost use Rattle.cck_digest.specs.Frames.{framed_list};
 ghost use Rattle.cck_path.specs.Bytes.{variables_of};
-ghost use Rattle.cck_util.specs.Variables.{object_variables, request_variables, variable_frames, variables_named};
+ghost use Rattle.cck_util.specs.Variables.{include_path_names, object_variable_names, object_variables, request_variables, variable_frames, variables_named};
 
 use cck_digest::{Digest, HashState, hash_len_prefixed, hash_length};
 
@@ -27,6 +27,15 @@ const REQUEST_VARIABLES: [&[u8]; 12] = [
 
 // The number of these that are part of an object's key.
 const OBJECT_VARIABLES: usize = 7;
+
+/// The names of the variables that are part of the preprocessor key: those of an object's key, and
+/// those that list the preprocessor's include directories. A program that keeps objects passes the
+/// variables of these names, in this order.
+pub fn request_variable_names() -> &'static [&'static [u8]]
+    ensures { map (λ name. name.now) result.now ≡ object_variable_names ++ include_path_names }
+{
+    &REQUEST_VARIABLES
+}
 
 // Returns whether the name is one of these, byte for byte.
 fn is_one_of(name: &[u8], names: &[&[u8]]) -> bool

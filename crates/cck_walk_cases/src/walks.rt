@@ -1,6 +1,6 @@
 //! Walks over texts and over single line markers.
 use cck_cases::{
-    CaseError, CaseLine, Given, Value, World, bytes_of, find, number, write_numbers, zone_of,
+    CaseError, CaseLine, Given, GivenFiles, Value, bytes_of, find, number, write_numbers, zone_of,
 };
 use cck_digest::{Digest, FileError, Sha256State, UtilError};
 use cck_files::{Files, MapFiles};
@@ -45,7 +45,7 @@ const ERRORS: [(&str, KeyError); 2] = [("Memory", KeyError::Memory), ("Marker", 
 pub(crate) struct Walks {
     alloc: Global,
     given: Given,
-    world: World,
+    given_files: GivenFiles,
     /// `input TEXT`: the path of the input. Empty at first.
     input: Vec<u8>,
     /// `cwd TEXT`: the working directory. Empty at first.
@@ -69,7 +69,7 @@ pub(crate) fn call<'a>(
         WalkCall::Records => Ok(Value::Number(walks.records.len() as u64)),
         WalkCall::Record => Ok(Value::Part(walks.record(line.bytes))),
         WalkCall::IsArmed => Ok(Value::Flag(
-            walks.world.files.metadata(b"/") == Err(FileError::Fault),
+            walks.given_files.files.metadata(b"/") == Err(FileError::Fault),
         )),
         WalkCall::ErrorText => Ok(Value::Text(error_text(walks.alloc, line.rest)?)),
     }
@@ -86,7 +86,7 @@ impl Walks {
         Walks {
             alloc,
             given: Given::new(alloc),
-            world: World::new(alloc),
+            given_files: GivenFiles::new(alloc),
             input: Vec::new(alloc),
             cwd: Vec::new(alloc),
             records: Records::new(alloc),
@@ -96,7 +96,7 @@ impl Walks {
     /// Applies a line, and returns whether its word is known here.
     pub(crate) fn give(&mut self, name: &str, rest: &str) -> Result<bool, CaseError> {
         let Some(word) = find(&WORDS, name) else {
-            return Ok(self.world.give(name, rest)? || self.given.give(name, rest)?);
+            return Ok(self.given_files.give(name, rest)? || self.given.give(name, rest)?);
         };
         match word {
             Word::Input => self.input = bytes_of(self.alloc, rest)?,
@@ -125,15 +125,15 @@ impl Walks {
 
     // Writes what a walk over a text returns.
     fn write_walk(&mut self, out: &mut Vec<u8>, text: &[u8]) -> Result<(), CaseError> {
-        let zone = zone_of(self.world.zone)?;
+        let zone = zone_of(self.given_files.zone)?;
         let walk = process_preprocessed_file::<Sha256State, MapFiles>(
             self.alloc,
-            &mut self.world.files,
+            &mut self.given_files.files,
             &self.input,
             &self.cwd,
             text,
-            self.world.config,
-            self.world.moment,
+            self.given_files.config,
+            self.given_files.moment,
             &zone,
             &self.given.variables,
         );
@@ -157,18 +157,18 @@ impl Walks {
         if hash_start > start || start >= text.len() {
             return Err(CaseError::Line);
         }
-        let zone = zone_of(self.world.zone)?;
+        let zone = zone_of(self.given_files.zone)?;
         let action = process_preprocessor_line::<Sha256State, MapFiles>(
             self.alloc,
-            &mut self.world.files,
+            &mut self.given_files.files,
             &self.input,
             &self.cwd,
             &mut self.records,
             text,
             start,
             hash_start,
-            self.world.config,
-            self.world.moment,
+            self.given_files.config,
+            self.given_files.moment,
             &zone,
             &self.given.variables,
         );

@@ -1,6 +1,6 @@
 use Rattle.std.proofs.Common.{rules, tests}
 use Rattle.std.proofs.lemmas.Iterator.{YieldsList-from_slice, cases_from_any}
-use Rattle.cck_cache_base.specs.Argument.{Has}
+use Rattle.cck_digest.specs.TimeMacros.{Has}
 use Rattle.cck_cache_base.proofs.ListLemmas.{any_decided}
 use Rattle.cck_cache_base.proofs.shown.shows_base.Goals as goal
 

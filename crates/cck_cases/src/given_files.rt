@@ -35,7 +35,7 @@ const WORDS: [(&str, Word); 10] = [
 
 /// What lines give for calls on files.
 #[derive(Drop)]
-pub struct World {
+pub struct GivenFiles {
     /// The allocator of all that is given.
     pub alloc: Global,
     /// `file PATH MODIFIED CHANGED TEXT`, `dir PATH`, `other PATH`, `link PATH TARGET`, `gone PATH`,
@@ -64,10 +64,10 @@ fn file_of(alloc: Global, rest: &str) -> Result<Node, CaseError> {
     })
 }
 
-impl World {
+impl GivenFiles {
     /// Returns the state in which nothing is given.
-    pub fn new(alloc: Global) -> World {
-        World {
+    pub fn new(alloc: Global) -> GivenFiles {
+        GivenFiles {
             alloc,
             files: MapFiles::new(alloc),
             moment: Timestamp::new(100, 0),
