@@ -367,6 +367,19 @@ class Project:
                 to = self.pick(PLACES) + "/" + os.path.basename(path)
                 self.do({**self.tree[path], "path": to, "keeps": self.is_rare(0.5)})
 
+    def twin(self):
+        """A header that is read once and a copy of it with the same time, both of which the input includes."""
+        headers, step = [path for path in self.headers() if self.tree[path]["do"] == "write"], self.tree.get("work/x.c")
+        to = self.pick(PLACES) + "/" + self.pick(HEADERS)
+        path = self.pick([path for path in headers if path != to] or [""])
+        if not path or not step or step["do"] != "write":
+            return
+        snippets = ["#pragma once"] + [text for text in self.tree[path]["snippets"] if "once" not in text]
+        for place in (path, to):
+            self.do({**self.tree[path], "path": place, "snippets": snippets, "guard": "", "keeps": False})
+            self.do({"do": "touch", "path": place, "seconds": 1000000000})
+        self.rewrite("work/x.c", step["snippets"] + [f'#include "{os.path.relpath(place, "work")}"' for place in (path, to)])
+
     def remove(self):
         self.undone = 0.5
         others = ["work/a", "work/b", "work/linked", "work/missing"]
@@ -465,6 +478,7 @@ class Project:
         6 touch
         12 appear
         2 copied
+        3 twin
         4 remove
         2 rename
         4 link
