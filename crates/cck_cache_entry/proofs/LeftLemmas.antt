@@ -34,7 +34,7 @@ pub whole_way : (path : List ℕ) (count : ℕ) (old new : BTreeSet (Vec ℕ)) �
 whole_way path count old new is =
     adds_as (Below (LeftAt path) count) (IsLeftOn path) old new (λ q at. (at.0, at.2.0, at.2.1)) (λ q at. (at.0, omega (arith, is, slice_get_within path at.0 47 at.1.slash), (at.1, at.2)))
 
-no_key : (set : BTreeSet (Vec ℕ)) (q : List ℕ) → set.keys ≡ [] → IsTrue (has_key set q) → ⊥
+pub no_key : (set : BTreeSet (Vec ℕ)) (q : List ℕ) → set.keys ≡ [] → IsTrue (has_key set q) → ⊥
 no_key set q none has = let e : false ≡ true = ap (list_any (λ k. bytes_eq q k.items)) (sym none) ∙ has in cc
 
 pub all_left : (directory : List ℕ) (names old new : BTreeSet (Vec ℕ)) (count : ℕ) → old.keys ≡ [] → length names.keys ≡ count

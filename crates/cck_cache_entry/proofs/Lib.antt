@@ -1,7 +1,9 @@
 pub mod AbsentLemmas
 pub mod EqualityLemmas
 pub mod HeaderTestLemmas
+pub mod IncludedLemmas
 pub mod LeftLemmas
+pub mod LookedAtLemmas
 pub mod NameLemmas
 pub mod ReadLemmas
 pub mod ReadingLemmas

@@ -2,7 +2,9 @@ pub mod Absent
 pub mod Files
 pub mod Frames
 pub mod HeaderTests
+pub mod Included
 pub mod Left
+pub mod LookedAt
 pub mod Names
 pub mod PathTest
 pub mod ReadFiles

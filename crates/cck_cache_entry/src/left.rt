@@ -25,8 +25,14 @@ fn is_left_at(path: &[u8], place: usize) -> bool
     memmem::find(&path[place..], b"/../").is_some()
 }
 
-// Adds the directories on the way of a path up to its last `..`.
-fn add_left(alloc: Global, left: &mut BTreeSet<Vec<u8>>, path: &[u8]) -> Result<(), AllocError>
+/// Adds the directories on the way of a path up to its last `..`.
+///
+/// The only error is lack of memory.
+pub fn add_left(
+    alloc: Global,
+    left: &mut BTreeSet<Vec<u8>>,
+    path: &[u8],
+) -> Result<(), AllocError>
     ensures { OnOk result (Adds (IsLeftOn path.now) left.old left.new) }
 {
     for place in 0..path.len() {

@@ -8,7 +8,9 @@
 //! - [`SearchList`] is a compiler's list of directories for headers, as `gcc -v` prints it.
 //! - [`absent_names`] lists the paths at which a named header would have been found earlier.
 //! - [`file_names`] lists the files that a text names.
-//! - [`left_directories`] lists the directories that names of a text leave by `..`.
+//! - [`looked_at_paths`] lists the paths at which a preprocessor looks for the headers that a text includes.
+//! - [`left_directories`] lists the directories that names of a text leave by `..`, and [`add_left`]
+//!   those of one path.
 //! - [`assembles_alone`] and [`opens_named_alone`] say by dependency files whether the assembler or the
 //!   compiler read other files than those that a text names.
 //! - [`header_tests`] and [`has_dependency_pragma`] say on which files a source may depend that it does
@@ -22,8 +24,10 @@ mod absent;
 mod entry_file;
 mod frames;
 mod header_test;
+mod included;
 pub mod laws;
 mod left;
+mod looked_at;
 mod names;
 mod object_file;
 mod path_test;
@@ -37,7 +41,8 @@ mod tested_paths;
 pub use absent::absent_names;
 pub use entry_file::EntryFile;
 pub use header_test::{HeaderTest, has_dependency_pragma, header_tests, may_ask_for_file};
-pub use left::left_directories;
+pub use left::{add_left, left_directories};
+pub use looked_at::looked_at_paths;
 pub use names::file_names;
 pub use object_file::ObjectFile;
 pub use path_test::PathTest;
