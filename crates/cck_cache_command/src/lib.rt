@@ -22,6 +22,7 @@ mod response;
 mod searched;
 mod stats;
 mod tested;
+mod unnamed;
 mod unpack;
 mod why;
 

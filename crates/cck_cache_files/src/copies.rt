@@ -220,12 +220,7 @@ fn may_be_taken(found: &fs::Metadata, is_old: bool, is_like: bool) -> bool
 /// Whether gcc may have taken what is at a path, links followed, for a copy of a known file: a regular
 /// file of a like length and time, or one that did not last change before the given time, or anything
 /// else but a directory. `true` where it can't be looked at.
-pub fn may_be_copy<R: Files>(
-    rt: &R,
-    path: &[u8],
-    since: Timestamp,
-    known: &[KnownFile],
-) -> bool
+pub fn may_be_copy<R: Files>(rt: &R, path: &[u8], since: Timestamp, known: &[KnownFile]) -> bool
     ensures { ¬ (IsUtf8 path.now) → IsTrue result }
 {
     let Ok(path) = std::str::from_utf8(path) else {
