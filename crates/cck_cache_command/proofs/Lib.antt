@@ -7,3 +7,4 @@ pub mod RecordLemmas
 pub mod RequestLemmas
 pub mod SearchedLemmas
 pub mod SourceTestLemmas
+pub mod UnnamedLemmas

@@ -8,7 +8,7 @@ use Rattle.cck_cache_base.specs.Text.{AreBases}
 use Rattle.cck_cache_base.specs.declared.base.Words.{Words}
 use Rattle.cck_cache_command.proofs.InputLemmas.{calm_kept, calm_stays, without_fault}
 use Rattle.cck_cache_command.specs.Input.{IsCalm, IsInput, NoFault}
-use Rattle.cck_cache_command.specs.Record.{AreFilesOf, AreGathered, HasPathTests, HasAskedTests, IsAsked, IsLocalTime, IsOneDay, IsOutcome, IsOutcomeOver, ObjectShowsBase, ReadsAlone}
+use Rattle.cck_cache_command.specs.Record.{AreFilesOf, AreGathered, HasPathTests, HasAskedTests, HasUnnamedTests, IsAsked, IsLocalTime, IsOneDay, IsOutcome, IsOutcomeOver, ObjectShowsBase, ReadsAlone}
 use Rattle.cck_cache_command.specs.Request.{IsRequest, request_words}
 use Rattle.cck_cache_command.specs.declared.environment.Environment.{Environment}
 use Rattle.cck_cache_command.specs.declared.record.Gathered.{Gathered}
@@ -57,10 +57,10 @@ calm_grown text cwd before after grew =
     calm_stays before after (grew list.0 list.1).calm
 
 -- what was gathered over files that a call kept
-pub gathered_over : (request : Request) (since : Moment) (text : Bytes) (files new : FileMap) (made asked : List Test) → new ≡ files → AreFilesOf request text files → HasPathTests request since text made → HasAskedTests request since text files asked
-    → AreGathered request since text new made asked
-gathered_over request since text files new made asked same are path_tests tested =
-    subst (λ (m : FileMap). AreGathered request since text m made asked) (sym same) (record { are_files = are; path_tests = path_tests; tested = tested })
+pub gathered_over : (request : Request) (since : Moment) (text : Bytes) (files new : FileMap) (made asked others : List Test) → new ≡ files → AreFilesOf request text files → HasPathTests request since text made → HasAskedTests request since text files asked
+    → HasUnnamedTests request since text files others → AreGathered request since text new made asked others
+gathered_over request since text files new made asked others same are path_tests tested unnamed =
+    subst (λ (m : FileMap). AreGathered request since text m made asked others) (sym same) (record { are_files = are; path_tests = path_tests; tested = tested; unnamed = unnamed })
 
 -- a base directory is shown by an object file, so there is one
 pub some_shows : (bases : List Bytes) (o : Option ObjectFile) → ObjectShowsBase bases o → (object : ObjectFile) × ObjectShowsBase bases (Some object)
@@ -94,7 +94,7 @@ recorded_over asked text before mid after recording put calm first second is rec
 
 -- an outcome over the files that were gathered is the outcome
 pub outcome_all : (environment : Environment) (request : Request) (compilation : Compilation) (text : Bytes) (gathered : Gathered) (outcome : Outcome) → ReadsAlone request text compilation.made
-    → AreGathered request compilation.since text gathered.files.files (tests_of gathered.tests.items) (tests_of gathered.asked_tests.items) → IsOutcomeOver environment request compilation text gathered outcome → IsOutcome environment request compilation text outcome
-outcome_all environment request compilation text gathered (Recorded name) alone are is = (alone, (gathered.files.files, tests_of gathered.tests.items, tests_of gathered.asked_tests.items, are, is))
+    → AreGathered request compilation.since text gathered.files.files (tests_of gathered.tests.items) (tests_of gathered.asked_tests.items) (tests_of gathered.unnamed_tests.items) → IsOutcomeOver environment request compilation text gathered outcome → IsOutcome environment request compilation text outcome
+outcome_all environment request compilation text gathered (Recorded name) alone are is = (alone, (gathered.files.files, tests_of gathered.tests.items, tests_of gathered.asked_tests.items, tests_of gathered.unnamed_tests.items, are, is))
 outcome_all environment request compilation text gathered (Refused refusal) alone are is =
-    inr (inr (gathered.is_doubtful, gathered.files.files, tests_of gathered.tests.items, tests_of gathered.asked_tests.items, are, is))
+    inr (inr (gathered.is_doubtful, gathered.files.files, tests_of gathered.tests.items, tests_of gathered.asked_tests.items, tests_of gathered.unnamed_tests.items, are, is))

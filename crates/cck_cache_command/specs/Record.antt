@@ -8,6 +8,7 @@ use Rattle.cck_cache_command.specs.Input.{IsCalm, IsInput, NoFault}
 use Rattle.cck_cache_command.specs.Naming.{IsName}
 use Rattle.cck_cache_command.specs.Tested.{AreAskedTests, IsRefusedBySource}
 use Rattle.cck_cache_command.specs.Request.{IsRequest, key_over, request_words}
+use Rattle.cck_cache_command.specs.Unnamed.{AreUnnamedTests, IsRefusedByUnnamed}
 use Rattle.cck_cache_command.specs.declared.environment.Environment.{Environment}
 use Rattle.cck_cache_command.specs.declared.record.Gathered.{Gathered}
 use Rattle.cck_cache_command.specs.declared.record.Outcome.{Outcome}
@@ -28,7 +29,7 @@ use Rattle.cck_cache_words.specs.declared.task.Compilation.{Compilation}
 use Rattle.cck_cache_words.specs.declared.task.Made.{Made}
 use Rattle.cck_files.specs.FileMap.{FileMap}
 use Rattle.cck_markers.specs.Marks.{Mark, Marks}
-use Rattle.cck_path.specs.Bytes.{Bytes}
+use Rattle.cck_path.specs.Bytes.{Bytes, lists_of}
 use Rattle.cck_path.specs.Timestamp.{Moment}
 use Rattle.cck_snapshot.specs.Recordings.{IsRecording}
 use Rattle.cck_snapshot.specs.declared.recordings.RecordedEntry.{RecordedEntry}
@@ -79,11 +80,20 @@ pub record HasAskedTests (request : Request) (since : Moment) (text : Bytes) (fi
   pub printed : Bytes
   pub tests_are : AreAskedTests states files request.directory.now text printed tests
 
--- Files that were gathered for a text. No path at which a header would have been found earlier, or at which a source looks for one, is in doubt.
-pub record AreGathered (request : Request) (since : Moment) (text : Bytes) (files : FileMap) (made asked : List Test) : Type 0 where
+-- these tests are of the paths at which headers of the text and of the arguments are looked for, and which the text does not name, in the same way
+pub record HasUnnamedTests (request : Request) (since : Moment) (text : Bytes) (files : FileMap) (tests : List Test) : Type 0 where
+  pub states : PathStates
+  pub since_is : states.since ≡ since
+  pub printed : Bytes
+  pub tests_are : AreUnnamedTests states files request.directory.now text (lists_of request.arguments.items) printed tests
+
+-- Files that were gathered for a text. No path at which a header would have been found earlier, or at which a source looks for one, is in doubt, nor is
+-- one at which a header of the text is looked for and which the text does not name. The tests of an entry are the first, the second and the others.
+pub record AreGathered (request : Request) (since : Moment) (text : Bytes) (files : FileMap) (made asked others : List Test) : Type 0 where
   pub are_files : AreFilesOf request text files
   pub path_tests : HasPathTests request since text made
   pub tested : HasAskedTests request since text files asked
+  pub unnamed : HasUnnamedTests request since text files others
 
 -- a path keeps a compilation from being recorded
 pub record HasPathRefusal (request : Request) (since : Moment) (text : Bytes) (refusal : Refusal) : Type 0 where
@@ -101,13 +111,22 @@ pub record HasSourceRefusal (request : Request) (since : Moment) (text : Bytes) 
   pub printed : Bytes
   pub refused : IsRefusedBySource states files request.directory.now text printed refusal
 
+-- a path that the text does not name keeps a compilation from being recorded
+pub record HasUnnamedRefusal (request : Request) (since : Moment) (text : Bytes) (refusal : Refusal) : Type 0 where
+  pub states : PathStates
+  pub since_is : states.since ≡ since
+  pub printed : Bytes
+  pub refused : IsRefusedByUnnamed states request.directory.now text (lists_of request.arguments.items) printed refusal
+
 -- why a compilation is not recorded by its text: what a source asks for, or a path
 abbrev pub IsRefusedByText : Request → Moment → Bytes → Refusal → Type 0
-IsRefusedByText request since text refusal = HasSourceRefusal request since text refusal ⊎ HasPathRefusal request since text refusal
+IsRefusedByText request since text refusal =
+    HasSourceRefusal request since text refusal ⊎ (HasPathRefusal request since text refusal ⊎ HasUnnamedRefusal request since text refusal)
 
 abbrev pub IsSeen : Request → Moment → Bytes → Seen → Type 0
 IsSeen request since text (Files gathered) =
-    AreGathered request since text gathered.files.files (tests_of gathered.tests.items) (tests_of gathered.asked_tests.items) × IsCalm gathered.files
+    AreGathered request since text gathered.files.files (tests_of gathered.tests.items) (tests_of gathered.asked_tests.items) (tests_of gathered.unnamed_tests.items)
+    × IsCalm gathered.files
 IsSeen request since text (NotSeen refusal) = IsRefusedByText request since text refusal
 
 -- this does not hold of a dependency file, if there is one
@@ -203,9 +222,9 @@ IsOutcomeOver environment request compilation text gathered (Refused refusal) =
 abbrev pub IsOutcome : Environment → Request → Compilation → Bytes → Outcome → Type 0
 IsOutcome environment request compilation text (Recorded name) =
     ReadsAlone request text compilation.made
-    × ((files : FileMap) × (made asked : List Test) × AreGathered request compilation.since text files made asked × IsRecordedOver environment request compilation text files name)
+    × ((files : FileMap) × (made asked others : List Test) × AreGathered request compilation.since text files made asked others × IsRecordedOver environment request compilation text files name)
 IsOutcome environment request compilation text (Refused refusal) =
     IsRefusedByReading request text refusal
     ⊎ (IsRefusedByText request compilation.since text refusal
-    ⊎ ((doubtful : Bool) × (files : FileMap) × (made asked : List Test) × AreGathered request compilation.since text files made asked
+    ⊎ ((doubtful : Bool) × (files : FileMap) × (made asked others : List Test) × AreGathered request compilation.since text files made asked others
     × IsRefusedOver environment request compilation text doubtful files refusal))

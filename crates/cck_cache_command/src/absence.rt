@@ -127,8 +127,8 @@ fn add_absent(alloc: Global, tests: &mut Vec<PathTest>, paths: &[Vec<u8>]) -> Re
     Ok(())
 }
 
-// Adds the test that a directory, and no link, is at each of these paths.
-fn add_directories(
+/// Adds the test that a directory, and no link, is at each of these paths.
+pub fn add_directories(
     alloc: Global,
     tests: &mut Vec<PathTest>,
     paths: &BTreeSet<Vec<u8>>,

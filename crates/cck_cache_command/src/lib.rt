@@ -23,6 +23,7 @@ mod searched;
 mod stats;
 mod store;
 mod tested;
+mod unnamed;
 mod unpack;
 mod why;
 

@@ -17,6 +17,7 @@ use crate::input::input_snapshot;
 use crate::naming::name_in;
 use crate::request::{base_words, hasher_of, snapshot_request};
 use crate::tested::{Tested, tested_by};
+use crate::unnamed::{Unnamed, unnamed_by};
 use anyhow::Result;
 use cck_cache_base::{bases_of, shows_base};
 use cck_cache_entry::{EntryFile, ObjectFile, PathTest, assembles_alone, opens_named_alone};
@@ -77,6 +78,8 @@ struct Gathered {
     tests: Vec<PathTest>,
     // The tests of the paths at which the sources look for headers.
     asked_tests: Vec<PathTest>,
+    // The tests of the paths at which headers are looked for, and which the text does not name.
+    unnamed_tests: Vec<PathTest>,
 }
 
 // What a recording looks at.
@@ -108,13 +111,29 @@ fn see<R: Files + AllocGlobal>(
     let is_doubtful = add_named_files(rt, &mut files, &mut states, directory.as_bytes(), text)?;
     let mut asked = PathStates::new(rt, compilation.since);
     let tested = tested_by(rt, &mut files, &mut asked, directory, text, &printed)?;
-    match tested {
-        Tested::Refused(cause) => Ok(Seen::Refused(cause)),
-        Tested::Tests(asked_tests) => Ok(Seen::Files(Gathered {
+    let asked_tests = match tested {
+        Tested::Refused(cause) => return Ok(Seen::Refused(cause)),
+        Tested::Tests(asked_tests) => asked_tests,
+    };
+    let since = compilation.since;
+    let others = unnamed_by(
+        rt,
+        &mut files,
+        &mut states,
+        request,
+        since,
+        text,
+        &printed,
+        &asked_tests,
+    )?;
+    match others {
+        Unnamed::Refused(cause) => Ok(Seen::Refused(cause)),
+        Unnamed::Tests(unnamed_tests) => Ok(Seen::Files(Gathered {
             files,
             is_doubtful,
             tests,
             asked_tests,
+            unnamed_tests,
         })),
     }
 }
@@ -355,6 +374,21 @@ fn entry_file_of(entry: RecordedEntry, tests: Vec<PathTest>) -> EntryFile
     }
 }
 
+// The entry file of what was recorded, with these tests, one list after the other.
+fn entry_file_with(
+    entry: RecordedEntry,
+    made: Vec<PathTest>,
+    asked: Vec<PathTest>,
+    others: Vec<PathTest>,
+) -> Result<EntryFile, AllocError>
+    ensures { IfOk result (λ file. entry_fields file ≡ recorded_fields entry
+        ((tests_of made.items ++ tests_of asked.items) ++ tests_of others.items)) }
+{
+    let tests = all_tests(made, asked)?;
+    let tests = all_tests(tests, others)?;
+    Ok(entry_file_of(entry, tests))
+}
+
 // Records a compilation over the files that were gathered for its text.
 fn record_over<R: Files + AllocGlobal>(
     rt: &R,
@@ -373,6 +407,7 @@ fn record_over<R: Files + AllocGlobal>(
         is_doubtful,
         tests,
         asked_tests,
+        unnamed_tests,
     } = gathered;
     let bases = bases_of(rt.alloc(), &base_words(request), text)?;
     let hasher = hasher_of(rt, environment, request)?;
@@ -391,7 +426,7 @@ fn record_over<R: Files + AllocGlobal>(
         return Ok(Outcome::Refused(Refusal::NamedFile));
     };
     let name = name_in(rt, request, &mut files, object.as_str(), &entry.bytes)?;
-    let file = entry_file_of(entry, all_tests(tests, asked_tests)?);
+    let file = entry_file_with(entry, tests, asked_tests, unnamed_tests)?;
     match keep(rt, store, compilation, &bases, name.as_str(), &file)? {
         Some(refusal) => Ok(Outcome::Refused(refusal)),
         None => Ok(Outcome::Recorded(name)),

@@ -29,7 +29,7 @@ closed_all close text count old new end = adds_as (Below (ClosedAt close text) c
         let within : k < length text = omega (arith, lt, end) in (
           drop (suc k) text,
           sym (take-append-drop k text) ∙ (ap (λ rest. take k text ++ rest) (drop-cons text k 0 within)
-          ∙ (ap (λ byte. take k text ++ byte ∷ drop (suc k) text) here ∙ ap (λ name. name ++ close ∷ drop (suc k) text) (sym is))),
+              ∙ (ap (λ byte. take k text ++ byte ∷ drop (suc k) text) here ∙ ap (λ name. name ++ close ∷ drop (suc k) text) (sym is))),
         )
 
     from : (q : List ℕ) → IsClosedBy close text q → Below (ClosedAt close text) count q

@@ -1,6 +1,7 @@
 pub mod AbsentLemmas
 pub mod EqualityLemmas
 pub mod HeaderTestLemmas
+mod IncludedExamples
 pub mod IncludedLemmas
 pub mod LeftLemmas
 pub mod LookedAtLemmas

@@ -51,11 +51,7 @@ fn add_after(
 }
 
 // Adds the names of the headers that a line includes in quotes.
-fn add_quoted(
-    alloc: Global,
-    names: &mut BTreeSet<Vec<u8>>,
-    line: &[u8],
-) -> Result<(), AllocError>
+fn add_quoted(alloc: Global, names: &mut BTreeSet<Vec<u8>>, line: &[u8]) -> Result<(), AllocError>
     ensures { OnOk result (Adds (λ name. IncludesHeader line.now name true) names.old names.new) }
 {
     add_after(alloc, names, line, b"#include \"", b'"')?;

@@ -28,11 +28,7 @@ fn is_left_at(path: &[u8], place: usize) -> bool
 /// Adds the directories on the way of a path up to its last `..`.
 ///
 /// The only error is lack of memory.
-pub fn add_left(
-    alloc: Global,
-    left: &mut BTreeSet<Vec<u8>>,
-    path: &[u8],
-) -> Result<(), AllocError>
+pub fn add_left(alloc: Global, left: &mut BTreeSet<Vec<u8>>, path: &[u8]) -> Result<(), AllocError>
     ensures { OnOk result (Adds (IsLeftOn path.now) left.old left.new) }
 {
     for place in 0..path.len() {

@@ -126,6 +126,13 @@ pub fn looked_at_paths(
     let listed = &search.directories;
     let mut paths = BTreeSet::new(alloc);
     add_all_paths(alloc, &mut paths, &named, listed, &included.quoted, true)?;
-    add_all_paths(alloc, &mut paths, &named, listed, &included.bracketed, false)?;
+    add_all_paths(
+        alloc,
+        &mut paths,
+        &named,
+        listed,
+        &included.bracketed,
+        false,
+    )?;
     Ok(paths)
 }

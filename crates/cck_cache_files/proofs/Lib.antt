@@ -1,4 +1,5 @@
 pub mod CompilerLemmas
+pub mod CopyLemmas
 pub mod ListingLemmas
 pub mod PathLemmas
 pub mod SnapshotLemmas

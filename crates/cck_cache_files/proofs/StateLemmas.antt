@@ -98,7 +98,7 @@ pub record OnTheWay (P : PathState → Type 0) (first now : PathStates) (path : 
   pub keeps : KeepsStates first now
   pub way : AreOnTheWay P now path count
 
-kept_on_the_way : (P : PathState → Type 0) (old new : PathStates) (path : List ℕ) (count : ℕ) → KeepsStates old new → AreOnTheWay P old path count → AreOnTheWay P new path count
+pub kept_on_the_way : (P : PathState → Type 0) (old new : PathStates) (path : List ℕ) (count : ℕ) → KeepsStates old new → AreOnTheWay P old path count → AreOnTheWay P new path count
 kept_on_the_way P old new path count keeps way = λ place l ends. let at = way place l ends in (at.0, keeps.states (take place path) at.0 at.1, at.2)
 
 -- the first path that does not lead on stays so as more states are kept

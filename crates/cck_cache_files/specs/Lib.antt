@@ -1,4 +1,5 @@
 pub mod Compiler
+pub mod Copies
 pub mod Listing
 pub mod PathStates
 pub mod PathTests

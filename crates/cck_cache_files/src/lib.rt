@@ -8,6 +8,9 @@
 //! - [`first_failing`] makes the tests of an entry file, and [`SearchedDirectories`] says which of the
 //!   directories that are searched are the same.
 //! - [`asked_by`] says on which other files the sources of a text may depend.
+//! - [`may_be_copy`] says of a file whether gcc may have taken it for a copy of one of the files of a
+//!   text, which [`known_files`] returns by their lengths and times, and [`is_one_file`] whether two
+//!   paths lead to one file.
 //! - [`StoreDirectory`] is the directory of a store.
 //! - [`list_files`] and [`list_counts`] list the files of a store.
 //! - [`compiler_digest`] is the digest of a compiler's programs on this machine, and
@@ -21,6 +24,7 @@
 #![tactic(auto)]
 
 mod compiler;
+mod copies;
 pub mod laws;
 mod listing;
 mod path_states;
@@ -32,11 +36,12 @@ mod store_directory;
 mod times;
 
 pub use compiler::{compiler_digest, shared_compiler_digest};
+pub use copies::{KnownFile, add_known, is_in_snapshot, known_files, may_be_copy};
 pub use listing::{StoredFile, list_counts, list_files};
 pub use path_states::{PathState, PathStates};
 pub use path_tests::first_failing;
 pub use searched::SearchedDirectories;
-pub use snapshot::{add_file, add_named_files};
+pub use snapshot::{add_file, add_named_files, is_one_file};
 pub use sources::{Asked, asked_by};
 pub use store_directory::{Kind, StoreDirectory, open_store};
 pub use times::{changed, modified};

@@ -5,6 +5,7 @@ ghost use Rattle.cck_files.specs.FileMap.{contents_of_kind};
 ghost use Rattle.cck_files.specs.FileState.{IsQuiet, fault_count};
 ghost use Rattle.cck_markers.specs.Marks.{Marks};
 ghost use Rattle.cck_markers.specs.Marks as marks;
+ghost use Rattle.cck_cache_files.specs.PathStates.{KeepsStates};
 ghost use Rattle.cck_cache_files.specs.Snapshot.{SnapshotGrows, IsAdded, IsNamedFile, IsPart, IsNodePut, StaysCalm};
 
 use crate::path_states::{PathState, PathStates};
@@ -95,8 +96,8 @@ pub fn add_file<R: Files + AllocGlobal>(
     Ok(())
 }
 
-// Whether two paths lead to one file.
-fn is_one_file<R: Files>(rt: &R, a: &[u8], b: &[u8]) -> bool
+/// Whether two paths lead to one file. `false` where that can't be known.
+pub fn is_one_file<R: Files>(rt: &R, a: &[u8], b: &[u8]) -> bool
     ensures { a.now ≡ b.now → IsTrue result }
 {
     if a == b {
@@ -119,7 +120,8 @@ fn leads_there<R: Files + AllocGlobal>(
     joined: &[u8],
     path: &[u8],
 ) -> Result<bool, UtilError>
-    ensures { IsOkUnless result UtilError.Memory }
+    ensures kept { KeepsStates states.old states.new }
+    ensures errors { IsOkUnless result UtilError.Memory }
 {
     let (_, state) = states.first_other(rt, joined)?;
     // With -g gcc names the working directory too.
@@ -164,7 +166,7 @@ fn has_one(files: &mut MapFiles, paths: &[Vec<u8>]) -> bool
 
 /// Puts the files that a preprocessed text names into the snapshot. A name is left out if a link on
 /// the way to it is in doubt, or its path with `.` and `..` may lead elsewhere. Returns whether the
-/// snapshot has something at the path of such a name.
+/// snapshot has something at the path of such a name. The states that were kept are kept.
 ///
 /// The only error is [`UtilError::Memory`].
 pub fn add_named_files<R: Files + AllocGlobal>(
@@ -176,6 +178,7 @@ pub fn add_named_files<R: Files + AllocGlobal>(
 ) -> Result<bool, UtilError>
     ensures named { OnOk result ((marks : List marks.Mark) → Marks true text.now marks
         → SnapshotGrows (IsNamedFile marks cwd.now) files.old files.new) }
+    ensures kept { KeepsStates states.old states.new }
     ensures errors { IsOkUnless result UtilError.Memory }
 {
     let alloc = rt.alloc();

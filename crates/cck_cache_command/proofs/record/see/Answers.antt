@@ -1,8 +1,12 @@
-use Rattle.std.proofs.Common.{◌∙◌, inl}
-use Rattle.cck_cache_entry.specs.PathTest.{tests_of}
-use Rattle.cck_cache_command.specs.Record.{HasPathTests, HasAskedTests}
+use Rattle.std.proofs.Common.{◌≡◌, ◌∙◌, inl, inr, List, sym, subst}
+use Rattle.cck_cache_entry.specs.PathTest.{Test, tests_of}
+use Rattle.cck_cache_command.specs.Record.{HasAskedTests, HasPathTests, HasUnnamedTests}
+use Rattle.cck_cache_command.specs.Unnamed.{AreUnnamedTests}
 use Rattle.cck_cache_command.proofs.InputLemmas.{calm_kept}
 use Rattle.cck_cache_command.proofs.RecordLemmas.{calm_grown, files_of, gathered_over}
+use Rattle.cck_cache_files.specs.PathStates.{KeepsStates}
+use Rattle.cck_files.proofs.CallsLemmas.{keeps_all}
+use Rattle.cck_files.specs.FileMap.{FileMap}
 use Rattle.cck_cache_command.proofs.record.see.Goals as goal
 
 pub returns-in-Refused-tested : goal.returns-in-Refused-tested
@@ -20,17 +24,28 @@ returns-in-Refused-tested g c =
       refused = rw c.in-Refused-tested.is at c.in_ok-tested.ensures.tested;
     })
 
-pub returns-in-Tests-tested : goal.returns-in-Tests-tested
-returns-in-Tests-tested g c =
+pub returns-in-Refused-others : goal.returns-in-Refused-others
+returns-in-Refused-others g c =
+    inr (inr (record {
+      states = c.unnamed_by.new.states;
+      since_is = c.unnamed_by.ensures.kept.since ∙ (c.in_ok-is_doubtful.ensures.kept.since ∙ (c.in_ok-refusal.ensures.kept.since ∙ c.new-states.ensures.since));
+      printed = c.deref-3.result.now;
+      refused = rw c.in-Refused-others.is at c.in_ok-others.ensures.unnamed;
+    }))
+
+pub returns-in-Tests-others : goal.returns-in-Tests-others
+returns-in-Tests-others g c =
     let request = c.args.request.now in
     let since = c.args.compilation.now.since in
     let text = c.args.text.now in
     let cwd = c.as_bytes.result.now in
     let before = c.in_ok-files.files in
     let after = c.add_named_files.new.files in
-    let new = c.tested_by.new.files in
+    let middle = c.tested_by.new.files in
+    let new = c.unnamed_by.new.files in
     let made = tests_of c.in-Tests.tests.items in
     let tests = tests_of c.in-Tests-tested.asked_tests.items in
+    let others = tests_of c.in-Tests-others.unnamed_tests.items in
     let path_tests : HasPathTests request since text made = record {
       states = c.absence_of.new.states;
       since_is = c.in_ok-refusal.ensures.kept.since ∙ c.new-states.ensures.since;
@@ -43,7 +58,15 @@ returns-in-Tests-tested g c =
       printed = c.deref-2.result.now;
       tests_are = rw c.in-Tests-tested.is at c.in_ok-tested.ensures.tested;
     } in
-    let are = files_of request text cwd before after c.in_ok-files.ensures.calm c.in_ok-files.ensures.input c.in_ok-is_doubtful.ensures.named c.as_bytes.ensures.value in (
-      gathered_over request since text after.files new.files made tests c.in_ok-tested.ensures.keeps.same_map are path_tests tested,
-      calm_kept after new c.in_ok-tested.ensures.keeps (calm_grown text cwd before after c.in_ok-is_doubtful.ensures.named c.in_ok-files.ensures.calm),
+    let unnamed : HasUnnamedTests request since text middle.files others = record {
+      states = c.unnamed_by.new.states;
+      since_is = c.unnamed_by.ensures.kept.since ∙ (c.in_ok-is_doubtful.ensures.kept.since ∙ (c.in_ok-refusal.ensures.kept.since ∙ c.new-states.ensures.since));
+      printed = c.deref-3.result.now;
+      tests_are = rw c.in-Tests-others.is at c.in_ok-others.ensures.unnamed;
+    } in
+    let are = files_of request text cwd before after c.in_ok-files.ensures.calm c.in_ok-files.ensures.input c.in_ok-is_doubtful.ensures.named c.as_bytes.ensures.value in
+    let keeps = keeps_all after middle new c.in_ok-tested.ensures.keeps c.in_ok-others.ensures.keeps in
+    let there : HasUnnamedTests request since text after.files others = subst (λ (m : FileMap). HasUnnamedTests request since text m others) c.in_ok-tested.ensures.keeps.same_map unnamed in (
+      gathered_over request since text after.files new.files made tests others keeps.same_map are path_tests tested there,
+      calm_kept after new keeps (calm_grown text cwd before after c.in_ok-is_doubtful.ensures.named c.in_ok-files.ensures.calm),
     )

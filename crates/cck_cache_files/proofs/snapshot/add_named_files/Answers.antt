@@ -1,4 +1,4 @@
-use Rattle.std.proofs.Common.{◌≡◌, ◌∙◌, List, [], ◌∷◌, ◌++◌, sym, ap, subst}
+use Rattle.std.proofs.Common.{◌≡◌, ◌∙◌, List, [], ◌∷◌, ◌++◌, refl, sym, ap, subst}
 use Rattle.std.proofs.lemmas.List.{append-nil}
 use Rattle.cck_files.specs.FileState.{FileState}
 use Rattle.cck_markers.specs.Marks.{Mark, Name}
@@ -10,13 +10,14 @@ use Rattle.cck_path.specs.Path.{Path, components, normal}
 use Rattle.cck_path.specs.Text.{path_text}
 use Rattle.cck_cache_files.specs.Snapshot.{SnapshotGrows, IsNamedFile, named_path}
 use Rattle.cck_cache_files.proofs.SnapshotLemmas.{grows_by_name, grows_kept, grows_named, grows_not}
+use Rattle.cck_cache_files.proofs.StateLemmas.{KeepsStates-trans}
 use Rattle.cck_cache_files.proofs.snapshot.add_named_files.Goals as goal
 use Rattle.cck_cache_files.proofs.snapshot.add_named_files.Goals.{then-branch+in_ok-add_new_file, else-branch+in_ok-push}
 
 pub loop-mark-init : goal.loop-mark-init
 loop-mark-init g c =
     let same : c.into_iter-mark-iterator.result ≡ unread_text c.args.text.now = c.into_iter-mark-iterator.ensures.into_iter_gives ∙ c.new-mark-items.ensures in
-    ([], λ marks left. subst (λ (u : Unread). MarksLeft u marks) same left, grows_not (IsNamedFile [] c.args.cwd.now) c.args.files.now)
+    ([], λ marks left. subst (λ (u : Unread). MarksLeft u marks) same left, grows_not (IsNamedFile [] c.args.cwd.now) c.args.files.now, record { since = refl; states = λ path state e. e })
 
 pub loop-mark-preserved-in_default : goal.loop-mark-preserved-in_default
 loop-mark-preserved-in_default g c =
@@ -25,6 +26,7 @@ loop-mark-preserved-in_default g c =
       done ++ mark ∷ [],
       gives_both (unread_text c.args.text.now) c.loop-mark.mark-iterator c.next.new.self done (mark ∷ []) c.loop-mark.invariant.1 c.in-Some.ensures.steps,
       grows_named done mark c.args.cwd.now c.args.files.now c.loop-mark.files c.loop-mark.invariant.2,
+      c.loop-mark.invariant.3,
     )
 
 pub loop-mark-preserved-then-eq : goal.loop-mark-preserved-then-eq
@@ -34,6 +36,7 @@ loop-mark-preserved-then-eq g c =
       done ++ mark ∷ [],
       gives_both (unread_text c.args.text.now) c.loop-mark.mark-iterator c.next.new.self done (mark ∷ []) c.loop-mark.invariant.1 c.in-Some.ensures.steps,
       grows_named done mark c.args.cwd.now c.args.files.now c.loop-mark.files c.loop-mark.invariant.2,
+      c.loop-mark.invariant.3,
     )
 
 pub loop-mark-preserved : goal.loop-mark-preserved
@@ -57,6 +60,7 @@ loop-mark-preserved g c =
             subst (λ (s : FileState). SnapshotGrows (IsNamedFile all cwd) c.args.files.now s) (sym w.files-is)
             (grows_named done (Name name is_system) cwd c.args.files.now c.loop-mark.files c.loop-mark.invariant.2)
       ],
+      KeepsStates-trans c.args.states.now c.loop-mark.states c.leads_there.new.states c.loop-mark.invariant.3 c.leads_there.ensures.kept,
     )
 
 pub returns-clause-named : goal.returns-clause-named
@@ -66,3 +70,15 @@ returns-clause-named g c marks others =
     let same : done ≡ marks = sym (append-nil done) ∙ one_list _ c.args.text.now (done ++ []) marks all others in
     grows_kept (IsNamedFile marks c.args.cwd.now) c.args.files.now c.loop-mark.files c.has_one.new.files
     (subst (λ (ms : List Mark). SnapshotGrows (IsNamedFile ms c.args.cwd.now) c.args.files.now c.loop-mark.files) same c.loop-mark.invariant.2) c.has_one.ensures
+
+pub returns-clause-kept : goal.returns-clause-kept
+returns-clause-kept g c = c.loop-mark.invariant.3
+
+pub returns-in_err-leads_there-clause-kept : goal.returns-in_err-leads_there-clause-kept
+returns-in_err-leads_there-clause-kept g c = KeepsStates-trans c.args.states.now c.loop-mark.states c.leads_there.new.states c.loop-mark.invariant.3 c.leads_there.ensures.kept
+
+pub returns-in_err-add_new_file-clause-kept : goal.returns-in_err-add_new_file-clause-kept
+returns-in_err-add_new_file-clause-kept g c = KeepsStates-trans c.args.states.now c.loop-mark.states c.leads_there.new.states c.loop-mark.invariant.3 c.leads_there.ensures.kept
+
+pub returns-in_err-push-clause-kept : goal.returns-in_err-push-clause-kept
+returns-in_err-push-clause-kept g c = KeepsStates-trans c.args.states.now c.loop-mark.states c.leads_there.new.states c.loop-mark.invariant.3 c.leads_there.ensures.kept

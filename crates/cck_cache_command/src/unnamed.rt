@@ -1,0 +1,307 @@
+//! The paths at which gcc looks for headers, and which the text does not name.
+ghost use Rattle.std.specs.Prelude.{◌≡◌, ◌↔◌, ◌≤◌, IfOk, IfSome, IsTrue, MatchBool, OnOk, length};
+ghost use Rattle.std.specs.Option.{option_map};
+ghost use Rattle.cck_cache_command.specs.Unnamed.{AreCompared, AreSpellings, IsPresence, IsThere, IsUnnamed, IsUnnamedVerdict, KeepsKnown, LeadsNotTo, LeadsTo, MayImport, begins_import};
+ghost use Rattle.cck_cache_entry.specs.Sets.{has_key};
+ghost use Rattle.cck_cache_files.specs.PathStates.{KeepsStates};
+ghost use Rattle.cck_files.specs.Calls.{Keeps};
+ghost use Rattle.cck_files.specs.FileState.{IsQuiet, fault_count};
+ghost use Rattle.cck_path.specs.Bytes.{lists_of};
+
+use crate::absence::add_directories;
+use cck_cache_entry::{PathTest, SearchList, add_left, looked_at_paths};
+use cck_cache_files::{
+    KnownFile, PathState, PathStates, add_known, is_in_snapshot, is_one_file, known_files,
+    may_be_copy,
+};
+use cck_cache_rules::Refusal;
+use cck_cache_words::Request;
+use cck_digest::UtilError;
+use cck_files::MapFiles;
+use cck_path::{Timestamp, join_path, normalize_path};
+use std::alloc::AllocError;
+use std::collections::BTreeSet;
+use std::rt::Files;
+
+/// What is found of the paths at which headers are looked for.
+#[derive(Drop)]
+pub enum Unnamed {
+    /// These tests hold. As long as that is so, another spelling of the path of a file leads to it.
+    Tests(Vec<PathTest>),
+    /// The compilation is not recorded.
+    Refused(Refusal),
+}
+
+// What there is at a path.
+enum Presence {
+    // Nothing that is read: nothing, a directory, or a file on the way.
+    Unread,
+    // A regular file or a link.
+    There,
+    // It is not known.
+    Unknown,
+}
+
+// What is to be made of a path.
+enum UnnamedVerdict {
+    // gcc took nothing there for a copy of a file of the text.
+    Passed,
+    // It is another spelling of the path of a file of the snapshot.
+    Spelling,
+    // gcc may have taken what is there for a copy, or it is not known what it found.
+    Doubtful,
+}
+
+// What there is at an absolute path.
+fn presence_at<R: Files + AllocGlobal>(
+    rt: &R,
+    states: &mut PathStates,
+    path: &[u8],
+) -> Result<Presence, AllocError>
+    ensures presence { IfOk result (IsPresence states.new path.now) }
+    ensures kept { KeepsStates states.old states.new }
+{
+    let (front, state) = states.first_other(rt, path)?;
+    match state {
+        PathState::Absent | PathState::Directory => Ok(Presence::Unread),
+        PathState::File => {
+            if front.len() < path.len() {
+                Ok(Presence::Unread)
+            } else {
+                Ok(Presence::There)
+            }
+        }
+        PathState::Link => Ok(Presence::There),
+        PathState::Doubtful => Ok(Presence::Unknown),
+    }
+}
+
+// Whether the snapshot has something at a path to which another one leads by directories alone.
+fn leads_to<R: Files + AllocGlobal>(
+    rt: &R,
+    files: &mut MapFiles,
+    states: &mut PathStates,
+    path: &[u8],
+    whole: &[u8],
+) -> Result<bool, UtilError>
+    ensures keeps { IfOk result (λ _. Keeps (λ files. files.files) fault_count IsQuiet files.old files.new) }
+    ensures leads { IfOk result (λ leads. MatchBool leads
+        (LeadsTo states.new files.old.files path.now whole.now)
+        (LeadsNotTo states.new files.old.files path.now whole.now)) }
+    ensures kept { KeepsStates states.old states.new }
+{
+    if !is_in_snapshot(files, whole)? {
+        return Ok(false);
+    }
+    if path == whole {
+        return Ok(true);
+    }
+    Ok(!states.has_other(rt, path)?)
+}
+
+// What is to be made of an absolute path at which there is a regular file or a link.
+fn verdict_there<R: Files + AllocGlobal>(
+    rt: &R,
+    files: &mut MapFiles,
+    states: &mut PathStates,
+    known: &[KnownFile],
+    since: Timestamp,
+    path: &[u8],
+) -> Result<UnnamedVerdict, UtilError>
+    ensures keeps { IfOk result (λ _. Keeps (λ files. files.files) fault_count IsQuiet files.old files.new) }
+    ensures verdict { IfOk result (λ verdict. IsThere states.old path.now
+        → IsUnnamedVerdict states.new files.old.files path.now verdict) }
+    ensures kept { KeepsStates states.old states.new }
+{
+    let whole = normalize_path(rt.alloc(), path)?;
+    if leads_to(rt, files, states, path, &whole)? {
+        if is_one_file(rt, path, &whole) {
+            return Ok(UnnamedVerdict::Spelling);
+        }
+        return Ok(UnnamedVerdict::Doubtful);
+    }
+    if may_be_copy(rt, path, since, known) {
+        return Ok(UnnamedVerdict::Doubtful);
+    }
+    Ok(UnnamedVerdict::Passed)
+}
+
+// What is to be made of an absolute path at which a header is looked for.
+fn unnamed_verdict<R: Files + AllocGlobal>(
+    rt: &R,
+    files: &mut MapFiles,
+    states: &mut PathStates,
+    known: &[KnownFile],
+    since: Timestamp,
+    path: &[u8],
+) -> Result<UnnamedVerdict, UtilError>
+    ensures keeps { IfOk result (λ _. Keeps (λ files. files.files) fault_count IsQuiet files.old files.new) }
+    ensures verdict { IfOk result (IsUnnamedVerdict states.new files.old.files path.now) }
+    ensures kept { KeepsStates states.old states.new }
+{
+    let presence = presence_at(rt, states, path)?;
+    match presence {
+        Presence::Unread => Ok(UnnamedVerdict::Passed),
+        Presence::There => verdict_there(rt, files, states, known, since, path),
+        Presence::Unknown => Ok(UnnamedVerdict::Doubtful),
+    }
+}
+
+// The directories that those of these names leave by `..` which are other spellings of paths of files
+// of the snapshot. `None` where one of the names is in doubt.
+fn left_by_spellings<R: Files + AllocGlobal>(
+    rt: &R,
+    files: &mut MapFiles,
+    states: &mut PathStates,
+    known: &[KnownFile],
+    since: Timestamp,
+    directory: &[u8],
+    names: &BTreeSet<Vec<u8>>,
+) -> Result<Option<BTreeSet<Vec<u8>>>, UtilError>
+    ensures keeps { IfOk result (λ _. Keeps (λ files. files.files) fault_count IsQuiet files.old files.new) }
+    ensures left { IfOk result (AreSpellings states.new files.old.files directory.now
+        (λ name. IsTrue (has_key names.now name))) }
+    ensures kept { KeepsStates states.old states.new }
+{
+    let alloc = rt.alloc();
+    let mut left = BTreeSet::new(alloc);
+    for name in names {
+        let path = join_path(alloc, directory, name)?;
+        let verdict = unnamed_verdict(rt, files, states, known, since, &path)?;
+        match verdict {
+            UnnamedVerdict::Passed => {}
+            UnnamedVerdict::Spelling => add_left(alloc, &mut left, &path)?,
+            UnnamedVerdict::Doubtful => return Ok(None),
+        }
+    }
+    Ok(Some(left))
+}
+
+// Whether the word of a directive that imports a file is at this place.
+fn begins_import(text: &[u8], place: usize) -> bool
+    requires { place ≤ length text.now }
+    ensures { result ≡ begins_import text.now place }
+{
+    text[place..].starts_with(b"#import ")
+}
+
+// Whether a text may have a directive that imports a file.
+fn may_import(text: &[u8]) -> bool
+    ensures { IsTrue result ↔ MayImport text.now }
+{
+    for place in 0..text.len() {
+        if begins_import(text, place) {
+            return true;
+        }
+    }
+    false
+}
+
+// Adds the file that a test wants at a path. Returns whether it could be looked at.
+fn add_tested<R: Files>(
+    rt: &R,
+    known: &mut Vec<KnownFile>,
+    test: &PathTest,
+) -> Result<bool, AllocError>
+    ensures { OnOk result (KeepsKnown known.old.items known.new.items) }
+{
+    let PathTest::File(path) = test else {
+        return Ok(true);
+    };
+    let is_known = add_known(rt, known, path)?;
+    Ok(is_known)
+}
+
+// Adds the files for which sources test. Returns whether each of them could be looked at.
+fn add_asked<R: Files>(
+    rt: &R,
+    known: &mut Vec<KnownFile>,
+    asked: &[PathTest],
+) -> Result<bool, AllocError>
+    ensures { OnOk result (KeepsKnown known.old.items known.new.items) }
+{
+    for test in asked {
+        if !add_tested(rt, known, test)? {
+            return Ok(false);
+        }
+    }
+    Ok(true)
+}
+
+// The files that are known, and those for which sources test. `None` where one of the latter can't be
+// looked at.
+fn with_asked<R: Files>(
+    rt: &R,
+    known: Vec<KnownFile>,
+    asked: &[PathTest],
+) -> Result<Option<Vec<KnownFile>>, AllocError>
+    ensures { IfOk result (λ all. IfSome all (λ files. KeepsKnown known.items files.items)) }
+{
+    let mut all = known;
+    if add_asked(rt, &mut all, asked)? {
+        Ok(Some(all))
+    } else {
+        Ok(None)
+    }
+}
+
+// The files with which gcc may compare another one: those of the text, and where that imports a file
+// also those for which its sources test, though it did not read them. `None` where one of the latter
+// can't be looked at.
+fn compared_files<R: Files + AllocGlobal>(
+    rt: &R,
+    files: &mut MapFiles,
+    request: &Request<'_>,
+    text: &[u8],
+    asked: &[PathTest],
+) -> Result<Option<Vec<KnownFile>>, UtilError>
+    ensures keeps { IfOk result (λ _. Keeps (λ files. files.files) fault_count IsQuiet files.old files.new) }
+    ensures compared { IfOk result (λ known.
+        AreCompared files.old.files request.now text.now (option_map (λ all. all.items) known)) }
+{
+    let directory = request.directory.as_bytes();
+    let known = known_files(rt.alloc(), files, directory, request.input.as_bytes(), text)?;
+    if may_import(text) {
+        let all = with_asked(rt, known, asked)?;
+        return Ok(all);
+    }
+    Ok(Some(known))
+}
+
+/// Judges the paths at which gcc looks for the headers that a text and the arguments of a request
+/// include, and which the text does not name. gcc passes over a copy of a file with `#pragma once`,
+/// so that the text does not name it. `printed` is what the compiler printed of its directories, and
+/// `asked` are the tests of the paths for which sources test. The states have to be those of this time.
+///
+/// The error is of a file of the snapshot that can't be read, or lack of memory.
+pub fn unnamed_by<R: Files + AllocGlobal>(
+    rt: &R,
+    files: &mut MapFiles,
+    states: &mut PathStates,
+    request: &Request<'_>,
+    since: Timestamp,
+    text: &[u8],
+    printed: &[u8],
+    asked: &[PathTest],
+) -> Result<Unnamed, UtilError>
+    ensures keeps { IfOk result (λ _. Keeps (λ files. files.files) fault_count IsQuiet files.old files.new) }
+    ensures unnamed { IfOk result (IsUnnamed states.new files.old.files request.now.directory.now text.now
+        (lists_of request.now.arguments.items) printed.now) }
+    ensures kept { KeepsStates states.old states.new }
+{
+    let alloc = rt.alloc();
+    let Some(search) = SearchList::read(alloc, printed)? else {
+        return Ok(Unnamed::Refused(Refusal::NoSearchList));
+    };
+    let Some(known) = compared_files(rt, files, request, text, asked)? else {
+        return Ok(Unnamed::Refused(Refusal::OtherFile));
+    };
+    let directory = request.directory.as_bytes();
+    let names = looked_at_paths(alloc, text, &request.arguments, &search)?;
+    let Some(left) = left_by_spellings(rt, files, states, &known, since, directory, &names)? else {
+        return Ok(Unnamed::Refused(Refusal::OtherFile));
+    };
+    let mut tests = Vec::new(alloc);
+    add_directories(alloc, &mut tests, &left)?;
+    Ok(Unnamed::Tests(tests))
+}

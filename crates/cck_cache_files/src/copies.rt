@@ -1,0 +1,235 @@
+//! Files that gcc may take for copies of the files of a text.
+//!
+//! Of a file with `#pragma once`, or one that came by `#import`, gcc reads no second one of the same
+//! length, the same time to the second and the same contents, at whatever path it finds it.
+ghost use Rattle.std.specs.Prelude.{◌≡◌, ◌↔◌, ◌⊎◌, Contains, IfOk, IsTrue, IsUtf8, List, MatchBool, OnErr, true};
+ghost use Rattle.std.specs.Fs.{file_type};
+ghost use Rattle.cck_cache_entry.specs.Names.{is_named};
+ghost use Rattle.cck_cache_entry.specs.Sets.{has_key};
+ghost use Rattle.cck_cache_files.specs.Copies.{AddsKnown, AreKnown, IsInSnapshot, IsKnownAt, IsKnownOf, IsLengthLike, IsLike, IsNotTaken, IsSecondLike, MayBeTaken, known_of, second_of};
+ghost use Rattle.cck_cache_files.specs.declared.copies.KnownFile.{KnownFile};
+ghost use Rattle.cck_files.specs.Calls.{Keeps};
+ghost use Rattle.cck_files.specs.FileState.{IsQuiet, fault_count};
+ghost use Rattle.cck_markers.specs.Marks as spec;
+ghost use Rattle.cck_markers.specs.Marks.{Marks};
+
+use crate::times::{changed, changed_before, modified};
+use cck_cache_entry::file_names;
+use cck_digest::{FileError, UtilError};
+use cck_files::{Files as FilesInMemory, MapFiles};
+use cck_path::{FileKind, Metadata, Timestamp, join_path, normalize_path};
+use std::alloc::{AllocError, Global};
+use std::collections::BTreeSet;
+use std::fs;
+use std::rt::Files;
+
+/// The length of a file of a text, and the second of its last modification.
+#[derive(Debug, Clone, Copy)]
+pub struct KnownFile {
+    length: u64,
+    // `None` where it is not known.
+    seconds: Option<i64>,
+}
+
+/// Whether the snapshot has something at a path.
+///
+/// The error is of a file that can't be read.
+pub fn is_in_snapshot(files: &mut MapFiles, path: &[u8]) -> Result<bool, UtilError>
+    ensures keeps { IfOk result (λ _. Keeps (λ files. files.files) fault_count IsQuiet files.old files.new) }
+    ensures found { IfOk result (λ found. MatchBool found (IsInSnapshot files.old.files path.now)
+        (¬ (IsInSnapshot files.old.files path.now))) }
+{
+    match files.metadata(path) {
+        Ok(_) => Ok(true),
+        Err(FileError::NotFound) => Ok(false),
+        Err(error) => Err(UtilError::from(error)),
+    }
+}
+
+// The second of a time.
+fn second_of(time: Option<Timestamp>) -> Option<i64>
+    ensures { result ≡ second_of time }
+{
+    match time {
+        Some(time) => Some(time.seconds()),
+        None => None,
+    }
+}
+
+// The length and the time of a regular file.
+fn known_of(metadata: Metadata) -> Option<KnownFile>
+    ensures { result ≡ known_of metadata }
+{
+    match metadata.kind {
+        FileKind::File => Some(KnownFile {
+            length: metadata.len,
+            seconds: second_of(metadata.modified),
+        }),
+        FileKind::Folder | FileKind::Other => None,
+    }
+}
+
+// The length and the time of the regular file at a path of the snapshot. `None` where the snapshot has
+// none there.
+fn known_at(files: &mut MapFiles, path: &[u8]) -> Result<Option<KnownFile>, FileError>
+    ensures keeps { Keeps (λ files. files.files) fault_count IsQuiet files.old files.new }
+    ensures known { IfOk result (IsKnownAt files.old.files path.now) }
+{
+    match files.metadata(path) {
+        Ok(metadata) => Ok(known_of(metadata)),
+        Err(FileError::NotFound) => Ok(None),
+        Err(error) => Err(error),
+    }
+}
+
+// The same of the file of a name.
+fn known_by_name(
+    alloc: Global,
+    files: &mut MapFiles,
+    directory: &[u8],
+    name: &[u8],
+) -> Result<Option<KnownFile>, UtilError>
+    ensures keeps { IfOk result (λ _. Keeps (λ files. files.files) fault_count IsQuiet files.old files.new) }
+    ensures known { IfOk result (IsKnownOf files.old.files directory.now name.now) }
+{
+    let joined = join_path(alloc, directory, name)?;
+    let path = normalize_path(alloc, &joined)?;
+    let known = known_at(files, &path)?;
+    Ok(known)
+}
+
+// The lengths and the times of the files of these names in the snapshot.
+fn known_files_of(
+    alloc: Global,
+    files: &mut MapFiles,
+    directory: &[u8],
+    names: &BTreeSet<Vec<u8>>,
+) -> Result<Vec<KnownFile>, UtilError>
+    ensures keeps { IfOk result (λ _. Keeps (λ files. files.files) fault_count IsQuiet files.old files.new) }
+    ensures known { IfOk result (λ known. AreKnown files.old.files directory.now
+        (λ name. IsTrue (has_key names.now name)) known.items) }
+{
+    let mut known = Vec::new(alloc);
+    for name in names {
+        let Some(file) = known_by_name(alloc, files, directory, name)? else {
+            continue;
+        };
+        known.push(file)?;
+    }
+    Ok(known)
+}
+
+/// The lengths and the times of the files in the snapshot that a preprocessed text names, and of the
+/// input.
+///
+/// The error is [`UtilError::Memory`], or of a file that can't be read.
+pub fn known_files(
+    alloc: Global,
+    files: &mut MapFiles,
+    directory: &[u8],
+    input: &[u8],
+    text: &[u8],
+) -> Result<Vec<KnownFile>, UtilError>
+    ensures keeps { IfOk result (λ _. Keeps (λ files. files.files) fault_count IsQuiet files.old files.new) }
+    ensures known { IfOk result (λ known. (marks : List spec.Mark) → Marks true text.now marks
+        → AreKnown files.old.files directory.now
+        (λ name. (name ≡ input.now) ⊎ IsTrue (is_named marks name)) known.items) }
+{
+    let mut names = file_names(alloc, text)?;
+    names.insert(input.to_vec(alloc)?)?;
+    let known = known_files_of(alloc, files, directory, &names)?;
+    Ok(known)
+}
+
+/// Adds the length and the time of what is at a path, links followed. Returns whether it could be looked
+/// at.
+///
+/// The only error is lack of memory, and then nothing is added.
+pub fn add_known<R: Files>(
+    rt: &R,
+    known: &mut Vec<KnownFile>,
+    path: &[u8],
+) -> Result<bool, AllocError>
+    ensures added { IfOk result (AddsKnown path.now known.old.items known.new.items) }
+    ensures errors { OnErr result (known.new.items ≡ known.old.items) }
+{
+    let Ok(path) = std::str::from_utf8(path) else {
+        return Ok(false);
+    };
+    let Ok(found) = fs::metadata(rt, path) else {
+        return Ok(false);
+    };
+    known.push(KnownFile {
+        length: found.len(),
+        seconds: second_of(modified(&found)),
+    })?;
+    Ok(true)
+}
+
+// Whether files of these lengths may be equal, the three bytes of a byte order mark at the front of
+// one of them left out.
+fn is_length_like(a: u64, b: u64) -> bool
+    ensures { IsTrue result ↔ IsLengthLike a b }
+{
+    let difference = if a < b { b - a } else { a - b };
+    difference == 0 || difference == 3
+}
+
+// Whether times are of one second. `true` where one of them is not known.
+fn is_second_like(a: Option<i64>, b: Option<i64>) -> bool
+    ensures { IsTrue result ↔ IsSecondLike a b }
+{
+    match (a, b) {
+        (Some(a), Some(b)) => a == b,
+        _ => true,
+    }
+}
+
+// Whether gcc compares a file of this length and time with a known one.
+fn is_like(known: &KnownFile, length: u64, seconds: Option<i64>) -> bool
+    ensures { IsTrue result ↔ IsLike known.now length seconds }
+{
+    is_length_like(known.length, length) && is_second_like(known.seconds, seconds)
+}
+
+// The same of one of the known ones.
+fn is_like_one(known: &[KnownFile], length: u64, seconds: Option<i64>) -> bool
+    ensures { IsTrue result
+        ↔ ((file : KnownFile) × Contains known.now file × IsLike file length seconds) }
+{
+    for file in known {
+        if is_like(file, length, seconds) {
+            return true;
+        }
+    }
+    false
+}
+
+// Whether gcc may have taken what was found at a path for a copy, by whether it is old and like a
+// known file.
+fn may_be_taken(found: &fs::Metadata, is_old: bool, is_like: bool) -> bool
+    ensures { MatchBool result (MayBeTaken (file_type found.now) is_old is_like)
+        (IsNotTaken (file_type found.now) is_old is_like) }
+{
+    if found.is_dir() {
+        return false;
+    }
+    !found.is_file() || !is_old || is_like
+}
+
+/// Whether gcc may have taken what is at a path, links followed, for a copy of a known file: a regular
+/// file of a like length and time, or one that did not last change before the given time, or anything
+/// else but a directory. `true` where it can't be looked at.
+pub fn may_be_copy<R: Files>(rt: &R, path: &[u8], since: Timestamp, known: &[KnownFile]) -> bool
+    ensures { ¬ (IsUtf8 path.now) → IsTrue result }
+{
+    let Ok(path) = std::str::from_utf8(path) else {
+        return true;
+    };
+    let Ok(found) = fs::metadata(rt, path) else {
+        return true;
+    };
+    let is_old = changed_before(modified(&found), changed(&found), since);
+    let is_like = is_like_one(known, found.len(), second_of(modified(&found)));
+    may_be_taken(&found, is_old, is_like)
+}
