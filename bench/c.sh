@@ -22,7 +22,7 @@ folder=${1:-$(mktemp -d)}
 "$top/examples/archive.sh" "$folder"
 ${CC:-cc} -std=c99 -O2 -Wall -Wextra -Werror -I"$top/crates/cck_c/include" "$here/c/calls.c" \
     "$folder/libcck.a" -o "$folder/calls"
-build_program c 'cck_digest cck_path cck_strip cck_path_map cck_files cck_file_digest cck_util' \
+build_program c 'cck_digest cck_path cck_strip cck_files cck_util' \
     'cck_util anyhow'
 
 : > "$folder/rounds"

@@ -13,7 +13,7 @@ top=$(cd "$here/.." && pwd)
 folder=${1:-$(mktemp -d)}
 . "$here/lib/program.sh"
 
-build_program map 'cck_digest cck_path cck_path_map' 'cck_digest cck_path cck_path_map anyhow'
+build_program map 'cck_digest cck_path' 'cck_digest cck_path anyhow'
 
 echo 'paths   order    nanoseconds an insert  ratio   (best of 5)'
 "$program" |

@@ -12,6 +12,6 @@ top=$(cd "$here/.." && pwd)
 folder=${1:-$(mktemp -d)}
 . "$here/lib/program.sh"
 
-build_program recorded 'cck_digest cck_path cck_path_map cck_files cck_file_digest cck_time
-    cck_include' 'cck_digest cck_path cck_files cck_time cck_include jiff anyhow'
+build_program recorded 'cck_digest cck_path cck_files cck_include' \
+    'cck_digest cck_path cck_files cck_include jiff anyhow'
 print_measures /dev/null /dev/null

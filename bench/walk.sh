@@ -22,9 +22,8 @@ names() {
 names 0 39999 > "$folder/rising.i"
 names 39999 -1 0 > "$folder/falling.i"
 
-build_program walk 'cck_digest cck_path cck_path_map cck_files cck_file_digest cck_time cck_key_error
-    cck_include cck_markers cck_walk' \
-    'cck_digest cck_path cck_files cck_time cck_markers cck_walk memchr jiff anyhow'
+build_program walk 'cck_digest cck_path cck_files cck_include cck_markers cck_walk' \
+    'cck_digest cck_path cck_files cck_include cck_markers cck_walk memchr jiff anyhow'
 for text in headers dense rising falling; do
     head -c 4194304 "$folder/$text.i" > "$folder/part.i"
     echo "$text.i"

@@ -8,8 +8,7 @@ here=$(cd "$(dirname "$0")" && pwd)
 top=$(cd "$here/../.." && pwd)
 work=$1/work
 program=$work/crates/entries_attack/out/entries_attack
-crates='cck_digest cck_path cck_strip cck_path_map cck_files cck_file_digest cck_util cck_time
-    cck_include cck_preprocessor_key cck_entry'
+crates='cck_digest cck_path cck_strip cck_files cck_util cck_include cck_entry'
 
 if [ ! -x "$program" ]; then
     rm -rf "$work"

@@ -10,8 +10,8 @@ use Rattle.cck_entry.specs.Find.{IsLookup}
 use Rattle.cck_entry.specs.Results.{KeyResult}
 use Rattle.cck_include.specs.Include.{Include}
 use Rattle.c_cache_keys.proofs.Elements.{none_in}
-use Rattle.cck_time.specs.declared.error.Error.{Error}
-use Rattle.cck_time.specs.declared.error.Error.TheVariants as error
+use Rattle.cck_digest.specs.declared.entry_error.Error.{Error}
+use Rattle.cck_digest.specs.declared.entry_error.Error.TheVariants as error
 use Rattle.c_cache_keys.specs.Call.{CallResult, Keyed, ReturnsError}
 use Rattle.c_cache_keys.specs.Errors.{entry_error}
 use Rattle.c_cache_keys.specs.Seen.{why_of}

@@ -24,10 +24,10 @@ use Rattle.cck_util.specs.Key.{material}
 use Rattle.cck_walk.specs.declared.walk.Walk as walk
 use Rattle.cck_walk.specs.declared.walk.Walk.TheVariants as walked
 use Rattle.cck_files.proofs.FileLemmas.{found_without_contents, found_with_contents}
-use Rattle.cck_key_error.specs.declared.key_error.KeyError.{KeyError}
-use Rattle.cck_key_error.specs.declared.key_error.KeyError.TheVariants as key
-use Rattle.cck_key_error.specs.declared.preprocess_error.PreprocessError.{PreprocessError}
-use Rattle.cck_key_error.specs.declared.preprocess_error.PreprocessError.TheVariants as text
+use Rattle.cck_digest.specs.declared.key_error.KeyError.{KeyError}
+use Rattle.cck_digest.specs.declared.key_error.KeyError.TheVariants as key
+use Rattle.cck_digest.specs.declared.preprocess_error.PreprocessError.{PreprocessError}
+use Rattle.cck_digest.specs.declared.preprocess_error.PreprocessError.TheVariants as text
 use Rattle.c_cache_keys.proofs.Includes.{added_alone}
 use Rattle.c_cache_keys.proofs.Opened.{some_none}
 use Rattle.c_cache_keys.specs.Call.{Call, Memory}

@@ -10,22 +10,22 @@ use Rattle.cck_digest.specs.declared.error.FileError.{FileError}
 use Rattle.cck_digest.specs.declared.error.FileError.TheVariants as file
 use Rattle.cck_digest.specs.declared.error.UtilError.{UtilError}
 use Rattle.cck_digest.specs.declared.error.UtilError.TheVariants as util
-use Rattle.cck_file_digest.proofs.MaterialLemmas.{no_material_of_error}
-use Rattle.cck_file_digest.specs.FileDigest.{IsFirstError, paths_of, text_and, digest_text_at, texts}
-use Rattle.cck_file_digest.specs.FolderText.{digest_material}
-use Rattle.cck_file_digest.specs.Errors.{IsDigestError}
+use Rattle.cck_files.proofs.MaterialLemmas.{no_material_of_error}
+use Rattle.cck_files.specs.FileDigest.{IsFirstError, paths_of, text_and, digest_text_at, texts}
+use Rattle.cck_files.specs.FolderText.{digest_material}
+use Rattle.cck_files.specs.Errors.{IsDigestError}
 use Rattle.cck_files.specs.Calls.{IsError}
 use Rattle.cck_files.specs.FileMap.{FileMap, FileNode, file_at}
 use Rattle.cck_include.proofs.ErrorLemmas.{by_file_error}
 use Rattle.cck_include.specs.Recorded.{recorded}
 use Rattle.cck_include.specs.Errors.{IsIoError}
-use Rattle.cck_key_error.specs.KeyError.{extra_error}
-use Rattle.cck_key_error.specs.declared.key_error.KeyError.{KeyError}
-use Rattle.cck_key_error.specs.declared.key_error.KeyError.TheVariants as key
+use Rattle.cck_digest.specs.KeyError.{extra_error}
+use Rattle.cck_digest.specs.declared.key_error.KeyError.{KeyError}
+use Rattle.cck_digest.specs.declared.key_error.KeyError.TheVariants as key
 use Rattle.cck_path.specs.Bytes.{Bytes, lists_of}
 use Rattle.cck_path.specs.Path.{Path, components}
-use Rattle.cck_preprocessor_key.specs.PreprocessorKey.{preprocessor_material}
-use Rattle.cck_time.specs.declared.error.Error.{Error}
+use Rattle.cck_entry.specs.PreprocessorKey.{preprocessor_material}
+use Rattle.cck_digest.specs.declared.entry_error.Error.{Error}
 use Rattle.c_cache_keys.specs.Call.{Call}
 use Rattle.cck_util.specs.Language.{is_preprocessed_first}
 use Rattle.c_cache_keys.specs.Keys.{extra_texts, input_file, input_recorded, is_direct, key_material, preprocessor_key_of, request_parts, uses_cache}

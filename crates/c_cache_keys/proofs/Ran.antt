@@ -6,7 +6,7 @@ use Rattle.std.specs.List.{AllZip}
 use Rattle.cck_files.specs.Calls.{Keeps}
 use Rattle.cck_files.specs.FileMap.{FileMap}
 use Rattle.cck_files.proofs.CallsLemmas.{keeps_itself}
-use Rattle.cck_key_error.specs.declared.key_error.KeyError.{KeyError}
+use Rattle.cck_digest.specs.declared.key_error.KeyError.{KeyError}
 use Rattle.cck_store.specs.Store.{Store}
 use Rattle.c_cache_keys.specs.Calls.{AreReturned, IsAfter, IsReturned, done_all}
 use Rattle.c_cache_keys.specs.Seen.{result_of}

@@ -4,13 +4,13 @@ use Rattle.std.specs.Prelude.{is_some}
 use Rattle.std.specs.FinMap.{get}
 use Rattle.cck_digest.specs.declared.error.FileError.TheVariants.{NotFound, OtherKind, Fault}
 use Rattle.cck_digest.specs.declared.error.UtilError.TheVariants as util
-use Rattle.cck_file_digest.specs.FileDigest.{IsFirstError}
+use Rattle.cck_files.specs.FileDigest.{IsFirstError}
 use Rattle.cck_files.specs.FileMap.{file_at, file_in, exists_at}
-use Rattle.cck_key_error.specs.declared.key_error.KeyError.TheVariants as error
+use Rattle.cck_digest.specs.declared.key_error.KeyError.TheVariants as error
 use Rattle.cck_path.specs.Bytes.{Bytes}
 use Rattle.cck_path.specs.Path.{components}
 use Rattle.cck_store.specs.Store.{Store}
-use Rattle.cck_time.specs.declared.error.Error.TheVariants as entry
+use Rattle.cck_digest.specs.declared.entry_error.Error.TheVariants as entry
 use Rattle.c_cache_keys.specs.Call.{Call}
 use Rattle.c_cache_keys.specs.Reasons.{IsFileReason, IsStoreReason}
 use Rattle.c_cache_keys.specs.Walk.{input_path}

@@ -6,17 +6,17 @@ use Rattle.cck_digest.specs.declared.error.FileError.{FileError}
 use Rattle.cck_digest.specs.declared.error.FileError.TheVariants as file
 use Rattle.cck_digest.specs.declared.error.UtilError.{UtilError}
 use Rattle.cck_digest.specs.declared.error.UtilError.TheVariants as util
-use Rattle.cck_file_digest.specs.FileDigest.{IsFirstError}
-use Rattle.cck_file_digest.specs.Errors.{IsDigestError, IsFileErrorAt}
+use Rattle.cck_files.specs.FileDigest.{IsFirstError}
+use Rattle.cck_files.specs.Errors.{IsDigestError, IsFileErrorAt}
 use Rattle.cck_files.proofs.FileLemmas.{found_without_contents}
 use Rattle.cck_files.proofs.CallsLemmas.{error_by}
 use Rattle.cck_files.specs.Calls.{IsErrorOrMemory}
 use Rattle.cck_files.specs.FileMap.{FileMap, contents_at, file_at}
-use Rattle.cck_key_error.specs.KeyError.{extra_error}
-use Rattle.cck_key_error.specs.declared.key_error.KeyError.{KeyError}
-use Rattle.cck_key_error.specs.declared.key_error.KeyError.TheVariants as key
-use Rattle.cck_key_error.specs.declared.preprocess_error.PreprocessError.{PreprocessError}
-use Rattle.cck_key_error.specs.declared.preprocess_error.PreprocessError.TheVariants as text
+use Rattle.cck_digest.specs.KeyError.{extra_error}
+use Rattle.cck_digest.specs.declared.key_error.KeyError.{KeyError}
+use Rattle.cck_digest.specs.declared.key_error.KeyError.TheVariants as key
+use Rattle.cck_digest.specs.declared.preprocess_error.PreprocessError.{PreprocessError}
+use Rattle.cck_digest.specs.declared.preprocess_error.PreprocessError.TheVariants as text
 use Rattle.cck_path.specs.Bytes.{Bytes}
 use Rattle.cck_path.specs.Path.{Path, components}
 use Rattle.c_cache_keys.specs.Call.{Call}

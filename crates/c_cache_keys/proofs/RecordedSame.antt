@@ -10,8 +10,8 @@ use Rattle.cck_include.specs.Recorded.{file_time_part, has_date, has_time, has_t
 use Rattle.cck_path.specs.Bytes.{Bytes}
 use Rattle.cck_path.specs.Path.{Path}
 use Rattle.cck_path.specs.Timestamp.{nanos_of}
-use Rattle.cck_time.specs.TimePart.{AreOfOneSecond, local_day, source_date_epoch, time_part}
-use Rattle.cck_time.proofs.PartLemmas.{day_is_determined, second_is_determined}
+use Rattle.cck_include.specs.TimePart.{AreOfOneSecond, local_day, source_date_epoch, time_part}
+use Rattle.cck_include.proofs.PartLemmas.{day_is_determined, second_is_determined}
 use Rattle.c_cache_keys.specs.Call.{Call}
 use Rattle.c_cache_keys.specs.Premises.{IsSameFile}
 use Rattle.c_cache_keys.specs.World.{HasSize, World, setting}

@@ -3,11 +3,11 @@ use Rattle.std.proofs.Common.{◌≡◌, ℕ, List, [], ◌∷◌, ◌++◌, Err
 use Rattle.std.specs.Global.{Vec}
 use Rattle.cck_digest.specs.declared.error.FileError.TheVariants as file
 use Rattle.cck_digest.specs.declared.error.UtilError.TheVariants as util
-use Rattle.cck_file_digest.specs.FolderText.{lossy}
+use Rattle.cck_files.specs.FolderText.{lossy}
 use Rattle.cck_files.proofs.CallsLemmas.{keeps_itself}
 use Rattle.cck_files.specs.FileMap.{FileMap}
-use Rattle.cck_key_error.specs.declared.key_error.KeyError.{KeyError}
-use Rattle.cck_key_error.specs.declared.key_error.KeyError.TheVariants as error
+use Rattle.cck_digest.specs.declared.key_error.KeyError.{KeyError}
+use Rattle.cck_digest.specs.declared.key_error.KeyError.TheVariants as error
 use Rattle.cck_path.specs.Bytes.{lists_of}
 use Rattle.cck_store.specs.Store.{Store}
 use Rattle.c_cache_keys.specs.Call.{Extra, ExtraFault, Input, ReturnsError, calls_of}

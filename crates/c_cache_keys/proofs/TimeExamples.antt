@@ -8,9 +8,9 @@ use Rattle.cck_include.specs.Setting.{Setting}
 use Rattle.cck_path.specs.Bytes.{Bytes}
 use Rattle.cck_path.specs.Timestamp.{Moment, nanos_of}
 use Rattle.cck_path.specs.Variables.{Variable}
-use Rattle.cck_time.proofs.PartLemmas.{day_is_determined, second_is_determined}
-use Rattle.cck_time.specs.TimePart.{date_part, local_day, local_second, timestamp_part, time_part}
-use Rattle.cck_time.specs.declared.config.PreprocessorCacheModeConfig.{PreprocessorCacheModeConfig}
+use Rattle.cck_include.proofs.PartLemmas.{day_is_determined, second_is_determined}
+use Rattle.cck_include.specs.TimePart.{date_part, local_day, local_second, timestamp_part, time_part}
+use Rattle.cck_include.specs.declared.config.PreprocessorCacheModeConfig.{PreprocessorCacheModeConfig}
 use Rattle.jiff.specs.Types.{Fixed, Offset, TimeZone}
 use Rattle.jiff.specs.Words.{offset_at}
 

@@ -11,8 +11,8 @@ use Rattle.cck_digest.specs.declared.error.FileError.{FileError}
 use Rattle.cck_files.specs.FileMap.{FileMap, FileNode, file_at}
 use Rattle.cck_include.specs.Gathered.{Digested, all_of, gathered, gathered_include}
 use Rattle.cck_include.specs.Include.{Include}
-use Rattle.cck_key_error.specs.declared.key_error.KeyError.{KeyError}
-use Rattle.cck_key_error.specs.declared.key_error.KeyError.TheVariants as error
+use Rattle.cck_digest.specs.declared.key_error.KeyError.{KeyError}
+use Rattle.cck_digest.specs.declared.key_error.KeyError.TheVariants as error
 use Rattle.cck_markers.proofs.OneList.{one_list}
 use Rattle.cck_markers.specs.Marks.{Mark, Marks, Name}
 use Rattle.cck_path.specs.Bytes.{Bytes, variables_of}

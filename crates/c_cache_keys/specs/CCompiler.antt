@@ -7,7 +7,7 @@ use Rattle.cck_compiler.specs.ExtraFiles.{is_hip}
 use Rattle.cck_compiler.specs.declared.compiler.CompilerArguments.{CompilerArguments}
 use Rattle.cck_compiler.specs.declared.compiler.CompilerArguments.TheVariants as parsed
 use Rattle.cck_digest.specs.Digest.{digest_text}
-use Rattle.cck_file_digest.specs.FileDigest.{digest_text_at}
+use Rattle.cck_files.specs.FileDigest.{digest_text_at}
 use Rattle.cck_files.specs.FileMap.{FileMap}
 use Rattle.cck_path.specs.Bytes.{Bytes}
 use Rattle.cck_path.specs.Path.{Path}

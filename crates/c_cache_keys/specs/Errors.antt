@@ -2,12 +2,12 @@
 use Rattle.cck_digest.specs.declared.error.FileError.{FileError}
 use Rattle.cck_digest.specs.declared.error.FileError.TheVariants as file
 use Rattle.cck_digest.specs.declared.error.UtilError.TheVariants as util
-use Rattle.cck_key_error.specs.declared.key_error.KeyError.{KeyError}
-use Rattle.cck_key_error.specs.declared.key_error.KeyError.TheVariants.{Memory, Input, Entry, Preprocess}
-use Rattle.cck_key_error.specs.declared.preprocess_error.PreprocessError.{PreprocessError}
-use Rattle.cck_key_error.specs.declared.preprocess_error.PreprocessError.TheVariants as text
-use Rattle.cck_time.specs.declared.error.Error.{Error}
-use Rattle.cck_time.specs.declared.error.Error.TheVariants as entry
+use Rattle.cck_digest.specs.declared.key_error.KeyError.{KeyError}
+use Rattle.cck_digest.specs.declared.key_error.KeyError.TheVariants.{Memory, Input, Entry, Preprocess}
+use Rattle.cck_digest.specs.declared.preprocess_error.PreprocessError.{PreprocessError}
+use Rattle.cck_digest.specs.declared.preprocess_error.PreprocessError.TheVariants as text
+use Rattle.cck_digest.specs.declared.entry_error.Error.{Error}
+use Rattle.cck_digest.specs.declared.entry_error.Error.TheVariants as entry
 
 abbrev pub input_error : FileError → KeyError
 input_error file.Memory = Memory

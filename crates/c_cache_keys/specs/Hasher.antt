@@ -1,6 +1,6 @@
 -- the key of a toolchain
 use Rattle.std.specs.Prelude.{◌∷◌, ◌++◌}
-use Rattle.cck_file_digest.specs.FolderText.{lossy}
+use Rattle.cck_files.specs.FolderText.{lossy}
 use Rattle.cck_path.specs.Bytes.{Bytes}
 
 -- a path as text, a `-` and a digest

@@ -5,13 +5,13 @@ use Rattle.std.specs.Result.{result_ok}
 use Rattle.std.specs.Str.{str_eq_ignore_ascii_case}
 use Rattle.cck_compiler.specs.Arguments.{is_multiarch}
 use Rattle.cck_digest.specs.Digest.{digest_text}
-use Rattle.cck_file_digest.specs.FileDigest.{texts}
+use Rattle.cck_files.specs.FileDigest.{texts}
 use Rattle.cck_files.specs.FileMap.{FileNode, file_at}
 use Rattle.cck_include.specs.Recorded.{recorded}
 use Rattle.cck_path.specs.Bytes.{Bytes}
 use Rattle.cck_path.specs.Path.{components}
 use Rattle.cck_path.specs.Variables.{Variable, first_value}
-use Rattle.cck_preprocessor_key.specs.PreprocessorKey.{RequestParts, hashed_directory, preprocessor_material}
+use Rattle.cck_entry.specs.PreprocessorKey.{RequestParts, hashed_directory, preprocessor_material}
 use Rattle.cck_strip.specs.Argument.{stripped_argument}
 use Rattle.cck_strip.specs.Text.{stripped_text}
 use Rattle.cck_util.specs.Key.{KeyParts, material}

@@ -1,7 +1,7 @@
 -- the results of computing a key
 use Rattle.std.specs.Prelude.{◌≡◌, true, map, Some, Result, Ok, Err, String, string_bytes}
 use Rattle.std.specs.declared.alloc.Global.{Global}
-use Rattle.cck_key_error.specs.declared.key_error.KeyError.{KeyError}
+use Rattle.cck_digest.specs.declared.key_error.KeyError.{KeyError}
 use Rattle.c_cache_keys.specs.Call.{CallResult, Call, Keyed, ReturnsError}
 use Rattle.cck_util.specs.Language.{is_preprocessed_first}
 use Rattle.c_cache_keys.specs.Keys.{extra_texts, preprocessor_key_of, printed}

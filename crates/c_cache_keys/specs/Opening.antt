@@ -4,10 +4,10 @@ use Rattle.std.specs.Option.{option_map}
 use Rattle.cck_digest.specs.Digest.{digest_text}
 use Rattle.cck_files.specs.FileMap.{FileNode}
 use Rattle.cck_include.specs.Recorded.{recorded}
-use Rattle.cck_key_error.specs.declared.key_error.KeyError.{KeyError}
-use Rattle.cck_key_error.specs.declared.key_error.KeyError.TheVariants as error
+use Rattle.cck_digest.specs.declared.key_error.KeyError.{KeyError}
+use Rattle.cck_digest.specs.declared.key_error.KeyError.TheVariants as error
 use Rattle.cck_path.specs.Bytes.{Bytes}
-use Rattle.cck_preprocessor_key.specs.PreprocessorKey.{preprocessor_material}
+use Rattle.cck_entry.specs.PreprocessorKey.{preprocessor_material}
 use Rattle.c_cache_keys.specs.Call.{Call}
 use Rattle.c_cache_keys.specs.Keys.{extra_texts, input_file, preprocessor_key_of, request_parts}
 use Rattle.c_cache_keys.specs.Reasons.{IsInputReason}

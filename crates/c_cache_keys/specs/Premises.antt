@@ -1,13 +1,13 @@
 -- the premises on the calls, under which a stored key is the plain key
 use Rattle.std.specs.Prelude.{◌≡◌, ◌≢◌, List, ◌++◌, true, false, Some, None, Ok, Contains}
 use Rattle.cck_digest.specs.Digest.{digest_text}
-use Rattle.cck_file_digest.specs.FolderText.{digest_material}
+use Rattle.cck_files.specs.FolderText.{digest_material}
 use Rattle.cck_files.specs.FileMap.{FileNode, file_at, folder_at}
 use Rattle.cck_include.specs.Recorded.{file_time_part, has_date, has_time, has_timestamp, is_timed}
 use Rattle.cck_path.specs.Bytes.{Bytes}
 use Rattle.cck_path.specs.Path.{Path, components}
 use Rattle.cck_path.specs.Timestamp.{nanos_of}
-use Rattle.cck_time.specs.TimePart.{AreOfOneSecond, local_day, source_date_epoch}
+use Rattle.cck_include.specs.TimePart.{AreOfOneSecond, local_day, source_date_epoch}
 use Rattle.c_cache_keys.specs.Call.{Call}
 use Rattle.c_cache_keys.specs.Keys.{extra_texts, key_material, preprocessor_key_of, printed, request_parts}
 use Rattle.c_cache_keys.specs.Walk.{Accepted, IsNamed, Walk, input_path}

@@ -4,9 +4,9 @@ use Rattle.std.specs.String.{string_bytes}
 use Rattle.cck_digest.specs.declared.error.FileError.TheVariants as file
 use Rattle.cck_digest.specs.declared.error.UtilError.{UtilError}
 use Rattle.cck_digest.specs.declared.error.UtilError.TheVariants as util
-use Rattle.cck_key_error.specs.declared.key_error.KeyError.{KeyError}
-use Rattle.cck_key_error.specs.declared.key_error.KeyError.TheVariants as key
-use Rattle.cck_key_error.specs.declared.preprocess_error.PreprocessError.TheVariants as text
+use Rattle.cck_digest.specs.declared.key_error.KeyError.{KeyError}
+use Rattle.cck_digest.specs.declared.key_error.KeyError.TheVariants as key
+use Rattle.cck_digest.specs.declared.preprocess_error.PreprocessError.TheVariants as text
 use Rattle.c_cache_keys.specs.Call as calls
 use Rattle.c_cache_keys.specs.Call.{CallResult, Keyed, ReturnsError, Why}
 use Rattle.c_cache_keys.specs.declared.call.HashResult.{HashResult}

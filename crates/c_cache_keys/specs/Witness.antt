@@ -11,7 +11,7 @@ use Rattle.cck_path.specs.Timestamp.{Moment}
 use Rattle.cck_path.specs.declared.metadata.FileKind.TheVariants.{File}
 use Rattle.cck_store.specs.MapStore.{State, map_store, empty_state}
 use Rattle.cck_store.specs.Store.{StoreFailure}
-use Rattle.cck_time.specs.Config.{activated}
+use Rattle.cck_include.specs.Config.{activated}
 use Rattle.cck_util.specs.declared.language.Language.TheVariants.{C}
 use Rattle.jiff.specs.Types.{UTC}
 use Rattle.c_cache_keys.specs.Call.{Call, Done, Fault, Keyed, calls_of}

@@ -7,7 +7,7 @@ use Rattle.cck_include.specs.Setting.{Setting}
 use Rattle.cck_path.specs.Bytes.{Bytes}
 use Rattle.cck_path.specs.Timestamp.{Moment}
 use Rattle.cck_path.specs.Variables.{Variable}
-use Rattle.cck_time.specs.declared.config.PreprocessorCacheModeConfig.{PreprocessorCacheModeConfig}
+use Rattle.cck_include.specs.declared.config.PreprocessorCacheModeConfig.{PreprocessorCacheModeConfig}
 use Rattle.jiff.specs.Types.{TimeZone}
 use Rattle.c_cache_keys.specs.Call.{Call}
 

@@ -2,9 +2,9 @@
 ghost use Rattle.std.specs.Prelude.{◌≡◌, ◌⊎◌, ◌++◌, Some, IfErr, IfOk, IsOkUnless, string_bytes};
 ghost use Rattle.cck_compiler.specs.ExtraFiles.{completed};
 ghost use Rattle.cck_digest.specs.Digest.{digest_text};
-ghost use Rattle.cck_file_digest.specs.Errors.{IsDigestError};
+ghost use Rattle.cck_files.specs.Errors.{IsDigestError};
 ghost use Rattle.cck_files.specs.Calls.{Keeps, Rose};
-ghost use Rattle.cck_key_error.specs.KeyError.{IsFileFault};
+ghost use Rattle.cck_digest.specs.KeyError.{IsFileFault};
 ghost use Rattle.cck_path.specs.Bytes.{lists_of, variables_of};
 ghost use Rattle.cck_path.specs.Path.{components};
 ghost use Rattle.c_cache_keys.specs.CCompiler.{IsHip, IsOf, IsOfCompiler, executable_text, found_of};
@@ -14,8 +14,7 @@ use cck_compiler::{
     CCompilerImpl, CCompilerKind, CompilerArguments, KeyError, ParsedArguments, add_extra_files,
 };
 use cck_digest::{Digest, HashState, UtilError};
-use cck_file_digest::DigestFiles;
-use cck_files::Files;
+use cck_files::{DigestFiles, Files};
 use std::alloc::{AllocError, Global};
 
 /// A compiler and its executable.

@@ -16,9 +16,9 @@ use crate::hasher::CCompilerHasher;
 use cck_compiler::{CCompilerImpl, KeyError};
 use cck_digest::{HashState, UtilError};
 use cck_files::Files;
+use cck_include::PreprocessorCacheModeConfig;
 use cck_path::Timestamp;
 use cck_store::PreprocessorStore;
-use cck_time::PreprocessorCacheModeConfig;
 use jiff::tz::TimeZone;
 use std::alloc::Global;
 

@@ -1,7 +1,7 @@
 //! The conditions of a call for a key.
 use crate::call::CacheControl;
+use cck_include::PreprocessorCacheModeConfig;
 use cck_path::Timestamp;
-use cck_time::PreprocessorCacheModeConfig;
 use jiff::tz::TimeZone;
 
 /// All that a call for a key takes beside the compilation, its files and its store.

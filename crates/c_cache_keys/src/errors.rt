@@ -4,8 +4,7 @@ ghost use Rattle.std.specs.Prelude.{◌≡◌};
 ghost use Rattle.c_cache_keys.specs.Errors.{entry_error, input_error, key_error_of, text_error};
 
 use cck_compiler::{KeyError, PreprocessError};
-use cck_digest::{FileError, UtilError};
-use cck_time::Error;
+use cck_digest::{Error, FileError, UtilError};
 
 /// The error for an input that can't be read.
 pub(crate) fn input_error(error: FileError) -> KeyError

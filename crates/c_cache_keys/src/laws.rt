@@ -1,7 +1,7 @@
 //! Laws about calls and runs, over the definitions alone. Each is the contract of a function with
 //! an empty body. All but the last three hold for every hash, compiler and store.
 ghost use Rattle.std.specs.Prelude.{◌≡◌, ◌↔◌, ℕ, IsTrue, List};
-ghost use Rattle.cck_time.specs.declared.config.PreprocessorCacheModeConfig.{PreprocessorCacheModeConfig};
+ghost use Rattle.cck_include.specs.declared.config.PreprocessorCacheModeConfig.{PreprocessorCacheModeConfig};
 ghost use Rattle.jiff.specs.Types.{TimeZone};
 ghost use Rattle.c_cache_keys.specs.Hits.{FreshIsHeld, HeldKeyIsReturned, ErrorsHaveCauses, MapStoreReturnsStored, StoredIsHit};
 ghost use Rattle.c_cache_keys.specs.Laws.{FreshIsPlain, StoredKeyIsReturned, Headline, HitIsPlain, KeepsOldOrOwn, NothingDamaged, RecacheIsFresh, RunReturnsStored, RunsHeadline, RunsJoin, StaysSound};
@@ -15,7 +15,7 @@ pub use cck_compiler::laws::{
     color_mode_equality_is_exact, parsed_arguments_equality_is_exact,
 };
 use cck_digest::HashState;
-pub use cck_key_error::laws::{key_error_equality_is_exact, preprocess_error_equality_is_exact};
+pub use cck_digest::laws::{key_error_equality_is_exact, preprocess_error_equality_is_exact};
 pub use cck_markers::laws::{
     line_equality_is_exact, mark_equality_is_exact, nothing_after_the_last_mark, one_list_of_marks,
     one_name_at_one_place,

@@ -43,8 +43,8 @@
 //!
 //! ```rust
 //! use c_cache_keys::{CCompiler, CCompilerImpl, CacheControl, CompilerArguments, KeyError, PreprocessorStore};
-//! use c_cache_keys::cck_entry::PreprocessorCacheModeConfig;
-//! use c_cache_keys::cck_util::{Files, Sha256State, Timestamp};
+//! use crate::cck_entry::PreprocessorCacheModeConfig;
+//! use crate::cck_util::{Files, Sha256State, Timestamp};
 //! use jiff::tz::TimeZone;
 //! use std::alloc::Global;
 //!

@@ -2,9 +2,9 @@
 use Rattle.std.specs.Prelude.{◌≡◌, ◌≢◌, ◌≤◌, ℕ, ℤ, pos, List, ◌∷◌, length, map, take, drop, Option, Some, None}
 use Rattle.cck_include.specs.Include.{Include}
 use Rattle.cck_path.specs.Timestamp.{Moment}
-use Rattle.cck_preprocessor_key.specs.PreprocessorKey.{format_version}
-use Rattle.cck_time.specs.declared.error.Error.{Error}
-use Rattle.cck_time.specs.declared.error.Error.TheVariants.{Deserialization, Io, Memory, UnknownFormat}
+use Rattle.cck_entry.specs.PreprocessorKey.{format_version}
+use Rattle.cck_digest.specs.declared.entry_error.Error.{Error}
+use Rattle.cck_digest.specs.declared.entry_error.Error.TheVariants.{Deserialization, Io, Memory, UnknownFormat}
 use Rattle.cck_entry.specs.Entry.{Entry, EntryText}
 use Rattle.cck_entry.specs.Reading.{IsOvercounted}
 use Rattle.cck_entry.specs.Results.{KeyResult}

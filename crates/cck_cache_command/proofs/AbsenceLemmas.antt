@@ -5,11 +5,11 @@ use Rattle.std.specs.Global.{Vec}
 use Rattle.std.proofs.lemmas.Bool.{cases_lt}
 use Rattle.std.proofs.lemmas.List.{get_or_default, length-map, map-append, take_all, take_more}
 use Rattle.cck_cache_command.specs.Absence.{AreLeft, ArePathsFor, GainsPath, IsAbsentAt, IsPresentAt}
-use Rattle.cck_cache_entry.specs.Left.{IsLeft}
-use Rattle.cck_cache_entry.specs.PathTest.{Test, test_of, tests_of}
-use Rattle.cck_cache_entry.specs.Sets.{IsSetOf, has_key}
-use Rattle.cck_cache_entry.specs.declared.path_test.PathTest.{PathTest}
-use Rattle.cck_cache_entry.proofs.SetLemmas.{has_key_at, key_at}
+use Rattle.cck_cache_text.specs.Left.{IsLeft}
+use Rattle.cck_cache_rules.specs.PathTest.{Test, test_of, tests_of}
+use Rattle.cck_cache_text.specs.Sets.{IsSetOf, has_key}
+use Rattle.cck_cache_rules.specs.declared.path_test.PathTest.{PathTest}
+use Rattle.cck_cache_text.proofs.SetLemmas.{has_key_at, key_at}
 use Rattle.cck_cache_files.specs.PathStates.{KeepsStates}
 use Rattle.cck_cache_files.specs.declared.path_states.PathState.TheVariants as state
 use Rattle.cck_cache_files.specs.declared.path_states.PathStates.{PathStates}

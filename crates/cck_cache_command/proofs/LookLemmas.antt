@@ -11,7 +11,7 @@ use Rattle.cck_cache_command.specs.Request.{HasPreprocessorKey}
 use Rattle.cck_cache_command.specs.declared.environment.Environment.{Environment}
 use Rattle.cck_cache_command.specs.declared.look.Found.{Found}
 use Rattle.cck_cache_command.specs.declared.look.Found.TheVariants.{Hit, Miss, NoKey}
-use Rattle.cck_cache_words.specs.declared.task.Look.{Look}
+use Rattle.cck_cache_arguments.specs.declared.task.Look.{Look}
 use Rattle.cck_entry.specs.Entry.{Entry, Reads}
 use Rattle.cck_entry.specs.Results.{KeyResult, result_in}
 use Rattle.cck_files.specs.FileMap.{FileMap}

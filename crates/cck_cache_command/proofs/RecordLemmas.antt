@@ -3,9 +3,9 @@ use Rattle.std.proofs.Common.{◌≡◌, ◌∙◌, ℕ, ℤ, inr, int_eq, List,
 use Rattle.std.proofs.lemmas.Bool.{false≢true}
 use Rattle.std.proofs.lemmas.Bool.Decides.{Decides-int_eq}
 use Rattle.std.specs.Global.{Vec}
-use Rattle.cck_cache_base.specs.Base.{WordLists, word_lists}
-use Rattle.cck_cache_base.specs.Text.{AreBases}
-use Rattle.cck_cache_base.specs.declared.base.Words.{Words}
+use Rattle.cck_cache_rules.specs.Base.{WordLists, word_lists}
+use Rattle.cck_cache_rules.specs.Text.{AreBases}
+use Rattle.cck_cache_rules.specs.declared.base.Words.{Words}
 use Rattle.cck_cache_command.proofs.InputLemmas.{calm_kept, calm_stays, without_fault}
 use Rattle.cck_cache_command.specs.Input.{IsCalm, IsInput, NoFault}
 use Rattle.cck_cache_command.specs.Record.{AreFilesOf, AreGathered, HasPathTests, HasAskedTests, HasUnnamedTests, IsAsked, IsLocalTime, IsOneDay, IsOutcome, IsOutcomeOver, ObjectShowsBase, ReadsAlone}
@@ -14,11 +14,11 @@ use Rattle.cck_cache_command.specs.declared.environment.Environment.{Environment
 use Rattle.cck_cache_command.specs.declared.record.Gathered.{Gathered}
 use Rattle.cck_cache_command.specs.declared.record.Outcome.{Outcome}
 use Rattle.cck_cache_command.specs.declared.record.Outcome.TheVariants.{Recorded, Refused}
-use Rattle.cck_cache_entry.specs.PathTest.{Test, tests_of}
-use Rattle.cck_cache_entry.specs.declared.object_file.ObjectFile.{ObjectFile}
+use Rattle.cck_cache_rules.specs.PathTest.{Test, tests_of}
+use Rattle.cck_cache_rules.specs.declared.object_file.ObjectFile.{ObjectFile}
 use Rattle.cck_cache_files.specs.Snapshot.{ArePut, SnapshotGrows, IsNamedFile}
-use Rattle.cck_cache_words.specs.declared.request.Request.{Request}
-use Rattle.cck_cache_words.specs.declared.task.Compilation.{Compilation}
+use Rattle.cck_cache_arguments.specs.declared.request.Request.{Request}
+use Rattle.cck_cache_arguments.specs.declared.task.Compilation.{Compilation}
 use Rattle.cck_files.specs.Calls.{Keeps, Rose}
 use Rattle.cck_files.specs.FileMap.{FileMap}
 use Rattle.cck_files.specs.FileState.{FileState, IsQuiet, fault_count}

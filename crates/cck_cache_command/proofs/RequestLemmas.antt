@@ -1,6 +1,6 @@
 -- the arguments that keys are made of
 use Rattle.std.proofs.Common.{◌≡◌, ◌∙◌, List, [], ◌∷◌, ◌++◌, Some, None, codes, ap, append_assoc}
-use Rattle.cck_cache_base.specs.Base.{WordLists}
+use Rattle.cck_cache_rules.specs.Base.{WordLists}
 use Rattle.cck_cache_command.specs.Request.{keyed_arguments}
 use Rattle.cck_path.specs.Bytes.{Bytes}
 

@@ -4,10 +4,10 @@ use Rattle.std.specs.Global.{Vec}
 use Rattle.std.specs.Option.{unwrap_or}
 use Rattle.std.specs.Prelude.{IsUtf8}
 use Rattle.std.proofs.lemmas.List.{length-map, map-append, take-append-drop, take_more}
-use Rattle.cck_cache_entry.specs.PathTest.{Test, Searched, test_of, tests_of}
-use Rattle.cck_cache_entry.specs.SearchList.{SearchFields}
-use Rattle.cck_cache_entry.specs.declared.path_test.PathTest.{PathTest}
-use Rattle.cck_cache_entry.specs.declared.path_test.PathTest.TheVariants as program
+use Rattle.cck_cache_rules.specs.PathTest.{Test, Searched, test_of, tests_of}
+use Rattle.cck_cache_text.specs.SearchList.{SearchFields}
+use Rattle.cck_cache_rules.specs.declared.path_test.PathTest.{PathTest}
+use Rattle.cck_cache_rules.specs.declared.path_test.PathTest.TheVariants as program
 use Rattle.cck_cache_files.specs.Searched.{AddsDirectory, IsPlaceOf}
 use Rattle.cck_cache_files.specs.declared.searched.Identity.{Identity}
 use Rattle.cck_path.specs.Bytes.{Bytes, lists_of}

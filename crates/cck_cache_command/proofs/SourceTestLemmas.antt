@@ -7,10 +7,10 @@ use Rattle.std.proofs.lemmas.List.Elements.{Contains-append_cases, Contains-appe
 use Rattle.cck_cache_command.specs.Absence.{IsDoubtfulAt}
 use Rattle.cck_cache_command.specs.Tested.{AreTestsAt, AreTestsFor, AreAskedTests, HasDoubtfulTest, IsAskedPath, IsTestAt}
 use Rattle.cck_cache_command.proofs.AbsenceLemmas.{IsAmong, absent_kept, more_names, next_name, present_kept}
-use Rattle.cck_cache_entry.specs.Names.{is_named}
-use Rattle.cck_cache_entry.specs.PathTest.{Test, Absent, File, Directory, Searched}
-use Rattle.cck_cache_entry.specs.SearchList.{IsSearchList, SearchFields}
-use Rattle.cck_cache_entry.specs.Sets.{has_key}
+use Rattle.cck_cache_text.specs.Names.{is_named}
+use Rattle.cck_cache_rules.specs.PathTest.{Test, Absent, File, Directory, Searched}
+use Rattle.cck_cache_text.specs.SearchList.{IsSearchList, SearchFields}
+use Rattle.cck_cache_text.specs.Sets.{has_key}
 use Rattle.cck_cache_files.specs.PathStates.{KeepsStates}
 use Rattle.cck_cache_files.specs.Sources.{AreAsked}
 use Rattle.cck_cache_files.specs.declared.path_states.PathStates.{PathStates}

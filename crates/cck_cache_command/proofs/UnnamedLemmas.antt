@@ -8,17 +8,17 @@ use Rattle.std.proofs.lemmas.List.{get_or_default, length-map}
 use Rattle.std.proofs.lemmas.List.Elements.{Contains-append_left}
 use Rattle.cck_cache_command.specs.Unnamed.{AreCompared, AreFronts, IsPassed, IsSpelling, IsThere, IsUnread, KeepsKnown, LeadsNotTo, LeadsTo, MayImport, normal_path}
 use Rattle.cck_cache_command.proofs.AbsenceLemmas.{IsAmong, more_names, next_name}
-use Rattle.cck_cache_entry.specs.Left.{IsLeftOn}
-use Rattle.cck_cache_entry.specs.Names.{is_named}
-use Rattle.cck_cache_entry.specs.Sets.{Adds, has_key}
-use Rattle.cck_cache_entry.proofs.SetLemmas.{has_key_at, key_at}
+use Rattle.cck_cache_text.specs.Left.{IsLeftOn}
+use Rattle.cck_cache_text.specs.Names.{is_named}
+use Rattle.cck_cache_text.specs.Sets.{Adds, has_key}
+use Rattle.cck_cache_text.proofs.SetLemmas.{has_key_at, key_at}
 use Rattle.cck_cache_files.specs.Copies.{AddsKnown, AreKnown}
 use Rattle.cck_cache_files.specs.declared.copies.KnownFile.{KnownFile}
 use Rattle.cck_cache_files.specs.PathStates.{HasOther, KeepsStates}
 use Rattle.cck_cache_files.specs.declared.path_states.PathState.TheVariants as state
 use Rattle.cck_cache_files.specs.declared.path_states.PathStates.{PathStates}
 use Rattle.cck_cache_files.proofs.StateLemmas.{first_other_kept, kept_on_the_way}
-use Rattle.cck_cache_words.specs.declared.request.Request.{Request}
+use Rattle.cck_cache_arguments.specs.declared.request.Request.{Request}
 use Rattle.cck_files.specs.FileMap.{FileMap}
 use Rattle.cck_markers.specs.Marks.{Mark, Marks}
 use Rattle.cck_path.specs.Bytes.{Bytes, lists_of}

@@ -4,11 +4,11 @@ use Rattle.std.specs.List.{ends_with}
 use Rattle.cck_cache_command.specs.declared.absence.Absence.{Absence}
 use Rattle.cck_cache_command.specs.declared.absence.Absence.TheVariants.{Tests, Refused}
 use Rattle.cck_cache_command.specs.Searched.{AreSearched, HasDoubtfulDirectory}
-use Rattle.cck_cache_entry.specs.Absent.{AreAbsentNames, IsAbsentName, IsListed}
-use Rattle.cck_cache_entry.specs.Left.{IsLeft}
-use Rattle.cck_cache_entry.specs.Names.{is_system_name}
-use Rattle.cck_cache_entry.specs.PathTest.{Test, Directory, tests_of, Absent as TestAbsent}
-use Rattle.cck_cache_entry.specs.SearchList.{IsSearchList, SearchFields}
+use Rattle.cck_cache_text.specs.Absent.{AreAbsentNames, IsAbsentName, IsListed}
+use Rattle.cck_cache_text.specs.Left.{IsLeft}
+use Rattle.cck_cache_text.specs.Names.{is_system_name}
+use Rattle.cck_cache_rules.specs.PathTest.{Test, Directory, tests_of, Absent as TestAbsent}
+use Rattle.cck_cache_text.specs.SearchList.{IsSearchList, SearchFields}
 use Rattle.cck_cache_command.specs.declared.absence.PathVerdict.{PathVerdict}
 use Rattle.cck_cache_command.specs.declared.absence.PathVerdict.TheVariants.{Absent, Present, Doubtful}
 use Rattle.cck_cache_files.specs.PathStates.{IsFirstOther, LeadsOn}

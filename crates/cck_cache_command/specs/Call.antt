@@ -6,8 +6,8 @@ use Rattle.cck_cache_options.specs.Call.{Asked}
 use Rattle.cck_cache_options.specs.Paths.{IsDependencyPath, IsObjectPath}
 use Rattle.cck_cache_options.specs.Quote.{command, preprocessor_command}
 use Rattle.cck_cache_options.specs.declared.call.Call.{Call}
-use Rattle.cck_cache_words.specs.declared.request.CompilerCall.{CompilerCall}
-use Rattle.cck_cache_words.specs.declared.request.Request.{Request}
+use Rattle.cck_cache_arguments.specs.declared.request.CompilerCall.{CompilerCall}
+use Rattle.cck_cache_arguments.specs.declared.request.Request.{Request}
 use Rattle.cck_path.specs.Bytes.{Bytes, lists_of}
 
 -- the path of the object is the target of the rule in the dependency file of the compiler, where no option says another one

@@ -11,11 +11,11 @@ use Rattle.cck_cache_command.specs.declared.look.Found.{Found}
 use Rattle.cck_cache_command.specs.declared.look.Found.TheVariants.{Hit, Miss, NoKey}
 use Rattle.cck_cache_command.specs.declared.look.Kept.{Kept}
 use Rattle.cck_cache_command.specs.declared.look.Kept.TheVariants.{Nothing, Damaged, Entry as KeptEntry}
-use Rattle.cck_cache_entry.specs.Files.{EntryFields}
+use Rattle.cck_cache_rules.specs.Files.{EntryFields}
 use Rattle.cck_cache_files.specs.Snapshot.{ArePut}
-use Rattle.cck_cache_words.specs.declared.request.Request.{Request}
-use Rattle.cck_cache_words.specs.declared.task.Look.{Look}
-use Rattle.cck_cache_words.specs.declared.task.Outputs.{Outputs}
+use Rattle.cck_cache_arguments.specs.declared.request.Request.{Request}
+use Rattle.cck_cache_arguments.specs.declared.task.Look.{Look}
+use Rattle.cck_cache_arguments.specs.declared.task.Outputs.{Outputs}
 use Rattle.cck_entry.specs.Entry.{Entry, Reads}
 use Rattle.cck_entry.specs.Results.{KeyResult}
 use Rattle.cck_files.specs.FileMap.{FileMap}
@@ -23,7 +23,7 @@ use Rattle.cck_include.specs.Include.{Include}
 use Rattle.cck_path.specs.Bytes.{Bytes}
 use Rattle.cck_snapshot.specs.Snapshot.{IsLookedUp}
 use Rattle.cck_snapshot.specs.declared.requests.SnapshotRequest.{SnapshotRequest}
-use Rattle.cck_time.specs.declared.error.Error.TheVariants.{Deserialization, UnknownFormat}
+use Rattle.cck_digest.specs.declared.entry_error.Error.TheVariants.{Deserialization, UnknownFormat}
 use Rattle.sha2.specs.Sha256.{sha256}
 
 -- one of these files

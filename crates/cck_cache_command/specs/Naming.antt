@@ -1,13 +1,13 @@
 -- the name of the object of a key, by an entry and a snapshot
 use Rattle.std.specs.Prelude.{◌≡◌, List, Option, Some, Ok}
 use Rattle.std.specs.FinMap.{get}
-use Rattle.cck_cache_base.specs.Base.{BaseOf}
+use Rattle.cck_cache_rules.specs.Base.{BaseOf}
 use Rattle.cck_cache_command.specs.Input.{request_input_path}
 use Rattle.cck_cache_command.specs.Request.{request_words}
 use Rattle.cck_cache_rules.specs.ObjectName.{object_name}
-use Rattle.cck_cache_words.specs.declared.request.Request.{Request}
+use Rattle.cck_cache_arguments.specs.declared.request.Request.{Request}
 use Rattle.cck_entry.specs.Entry.{Entry, Reads}
-use Rattle.cck_file_digest.specs.FileDigest.{digest_text_at}
+use Rattle.cck_files.specs.FileDigest.{digest_text_at}
 use Rattle.cck_files.specs.FileMap.{FileMap}
 use Rattle.cck_include.specs.Include.{Include}
 use Rattle.cck_path.specs.Bytes.{Bytes}

@@ -1,8 +1,8 @@
 -- what a recording records
 use Rattle.std.specs.Prelude.{◌≡◌, ◌⊎◌, ℤ, pos, ◌*ℤ◌, ◌+ℤ◌, List, Bool, true, false, Option, Some, None, String, string_bytes}
 use Rattle.std.specs.declared.alloc.Global.{Global}
-use Rattle.cck_cache_base.specs.Shown.{ShowsBase}
-use Rattle.cck_cache_base.specs.Text.{AreBases}
+use Rattle.cck_cache_rules.specs.Shown.{ShowsBase}
+use Rattle.cck_cache_rules.specs.Text.{AreBases}
 use Rattle.cck_cache_command.specs.Absence.{AreTestsOf, IsRefusedByPath}
 use Rattle.cck_cache_command.specs.Input.{IsCalm, IsInput, NoFault}
 use Rattle.cck_cache_command.specs.Naming.{IsName}
@@ -15,18 +15,18 @@ use Rattle.cck_cache_command.specs.declared.record.Outcome.{Outcome}
 use Rattle.cck_cache_command.specs.declared.record.Outcome.TheVariants.{Recorded, Refused}
 use Rattle.cck_cache_command.specs.declared.record.Seen.{Seen}
 use Rattle.cck_cache_command.specs.declared.record.Seen.TheVariants.{Files, Refused as NotSeen}
-use Rattle.cck_cache_entry.specs.Files.{EntryFields}
-use Rattle.cck_cache_entry.specs.PathTest.{Test, tests_of}
-use Rattle.cck_cache_entry.specs.ReadFiles.{IsAssembledRule, IsOpenedRule}
-use Rattle.cck_cache_entry.specs.declared.object_file.ObjectFile.{ObjectFile}
+use Rattle.cck_cache_rules.specs.Files.{EntryFields}
+use Rattle.cck_cache_rules.specs.PathTest.{Test, tests_of}
+use Rattle.cck_cache_text.specs.ReadFiles.{IsAssembledRule, IsOpenedRule}
+use Rattle.cck_cache_rules.specs.declared.object_file.ObjectFile.{ObjectFile}
 use Rattle.cck_cache_files.specs.declared.path_states.PathStates.{PathStates}
 use Rattle.cck_cache_files.specs.Snapshot.{ArePut, IsNamedFile, IsPart}
 use Rattle.cck_cache_rules.specs.Refusal.{IsRefusal}
 use Rattle.cck_cache_rules.specs.declared.refusal.Refusal.{Refusal}
 use Rattle.cck_cache_rules.specs.declared.refusal.Refusal.TheVariants.{AssemblerInclude, OtherFile, NamedFile, BaseDirectory}
-use Rattle.cck_cache_words.specs.declared.request.Request.{Request}
-use Rattle.cck_cache_words.specs.declared.task.Compilation.{Compilation}
-use Rattle.cck_cache_words.specs.declared.task.Made.{Made}
+use Rattle.cck_cache_arguments.specs.declared.request.Request.{Request}
+use Rattle.cck_cache_arguments.specs.declared.task.Compilation.{Compilation}
+use Rattle.cck_cache_arguments.specs.declared.task.Made.{Made}
 use Rattle.cck_files.specs.FileMap.{FileMap}
 use Rattle.cck_markers.specs.Marks.{Mark, Marks}
 use Rattle.cck_path.specs.Bytes.{Bytes, lists_of}

@@ -4,10 +4,10 @@ use Rattle.std.specs.Option.{option_map}
 use Rattle.c_cache_keys.specs.Keys.{preprocessor_key_of}
 use Rattle.c_cache_keys.specs.declared.call.CacheControl.TheVariants.{Default}
 use Rattle.c_cache_keys.specs.declared.hasher.CCompilerHasher.{CCompilerHasher}
-use Rattle.cck_cache_base.specs.Base.{BaseOf, WordLists}
+use Rattle.cck_cache_rules.specs.Base.{BaseOf, WordLists}
 use Rattle.cck_cache_command.specs.Input.{IsInput}
 use Rattle.cck_cache_command.specs.declared.environment.Environment.{Environment}
-use Rattle.cck_cache_words.specs.declared.request.Request.{Request}
+use Rattle.cck_cache_arguments.specs.declared.request.Request.{Request}
 use Rattle.cck_compiler.specs.Arguments.{Arguments, only_input}
 use Rattle.cck_compiler.specs.Seen.{arguments_of}
 use Rattle.cck_compiler.specs.declared.compiler.CCompilerKind.TheVariants.{Gcc}
@@ -18,7 +18,7 @@ use Rattle.cck_snapshot.specs.External.{External, external_of, no_text}
 use Rattle.cck_snapshot.specs.Requests.{call_for, world_for}
 use Rattle.cck_snapshot.specs.declared.compiler.ExternalCompiler.{ExternalCompiler}
 use Rattle.cck_snapshot.specs.declared.requests.SnapshotRequest.{SnapshotRequest}
-use Rattle.cck_time.specs.Config.{activated}
+use Rattle.cck_include.specs.Config.{activated}
 use Rattle.cck_util.specs.declared.language.Language.TheVariants.{C}
 use Rattle.sha2.specs.Sha256.{sha256}
 

@@ -1,7 +1,7 @@
 -- the tests of the directories that a preprocessor searches
 use Rattle.std.specs.Prelude.{◌≡◌, ◌⊎◌, ℕ, Bool, true, false, ◌==◌, ◌&&◌, ◌||◌, if◌then◌else◌, nat_le, nat_lt, List, [], ◌∷◌, ◌++◌, Option, Some, None, IsUtf8, length}
-use Rattle.cck_cache_entry.specs.PathTest.{Test, Searched}
-use Rattle.cck_cache_entry.specs.SearchList.{SearchFields}
+use Rattle.cck_cache_rules.specs.PathTest.{Test, Searched}
+use Rattle.cck_cache_text.specs.SearchList.{SearchFields}
 use Rattle.cck_cache_files.specs.Searched.{IsFirstSame, IsPlaceOf}
 use Rattle.cck_cache_files.specs.declared.searched.Identity.{Identity}
 use Rattle.cck_path.specs.Bytes.{Bytes}

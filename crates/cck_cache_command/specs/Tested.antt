@@ -3,10 +3,10 @@ use Rattle.std.specs.Prelude.{◌≡◌, true, List, Contains, Option, Some, Non
 use Rattle.cck_cache_command.specs.Absence.{IsAbsentAt, IsDoubtfulAt, IsPresentAt}
 use Rattle.cck_cache_command.specs.declared.tested.Tested.{Tested}
 use Rattle.cck_cache_command.specs.declared.tested.Tested.TheVariants.{Tests, Refused}
-use Rattle.cck_cache_entry.specs.HeaderTests.{AreTests, has_dependency}
-use Rattle.cck_cache_entry.specs.PathTest.{Test, Absent, File, Directory, Searched, tests_of}
-use Rattle.cck_cache_entry.specs.SearchList.{IsSearchList, SearchFields}
-use Rattle.cck_cache_entry.specs.Splices.{unspliced}
+use Rattle.cck_cache_text.specs.HeaderTests.{AreTests, has_dependency}
+use Rattle.cck_cache_rules.specs.PathTest.{Test, Absent, File, Directory, Searched, tests_of}
+use Rattle.cck_cache_text.specs.SearchList.{IsSearchList, SearchFields}
+use Rattle.cck_cache_text.specs.Splices.{unspliced}
 use Rattle.cck_cache_files.specs.Sources.{AsksFor, IsPlainSource, IsSource}
 use Rattle.cck_cache_files.specs.declared.path_states.PathStates.{PathStates}
 use Rattle.cck_cache_rules.specs.declared.refusal.Refusal.{Refusal}

@@ -9,12 +9,12 @@ use Rattle.cck_cache_command.specs.declared.unnamed.Unnamed.{Unnamed}
 use Rattle.cck_cache_command.specs.declared.unnamed.Unnamed.TheVariants.{Tests, Refused}
 use Rattle.cck_cache_command.specs.declared.unnamed.UnnamedVerdict.{UnnamedVerdict}
 use Rattle.cck_cache_command.specs.declared.unnamed.UnnamedVerdict.TheVariants.{Passed, Spelling, Doubtful}
-use Rattle.cck_cache_entry.specs.Left.{IsLeftOn}
-use Rattle.cck_cache_entry.specs.LookedAt.{IsLookedAt}
-use Rattle.cck_cache_entry.specs.Names.{is_named}
-use Rattle.cck_cache_entry.specs.PathTest.{Test, Directory, tests_of}
-use Rattle.cck_cache_entry.specs.SearchList.{IsSearchList, SearchFields}
-use Rattle.cck_cache_entry.specs.Sets.{has_key}
+use Rattle.cck_cache_text.specs.Left.{IsLeftOn}
+use Rattle.cck_cache_text.specs.LookedAt.{IsLookedAt}
+use Rattle.cck_cache_text.specs.Names.{is_named}
+use Rattle.cck_cache_rules.specs.PathTest.{Test, Directory, tests_of}
+use Rattle.cck_cache_text.specs.SearchList.{IsSearchList, SearchFields}
+use Rattle.cck_cache_text.specs.Sets.{has_key}
 use Rattle.cck_cache_files.specs.Copies.{AreKnown, IsInSnapshot}
 use Rattle.cck_cache_files.specs.declared.copies.KnownFile.{KnownFile}
 use Rattle.cck_cache_files.specs.PathStates.{AreOnTheWay, HasOther, IsFirstOther}
@@ -22,7 +22,7 @@ use Rattle.cck_cache_files.specs.declared.path_states.PathState.TheVariants as s
 use Rattle.cck_cache_files.specs.declared.path_states.PathStates.{PathStates}
 use Rattle.cck_cache_rules.specs.declared.refusal.Refusal.{Refusal}
 use Rattle.cck_cache_rules.specs.declared.refusal.Refusal.TheVariants.{NoKey, InputChanged, DayChanged, NoSearchList, UnknownHeader, HeaderTest, DependencyPragma, AssemblerInclude, OtherFile, EarlierPath, NamedFile, BaseDirectory}
-use Rattle.cck_cache_words.specs.declared.request.Request.{Request}
+use Rattle.cck_cache_arguments.specs.declared.request.Request.{Request}
 use Rattle.cck_files.specs.FileMap.{FileMap}
 use Rattle.cck_markers.specs.Marks.{Mark, Marks}
 use Rattle.cck_path.specs.Bytes.{Bytes}

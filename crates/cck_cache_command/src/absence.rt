@@ -2,16 +2,16 @@
 ghost use Rattle.std.specs.Prelude.{◌≡◌, ◌++◌, Contains, IfOk, IsOkUnless, IsTrue, OnOk, map};
 ghost use Rattle.std.specs.Option.{option_map};
 ghost use Rattle.cck_cache_command.specs.Absence.{AreAbsentPaths, GainsPath, IsAbsence, IsVerdict};
-ghost use Rattle.cck_cache_entry.specs.PathTest.{Absent, Directory, tests_of};
-ghost use Rattle.cck_cache_entry.specs.Sets.{has_key};
+ghost use Rattle.cck_cache_rules.specs.PathTest.{Absent, Directory, tests_of};
+ghost use Rattle.cck_cache_text.specs.Sets.{has_key};
 ghost use Rattle.cck_cache_files.specs.PathStates.{IsFirstOther, KeepsStates};
 ghost use Rattle.cck_cache_files.specs.declared.path_states.PathStates.{PathStates};
 ghost use Rattle.cck_path.specs.Bytes.{lists_of};
 
 use crate::searched::searched_tests;
-use cck_cache_entry::{PathTest, SearchList, absent_names, left_directories};
 use cck_cache_files::{PathState, PathStates};
-use cck_cache_rules::Refusal;
+use cck_cache_rules::{PathTest, Refusal};
+use cck_cache_text::{SearchList, absent_names, left_directories};
 use cck_digest::UtilError;
 use cck_path::join_path;
 use std::alloc::{AllocError, Global};

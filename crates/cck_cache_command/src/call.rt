@@ -7,10 +7,10 @@ ghost use Rattle.cck_path.specs.Bytes.{lists_of};
 
 use crate::request::push_argument;
 use anyhow::Result;
+use cck_cache_arguments::{CompilerCall, Request};
 use cck_cache_options::{
     Call, Keyed, dependency_path, object_path, push_preprocessor_arguments, push_word,
 };
-use cck_cache_words::{CompilerCall, Request};
 use std::alloc::{AllocError, Global};
 use std::io::Write;
 

@@ -1,11 +1,11 @@
 //! What a process is given beside its words.
 ghost use Rattle.std.specs.Prelude.{◌≡◌, IfOk, map};
 ghost use Rattle.cck_cache_command.specs.Environment.{variable_names};
-ghost use Rattle.cck_time.specs.Config.{activated};
+ghost use Rattle.cck_include.specs.Config.{activated};
 
 use anyhow::{Result, bail};
+use cck_include::PreprocessorCacheModeConfig;
 use cck_path::Timestamp;
-use cck_time::PreprocessorCacheModeConfig;
 use cck_util::request_variable_names;
 use jiff::tz::TimeZone;
 use std::alloc::{AllocError, Global};

@@ -6,8 +6,8 @@ ghost use Rattle.cck_path.specs.Bytes.{lists_of};
 
 use crate::call::{CallPaths, paths_of};
 use crate::response::may_name_arguments;
-use cck_cache_entry::may_ask_for_file;
 use cck_cache_options::{Call, Parsed, Reason, Row, parse};
+use cck_cache_text::may_ask_for_file;
 use std::alloc::{AllocError, Global};
 
 /// Why a call is not cached.

@@ -3,9 +3,9 @@ ghost use Rattle.std.specs.Prelude.{◌≡◌};
 ghost use Rattle.cck_cache_command.specs.Outputs.{has_outputs};
 
 use anyhow::{Context, Result};
-use cck_cache_entry::ObjectFile;
+use cck_cache_arguments::Outputs;
 use cck_cache_files::StoreDirectory;
-use cck_cache_words::Outputs;
+use cck_cache_rules::ObjectFile;
 use std::io::Write;
 use std::rt::Files;
 use std::{fs, io};

@@ -14,11 +14,11 @@ use crate::store::store_in;
 use crate::unpack::unpack;
 use crate::why::print_why;
 use anyhow::{Result, bail};
-use cck_cache_files::{Kind, StoreDirectory};
-use cck_cache_options::{Call, GCC, rows_of};
-use cck_cache_words::{
+use cck_cache_arguments::{
     Action, Compilation, CompilerCall, Look, Outputs, Packed, Request, Task, task_of,
 };
+use cck_cache_files::{Kind, StoreDirectory};
+use cck_cache_options::{Call, GCC, rows_of};
 use cck_path::Timestamp;
 use clap::Error;
 use clap::error::ErrorKind;

@@ -3,9 +3,9 @@ ghost use Rattle.std.specs.Prelude.{◌≡◌, ◌++◌, ◌↔◌, IfOk, IfSome
 ghost use Rattle.std.specs.Option.{option_map};
 ghost use Rattle.cck_cache_command.specs.Input.{IsCalm};
 ghost use Rattle.cck_cache_command.specs.Record.{HasNoLocalTime, IsJudgedByInput, IsJudgedByReading, IsLocalTime, IsOneDay, IsOutcome, IsOutcomeOver, IsRefusedByBase, IsSeen, IsTold, ObjectShowsBase, recorded_fields};
-ghost use Rattle.cck_cache_entry.specs.Files.{entry_fields};
-ghost use Rattle.cck_cache_entry.specs.PathTest.{tests_of};
-ghost use Rattle.cck_cache_entry.specs.ReadFiles.{IsAssembledRule, IsOpenedRule};
+ghost use Rattle.cck_cache_rules.specs.Files.{entry_fields};
+ghost use Rattle.cck_cache_rules.specs.PathTest.{tests_of};
+ghost use Rattle.cck_cache_text.specs.ReadFiles.{IsAssembledRule, IsOpenedRule};
 ghost use Rattle.cck_files.specs.Calls.{Keeps};
 ghost use Rattle.cck_files.specs.FileState.{IsQuiet, fault_count};
 ghost use Rattle.cck_path.specs.Bytes.{lists_of};
@@ -19,11 +19,12 @@ use crate::request::{base_words, hasher_of, snapshot_request};
 use crate::tested::{Tested, tested_by};
 use crate::unnamed::{Unnamed, unnamed_by};
 use anyhow::Result;
-use cck_cache_base::{bases_of, shows_base};
-use cck_cache_entry::{EntryFile, ObjectFile, PathTest, assembles_alone, opens_named_alone};
+use cck_cache_arguments::{Compilation, Made, Request};
 use cck_cache_files::{Kind, PathStates, StoreDirectory, add_named_files};
-use cck_cache_rules::{Known, Refusal, refusal_of};
-use cck_cache_words::{Compilation, Made, Request};
+use cck_cache_rules::{
+    EntryFile, Known, ObjectFile, PathTest, Refusal, bases_of, refusal_of, shows_base,
+};
+use cck_cache_text::{assembles_alone, opens_named_alone};
 use cck_files::MapFiles;
 use cck_path::Timestamp;
 use cck_snapshot::{RecordedEntry, Recording, SnapshotRequest, preprocessor_key, record_text};

@@ -1,10 +1,10 @@
 //! The compilation of a request.
 ghost use Rattle.std.specs.Prelude.{◌≡◌, ◌++◌, ◌∷◌, [], Bool, IfOk, OnOk, string_bytes};
 ghost use Rattle.std.specs.Option.{option_map};
-ghost use Rattle.cck_cache_base.specs.Base.{word_lists};
+ghost use Rattle.cck_cache_rules.specs.Base.{word_lists};
 ghost use Rattle.cck_cache_command.specs.Input.{IsInput};
 ghost use Rattle.cck_cache_command.specs.Request.{AreKeyed, HasPreprocessorKey, IsHasher, IsRequest, gcc_arguments, request_words};
-ghost use Rattle.cck_cache_words.specs.declared.request.Request as words;
+ghost use Rattle.cck_cache_arguments.specs.declared.request.Request as words;
 ghost use Rattle.cck_compiler.specs.Seen.{arguments_of};
 ghost use Rattle.cck_path.specs.Bytes.{lists_of};
 
@@ -12,9 +12,9 @@ use crate::environment::Environment;
 use crate::store::store_in;
 use anyhow::{Context, Result};
 use c_cache_keys::{CCompilerHasher, CCompilerKind, ParsedArguments};
-use cck_cache_base::{Words, base_of};
+use cck_cache_arguments::Request;
 use cck_cache_files::{compiler_digest, shared_compiler_digest};
-use cck_cache_words::Request;
+use cck_cache_rules::{Words, base_of};
 use cck_compiler::copy_lists;
 use cck_files::MapFiles;
 use cck_path::Timestamp;

@@ -2,12 +2,13 @@
 ghost use Rattle.std.specs.Prelude.{◌≡◌, IfOk, IsOkUnless};
 ghost use Rattle.std.specs.Option.{option_map};
 ghost use Rattle.cck_cache_command.specs.Searched.{AddsSearched, AreSearchedTests, is_expected};
-ghost use Rattle.cck_cache_entry.specs.PathTest.{tests_of};
-ghost use Rattle.cck_cache_entry.specs.SearchList.{search_fields};
+ghost use Rattle.cck_cache_rules.specs.PathTest.{tests_of};
+ghost use Rattle.cck_cache_text.specs.SearchList.{search_fields};
 ghost use Rattle.cck_path.specs.Bytes.{lists_of};
 
-use cck_cache_entry::{PathTest, SearchList};
 use cck_cache_files::SearchedDirectories;
+use cck_cache_rules::PathTest;
+use cck_cache_text::SearchList;
 use cck_digest::UtilError;
 use cck_path::join_path;
 use std::rt::Files;

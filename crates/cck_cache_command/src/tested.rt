@@ -2,16 +2,16 @@
 ghost use Rattle.std.specs.Prelude.{◌≡◌, IfOk, IsTrue};
 ghost use Rattle.std.specs.Option.{option_map};
 ghost use Rattle.cck_cache_command.specs.Tested.{AreTestsFor, IsTestOrDoubt, IsTested};
-ghost use Rattle.cck_cache_entry.specs.PathTest.{test_of, tests_of};
-ghost use Rattle.cck_cache_entry.specs.Sets.{has_key};
+ghost use Rattle.cck_cache_rules.specs.PathTest.{test_of, tests_of};
+ghost use Rattle.cck_cache_text.specs.Sets.{has_key};
 ghost use Rattle.cck_cache_files.specs.PathStates.{KeepsStates};
 ghost use Rattle.cck_files.specs.Calls.{Keeps};
 ghost use Rattle.cck_files.specs.FileState.{IsQuiet, fault_count};
 
 use crate::absence::{PathVerdict, path_verdict};
-use cck_cache_entry::{PathTest, SearchList};
 use cck_cache_files::{Asked, PathStates, asked_by};
-use cck_cache_rules::Refusal;
+use cck_cache_rules::{PathTest, Refusal};
+use cck_cache_text::SearchList;
 use cck_digest::UtilError;
 use cck_files::MapFiles;
 use cck_path::join_path;

@@ -2,20 +2,20 @@
 ghost use Rattle.std.specs.Prelude.{◌≡◌, ◌↔◌, ◌≤◌, IfOk, IfSome, IsTrue, MatchBool, OnOk, length};
 ghost use Rattle.std.specs.Option.{option_map};
 ghost use Rattle.cck_cache_command.specs.Unnamed.{AreCompared, AreSpellings, IsPresence, IsThere, IsUnnamed, IsUnnamedVerdict, KeepsKnown, LeadsNotTo, LeadsTo, MayImport, begins_import};
-ghost use Rattle.cck_cache_entry.specs.Sets.{has_key};
+ghost use Rattle.cck_cache_text.specs.Sets.{has_key};
 ghost use Rattle.cck_cache_files.specs.PathStates.{KeepsStates};
 ghost use Rattle.cck_files.specs.Calls.{Keeps};
 ghost use Rattle.cck_files.specs.FileState.{IsQuiet, fault_count};
 ghost use Rattle.cck_path.specs.Bytes.{lists_of};
 
 use crate::absence::add_directories;
-use cck_cache_entry::{PathTest, SearchList, add_left, looked_at_paths};
+use cck_cache_arguments::Request;
 use cck_cache_files::{
     KnownFile, PathState, PathStates, add_known, is_in_snapshot, is_one_file, known_files,
     may_be_copy,
 };
-use cck_cache_rules::Refusal;
-use cck_cache_words::Request;
+use cck_cache_rules::{PathTest, Refusal};
+use cck_cache_text::{SearchList, add_left, looked_at_paths};
 use cck_digest::UtilError;
 use cck_files::MapFiles;
 use cck_path::{Timestamp, join_path, normalize_path};

@@ -1,9 +1,9 @@
 //! Takes an object from an object file.
 use crate::outputs::{has_outputs, write_outputs};
 use anyhow::{Context, Result};
+use cck_cache_arguments::Packed;
 use cck_cache_files::StoreDirectory;
 use cck_cache_rules::object_in;
-use cck_cache_words::Packed;
 use cck_util::Sha256State;
 use std::fs;
 use std::io::Write;

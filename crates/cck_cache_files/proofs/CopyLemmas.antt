@@ -8,8 +8,8 @@ use Rattle.std.specs.Str.{bytes_eq}
 use Rattle.std.proofs.lemmas.Bool.{cases_lt, or_cases, or_left, or_right}
 use Rattle.std.proofs.lemmas.List.Elements.{Contains-append_cases, Contains-append_left, Contains-append_right}
 use Rattle.std.proofs.lemmas.Slice.Eq.{bytes_eq-Decides}
-use Rattle.cck_cache_entry.specs.Sets.{has_key}
-use Rattle.cck_cache_entry.proofs.SetLemmas.{has_key_at, key_at}
+use Rattle.cck_cache_text.specs.Sets.{has_key}
+use Rattle.cck_cache_text.proofs.SetLemmas.{has_key_at, key_at}
 use Rattle.cck_cache_files.specs.Copies.{AreKnown, IsKnownOf, IsMetadataAt, known_of}
 use Rattle.cck_cache_files.specs.Snapshot.{named_path}
 use Rattle.cck_cache_files.specs.declared.copies.KnownFile.{KnownFile}

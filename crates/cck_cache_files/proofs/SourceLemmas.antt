@@ -5,11 +5,11 @@ use Rattle.std.specs.Global.{Vec}
 use Rattle.std.proofs.lemmas.Bool.{cases_lt}
 use Rattle.std.specs.List.{list_any}
 use Rattle.std.specs.Str.{bytes_eq}
-use Rattle.cck_cache_entry.specs.HeaderTests.{AreTests, TestFields}
-use Rattle.cck_cache_entry.specs.Sets.{Adds, IsSetOf, has_key}
-use Rattle.cck_cache_entry.proofs.SetLemmas.{Below, adds_as, adds_more, adds_nothing, has_key_at, key_at}
-use Rattle.cck_cache_entry.specs.Splices.{unspliced}
-use Rattle.cck_cache_entry.specs.TestedPaths.{IsPathOfTests}
+use Rattle.cck_cache_text.specs.HeaderTests.{AreTests, TestFields}
+use Rattle.cck_cache_text.specs.Sets.{Adds, IsSetOf, has_key}
+use Rattle.cck_cache_text.proofs.SetLemmas.{Below, adds_as, adds_more, adds_nothing, has_key_at, key_at}
+use Rattle.cck_cache_text.specs.Splices.{unspliced}
+use Rattle.cck_cache_text.specs.TestedPaths.{IsPathOfTests}
 use Rattle.cck_cache_files.specs.declared.sources.Asked.{Asked}
 use Rattle.cck_cache_files.specs.declared.sources.Asked.TheVariants.{Paths, Unknown, Time}
 use Rattle.cck_digest.specs.declared.error.FileError.{FileError}

@@ -1,8 +1,8 @@
 -- The tests up to one of them.
 use Rattle.std.proofs.Common.{◌≡◌, ◌∙◌, ℕ, suc, ◌<◌, ◌+◌, List, [], ◌∷◌, ◌++◌, length, map, take, drop, get_or, sym, ap, add-one, drop-cons}
 use Rattle.std.proofs.lemmas.List.{map-append, take-append-drop, take_more}
-use Rattle.cck_cache_entry.specs.PathTest.{test_of, tests_of}
-use Rattle.cck_cache_entry.specs.declared.path_test.PathTest.{PathTest}
+use Rattle.cck_cache_rules.specs.PathTest.{test_of, tests_of}
+use Rattle.cck_cache_rules.specs.declared.path_test.PathTest.{PathTest}
 
 pub taken : (tests : List PathTest) (i : ℕ) (test : PathTest) → i < length tests → test ≡ get_or tests i test → tests_of (take (i + 1) tests) ≡ tests_of (take i tests) ++ test_of test ∷ []
 taken tests i test within is =

@@ -2,11 +2,11 @@
 use Rattle.std.specs.Prelude.{◌≡◌, ◌⊎◌, ℕ, true, false, List, Option, Some, None, Ok, Err, IsTrue}
 use Rattle.std.specs.BTreeSet.{BTreeSet}
 use Rattle.std.specs.Global.{Vec}
-use Rattle.cck_cache_entry.specs.HeaderTests.{AreTests, TestFields, has_dependency}
-use Rattle.cck_cache_entry.specs.Names.{is_named}
-use Rattle.cck_cache_entry.specs.Sets.{Adds, IsSetOf}
-use Rattle.cck_cache_entry.specs.Splices.{unspliced}
-use Rattle.cck_cache_entry.specs.TestedPaths.{IsPathOfTests}
+use Rattle.cck_cache_text.specs.HeaderTests.{AreTests, TestFields, has_dependency}
+use Rattle.cck_cache_text.specs.Names.{is_named}
+use Rattle.cck_cache_text.specs.Sets.{Adds, IsSetOf}
+use Rattle.cck_cache_text.specs.Splices.{unspliced}
+use Rattle.cck_cache_text.specs.TestedPaths.{IsPathOfTests}
 use Rattle.cck_cache_files.specs.Snapshot.{named_path}
 use Rattle.cck_cache_files.specs.declared.sources.Asked.{Asked}
 use Rattle.cck_cache_files.specs.declared.sources.Asked.TheVariants.{Paths, Unknown, Time}

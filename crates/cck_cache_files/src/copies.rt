@@ -4,8 +4,8 @@
 //! length, the same time to the second and the same contents, at whatever path it finds it.
 ghost use Rattle.std.specs.Prelude.{◌≡◌, ◌↔◌, ◌⊎◌, Contains, IfOk, IsTrue, IsUtf8, List, MatchBool, OnErr, true};
 ghost use Rattle.std.specs.Fs.{file_type};
-ghost use Rattle.cck_cache_entry.specs.Names.{is_named};
-ghost use Rattle.cck_cache_entry.specs.Sets.{has_key};
+ghost use Rattle.cck_cache_text.specs.Names.{is_named};
+ghost use Rattle.cck_cache_text.specs.Sets.{has_key};
 ghost use Rattle.cck_cache_files.specs.Copies.{AddsKnown, AreKnown, IsInSnapshot, IsKnownAt, IsKnownOf, IsLengthLike, IsLike, IsNotTaken, IsSecondLike, MayBeTaken, known_of, second_of};
 ghost use Rattle.cck_cache_files.specs.declared.copies.KnownFile.{KnownFile};
 ghost use Rattle.cck_files.specs.Calls.{Keeps};
@@ -14,7 +14,7 @@ ghost use Rattle.cck_markers.specs.Marks as spec;
 ghost use Rattle.cck_markers.specs.Marks.{Marks};
 
 use crate::times::{changed, changed_before, modified};
-use cck_cache_entry::file_names;
+use cck_cache_text::file_names;
 use cck_digest::{FileError, UtilError};
 use cck_files::{Files as FilesInMemory, MapFiles};
 use cck_path::{FileKind, Metadata, Timestamp, join_path, normalize_path};

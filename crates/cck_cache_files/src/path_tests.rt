@@ -1,13 +1,13 @@
 //! Tests of paths, as these are now.
 ghost use Rattle.std.specs.Prelude.{IfOk, MatchBool};
 ghost use Rattle.std.specs.Option.{option_map};
-ghost use Rattle.cck_cache_entry.specs.PathTest.{test_of, tests_of};
-ghost use Rattle.cck_cache_entry.specs.PathTest as spec;
+ghost use Rattle.cck_cache_rules.specs.PathTest.{test_of, tests_of};
+ghost use Rattle.cck_cache_rules.specs.PathTest as spec;
 ghost use Rattle.cck_cache_files.specs.PathTests.{Fails, Holds, IsFirstFailing};
 
 use crate::path_states::{is_absent, is_directory, is_file};
 use crate::searched::SearchedDirectories;
-use cck_cache_entry::PathTest;
+use cck_cache_rules::PathTest;
 use std::alloc::AllocError;
 use std::rt::Files;
 

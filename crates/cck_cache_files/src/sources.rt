@@ -1,21 +1,20 @@
 //! What the sources of a text ask for beside the files that they include.
 ghost use Rattle.std.specs.Prelude.{IfOk, IsTrue, List, true};
 ghost use Rattle.std.specs.Option.{option_map};
-ghost use Rattle.cck_cache_entry.specs.Names.{is_named};
-ghost use Rattle.cck_cache_entry.specs.Sets.{has_key};
-ghost use Rattle.cck_cache_entry.specs.SearchList.{search_fields};
+ghost use Rattle.cck_cache_text.specs.Names.{is_named};
+ghost use Rattle.cck_cache_text.specs.Sets.{has_key};
+ghost use Rattle.cck_cache_text.specs.SearchList.{search_fields};
 ghost use Rattle.cck_cache_files.specs.Sources.{AreAsked, IsContents, IsContentsAt, SourceAsks};
 ghost use Rattle.cck_files.specs.Calls.{Keeps};
 ghost use Rattle.cck_files.specs.FileState.{IsQuiet, fault_count};
 ghost use Rattle.cck_markers.specs.Marks as spec;
 ghost use Rattle.cck_markers.specs.Marks.{Marks};
 
-use cck_cache_entry::{
+use cck_cache_text::{
     SearchList, add_tested_paths, file_names, has_dependency_pragma, header_tests, unspliced,
 };
 use cck_digest::{FileError, UtilError};
-use cck_file_digest::read_contents;
-use cck_files::MapFiles;
+use cck_files::{MapFiles, read_contents};
 use cck_path::{join_path, normalize_path};
 use std::alloc::{AllocError, Global};
 use std::collections::BTreeSet;

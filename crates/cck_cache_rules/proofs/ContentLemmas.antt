@@ -1,6 +1,6 @@
 -- What bytes hold for a key, from what they are read as.
 use Rattle.std.proofs.Common.{◌≡◌, ℕ, List, None, Some, sym, ap, ◌∙◌}
-use Rattle.cck_cache_entry.specs.Reading.{ReadsBack}
+use Rattle.cck_cache_rules.specs.Reading.{ReadsBack}
 use Rattle.cck_cache_rules.specs.Contents.{ReadsFor}
 
 module _ {X : Type 0} (key_of write : X → List ℕ) (key written : List ℕ) where

@@ -1,3 +1,12 @@
+pub mod ArgumentLemmas
+mod BaseExamples
+pub mod BaseLemmas
 mod ContentLemmas
+pub mod EqualityLemmas
 mod Examples
+pub mod ListLemmas
 mod ObjectNameLemmas
+pub mod ReadingLemmas
+pub mod StoredLemmas
+pub mod TestLemmas
+pub mod TextLemmas

@@ -1,6 +1,6 @@
 -- what bytes hold for a key
 use Rattle.std.specs.Prelude.{◌≡◌, ℕ, List, Option, Some, None}
-use Rattle.cck_cache_entry.specs.Files.{EntryFields, ObjectFields}
+use Rattle.cck_cache_rules.specs.Files.{EntryFields, ObjectFields}
 
 abbrev pub key_of_entry : EntryFields → List ℕ
 key_of_entry file = file.preprocessor_key

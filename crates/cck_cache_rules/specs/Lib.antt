@@ -1,4 +1,13 @@
 pub mod Age
+pub mod Argument
+pub mod Base
 pub mod Contents
+pub mod Files
+pub mod Frames
 pub mod ObjectName
+pub mod PathTest
+pub mod Reading
 pub mod Refusal
+pub mod Shown
+pub mod Stored
+pub mod Text

@@ -1,10 +1,10 @@
 //! What bytes of a file of a store hold for a key.
 ghost use Rattle.std.specs.Prelude.{IfOk, IsOkUnless};
 ghost use Rattle.std.specs.Option.{option_map};
-ghost use Rattle.cck_cache_entry.specs.Files.{entry_fields, entry_file, object_fields, object_file};
+ghost use Rattle.cck_cache_rules.specs.Files.{entry_fields, entry_file, object_fields, object_file};
 ghost use Rattle.cck_cache_rules.specs.Contents.{ReadsFor, key_of_entry, key_of_object};
 
-use cck_cache_entry::{EntryFile, ObjectFile};
+use crate::{EntryFile, ObjectFile};
 use cck_digest::{HashState, UtilError};
 use std::alloc::Global;
 

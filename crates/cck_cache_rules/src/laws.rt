@@ -1,8 +1,10 @@
 //! Laws about the definitions. Each is the contract of a function with an empty body.
 ghost use Rattle.std.specs.Prelude.{◌≡◌, ◌↔◌, IsTrue};
+ghost use Rattle.cck_cache_rules.specs.Files.{entry_fields, object_fields};
 ghost use Rattle.cck_cache_rules.specs.ObjectName.{MaterialTellsObject};
+ghost use Rattle.cck_cache_rules.specs.PathTest.{test_of};
 
-use crate::Refusal;
+use crate::{EntryFile, ObjectFile, PathTest, Refusal};
 
 /// What is hashed for the names of two objects is equal exactly if their keys, the digests of their
 /// inputs and the recorded digests of both groups of their files are. Each length and each count is
@@ -14,4 +16,22 @@ pub fn material_tells_object()
 /// Two [`Refusal`]s are equal exactly if they are the same.
 pub fn refusal_equality_is_exact()
     ensures { (a b : Refusal) → IsTrue (⟦<Refusal as PartialEq>⟧.eq a b) ↔ (a ≡ b) }
+{}
+
+/// Two [`EntryFile`]s are equal exactly if all their fields are, byte for byte.
+pub fn entry_file_equality_is_exact()
+    ensures { (a b : EntryFile) →
+        IsTrue (⟦<EntryFile as PartialEq>⟧.eq a b) ↔ (entry_fields a ≡ entry_fields b) }
+{}
+
+/// Two [`ObjectFile`]s are equal exactly if all their fields are, byte for byte.
+pub fn object_file_equality_is_exact()
+    ensures { (a b : ObjectFile) →
+        IsTrue (⟦<ObjectFile as PartialEq>⟧.eq a b) ↔ (object_fields a ≡ object_fields b) }
+{}
+
+/// Two [`PathTest`]s are equal exactly if they are of one kind, and their paths and places are equal.
+pub fn path_test_equality_is_exact()
+    ensures { (a b : PathTest) →
+        IsTrue (⟦<PathTest as PartialEq>⟧.eq a b) ↔ (test_of a ≡ test_of b) }
 {}

@@ -1,23 +1,51 @@
-//! The rules of a cache over real files: what bytes of a file hold for a key, the name of an object,
-//! what is not recorded, and what a killed recording left.
+//! The rules of a cache over real files: what a store keeps and under which names, which compilations
+//! are portable, what is not recorded, and what a killed recording left.
 //!
 //! All calls are on values: none reads a file.
 //!
-//! - [`entry_in`] and [`object_in`] return what the bytes of a file hold for a key.
+//! - [`EntryFile`] and [`ObjectFile`] are the two kinds of file of a store. Their bytes end in
+//!   frames, under a digest over all of them, so that a file that was cut or changed is not read.
+//!   [`entry_in`] and [`object_in`] return what the bytes of a file hold for a key.
+//! - [`PathTest`] is what must hold of a path before an entry is used.
 //! - [`object_name`] returns the name under which an object is kept.
 //! - [`refusal_of`] says why a compilation is not recorded, by what is known before the files of its
 //!   text are judged.
 //! - [`is_abandoned`] says whether a file was left by a recording that was killed.
-//! - [`laws`] states what equal names have in common, and what `==` of a [`Refusal`] means.
+//! - [`laws`] states what equal names have in common, and what `==` means for the types.
+//!
+//! # Base directories
+//!
+//! A compilation is *portable* if the words and the text of it name the base directory only where
+//! the object has something else in its place. Such a compilation has a key without the base
+//! directory; every other one has a key with all directories in it.
+//!
+//! - [`base_of`] returns the base directory of portable words.
+//! - [`bases_of`] lists the base directories that are cut from the key of words and a text.
+//! - [`shows_base`] says whether a base directory is in what a compilation made.
 #![tactic(auto)]
 
 mod age;
+mod argument;
+mod base;
 mod contents;
+mod entry_file;
+mod frames;
 pub mod laws;
+mod object_file;
 mod object_names;
+mod path_test;
 mod refusal;
+mod shown;
+mod stored;
+mod text;
 
 pub use age::is_abandoned;
+pub use base::{Words, base_of};
 pub use contents::{entry_in, object_in};
+pub use entry_file::EntryFile;
+pub use object_file::ObjectFile;
 pub use object_names::object_name;
+pub use path_test::PathTest;
 pub use refusal::{Known, Refusal, refusal_of};
+pub use shown::shows_base;
+pub use text::bases_of;

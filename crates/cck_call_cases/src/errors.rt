@@ -1,7 +1,7 @@
 //! Errors, by their numbers and texts.
 use c_cache_keys::{KeyError, PreprocessError, StoreError};
 use cck_cases::{CaseError, Value, find};
-use cck_time::Error;
+use cck_digest::Error;
 use cck_util::{FileError, UtilError};
 use std::alloc::Global;
 

@@ -1,4 +1,5 @@
-//! Cases of compilers, stores, calls for keys and lists of calls.
+//! Cases of compilers, stores, calls for keys and lists of calls; and [`examples`], calls at types of a
+//! caller's own.
 //!
 //! [`run_file`] runs a vector file. `docs/TESTING.md` has the grammar.
 //!
@@ -30,6 +31,7 @@ mod arguments;
 mod calls;
 mod compilers;
 mod errors;
+pub mod examples;
 mod fixed_compiler;
 mod keys;
 mod lists;

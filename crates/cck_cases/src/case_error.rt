@@ -1,5 +1,5 @@
 //! Why a call returned no value.
-use cck_time::Error;
+use cck_digest::Error;
 use cck_util::{FileError, UnknownLanguage, UtilError};
 use std::alloc::{AllocError, AllocFailed};
 

@@ -2,7 +2,7 @@
 use crate::case_error::CaseError;
 use crate::table::find;
 use crate::text::{bytes_of, moment_of, number, optional_moment_of};
-use cck_time::PreprocessorCacheModeConfig;
+use cck_include::PreprocessorCacheModeConfig;
 use cck_util::{FileKind, MapFiles, Node, Timestamp};
 use std::alloc::Global;
 

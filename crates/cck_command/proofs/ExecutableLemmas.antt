@@ -3,8 +3,8 @@ use Rattle.std.proofs.Common.{◌≡◌, [], ap, refl, ◌∙◌, Some, None, co
 use Rattle.std.specs.FinMap as finite
 use Rattle.std.specs.Option.{option_map}
 use Rattle.cck_digest.specs.Digest.{digest_text}
-use Rattle.cck_file_digest.specs.FileDigest.{digest_text_at}
-use Rattle.cck_file_digest.specs.FolderText.{digest_material, material_of, opening, node_and_reached, whole_part}
+use Rattle.cck_files.specs.FileDigest.{digest_text_at}
+use Rattle.cck_files.specs.FolderText.{digest_material, material_of, opening, node_and_reached, whole_part}
 use Rattle.cck_files.specs.FileMap.{FileMap}
 use Rattle.cck_path.specs.Bytes.{Bytes}
 use Rattle.cck_path.specs.Path.{Path, components}

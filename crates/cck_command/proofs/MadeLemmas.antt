@@ -16,8 +16,8 @@ use Rattle.cck_script.specs.Lines.{Line}
 use Rattle.cck_script.specs.Script.{basedirs_of, zone_of}
 use Rattle.cck_script.specs.Surroundings.{AreAfter, ArePlacesOf}
 use Rattle.cck_script.specs.declared.surroundings.Surroundings.{Surroundings}
-use Rattle.cck_time.specs.Config.{activated}
-use Rattle.cck_time.specs.declared.config.PreprocessorCacheModeConfig.{PreprocessorCacheModeConfig}
+use Rattle.cck_include.specs.Config.{activated}
+use Rattle.cck_include.specs.declared.config.PreprocessorCacheModeConfig.{PreprocessorCacheModeConfig}
 use Rattle.c_cache_keys.proofs.Runs.{run_joined, transparent}
 use Rattle.c_cache_keys.proofs.Stored.{run_returns_stored}
 use Rattle.c_cache_keys.specs.Call.{CallResult}

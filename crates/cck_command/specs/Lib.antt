@@ -1,6 +1,9 @@
 pub mod KeyRequest
 pub mod Made
 pub mod MiniCompiler
+pub mod MiniErrors
+pub mod MiniPrinted
+pub mod MiniSeen
 pub mod Printing
 pub mod Program
 pub mod Request

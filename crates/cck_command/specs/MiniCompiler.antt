@@ -5,7 +5,7 @@ use Rattle.cck_compiler.specs.Compiler.{Compilation, Compiler, NotCompilation, P
 use Rattle.cck_compiler.specs.Arguments.{Arguments, Output, only_input}
 use Rattle.cck_compiler.specs.declared.compiler.CCompilerKind.TheVariants.{Gcc}
 use Rattle.cck_path.specs.Bytes.{Bytes}
-use Rattle.cck_mini.specs.Printed.{printed_input}
+use Rattle.cck_command.specs.MiniPrinted.{printed_input}
 use Rattle.cck_util.specs.declared.language.Language.{Language}
 use Rattle.cck_util.specs.declared.language.Language.TheVariants as language
 

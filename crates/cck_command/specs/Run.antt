@@ -16,7 +16,7 @@ use Rattle.cck_script.specs.Surroundings.{AreFiles, executable_path, variables, 
 use Rattle.cck_script.specs.Calls as script
 use Rattle.cck_script.specs.Lines.{Line}
 use Rattle.cck_script.specs.Script.{basedirs_of, fail_of, forget_of, zone_of}
-use Rattle.cck_time.specs.Config.{activated}
+use Rattle.cck_include.specs.Config.{activated}
 use Rattle.c_cache_keys.specs.Call.{CallResult, Done, Keyed, ReturnsError, calls_of, Why, Memory, Extra, ExtraFault, Input, InputFault, Store, Damaged, NoText, TextFault, Marker}
 use Rattle.c_cache_keys.specs.Laws.{AllReturnStored, IsTransparent}
 use Rattle.c_cache_keys.specs.Premises.{Premises}

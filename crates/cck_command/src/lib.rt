@@ -14,7 +14,8 @@
 //! digest, the language, the arguments and the text alone. The calls of a script are made one after
 //! another by [`run_calls`](c_cache_keys::run_calls). Their files and variables are in memory and
 //! follow the script line by line. They share one store, which is in memory and empty at first.
-//! Their compiler is [`MiniCompiler`], whose preprocessor is [`cck_mini::print_input`].
+//! Their compiler is [`MiniCompiler`]. Its preprocessor is [`print_input`], which knows `#include`, one
+//! level deep, and three macros.
 //!
 //! [`ready_calls`] returns the calls of a script as values, each with its own files. Calls on these
 //! files can then be armed to fail before [`run_calls`](c_cache_keys::run_calls) makes the calls.
@@ -42,6 +43,7 @@
 mod calls;
 mod failed;
 pub mod laws;
+mod mini;
 mod mini_compiler;
 mod printing;
 mod program;
@@ -52,6 +54,7 @@ mod status;
 
 pub use calls::{compiler_of, ready_calls};
 pub use failed::Failed;
+pub use mini::{PrintError, print_input};
 pub use mini_compiler::MiniCompiler;
 pub use printing::print;
 pub use program::{engine, refuse};

@@ -4,13 +4,13 @@ ghost use Rattle.cck_compiler.specs.Seen.{arguments_of, output_of};
 ghost use Rattle.cck_path.specs.Bytes.{lists_of};
 ghost use Rattle.cck_command.specs.MiniCompiler.{compilation_of, language_of, outputs as outputs_seen};
 
+use crate::{PrintError, print_input};
 use c_cache_keys::{
     ArtifactDescriptor, CCompilerImpl, CCompilerKind, CompilerArguments, KeyError, ParsedArguments,
     PreprocessError,
 };
 use cck_compiler::copy_lists;
 use cck_files::Files;
-use cck_mini::{PrintError, print_input};
 use cck_path::Timestamp;
 use cck_util::Language;
 use std::alloc::Global;

@@ -8,7 +8,7 @@ use Rattle.std.proofs.lemmas.List.{append-nil, map-append, take_more}
 use Rattle.std.proofs.lemmas.Str.{IsUtf8-from_is_utf8, is_utf8-from_IsUtf8}
 use Rattle.cck_digest.specs.declared.error.FileError.{FileError}
 use Rattle.cck_digest.specs.declared.error.FileError.TheVariants as file
-use Rattle.cck_file_digest.specs.Folder.{child_names}
+use Rattle.cck_files.specs.Folder.{child_names}
 use Rattle.cck_files.specs.Calls.{IsErrorOrMemory}
 use Rattle.cck_files.specs.FileMap.{FileMap, folder_at}
 use Rattle.cck_path.specs.Bytes.{Bytes, variables_of}

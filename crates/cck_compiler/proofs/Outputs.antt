@@ -10,7 +10,7 @@ use Rattle.std.specs.Str.{bytes_eq}
 use Rattle.std.specs.String.{string_bytes}
 use Rattle.std.specs.declared.alloc.Global.{Global}
 use Rattle.std.proofs.lemmas.Map.Text.{is_eq-slice_cmp}
-use Rattle.cck_file_digest.specs.FolderText.{lossy}
+use Rattle.cck_files.specs.FolderText.{lossy}
 use Rattle.cck_path.specs.Bytes.{Bytes}
 use Rattle.cck_path.specs.Names.{file_name_of}
 use Rattle.cck_path.specs.Path.{components}

@@ -3,7 +3,7 @@ use Rattle.std.specs.Prelude.{List, [], ◌∷◌, Bool, false, not, Option, Non
 use Rattle.std.specs.List.{find}
 use Rattle.std.specs.Option.{option_and_then, option_map, option_map_or}
 use Rattle.std.specs.Str.{bytes_eq}
-use Rattle.cck_file_digest.specs.FolderText.{lossy}
+use Rattle.cck_files.specs.FolderText.{lossy}
 use Rattle.cck_path.specs.Bytes.{Bytes}
 use Rattle.cck_path.specs.Names.{file_name_of}
 use Rattle.cck_path.specs.Path.{components}

@@ -5,7 +5,7 @@ use Rattle.std.specs.Option.{option_and_then, option_map, option_map_or, unwrap_
 use Rattle.std.specs.Str.{bytes_eq, is_utf8}
 use Rattle.cck_digest.specs.declared.error.FileError.{FileError}
 use Rattle.cck_files.specs.FileMap.{FileMap, folder_at}
-use Rattle.cck_file_digest.specs.Folder.{child_names}
+use Rattle.cck_files.specs.Folder.{child_names}
 use Rattle.cck_path.specs.Bytes.{Bytes}
 use Rattle.cck_path.specs.Names.{extension_of, file_name_of}
 use Rattle.cck_path.specs.Path.{components}

@@ -4,8 +4,8 @@ use Rattle.std.specs.Global.{Vec}
 use Rattle.std.specs.Option.{option_map}
 use Rattle.std.specs.String.{string_bytes}
 use Rattle.std.specs.declared.alloc.Global.{Global}
-use Rattle.cck_key_error.specs.declared.preprocess_error.PreprocessError.{PreprocessError}
-use Rattle.cck_key_error.specs.declared.preprocess_error.PreprocessError.TheVariants as text
+use Rattle.cck_digest.specs.declared.preprocess_error.PreprocessError.{PreprocessError}
+use Rattle.cck_digest.specs.declared.preprocess_error.PreprocessError.TheVariants as text
 use Rattle.cck_path.specs.Bytes.{Bytes, lists_of}
 use Rattle.cck_compiler.specs.Arguments.{Arguments, Output}
 use Rattle.cck_compiler.specs.Compiler.{CannotCache, Compilation, NotCompilation, Parsed}

@@ -4,12 +4,12 @@ ghost use Rattle.std.specs.List.{find, list_any};
 ghost use Rattle.std.specs.Option.{option_map};
 ghost use Rattle.std.specs.Str.{bytes_eq};
 ghost use Rattle.cck_path.specs.Bytes.{lists_of};
-ghost use Rattle.cck_file_digest.specs.FolderText.{lossy};
+ghost use Rattle.cck_files.specs.FolderText.{lossy};
 ghost use Rattle.cck_compiler.specs.Arguments.{archs, is_arch, is_multiarch, only_input, output_name};
 ghost use Rattle.cck_compiler.specs.Seen.{arguments_of};
 
 use bstr::ByteSlice;
-use cck_key_error::KeyError;
+use cck_digest::KeyError;
 use cck_path::file_name;
 use cck_util::Language;
 use std::alloc::{AllocError, Global};
@@ -198,7 +198,7 @@ fn has_other_arch(args: &[Vec<u8>], arch: &[u8]) -> bool
 }
 
 // A name as text, with U+FFFD for what is no UTF-8.
-#[tactic(auto, unfolding(cck_file_digest::specs::FolderText::lossy))]
+#[tactic(auto, unfolding(cck_files::specs::FolderText::lossy))]
 fn shown_name(alloc: Global, name: &[u8]) -> Result<String, AllocError>
     ensures { IfOk result (λ text. string_bytes text ≡ lossy name.now) }
 {

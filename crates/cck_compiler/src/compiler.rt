@@ -3,8 +3,8 @@ ghost use Rattle.std.specs.Prelude.{◌≡◌, IfOk, IsOkUnless};
 ghost use Rattle.cck_path.specs.Bytes.{lists_of, variables_of};
 
 use crate::arguments::ParsedArguments;
+use cck_digest::{KeyError, PreprocessError};
 use cck_files::Files;
-use cck_key_error::{KeyError, PreprocessError};
 use cck_path::Timestamp;
 use std::alloc::Global;
 

@@ -7,7 +7,7 @@ ghost use Rattle.cck_compiler.specs.Seen.{arguments_of, output_of};
 
 use crate::arguments::{ArtifactDescriptor, ParsedArguments};
 use crate::lists::copy_lists;
-use cck_key_error::KeyError;
+use cck_digest::KeyError;
 use std::alloc::{AllocError, Global};
 use std::collections::BTreeMap;
 

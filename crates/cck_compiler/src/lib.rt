@@ -6,7 +6,7 @@
 //!
 //! [`add_extra_files`] adds to the arguments the files that no command line names but whose digests
 //! are part of the keys. [`KeyError`] is the error of a call for a key, parsing included. It and
-//! [`PreprocessError`] are those of `cck_key_error`.
+//! [`PreprocessError`] are those of `cck_digest`.
 //!
 //! ```rust
 //! let mut parsed = match compiler.parse_arguments(alloc, &arguments, b"/w", &vars)? {
@@ -27,7 +27,7 @@ pub mod laws;
 mod lists;
 
 pub use arguments::{ArtifactDescriptor, ColorMode, ParsedArguments};
-pub use cck_key_error::{KeyError, PreprocessError};
+pub use cck_digest::{KeyError, PreprocessError};
 pub use compiler::{CCompilerImpl, CCompilerKind, CompilerArguments};
 pub use extra_files::add_extra_files;
 pub use lists::{copy_lists, copy_text, push_copies};

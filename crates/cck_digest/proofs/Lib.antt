@@ -1,8 +1,10 @@
+pub mod EntryErrorLemmas
 pub mod EqualityLemmas
+pub mod FindLemmas
 pub mod FinderLemmas
 pub mod FrameLemmas
 pub mod HasLemmas
-pub mod FindLemmas
 pub mod HexLemmas
+pub mod KeyErrorLemmas
 pub mod ReadsBack
 pub mod StreamLemmas

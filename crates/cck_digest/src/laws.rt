@@ -5,7 +5,7 @@ ghost use Rattle.cck_digest.specs.Digest.{HexTellsBytes, digest_text};
 ghost use Rattle.cck_digest.specs.Frames.{length_bytes};
 ghost use Rattle.cck_digest.specs.TimeMacros.{HasIsTested};
 
-use crate::{FileError, HashState, UtilError};
+use crate::{Error, FileError, HashState, KeyError, PreprocessError, UtilError};
 
 /// Bytes with equal digits are equal, so a hex digest determines its digest.
 pub fn hex_tells_bytes()
@@ -36,4 +36,20 @@ pub fn file_error_equality_is_exact()
 /// Two [`UtilError`]s are equal exactly if they are the same error with the same cause.
 pub fn util_error_equality_is_exact()
     ensures { (a b : UtilError) → IsTrue (⟦<UtilError as PartialEq>⟧.eq a b) ↔ (a ≡ b) }
+{}
+
+/// Two [`KeyError`]s are equal exactly if they are the same variant with the same cause.
+pub fn key_error_equality_is_exact()
+    ensures { (a b : KeyError) → IsTrue (⟦<KeyError as PartialEq>⟧.eq a b) ↔ (a ≡ b) }
+{}
+
+/// Two [`PreprocessError`]s are equal exactly if they are the same variant with the same cause.
+pub fn preprocess_error_equality_is_exact()
+    ensures { (a b : PreprocessError) →
+        IsTrue (⟦<PreprocessError as PartialEq>⟧.eq a b) ↔ (a ≡ b) }
+{}
+
+/// Two [`Error`]s are equal exactly if they are the same error with the same cause.
+pub fn error_equality_is_exact()
+    ensures { (a b : Error) → IsTrue (⟦<Error as PartialEq>⟧.eq a b) ↔ (a ≡ b) }
 {}

@@ -11,7 +11,7 @@ use Rattle.std.proofs.lemmas.Nat.{le_bytes_4, le_bytes_8, from_le_bytes-to_le_by
 use Rattle.std.proofs.lemmas.Option.{same_Some}
 use Rattle.cck_path.specs.Timestamp.{Moment}
 use Rattle.cck_include.specs.Include.{Include}
-use Rattle.cck_time.proofs.NumberLemmas.{long_bits_small}
+use Rattle.cck_include.proofs.NumberLemmas.{long_bits_small}
 use Rattle.cck_path.proofs.TestLemmas.{then_some, else_some}
 use Rattle.cck_entry.specs.Results.{FitsMoment, Fits}
 use Rattle.cck_entry.specs.Writing.{length_prefixed, moment_bytes, time_bytes, include_bytes}

@@ -8,6 +8,7 @@ pub mod InsertLemmas
 pub mod LawLemmas
 pub mod LentLemmas
 pub mod LookupLemmas
+pub mod MaterialLemmas
 pub mod ResultLoop
 pub mod TextLemmas
 pub mod Utf8Lemmas

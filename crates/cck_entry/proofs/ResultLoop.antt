@@ -1,7 +1,7 @@
 -- Reading results one after the other, as a loop does.
 use Rattle.std.proofs.Common.{◌≡◌, ℕ, suc, ◌-◌, ◌+◌, ◌≤◌, ◌<◌, true, false, List, [], ◌∷◌, ◌++◌, Some, None, refl, arith}
-use Rattle.cck_time.specs.declared.error.Error.{Error}
-use Rattle.cck_time.specs.declared.error.Error.TheVariants.{Io, Deserialization, UnknownFormat, Memory}
+use Rattle.cck_digest.specs.declared.entry_error.Error.{Error}
+use Rattle.cck_digest.specs.declared.entry_error.Error.TheVariants.{Io, Deserialization, UnknownFormat, Memory}
 use Rattle.cck_entry.specs.Results.{KeyResult}
 use Rattle.cck_entry.specs.Reading.{Fails, result_at, results_from, comes_after}
 

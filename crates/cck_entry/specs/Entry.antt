@@ -7,13 +7,13 @@ use Rattle.std.specs.List.{AllByRecursion}
 use Rattle.std.specs.declared.alloc.Global.{Global}
 use Rattle.cck_path.specs.TextOrder.{text_cmp}
 use Rattle.cck_path.specs.Timestamp.{Moment}
-use Rattle.cck_time.specs.declared.error.Error.{Error}
-use Rattle.cck_time.specs.declared.error.Error.TheVariants.{Deserialization, Io, Memory, UnknownFormat}
+use Rattle.cck_digest.specs.declared.entry_error.Error.{Error}
+use Rattle.cck_digest.specs.declared.entry_error.Error.TheVariants.{Deserialization, Io, Memory, UnknownFormat}
 use Rattle.cck_entry.specs.Results.{FitsResult, KeyResult, result_in}
 use Rattle.cck_include.specs.Include.{Include}
 use Rattle.cck_entry.specs.Writing.{entry_bytes}
 use Rattle.cck_include.specs.declared.include.IncludeEntry.{IncludeEntry}
-use Rattle.cck_preprocessor_key.specs.PreprocessorKey.{format_version}
+use Rattle.cck_entry.specs.PreprocessorKey.{format_version}
 
 -- an entry has, for each key, a list of includes
 abbrev pub Entry : Type 0

@@ -3,6 +3,8 @@ pub mod Equality
 pub mod Find
 pub mod Laws
 pub mod Lent
+pub mod PreprocessorKey
+pub mod PreprocessorKeyRequest
 pub mod Reading
 pub mod Results
 pub mod Writing

@@ -6,8 +6,8 @@ use Rattle.std.specs.Ordering.{is_lt}
 use Rattle.std.specs.List.{list_all}
 use Rattle.cck_path.specs.TextOrder.{text_cmp}
 use Rattle.cck_path.specs.Timestamp.{Moment}
-use Rattle.cck_time.specs.declared.error.Error.{Error}
-use Rattle.cck_time.specs.declared.error.Error.TheVariants.{Io, Deserialization, UnknownFormat, Memory}
+use Rattle.cck_digest.specs.declared.entry_error.Error.{Error}
+use Rattle.cck_digest.specs.declared.entry_error.Error.TheVariants.{Io, Deserialization, UnknownFormat, Memory}
 use Rattle.cck_entry.specs.Results.{KeyResult}
 use Rattle.cck_include.specs.Include.{Include}
 

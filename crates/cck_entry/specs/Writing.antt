@@ -5,7 +5,7 @@ use Rattle.std.specs.List.{flat_map}
 use Rattle.cck_path.specs.Timestamp.{Moment}
 use Rattle.cck_entry.specs.Results.{KeyResult}
 use Rattle.cck_include.specs.Include.{Include}
-use Rattle.cck_preprocessor_key.specs.PreprocessorKey.{format_version}
+use Rattle.cck_entry.specs.PreprocessorKey.{format_version}
 
 -- the length of these bytes in 8 bytes, and the bytes
 abbrev pub length_prefixed : List ℕ → List ℕ

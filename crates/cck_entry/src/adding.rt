@@ -7,10 +7,10 @@ ghost use Rattle.cck_include.specs.Errors.{IsMissing};
 ghost use Rattle.cck_entry.specs.Entry.{added};
 
 use crate::PreprocessorCacheEntry;
+use cck_digest::Error;
 use cck_files::Files;
 use cck_include::gather;
 use cck_path::Timestamp;
-use cck_time::Error;
 
 impl PreprocessorCacheEntry {
     /// Adds the result of a key: the files that it included, each passed as a digest and a path.

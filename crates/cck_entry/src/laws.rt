@@ -2,16 +2,13 @@
 ghost use Rattle.std.specs.Prelude.{◌≡◌, ◌↔◌, IsTrue};
 ghost use Rattle.cck_entry.specs.Entry.{Entry};
 ghost use Rattle.cck_entry.specs.Find.{GreatestIsFound};
-ghost use Rattle.cck_entry.specs.Laws.{AddedIsLimited, AddedToAllOrNothing, OneTextOneEntry};
+ghost use Rattle.cck_entry.specs.Laws.{AddedIsLimited, AddedToAllOrNothing, OneTextOneEntry, PreprocessorMaterialTellsParts};
 
 use crate::PreprocessorCacheEntry;
+pub use cck_digest::laws::error_equality_is_exact;
 pub use cck_include::laws::{
-    equal_digests_tell, include_entry_equality_is_exact, recorded_has_length,
-};
-pub use cck_preprocessor_key::laws::preprocessor_material_tells_parts;
-pub use cck_time::laws::{
-    dates_of_days, equal_parts_tell, error_equality_is_exact, one_day, one_second, parts_exist,
-    preprocessor_cache_mode_config_equality_is_exact,
+    dates_of_days, equal_digests_tell, equal_parts_tell, include_entry_equality_is_exact, one_day,
+    one_second, parts_exist, preprocessor_cache_mode_config_equality_is_exact, recorded_has_length,
 };
 
 /// Texts of entries are equal exactly if the entries are: no entry has two texts, and no bytes are
@@ -41,4 +38,13 @@ pub fn preprocessor_cache_entry_equality_is_exact()
 /// do.
 pub fn greatest_is_found()
     ensures { GreatestIsFound }
+{}
+
+/// Two key materials are equal exactly if their parts are: the parts of the request that are
+/// hashed, the hex digests of the extra files, and the recorded digest of the input.
+///
+/// Each length and each count is written before its bytes or items, so different parts never have
+/// the same key material.
+pub fn preprocessor_material_tells_parts()
+    ensures { PreprocessorMaterialTellsParts }
 {}

@@ -13,8 +13,8 @@ ghost use Rattle.cck_entry.specs.Results.{result_in};
 use crate::reading::read_include;
 use crate::result_ref::ResultRef;
 use crate::results::{Results, put_last};
+use cck_digest::Error;
 use cck_include::IncludeEntry;
-use cck_time::Error;
 use std::alloc::Global;
 use std::collections::BTreeMap;
 

@@ -50,6 +50,22 @@
 //! let view = EntryView::read(alloc, &bytes)?; // for the look-up alone
 //! let key = view.lookup_result_digest::<Sha256State, _>(alloc, &mut files, later, &zone, &vars, config)?;
 //! ```
+//!
+//! # The preprocessor key
+//!
+//! The preprocessor key is the key under which a store is searched for an entry before anything is
+//! preprocessed. It is the hex digest of the *key material*:
+//!
+//! - the compiler and its arguments, and the hex digests of extra files that it reads;
+//! - the variables that change what is compiled or which files a preprocessor finds;
+//! - the path of the input, the working directory, and the input's
+//!   [recorded digest](cck_include::recorded_digest).
+//!
+//! The headers that the input includes are not known at this point. They are in the entry that the
+//! store holds under the key.
+//!
+//! - [`preprocessor_cache_entry_hash_key`] returns the key.
+//! - [`FORMAT_VERSION`] is the format of entries, which is part of the key material.
 #![tactic(auto)]
 
 mod adding;
@@ -58,23 +74,23 @@ mod includes;
 pub mod laws;
 mod lent;
 mod lookup;
+mod preprocessor_key;
 mod reading;
 mod result_ref;
 mod results;
 mod view;
 mod writing;
 
-pub use cck_digest::{FileError, HashState, Sha256State, UtilError};
+pub use cck_digest::{Error, FileError, HashState, Sha256State, UtilError};
 pub use cck_files::{Files, MapFiles, Node};
 pub use cck_include::{
-    IncludeEntry, IncludeRef, JudgeContext, KnownFiles, gather, include_matches, includes_match,
-    recorded_digest,
+    IncludeEntry, IncludeRef, JudgeContext, KnownFiles, PreprocessorCacheModeConfig, gather,
+    include_matches, includes_match, local_time_part, recorded_digest,
 };
 pub use cck_path::{FileKind, Metadata, Timestamp};
-pub use cck_preprocessor_key::{FORMAT_VERSION, preprocessor_cache_entry_hash_key};
-pub use cck_time::{Error, PreprocessorCacheModeConfig, local_time_part};
 pub use cck_util::{Language, UnknownLanguage};
 pub use entry::PreprocessorCacheEntry;
 pub use includes::Includes;
+pub use preprocessor_key::{FORMAT_VERSION, preprocessor_cache_entry_hash_key};
 pub use result_ref::ResultRef;
 pub use view::EntryView;

@@ -17,11 +17,12 @@ use crate::reading::read_include;
 use crate::result_ref::ResultRef;
 use crate::results::Results;
 use crate::{EntryView, PreprocessorCacheEntry};
-use cck_digest::HashState;
+use cck_digest::{Error, HashState};
 use cck_files::Files;
-use cck_include::{JudgeContext, KnownFiles, include_matches, includes_match};
+use cck_include::{
+    JudgeContext, KnownFiles, PreprocessorCacheModeConfig, include_matches, includes_match,
+};
 use cck_path::Timestamp;
-use cck_time::{Error, PreprocessorCacheModeConfig};
 use jiff::tz::TimeZone;
 use std::alloc::{AllocError, Global};
 

@@ -11,9 +11,9 @@ ghost use Rattle.cck_entry.specs.Reading.{IsReadResult, IsOvercounted, entry_at,
 
 use crate::lent::comes_last;
 use crate::result_ref::ResultRef;
+use cck_digest::Error;
 use cck_include::IncludeRef;
 use cck_path::Timestamp;
-use cck_time::Error;
 use std::alloc::Global;
 
 /// The least number of bytes of an include: two lengths, a size and two absent times.

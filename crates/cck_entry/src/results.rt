@@ -8,8 +8,8 @@ ghost use Rattle.cck_entry.specs.Results.{result_in};
 ghost use Rattle.cck_include.specs.Include.{includes_in};
 ghost use Rattle.cck_entry.specs.Reading.{comes_after};
 
+use cck_digest::Error;
 use cck_include::IncludeEntry;
-use cck_time::Error;
 use std::alloc::Global;
 use std::collections::BTreeMap;
 

@@ -4,7 +4,7 @@ use Rattle.std.proofs.lemmas.Bool.Decides.{Decides-eqb, Decides-like}
 use Rattle.std.specs.Prelude.{Decides}
 use denote.Enum.Declared.{tag_of}
 use Rattle.cck_digest.proofs.EqualityLemmas.{apart}
-use Rattle.cck_explain_entry.proofs.EqualityLemmas.{fault_decides}
+use Rattle.cck_explain_listing.proofs.FaultEqualityLemmas.{fault_decides}
 use Rattle.cck_explain_command.specs.contracts.error.ExplainError.{the_type}
 use Rattle.cck_explain_command.specs.contracts.error.ExplainErrorPartialEq.TheImpl as same_error
 use Rattle.cck_explain_command.specs.declared.error.ExplainError.{ExplainError}

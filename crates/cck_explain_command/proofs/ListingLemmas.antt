@@ -1,10 +1,10 @@
 -- listings, part by part, and the bytes of what is listed
-use Rattle.std.proofs.Common.{◌≡◌, ℕ, zero, suc, ◌+◌, ◌-◌, ◌/◌, ◌<◌, ◌≤◌, List, [], ◌∷◌, ◌++◌, Bool, true, false, Option, Some, None, length, take, drop, refl, sym, ap, ◌∙◌, append_assoc, append-nil, arith, length-append, length-drop, take-append-drop, map}
+use Rattle.std.proofs.Common.{◌≡◌, ℕ, zero, suc, ◌+◌, ◌-◌, ◌/◌, ◌<◌, ◌≤◌, List, [], ◌∷◌, ◌++◌, Bool, true, false, Option, Some, None, length, take, drop, refl, sym, ap, ◌∙◌, append_assoc, append-nil, arith, length-append, length-drop, take-append-drop, map, codes, get_or, drop-cons}
 use Rattle.std.proofs.lemmas.Grind.{flat_map-append}
 use Rattle.std.specs.List.{flat_map}
-use Rattle.std.proofs.lemmas.List.{length-take-le}
+use Rattle.std.proofs.lemmas.List.{length-take-le, length-map, map-append, take_more}
 use Rattle.std.specs.Global.{Vec}
-use Rattle.cck_explain_cuts.specs.Listing.{argument_cut_lines}
+use Rattle.cck_explain_listing.specs.CutListing.{argument_cut_lines}
 use Rattle.cck_path.specs.Bytes.{Bytes, lists_of}
 use Rattle.cck_path.specs.Variables.{Variable}
 use Rattle.cck_digest.specs.Frames.{frame, framed_list, framed_option, length_bytes}
@@ -13,8 +13,6 @@ use Rattle.cck_util.specs.Language.{language_name}
 use Rattle.cck_util.specs.Variables.{variable_frames}
 use Rattle.cck_explain_command.specs.Key.{PartsAreMaterial, arguments_cut_lines, frame_parts, frames_parts, item_name, length_part, list_parts, material_parts, option_parts, part, variables_parts}
 use Rattle.cck_explain_command.specs.Listing.{Part, cut_into, bytes_of_parts, listed_parts, listed_part, part_line, part_lines, row_size, rows}
-use Rattle.std.proofs.Common.{codes, get_or, drop-cons}
-use Rattle.std.proofs.lemmas.List.{length-map, map-append, take_more}
 
 pub part_lines-append : (offset : ℕ) (xs ys : List Part)
     → part_lines offset (xs ++ ys) ≡ part_lines offset xs ++ part_lines (offset + length (bytes_of_parts xs)) ys

@@ -4,9 +4,9 @@ use Rattle.cck_path.specs.Bytes.{Bytes}
 use Rattle.cck_script.specs.Script.{IsScriptError}
 use Rattle.cck_script.specs.declared.error.ScriptError.{ScriptError}
 use Rattle.cck_script.specs.declared.error.ScriptError.TheVariants as script
-use Rattle.cck_explain_entry.specs.Bytes as entry
-use Rattle.cck_explain_entry.specs.declared.listing.EntryError.{EntryError}
-use Rattle.cck_explain_entry.specs.declared.listing.EntryError.TheVariants as variants
+use Rattle.cck_explain_listing.specs.Bytes as entry
+use Rattle.cck_explain_listing.specs.declared.entry_text.EntryError.{EntryError}
+use Rattle.cck_explain_listing.specs.declared.entry_text.EntryError.TheVariants as variants
 use Rattle.cck_explain_command.proofs.BufferLemmas.{if_any}
 use Rattle.cck_explain_command.specs.Written.{IsExplainErrorFor, explained_by, explained_by_script}
 use Rattle.cck_explain_command.specs.declared.error.ExplainError.{ExplainError}

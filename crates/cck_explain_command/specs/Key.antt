@@ -6,7 +6,7 @@ use Rattle.cck_path.specs.Bytes.{Bytes}
 use Rattle.cck_path.specs.Variables.{Variable}
 use Rattle.cck_util.specs.Key.{KeyParts, Params, cache_version, flag_byte, key_parts, material, object_key}
 use Rattle.cck_util.specs.Language.{language_name}
-use Rattle.cck_explain_cuts.specs.Listing.{argument_cut_lines, text_cut_lines}
+use Rattle.cck_explain_listing.specs.CutListing.{argument_cut_lines, text_cut_lines}
 use Rattle.cck_explain_command.specs.Listing.{Part, bytes_of_parts, listed_parts, part_lines}
 
 -- a part of this name

@@ -3,8 +3,8 @@ use Rattle.std.specs.Prelude.{ℕ, zero, suc, ◌+◌, ◌-◌, ◌/◌, List, [
 use Rattle.std.specs.Fmt.{decimal}
 use Rattle.std.specs.List.{flat_map}
 use Rattle.cck_path.specs.Bytes.{Bytes}
-use Rattle.cck_explain_text.specs.Checksum.{checksum}
-use Rattle.cck_explain_text.specs.Quoted.{quoted}
+use Rattle.cck_explain_listing.specs.Checksum.{checksum}
+use Rattle.cck_explain_listing.specs.Quoted.{quoted}
 
 -- some bytes of a text, and what they are
 pub record Part : Type 0 where

@@ -3,9 +3,9 @@ use Rattle.std.specs.Prelude.{◌≡◌, ◌≢◌, ◌∷◌, ◌++◌, [], Non
 use Rattle.cck_command.specs.Printing.{AppendsBeginning}
 use Rattle.cck_command.specs.declared.status.Status.{Status}
 use Rattle.cck_command.specs.declared.status.Status.TheVariants.{Done, Failed, Usage}
-use Rattle.cck_explain_entry.specs.Bytes as entry
-use Rattle.cck_explain_markers.specs.Listing.{AreMarkerLines}
-use Rattle.cck_explain_script.specs.Listing as script
+use Rattle.cck_explain_listing.specs.Bytes as entry
+use Rattle.cck_explain_listing.specs.MarkerListing.{AreMarkerLines}
+use Rattle.cck_explain_command.specs.ScriptListing as script
 use Rattle.cck_path.specs.Bytes.{Bytes}
 use Rattle.cck_script.specs.Script.{commands_of, wrong_line}
 use Rattle.clap.specs.declared.error.kind.ErrorKind.{ErrorKind}

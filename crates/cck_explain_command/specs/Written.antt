@@ -2,9 +2,9 @@
 use Rattle.std.specs.Prelude.{◌≡◌, ◌↔◌, ◌⊎◌, Option, Some}
 use Rattle.std.specs.Io.KnownBytes.{Appends}
 use Rattle.cck_command.specs.Printing.{AppendsBeginning}
-use Rattle.cck_explain_entry.specs.Bytes as entry
-use Rattle.cck_explain_entry.specs.declared.listing.EntryError.{EntryError}
-use Rattle.cck_explain_entry.specs.declared.listing.EntryError.TheVariants as variants
+use Rattle.cck_explain_listing.specs.Bytes as entry
+use Rattle.cck_explain_listing.specs.declared.entry_text.EntryError.{EntryError}
+use Rattle.cck_explain_listing.specs.declared.entry_text.EntryError.TheVariants as variants
 use Rattle.cck_digest.specs.declared.error.UtilError.{UtilError}
 use Rattle.cck_digest.specs.declared.error.UtilError.TheVariants as util
 use Rattle.cck_path.specs.Bytes.{Bytes}

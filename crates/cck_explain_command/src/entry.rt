@@ -1,11 +1,11 @@
 //! The listing of an entry.
 ghost use Rattle.std.specs.Prelude.{IfErr, IfSome, OnErr, OnOk};
-ghost use Rattle.cck_explain_entry.specs.Bytes.{IsEntryListing};
+ghost use Rattle.cck_explain_listing.specs.Bytes.{IsEntryListing};
 ghost use Rattle.cck_explain_command.specs.Written.{BeginsOf, IsExplainErrorFor, WritesOf};
 
 use crate::error::ExplainError;
 use cck_command::print;
-use cck_explain_entry::entry_listing;
+use cck_explain_listing::entry_listing;
 use cck_util::read_all;
 use std::alloc::Global;
 use std::io::{Read, Write};

@@ -13,7 +13,7 @@ use crate::line::put_parts;
 use crate::part::{Part, material_parts};
 use crate::request::ExplainKeyRequest;
 use cck_command::print;
-use cck_explain_cuts::{push_argument_cuts, push_text_cuts};
+use cck_explain_listing::{push_argument_cuts, push_text_cuts};
 use cck_util::{HashKeyParams, HashState, read_all};
 use std::alloc::{AllocError, Global};
 use std::io::{Read, Write};

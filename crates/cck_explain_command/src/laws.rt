@@ -2,7 +2,7 @@
 ghost use Rattle.std.specs.Prelude.{◌≡◌, ◌↔◌, IsTrue};
 ghost use Rattle.cck_explain_command.specs.Key.{PartsAreMaterial};
 
-use crate::ExplainError;
+use crate::{Difference, ExplainError};
 
 /// The bytes of the listed parts, one after the other, are the key material: all that is hashed for
 /// the key, in order, with and without rows.
@@ -14,4 +14,9 @@ pub fn parts_are_material()
 pub fn explain_error_equality_is_exact()
     ensures { (a b : ExplainError) →
         IsTrue (⟦<ExplainError as PartialEq>⟧.eq a b) ↔ (a ≡ b) }
+{}
+
+/// Two [`Difference`]s are equal exactly if they are the same.
+pub fn difference_equality_is_exact()
+    ensures { (a b : Difference) → IsTrue (⟦<Difference as PartialEq>⟧.eq a b) ↔ (a ≡ b) }
 {}

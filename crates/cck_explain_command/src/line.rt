@@ -7,7 +7,7 @@ ghost use Rattle.cck_explain_command.specs.Listing.{listed_parts, listed_part, p
 use crate::buffer::spill;
 use crate::error::ExplainError;
 use crate::part::Part;
-use cck_explain_text::{checksum, push_quoted};
+use cck_explain_listing::{checksum, push_quoted};
 use std::alloc::{AllocError, Global};
 use std::io::Write;
 

@@ -1,12 +1,12 @@
 //! The listing of line markers.
 ghost use Rattle.std.specs.Prelude.{IfSome, OnErr, OnOk};
-ghost use Rattle.cck_explain_markers.specs.Listing.{AreMarkerLines};
+ghost use Rattle.cck_explain_listing.specs.MarkerListing.{AreMarkerLines};
 ghost use Rattle.cck_explain_command.specs.Written.{BeginsOf, WritesOf};
 
 use crate::error::ExplainError;
 use crate::request::MarkersRequest;
 use cck_command::print;
-use cck_explain_markers::marker_lines;
+use cck_explain_listing::marker_lines;
 use cck_util::read_all;
 use std::alloc::Global;
 use std::io::{Read, Write};

@@ -4,8 +4,8 @@ ghost use Rattle.cck_explain_command.specs.Run.{ListsScript};
 ghost use Rattle.cck_explain_command.specs.Written.{BeginsOf, IsExplainErrorFor, WritesOf};
 
 use crate::error::ExplainError;
+use crate::script_listing;
 use cck_command::print;
-use cck_explain_script::script_listing;
 use cck_util::{HashState, read_all};
 use std::alloc::Global;
 use std::io::{Read, Write};

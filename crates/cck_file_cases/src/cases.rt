@@ -3,7 +3,7 @@ use crate::wanted::Wanted;
 use crate::{digests, entries, errors, files, keys, path_map, times};
 use cck_cases::{CaseError, CaseLine, Given, GivenFiles, Subject, Value, find};
 use cck_entry::PreprocessorCacheEntry;
-use cck_path_map::PathMap;
+use cck_path::PathMap;
 use cck_util::MapFiles;
 use std::alloc::Global;
 

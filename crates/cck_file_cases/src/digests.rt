@@ -2,7 +2,7 @@
 use crate::cases::Cases;
 use crate::shown::{write_names, write_texts};
 use cck_cases::{CaseError, Value};
-use cck_file_digest::sorted_names;
+use cck_files::sorted_names;
 use cck_util::{
     Digest, DigestFiles, MapFiles, Sha256State, TimeMacroFinder, WatchedDigest, feed_file,
     hash_all, read_contents, resolve_compiler_avoiding_wrapper,

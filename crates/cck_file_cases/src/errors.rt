@@ -1,6 +1,6 @@
 //! The texts of the errors of entries.
 use cck_cases::{CaseError, Value, find};
-use cck_time::Error;
+use cck_digest::Error;
 use cck_util::{FileError, UtilError};
 use std::alloc::Global;
 

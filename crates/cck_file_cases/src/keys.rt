@@ -2,7 +2,7 @@
 use crate::cases::Cases;
 use crate::times::found_text;
 use cck_cases::{CaseError, Value};
-use cck_preprocessor_key::preprocessor_cache_entry_hash_key;
+use cck_entry::preprocessor_cache_entry_hash_key;
 use cck_util::{MapFiles, Sha256State};
 
 #[derive(Clone, Copy)]

@@ -1,8 +1,14 @@
 //! Cases of the calls on maps of paths, files, digests of files, wrappers, time parts, recorded
-//! digests, preprocessor keys and entries.
+//! digests, preprocessor keys and entries, and of walks over line markers.
 //!
 //! [`run_file`] runs a vector file. `docs/TESTING.md` has the grammar. Beside the words that are known
 //! in every file, and those of arguments, variables and files, those of `wanted.rt` are known here.
+//!
+//! # Line markers and walks
+//!
+//! Cases of the calls on line markers and of walks over them.
+//!
+//! [`run_walk_file`] runs a vector file of them.
 #![tactic(auto)]
 
 mod cases;
@@ -11,12 +17,17 @@ mod entries;
 mod errors;
 mod files;
 mod keys;
+mod markers;
 mod path_map;
 mod shown;
+mod texts;
 mod times;
+mod walk_cases;
+mod walks;
 mod wanted;
 
 use crate::cases::Cases;
+use crate::walk_cases::WalkCases;
 use std::io;
 
 /// Runs the cases of a file as [`cck_cases::run_file`] does.
@@ -26,4 +37,13 @@ use std::io;
 /// Those of [`cck_cases::run_file`].
 pub fn run_file(rt: &HostRuntime, name: &str) -> io::Result<bool> {
     cck_cases::run_file::<Cases>(rt, name)
+}
+
+/// Runs the cases of a file as [`cck_cases::run_file`] does.
+///
+/// # Errors
+///
+/// Those of [`cck_cases::run_file`].
+pub fn run_walk_file(rt: &HostRuntime, name: &str) -> io::Result<bool> {
+    cck_cases::run_file::<WalkCases>(rt, name)
 }

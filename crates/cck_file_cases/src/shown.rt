@@ -1,7 +1,7 @@
 //! How results are written that several calls return.
 use cck_cases::{end_line, write_moment};
 use cck_entry::{IncludeEntry, PreprocessorCacheEntry};
-use cck_path_map::Entries;
+use cck_path::Entries;
 use cck_util::{FileKind, Metadata};
 use std::alloc::{AllocError, Global};
 

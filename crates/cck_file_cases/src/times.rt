@@ -1,8 +1,7 @@
 //! Time parts, recorded digests, and the options.
 use crate::cases::Cases;
 use cck_cases::{CaseError, Value};
-use cck_include::recorded_digest;
-use cck_time::{PreprocessorCacheModeConfig, local_time_part};
+use cck_include::{PreprocessorCacheModeConfig, local_time_part, recorded_digest};
 use cck_util::{MapFiles, Sha256State};
 use std::alloc::Global;
 

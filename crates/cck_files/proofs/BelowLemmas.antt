@@ -11,9 +11,9 @@ use Rattle.std.specs.FinMap.{FinMap, entries, find, get, get-entries, get-retain
 use Rattle.std.specs.Ordering.{is_eq, is_lt, ordering_then}
 use Rattle.cck_path.specs.Path.{Component, Current, Name, Parent, Path, Root, beginning, component_cmp, component_cmp-IsAntisymmetric, component_cmp_total, components, inner_components, part_components, parts, path_cmp, path_cmp-IsAntisymmetric, path_cmp_total}
 use Rattle.cck_path.proofs.TestLemmas.{then_some}
-use Rattle.cck_path_map.proofs.PlaceLemmas.{find_at, in_order_of, rises}
-use Rattle.cck_path_map.specs.PathMap.{IsPlaceOf, is_from, pair_of, part_from, path_of}
-use Rattle.cck_path_map.specs.declared.path_map.Entry.{Entry}
+use Rattle.cck_path.proofs.PlaceLemmas.{find_at, in_order_of, rises}
+use Rattle.cck_path.specs.PathMap.{IsPlaceOf, is_from, pair_of, part_from, path_of}
+use Rattle.cck_path.specs.declared.path_map.Entry.{Entry}
 use Rattle.cck_files.specs.Children.{HasChildNames}
 
 -- a child of a directory is not lower than the directory

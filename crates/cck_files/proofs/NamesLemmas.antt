@@ -14,10 +14,10 @@ use Rattle.std.specs.Cmp.{Equal-is}
 use Rattle.std.proofs.Math.Bool.{or-false}
 use Rattle.cck_path.specs.Path.{IsName, Name, Path, path_cmp, path_cmp_total}
 use Rattle.cck_path.specs.declared.metadata.FileKind.TheVariants.{Folder}
-use Rattle.cck_path_map.proofs.PlaceLemmas.{find_before, in_order_of}
-use Rattle.cck_path_map.proofs.ValueLemmas.{contains-map_values}
-use Rattle.cck_path_map.specs.PathMap.{pair_of, path_of}
-use Rattle.cck_path_map.specs.declared.path_map.Entry.{Entry}
+use Rattle.cck_path.proofs.PlaceLemmas.{find_before, in_order_of}
+use Rattle.cck_path.proofs.ValueLemmas.{contains-map_values}
+use Rattle.cck_path.specs.PathMap.{pair_of, path_of}
+use Rattle.cck_path.specs.declared.path_map.Entry.{Entry}
 use Rattle.cck_path.proofs.TestLemmas.{tied}
 use Rattle.cck_files.proofs.ChildLemmas.{same_last}
 use Rattle.cck_files.specs.Children.{HasChildNames, is_same_name}

@@ -5,10 +5,10 @@ use Rattle.std.specs.FinMap.{FinMap, empty, entries, from_entries, get, insert, 
 use Rattle.std.specs.Global.{Box}
 use Rattle.std.specs.Option.{option_copied, option_map}
 use Rattle.cck_path.specs.Path.{Path, path_cmp}
-use Rattle.cck_path_map.specs.PathMap.{pair_of, path_of}
-use Rattle.cck_path_map.specs.declared.path_map.Entry.{Entry}
-use Rattle.cck_path_map.specs.Values.{map_values}
-use Rattle.cck_path_map.proofs.ValueLemmas.{HoldsFirst, get-map_values, holds_all, holds_more, read_pair, map_values-empty, map_values-insert, map_values-remove}
+use Rattle.cck_path.specs.PathMap.{pair_of, path_of}
+use Rattle.cck_path.specs.declared.path_map.Entry.{Entry}
+use Rattle.cck_path.specs.Values.{map_values}
+use Rattle.cck_path.proofs.ValueLemmas.{HoldsFirst, get-map_values, holds_all, holds_more, read_pair, map_values-empty, map_values-insert, map_values-remove}
 use Rattle.cck_files.specs.FileState.{boxed_canonical, boxed_node, files_of, linked, no_files, set_option, with_place, without_place}
 use Rattle.cck_files.specs.declared.map_files.places.Place.{Place}
 

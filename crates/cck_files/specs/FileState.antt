@@ -9,8 +9,8 @@ use Rattle.cck_path.specs.Path.{Path, components, path_cmp}
 use Rattle.cck_path.specs.Timestamp.{Moment}
 use Rattle.cck_path.specs.declared.metadata.FileKind.{FileKind}
 use Rattle.cck_path.specs.declared.metadata.FileKind.TheVariants.{File, Folder, Other}
-use Rattle.cck_path_map.specs.PathMap.{coded_component, coded_path_map}
-use Rattle.cck_path_map.specs.Values.{map_values}
+use Rattle.cck_path.specs.PathMap.{coded_component, coded_path_map}
+use Rattle.cck_path.specs.Values.{map_values}
 use Rattle.cck_files.specs.ArmedCalls.{Armed, IsUnarmed, after_call, coded_armed, fails, new_armed}
 use Rattle.cck_files.specs.FileMap.{FileMap, FileNode, Nodes}
 use Rattle.cck_files.specs.Node.{node_of}

@@ -1,6 +1,12 @@
 pub mod ArmedCalls
 pub mod Calls
 pub mod Children
+pub mod Contents
+pub mod Errors
+pub mod FileDigest
 pub mod FileMap
 pub mod FileState
+pub mod Folder
+pub mod FolderText
+pub mod Laws
 pub mod Node

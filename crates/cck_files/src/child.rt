@@ -5,8 +5,7 @@ ghost use Rattle.cck_path.specs.Path.{IsName, Name, components, path_cmp};
 ghost use Rattle.cck_files.specs.Children.{HasChildNames};
 
 use cck_digest::FileError;
-use cck_path::{Component, Components, file_name};
-use cck_path_map::PathMap;
+use cck_path::{Component, Components, PathMap, file_name};
 use std::alloc::Global;
 use std::iter;
 

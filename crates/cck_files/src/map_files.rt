@@ -9,8 +9,7 @@ ghost use Rattle.cck_files.specs.Node.{node_of};
 
 use crate::{ArmedCalls, Node};
 use cck_digest::UtilError;
-use cck_path::normalize_path;
-use cck_path_map::PathMap;
+use cck_path::{PathMap, normalize_path};
 use std::alloc::Global;
 use std::marker::Model;
 

@@ -9,8 +9,8 @@ use Rattle.cck_digest.specs.Digest.{digest_text}
 use Rattle.cck_files.specs.FileMap.{FileNode}
 use Rattle.cck_path.specs.Timestamp.{Moment, nanos_of}
 use Rattle.cck_path.specs.Variables.{Variable}
-use Rattle.cck_time.proofs.PartLemmas.{day_is_determined, second_is_determined}
-use Rattle.cck_time.specs.TimePart.{local_day, source_date_epoch, time_part}
+use Rattle.cck_include.proofs.PartLemmas.{day_is_determined, second_is_determined}
+use Rattle.cck_include.specs.TimePart.{local_day, source_date_epoch, time_part}
 use Rattle.cck_include.specs.Laws.{AreTold, ShowTheSame, at_moment}
 use Rattle.cck_include.specs.Recorded.{counts_part, file_time_part, has_date, has_time, has_timestamp, is_timed, recorded, recorded_by}
 use Rattle.cck_include.specs.Setting.{Setting}

@@ -1,7 +1,13 @@
+pub mod CalendarLemmas
+pub mod ClockLemmas
 pub mod EqualityLemmas
 pub mod ErrorLemmas
+pub mod EveryDayLemmas
 pub mod GatherLemmas
 pub mod KnownLemmas
 pub mod LawLemmas
 pub mod MatchLemmas
+pub mod NumberLemmas
+pub mod PartLemmas
+pub mod PresenceLemmas
 pub mod RecordedLemmas

@@ -13,9 +13,9 @@ use Rattle.cck_files.specs.Calls.{IsError, IsErrorOrMemory}
 use Rattle.cck_files.specs.FileMap.{FileMap, FileNode, contents_at, file_at, metadata_at}
 use Rattle.cck_path.specs.Path.{Path}
 use Rattle.cck_path.specs.declared.metadata.Metadata.{Metadata}
-use Rattle.cck_time.specs.TimePart.{time_part}
-use Rattle.cck_time.specs.declared.error.Error.{Error}
-use Rattle.cck_time.specs.declared.error.Error.TheVariants as error
+use Rattle.cck_include.specs.TimePart.{time_part}
+use Rattle.cck_digest.specs.declared.entry_error.Error.{Error}
+use Rattle.cck_digest.specs.declared.entry_error.Error.TheVariants as error
 use Rattle.cck_include.proofs.ErrorLemmas.{by_file_error}
 use Rattle.cck_include.specs.Recorded.{recorded, recorded_by}
 use Rattle.cck_include.specs.Setting.{Setting}

@@ -4,7 +4,7 @@ use Rattle.cck_digest.specs.Digest.{digest_text}
 use Rattle.cck_files.specs.FileMap.{FileNode}
 use Rattle.cck_path.specs.Timestamp.{Moment, nanos_of}
 use Rattle.cck_path.specs.Variables.{Variable}
-use Rattle.cck_time.specs.TimePart.{AreOfOneSecond, local_day, source_date_epoch}
+use Rattle.cck_include.specs.TimePart.{AreOfOneSecond, local_day, source_date_epoch}
 use Rattle.cck_include.specs.Recorded.{counts_part, file_time_part, has_date, has_time, has_timestamp, recorded}
 use Rattle.cck_include.specs.Setting.{Setting}
 

@@ -1,3 +1,6 @@
+pub mod Calendar
+pub mod Config
+pub mod Errors
 pub mod Gathered
 pub mod Include
 pub mod JudgeContext
@@ -5,6 +8,6 @@ pub mod Known
 pub mod Laws
 pub mod Matching
 pub mod Recorded
-pub mod Errors
 pub mod Scan
 pub mod Setting
+pub mod TimePart

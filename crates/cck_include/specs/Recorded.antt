@@ -3,7 +3,7 @@ use Rattle.std.specs.Prelude.{ℕ, Bool, true, false, ◌&&◌, ◌||◌, not, L
 use Rattle.cck_digest.specs.Digest.{digest_text}
 use Rattle.cck_digest.specs.TimeMacros.{has, time_macro, date_macro, timestamp_macro}
 use Rattle.cck_files.specs.FileMap.{FileNode}
-use Rattle.cck_time.specs.TimePart.{time_part}
+use Rattle.cck_include.specs.TimePart.{time_part}
 use Rattle.cck_include.specs.Setting.{Setting}
 
 -- whether the contents have this time macro

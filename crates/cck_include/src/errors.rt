@@ -2,8 +2,7 @@
 ghost use Rattle.std.specs.Prelude.{◌≡◌};
 ghost use Rattle.cck_include.specs.Errors.{io_error};
 
-use cck_digest::{FileError, UtilError};
-use cck_time::Error;
+use cck_digest::{Error, FileError, UtilError};
 
 // Lack of memory stays lack of memory, and any other error becomes `Error::Io`.
 pub(crate) fn io_error(error: FileError) -> Error

@@ -7,9 +7,9 @@ ghost use Rattle.cck_include.specs.Errors.{IsMissing};
 
 use crate::IncludeEntry;
 use crate::errors::io_error;
+use cck_digest::Error;
 use cck_files::Files;
 use cck_path::Timestamp;
-use cck_time::Error;
 use std::alloc::Global;
 
 // Whether the time is before `moment`.

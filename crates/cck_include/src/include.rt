@@ -2,8 +2,8 @@
 ghost use Rattle.std.specs.Prelude.{◌≡◌, IfErr, IfOk};
 ghost use Rattle.cck_include.specs.Include.{include_in, include_lent};
 
+use cck_digest::Error;
 use cck_path::Timestamp;
-use cck_time::Error;
 use std::alloc::Global;
 
 /// A file that was included when a result was recorded.

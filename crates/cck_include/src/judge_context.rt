@@ -1,6 +1,6 @@
 //! What files are judged by.
+use crate::PreprocessorCacheModeConfig;
 use cck_path::Timestamp;
-use cck_time::PreprocessorCacheModeConfig;
 use jiff::tz::TimeZone;
 
 /// What files are judged by, besides their own contents and metadata.

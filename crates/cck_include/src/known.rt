@@ -7,8 +7,7 @@ ghost use Rattle.cck_include.specs.Known.{AreFound, AreKnown, IsKnownAt};
 ghost use Rattle.cck_include.specs.Setting.{Setting};
 
 use cck_files::Files;
-use cck_path::{Metadata, same_path};
-use cck_path_map::PathMap;
+use cck_path::{Metadata, PathMap, same_path};
 use std::alloc::{AllocError, Global};
 
 /// What one look-up has found of files, by path: their metadata and recorded digests. With it no

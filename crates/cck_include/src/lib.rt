@@ -1,4 +1,5 @@
-//! Included files: what is recorded of them, and whether they still match it.
+//! Included files: what is recorded of them, and whether they still match it; what their time macros
+//! show, and the options of the preprocessor cache mode.
 //!
 //! The digest of a file's contents does not determine the text that the file shows to a
 //! preprocessor. A `__DATE__` in it shows another text tomorrow, and a `__TIMESTAMP__` once the
@@ -15,7 +16,8 @@
 //!   one file, an [`IncludeRef`], whose path and digest may be borrowed from other bytes.
 //!   [`KnownFiles`] keeps what one look-up finds, so that it reads no file twice. Both judge files
 //!   by a [`JudgeContext`].
-//! - [`laws`] states what equal recorded digests imply.
+//! - [`laws`] states what equal recorded digests imply, and what equal time parts do: the same day,
+//!   second and `SOURCE_DATE_EPOCH`; that each day has one date; and when there is a time part.
 //!
 //! ```rust
 //! // `digest` is the recorded digest of `/w/h.h` at `moment`.
@@ -25,8 +27,28 @@
 //! includes_match::<Sha256State, MapFiles>(alloc, &mut files, &mut known, &includes, &context)?;
 //! // `true`, until `/w/h.h` has other contents, or one of its time macros shows another text
 //! ```
+//!
+//! # Time parts and options
+//!
+//! A source file with `__DATE__` or `__TIMESTAMP__` is compiled to a different object on another
+//! day, or after it was modified, although its text is the same. The recorded digest of such a file
+//! is therefore not of its text alone: the file's *time part* is hashed after the text. These bytes
+//! encode what the macros show: if two time parts are equal, the macros show the same.
+//!
+//! - [`local_time_part`] returns the time part of a file, for a call time, a time zone and the
+//!   variables of the environment, which are all passed.
+//! - [`PreprocessorCacheModeConfig`] has the options.
+//!
+//! ```rust
+//! // One hour east of UTC, 23:00:00 of 1 January 1970 in UTC is midnight of 2 January.
+//! let zone = TimeZone::fixed(Offset::from_seconds(3600)?);
+//! let moment = Timestamp::new(82_800, 0);
+//! let part = local_time_part(alloc, true, false, None, moment, &zone, &[])?;
+//! // `\0SCCACHE\0date\0`, the year 1970, the month 1, the day 2, and a byte 0: no `SOURCE_DATE_EPOCH`
+//! ```
 #![tactic(auto)]
 
+mod config;
 mod errors;
 mod gathering;
 mod include;
@@ -34,11 +56,14 @@ mod judge_context;
 mod known;
 pub mod laws;
 mod matching;
+mod part;
 mod recorded;
 
+pub use config::PreprocessorCacheModeConfig;
 pub use gathering::gather;
 pub use include::{IncludeEntry, IncludeRef};
 pub use judge_context::JudgeContext;
 pub use known::KnownFiles;
 pub use matching::{include_matches, includes_match};
+pub use part::local_time_part;
 pub use recorded::recorded_digest;

@@ -12,11 +12,10 @@ ghost use Rattle.cck_include.specs.Matching.{MayMiss, digest_found, is_digest, i
 
 use crate::known::{KnownFile, place_for};
 use crate::recorded::digest_with_metadata;
-use crate::{IncludeEntry, IncludeRef, JudgeContext, KnownFiles};
-use cck_digest::HashState;
+use crate::{IncludeEntry, IncludeRef, JudgeContext, KnownFiles, PreprocessorCacheModeConfig};
+use cck_digest::{Error, HashState};
 use cck_files::Files;
 use cck_path::{FileKind, Metadata, Timestamp};
-use cck_time::{Error, PreprocessorCacheModeConfig};
 use std::alloc::{AllocError, Global};
 
 // Whether this is the metadata of a regular file.

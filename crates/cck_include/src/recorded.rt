@@ -6,7 +6,7 @@ ghost use Rattle.cck_files.specs.Calls.{AreCalls, IsErrorOrMemory, Keeps, Rose};
 ghost use Rattle.cck_files.specs.FileMap.{contents_at, file_at, metadata_at};
 ghost use Rattle.cck_path.specs.Bytes.{variables_of};
 ghost use Rattle.cck_path.specs.Path.{components};
-ghost use Rattle.cck_time.specs.TimePart.{time_part};
+ghost use Rattle.cck_include.specs.TimePart.{time_part};
 ghost use Rattle.jiff.specs.Words.{plain_zone};
 ghost use Rattle.cck_include.specs.JudgeContext.{setting_of};
 ghost use Rattle.cck_include.specs.Recorded.{recorded, recorded_by};
@@ -14,13 +14,11 @@ ghost use Rattle.cck_include.specs.Errors.{IsIoError};
 ghost use Rattle.cck_include.specs.Scan.{IsScanOf};
 ghost use Rattle.cck_include.specs.Setting.{setting_in};
 
-use crate::JudgeContext;
 use crate::errors::io_error;
-use cck_digest::{Digest, FileError, HashState, WatchedDigest};
-use cck_file_digest::feed_file_of_size;
-use cck_files::Files;
+use crate::{JudgeContext, PreprocessorCacheModeConfig, local_time_part};
+use cck_digest::{Digest, Error, FileError, HashState, WatchedDigest};
+use cck_files::{Files, feed_file_of_size};
 use cck_path::{Metadata, Timestamp};
-use cck_time::{Error, PreprocessorCacheModeConfig, local_time_part};
 use jiff::tz::TimeZone;
 use std::alloc::{AllocError, Global};
 

@@ -1,11 +1,14 @@
+pub mod BlockLemmas
 pub mod ByteLemmas
 pub mod CaseLemmas
 pub mod CommonPrefixLemmas
 pub mod ComponentEquality
 pub mod ComponentLemmas
 pub mod DurationLemmas
+pub mod EntriesLemmas
 pub mod EqualityLemmas
 pub mod EscapeLemmas
+pub mod FromLemmas
 pub mod JoinLemmas
 pub mod LastLemmas
 pub mod MomentLemmas
@@ -14,5 +17,7 @@ pub mod NameOrderLemmas
 pub mod NormalLemmas
 pub mod OrderLemmas
 pub mod PartLemmas
+pub mod PlaceLemmas
 pub mod PrefixLemmas
 pub mod TestLemmas
+pub mod ValueLemmas

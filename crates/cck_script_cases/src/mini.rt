@@ -1,6 +1,6 @@
 //! The small preprocessor.
 use cck_cases::{CaseError, GivenFiles};
-use cck_mini::{PrintError, print_input};
+use cck_command::{PrintError, print_input};
 use cck_util::UtilError;
 use std::alloc::{AllocError, Global};
 

@@ -1,8 +1,8 @@
 -- errors of a call to which a text was given
 use Rattle.std.proofs.Common.{◌≡◌, refl}
-use Rattle.cck_key_error.specs.declared.key_error.KeyError.TheVariants as key
-use Rattle.cck_key_error.specs.declared.preprocess_error.PreprocessError.{PreprocessError}
-use Rattle.cck_key_error.specs.declared.preprocess_error.PreprocessError.TheVariants as text
+use Rattle.cck_digest.specs.declared.key_error.KeyError.TheVariants as key
+use Rattle.cck_digest.specs.declared.preprocess_error.PreprocessError.{PreprocessError}
+use Rattle.cck_digest.specs.declared.preprocess_error.PreprocessError.TheVariants as text
 use Rattle.c_cache_keys.specs.Call.{Damaged, Extra, ExtraFault, Input, InputFault, Marker, Memory, NoText, ReturnsError, Store, TextFault, Why}
 use Rattle.c_cache_keys.specs.Seen.{why_of}
 use Rattle.cck_snapshot.specs.Recordings.{HasText, given_text}

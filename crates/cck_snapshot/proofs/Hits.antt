@@ -2,7 +2,7 @@
 use Rattle.std.proofs.Common.{◌≡◌, List, true, false, refl, sym, ◌∙◌, Option, None, Some}
 use Rattle.cck_path.specs.Bytes.{Bytes}
 use Rattle.cck_store.specs.Store.{Store}
-use Rattle.cck_time.specs.declared.config.PreprocessorCacheModeConfig.{PreprocessorCacheModeConfig}
+use Rattle.cck_include.specs.declared.config.PreprocessorCacheModeConfig.{PreprocessorCacheModeConfig}
 use Rattle.jiff.specs.Types.{TimeZone}
 use Rattle.c_cache_keys.proofs.Stored.{not_failed}
 use Rattle.c_cache_keys.specs.Call.{Call, CallResult, Keyed, Why}

@@ -6,7 +6,7 @@ use Rattle.std.specs.declared.alloc.Global.{Global}
 use Rattle.std.specs.Option.{option_map}
 use Rattle.cck_digest.specs.Digest.{digest_text}
 use Rattle.cck_path.specs.Bytes.{Bytes}
-use Rattle.cck_preprocessor_key.specs.PreprocessorKey.{preprocessor_material}
+use Rattle.cck_entry.specs.PreprocessorKey.{preprocessor_material}
 use Rattle.cck_store.specs.Store.{Returned}
 use Rattle.cck_store.specs.declared.store.StoreError.{StoreError}
 use Rattle.cck_store.specs.declared.store.StoreError.TheVariants as store

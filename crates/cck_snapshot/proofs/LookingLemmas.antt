@@ -6,8 +6,8 @@ use Rattle.std.specs.declared.alloc.Global.{Global}
 use Rattle.std.proofs.lemmas.Bool.{false≢true}
 use Rattle.std.proofs.lemmas.Option.{none-some}
 use Rattle.cck_files.specs.FileMap.{FileMap}
-use Rattle.cck_key_error.specs.declared.key_error.KeyError.{KeyError}
-use Rattle.cck_key_error.specs.declared.key_error.KeyError.TheVariants as error
+use Rattle.cck_digest.specs.declared.key_error.KeyError.{KeyError}
+use Rattle.cck_digest.specs.declared.key_error.KeyError.TheVariants as error
 use Rattle.cck_path.specs.Bytes.{Bytes, lists_of}
 use Rattle.cck_path.specs.TextOrder.{text_cmp}
 use Rattle.cck_store.specs.MapStore.{IsGot, State, map_store}

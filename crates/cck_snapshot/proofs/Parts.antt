@@ -22,7 +22,7 @@ use Rattle.cck_markers.specs.Marks.{Malformed, Mark, Name, Refusal}
 use Rattle.cck_path.specs.Bytes.{Bytes}
 use Rattle.cck_path.specs.Path.{Path, components}
 use Rattle.cck_store.specs.MapStore.{IsGot, State, map_store, empty_state}
-use Rattle.cck_preprocessor_key.specs.PreprocessorKey.{preprocessor_material}
+use Rattle.cck_entry.specs.PreprocessorKey.{preprocessor_material}
 use Rattle.cck_store.specs.Store.{Returned}
 use Rattle.cck_util.specs.Key.{material}
 use Rattle.c_cache_keys.proofs.Elements.{all_pass, each_passes, none_in, one_of}

@@ -3,8 +3,8 @@ use Rattle.std.proofs.Common.{◌≡◌, ◌⊎◌, List, inl, inr, None, Some, 
 use Rattle.std.specs.Prelude.{option_map, string_bytes}
 use Rattle.cck_compiler.specs.Arguments.{Arguments}
 use Rattle.cck_files.specs.FileMap.{FileMap}
-use Rattle.cck_key_error.specs.declared.key_error.KeyError.{KeyError}
-use Rattle.cck_key_error.specs.declared.key_error.KeyError.TheVariants as error
+use Rattle.cck_digest.specs.declared.key_error.KeyError.{KeyError}
+use Rattle.cck_digest.specs.declared.key_error.KeyError.TheVariants as error
 use Rattle.cck_path.specs.Bytes.{Bytes, lists_of}
 use Rattle.cck_path.specs.Variables.{Variable}
 use Rattle.jiff.specs.Words.{plain_zone}

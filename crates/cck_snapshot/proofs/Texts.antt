@@ -10,7 +10,7 @@ use Rattle.cck_path.specs.Path.{Path}
 use Rattle.cck_store.specs.MapStore.{map_store, empty_state}
 use Rattle.cck_store.specs.Store.{Stored}
 use Rattle.cck_store.specs.declared.store.StoreError.TheVariants as store
-use Rattle.cck_time.specs.declared.config.PreprocessorCacheModeConfig.{PreprocessorCacheModeConfig}
+use Rattle.cck_include.specs.declared.config.PreprocessorCacheModeConfig.{PreprocessorCacheModeConfig}
 use Rattle.cck_digest.specs.Digest.{digest_text}
 use Rattle.cck_util.specs.Key.{material}
 use Rattle.jiff.specs.Types.{TimeZone}

@@ -1,7 +1,7 @@
 -- recordings over a snapshot
 use Rattle.std.specs.Prelude.{◌≡◌, ◌≢◌, true, Option, Some, None, option_map, string_bytes}
 use Rattle.cck_files.specs.FileMap.{FileMap}
-use Rattle.cck_key_error.specs.declared.key_error.KeyError.{KeyError}
+use Rattle.cck_digest.specs.declared.key_error.KeyError.{KeyError}
 use Rattle.cck_path.specs.Bytes.{Bytes}
 use Rattle.cck_store.specs.MapStore.{State, map_store, empty_state}
 use Rattle.c_cache_keys.specs.Call.{CallResult, Keyed, Memory, NoText, ReturnsError, TextFault, Why}

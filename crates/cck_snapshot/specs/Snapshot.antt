@@ -2,7 +2,7 @@
 use Rattle.std.specs.Prelude.{◌≡◌, ◌≢◌, ◌⊎◌, ◌∷◌, [], true, false, Option, Some, None, Ok, String, string_bytes}
 use Rattle.std.specs.declared.alloc.Global.{Global}
 use Rattle.cck_files.specs.FileMap.{FileMap}
-use Rattle.cck_key_error.specs.declared.key_error.KeyError.{KeyError}
+use Rattle.cck_digest.specs.declared.key_error.KeyError.{KeyError}
 use Rattle.cck_path.specs.Bytes.{Bytes}
 use Rattle.cck_store.specs.MapStore.{State, map_store, empty_state}
 use Rattle.c_cache_keys.specs.Call.{CallResult, Damaged, Extra, ExtraFault, Input, InputFault, Keyed, Marker, Memory, NoText, ReturnsError, Store as StoreFails, TextFault}

@@ -1,7 +1,7 @@
 //! Laws about look-ups and recordings. Each is the contract of a function with an empty body, and
 //! holds for every hash function, every store and whatever a preprocessor prints.
 ghost use Rattle.std.specs.Prelude.{ℕ, List};
-ghost use Rattle.cck_time.specs.declared.config.PreprocessorCacheModeConfig.{PreprocessorCacheModeConfig};
+ghost use Rattle.cck_include.specs.declared.config.PreprocessorCacheModeConfig.{PreprocessorCacheModeConfig};
 ghost use Rattle.jiff.specs.Types.{TimeZone};
 ghost use Rattle.c_cache_keys.specs.Laws.{Headline};
 ghost use Rattle.c_cache_keys.specs.World.{world_of};

@@ -1,8 +1,8 @@
 //! Requests over snapshots.
 use crate::compiler::ExternalCompiler;
 use c_cache_keys::CCompilerHasher;
+use cck_include::PreprocessorCacheModeConfig;
 use cck_path::Timestamp;
-use cck_time::PreprocessorCacheModeConfig;
 use jiff::tz::TimeZone;
 
 /// All that a call over a snapshot takes beside the snapshot.

@@ -8,10 +8,10 @@ pub use cck_digest::laws::{
     file_error_equality_is_exact, has_is_tested, hex_tells_bytes, lengths_are_little_endian,
     text_has_64_characters, util_error_equality_is_exact,
 };
-pub use cck_file_digest::laws::{
-    errors_tell_no_material, file_material, folder_material, reached_tells,
+pub use cck_files::laws::{
+    calls_fail_as_armed, errors_tell_no_material, file_material, folder_material,
+    node_equality_is_exact, reached_tells,
 };
-pub use cck_files::laws::{calls_fail_as_armed, node_equality_is_exact};
 pub use cck_path::laws::{
     component_equality_is_exact, components_in_order, escape_is_undone,
     file_kind_equality_is_exact, metadata_equality_is_exact, names_that_lead, timestamps_by_nanos,

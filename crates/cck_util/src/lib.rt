@@ -21,7 +21,7 @@
 //!
 //! Names of the crates below are exported again: digests of `cck_digest`, the removal of base
 //! directories of `cck_strip`, paths, byte texts and times of `cck_path`, the interface to files of
-//! `cck_files`, and the digests of files of `cck_file_digest`. So each type of this repository that
+//! `cck_files`, and the digests of files of `cck_files`. So each type of this repository that
 //! a call takes or returns has its name here.
 #![tactic(auto)]
 
@@ -36,10 +36,10 @@ pub use cck_digest::{
     Digest, FileError, HASH_BUFFER_SIZE, HashState, SeenMacros, Sha256State, Sink, TimeMacroFinder,
     UtilError, VERSION, WatchedDigest, hash_len_prefixed, hash_length, hex, read_all, read_to_end,
 };
-pub use cck_file_digest::{
-    DigestFiles, feed_file, feed_file_of_size, hash_all, read_contents, read_contents_of_size,
+pub use cck_files::{
+    DigestFiles, Files, MapFiles, Node, feed_file, feed_file_of_size, hash_all, read_contents,
+    read_contents_of_size,
 };
-pub use cck_files::{Files, MapFiles, Node};
 pub use cck_path::{
     Component, Components, FileKind, Metadata, MetadataCtimeExt, OsStrExt, Timestamp,
     ascii_unescape_default, compare_paths, decode_path, encode_path, extension, file_name,

@@ -3,10 +3,10 @@
 //! The words after its name are vector files. The folder that a file is in says which library knows
 //! its calls; `docs/TESTING.md` has a table of them, and the grammar of the files. For each file the
 //! program prints each difference, and the number of results. For the word `examples` it prints the
-//! results of the calls of `cck_examples`.
+//! results of `examples` of `cck_call_cases`.
 //!
 //! The status is 0 if all results are the expected ones, and 1 if one differs or a line can't be
-//! read. It is 2 if a file can't be read, memory is lacking or a call of `cck_examples` fails.
+//! read. It is 2 if a file can't be read, memory is lacking or a call of the examples fails.
 #![tactic(auto)]
 
 use std::process::ExitCode;
@@ -22,7 +22,7 @@ fn folder_of(path: &str) -> &str {
 }
 
 fn print_examples(rt: &HostRuntime) -> io::Result<bool> {
-    let Some(results) = cck_examples::results(rt.alloc()) else {
+    let Some(results) = cck_call_cases::examples::results(rt.alloc()) else {
         return Err(io::Error::from(io::ErrorKind::Other));
     };
     rt.print(&results)?;
@@ -36,7 +36,7 @@ fn run_word(rt: &HostRuntime, name: &str) -> io::Result<bool> {
     match folder_of(name) {
         "values" => cck_value_cases::run_file(rt, name),
         "files" => cck_file_cases::run_file(rt, name),
-        "walks" => cck_walk_cases::run_file(rt, name),
+        "walks" => cck_file_cases::run_walk_file(rt, name),
         "calls" => cck_call_cases::run_file(rt, name),
         "scripts" => cck_script_cases::run_file(rt, name),
         _ => Err(io::Error::from(io::ErrorKind::NotFound)),

@@ -13,8 +13,8 @@ use Rattle.cck_include.specs.Errors.{IsIoError}
 use Rattle.cck_path.specs.Path.{Path}
 use Rattle.cck_path.specs.declared.metadata.FileKind.TheVariants as kind
 use Rattle.cck_path.specs.declared.metadata.Metadata.{Metadata}
-use Rattle.cck_time.specs.declared.error.Error.{Error}
-use Rattle.cck_time.specs.declared.error.Error.TheVariants as error
+use Rattle.cck_digest.specs.declared.entry_error.Error.{Error}
+use Rattle.cck_digest.specs.declared.entry_error.Error.TheVariants as error
 use Rattle.cck_walk.specs.Judgement.{Folder, Bad, IsJudged, digest_judgement, file_judgement, is_late, judged_unread, kind_judgement, node_judgement, judgement_at}
 
 -- a path with no node is bad

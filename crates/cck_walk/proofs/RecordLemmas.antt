@@ -10,11 +10,11 @@ use Rattle.std.specs.declared.alloc.Global.{Global}
 use Rattle.cck_path.proofs.ComponentLemmas.{leading_names-names}
 use Rattle.cck_path.specs.Path.{Path, Name, Root, has_root, leading_names, normal, path_cmp, path_cmp_total, path_cmp-IsAntisymmetric}
 use Rattle.cck_path.specs.Text.{path_text}
-use Rattle.cck_path_map.proofs.PlaceLemmas.{find_at, in_order_of}
+use Rattle.cck_path.proofs.PlaceLemmas.{find_at, in_order_of}
 use Rattle.cck_path.proofs.TestLemmas.{below_all, tied}
-use Rattle.cck_path_map.specs.PathMap.{IsPlaceOf, pair_of, path_of}
-use Rattle.cck_path_map.specs.Values.{map_values}
-use Rattle.cck_path_map.specs.declared.path_map.Entry.{Entry}
+use Rattle.cck_path.specs.PathMap.{IsPlaceOf, pair_of, path_of}
+use Rattle.cck_path.specs.Values.{map_values}
+use Rattle.cck_path.specs.declared.path_map.Entry.{Entry}
 use Rattle.cck_walk.specs.Digests.{AreNormal, digest_pair, written}
 
 -- a normal path is its own normal form

@@ -9,7 +9,7 @@ use Rattle.cck_include.specs.Setting.{Setting, setting_in}
 use Rattle.cck_markers.specs.Marks.{Mark, Marks, Name, Refusal, Malformed}
 use Rattle.cck_path.specs.Path.{Path, components, joined, normal, path_cmp}
 use Rattle.cck_path.specs.Timestamp.{Moment}
-use Rattle.cck_time.specs.declared.config.PreprocessorCacheModeConfig.{PreprocessorCacheModeConfig}
+use Rattle.cck_include.specs.declared.config.PreprocessorCacheModeConfig.{PreprocessorCacheModeConfig}
 use Rattle.jiff.specs.Types.{TimeZone}
 use Rattle.cck_walk.specs.Judgement.{Judgement, judgement_at}
 

@@ -6,7 +6,7 @@ use Rattle.std.specs.Global.{Vec}
 use Rattle.std.specs.declared.alloc.Global.{Global}
 use Rattle.cck_path.specs.Path.{Path, normal, path_cmp}
 use Rattle.cck_path.specs.Text.{path_text}
-use Rattle.cck_path_map.specs.PathMap.{coded_path_map}
+use Rattle.cck_path.specs.PathMap.{coded_path_map}
 use Rattle.cck_walk.specs.Decided.{Digests}
 
 abbrev pub coded_digests : Coded Digests

@@ -10,8 +10,8 @@ use Rattle.cck_path.specs.Path.{Path}
 use Rattle.cck_path.specs.Timestamp.{Moment}
 use Rattle.cck_path.specs.declared.metadata.FileKind.{FileKind}
 use Rattle.cck_path.specs.declared.metadata.FileKind.TheVariants as kind
-use Rattle.cck_time.specs.declared.error.Error.{Error}
-use Rattle.cck_time.specs.declared.error.Error.TheVariants as error
+use Rattle.cck_digest.specs.declared.entry_error.Error.{Error}
+use Rattle.cck_digest.specs.declared.entry_error.Error.TheVariants as error
 use Rattle.cck_walk.specs.declared.judge.Judged.{Judged}
 use Rattle.cck_walk.specs.declared.judge.Judged.TheVariants as judged
 

@@ -1,8 +1,8 @@
 -- the results of a walk over a text
 use Rattle.std.specs.Prelude.{◌≡◌, ◌⊎◌, ℕ, List, map, Option, Some, None, Result, Ok, Err}
 use Rattle.std.specs.FinMap.{entries}
-use Rattle.cck_key_error.specs.declared.key_error.KeyError.{KeyError}
-use Rattle.cck_key_error.specs.declared.key_error.KeyError.TheVariants.{Memory, Marker}
+use Rattle.cck_digest.specs.declared.key_error.KeyError.{KeyError}
+use Rattle.cck_digest.specs.declared.key_error.KeyError.TheVariants.{Memory, Marker}
 use Rattle.cck_path.specs.Path.{Path}
 use Rattle.cck_walk.specs.Decided.{Accepts, IsAskedFor, Context, TextDecides, Digests, Errs, IsRefused}
 use Rattle.cck_walk.specs.Digests.{digest_pair, written}

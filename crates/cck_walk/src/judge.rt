@@ -5,11 +5,10 @@ ghost use Rattle.cck_include.specs.JudgeContext.{setting_of};
 ghost use Rattle.cck_path.specs.Path.{components};
 ghost use Rattle.cck_walk.specs.Judgement.{IsJudged, is_late, judged_unread, judgement_at};
 
-use cck_digest::HashState;
+use cck_digest::{Error, HashState};
 use cck_files::Files;
 use cck_include::{JudgeContext, recorded_digest};
 use cck_path::{FileKind, Metadata, Timestamp};
-use cck_time::Error;
 use std::alloc::{AllocError, Global};
 
 /// How a walk judges a path.

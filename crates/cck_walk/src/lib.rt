@@ -30,7 +30,7 @@
 //! refused; an accepted text and a malformed marker are exact even then.
 //! [`process_preprocessor_line`] does the same for one marker, and adds to [`Records`]. The result
 //! is a [`Walk`], or a [`LineAction`] for one marker. An error is a [`KeyError`] of
-//! `cck_key_error`. [`laws`] states when walks are equal, and when no file is looked at.
+//! `cck_digest`. [`laws`] states when walks are equal, and when no file is looked at.
 #![tactic(auto)]
 
 mod judge;
@@ -42,7 +42,7 @@ mod seen;
 mod walk;
 mod walk_context;
 
-pub use cck_key_error::KeyError;
+pub use cck_digest::KeyError;
 pub use line::{LineAction, process_preprocessor_line};
 pub use records::Records;
 pub use walk::{Walk, process_preprocessed_file};

@@ -3,11 +3,10 @@ ghost use Rattle.std.specs.Prelude.{◌≡◌, IfOk, OnErr, OnOk, map, string_by
 ghost use Rattle.std.specs.FinMap as finite;
 ghost use Rattle.std.specs.Option.{option_copied};
 ghost use Rattle.cck_path.specs.Path.{components, normal};
-ghost use Rattle.cck_path_map.specs.Values.{map_values};
+ghost use Rattle.cck_path.specs.Values.{map_values};
 ghost use Rattle.cck_walk.specs.Digests.{AreNormal, digest_pair, written};
 
-use cck_path::normalize_path;
-use cck_path_map::PathMap;
+use cck_path::{PathMap, normalize_path};
 use std::alloc::{AllocError, Global};
 use std::marker::Model;
 
@@ -22,7 +21,7 @@ pub struct Records {
 
 impl Model for Records {
     ghost use Rattle.std.specs.Prelude.{string_bytes};
-    ghost use Rattle.cck_path_map.specs.Values.{map_values};
+    ghost use Rattle.cck_path.specs.Values.{map_values};
     ghost use Rattle.cck_walk.specs.Decided.{Digests};
     ghost use Rattle.cck_walk.specs.Digests.{AreNormal, coded_digests};
 

@@ -9,13 +9,11 @@ use crate::Records;
 use crate::name::take_name;
 use crate::seen::SeenNames;
 use crate::walk_context::WalkContext;
-use cck_digest::HashState;
+use cck_digest::{HashState, KeyError};
 use cck_files::Files;
-use cck_include::JudgeContext;
-use cck_key_error::KeyError;
+use cck_include::{JudgeContext, PreprocessorCacheModeConfig};
 use cck_markers::{Mark, Markers};
 use cck_path::Timestamp;
-use cck_time::PreprocessorCacheModeConfig;
 use jiff::tz::TimeZone;
 use std::alloc::Global;
 

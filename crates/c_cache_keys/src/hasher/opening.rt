@@ -17,10 +17,9 @@ use crate::conditions::Conditions;
 use crate::errors::key_error_of;
 use cck_compiler::{CCompilerImpl, KeyError};
 use cck_digest::HashState;
-use cck_file_digest::hash_all;
-use cck_files::Files;
+use cck_entry::preprocessor_cache_entry_hash_key;
+use cck_files::{Files, hash_all};
 use cck_path::{first_value, join_path};
-use cck_preprocessor_key::preprocessor_cache_entry_hash_key;
 use std::alloc::Global;
 
 /// The results of the first part of a call.

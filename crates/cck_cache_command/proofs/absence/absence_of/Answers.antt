@@ -1,11 +1,11 @@
 use Rattle.std.proofs.Common.{◌∙◌, ◌++◌, Option, Some, None, List, ℕ, IsTrue, inl, inr, true, ap, map, subst}
 use Rattle.std.specs.BTreeSet.{BTreeSet}
 use Rattle.std.specs.Global.{Vec}
-use Rattle.cck_cache_entry.specs.Absent.{AreAbsentNames, IsAbsentName}
-use Rattle.cck_cache_entry.specs.Left.{IsLeft}
-use Rattle.cck_cache_entry.specs.PathTest.{Absent, Directory, Test, tests_of}
-use Rattle.cck_cache_entry.specs.SearchList.{search_fields}
-use Rattle.cck_cache_entry.specs.Sets.{IsSetOf, has_key}
+use Rattle.cck_cache_text.specs.Absent.{AreAbsentNames, IsAbsentName}
+use Rattle.cck_cache_text.specs.Left.{IsLeft}
+use Rattle.cck_cache_rules.specs.PathTest.{Absent, Directory, Test, tests_of}
+use Rattle.cck_cache_text.specs.SearchList.{search_fields}
+use Rattle.cck_cache_text.specs.Sets.{IsSetOf, has_key}
 use Rattle.cck_markers.specs.Marks.{Mark, Marks}
 use Rattle.cck_path.specs.Bytes.{Bytes, lists_of}
 use Rattle.cck_cache_command.specs.Absence.{AreAbsentPaths, ArePathsFor}

@@ -1,8 +1,8 @@
 use Rattle.std.proofs.Common.{◌≡◌, ◌∙◌, ℕ, [], ap, arith, get_or, sym}
 use Rattle.std.specs.Global.{Vec}
 use Rattle.std.proofs.lemmas.List.{get_or-map, length-map}
-use Rattle.cck_cache_entry.specs.PathTest.{Absent, tests_of}
-use Rattle.cck_cache_entry.specs.declared.path_test.PathTest.TheVariants as program
+use Rattle.cck_cache_rules.specs.PathTest.{Absent, tests_of}
+use Rattle.cck_cache_rules.specs.declared.path_test.PathTest.TheVariants as program
 use Rattle.cck_path.specs.Bytes.{lists_of}
 use Rattle.cck_cache_command.proofs.AbsenceLemmas.{all_tested, one_tested}
 use Rattle.cck_cache_command.proofs.absence.add_absent.Goals as goal

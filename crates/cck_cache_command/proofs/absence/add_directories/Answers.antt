@@ -3,9 +3,9 @@ use Rattle.std.specs.Global.{Vec}
 use Rattle.std.specs.Map.Iter.{deref}
 use Rattle.std.proofs.lemmas.List.{length-map, length_push}
 use Rattle.std.proofs.lemmas.Map.Iter.{iter_end}
-use Rattle.cck_cache_entry.specs.PathTest.{Directory, tests_of}
-use Rattle.cck_cache_entry.specs.declared.path_test.PathTest.TheVariants as program
-use Rattle.cck_cache_entry.proofs.SetLemmas.{set_turn}
+use Rattle.cck_cache_rules.specs.PathTest.{Directory, tests_of}
+use Rattle.cck_cache_rules.specs.declared.path_test.PathTest.TheVariants as program
+use Rattle.cck_cache_text.proofs.SetLemmas.{set_turn}
 use Rattle.cck_path.specs.Bytes.{lists_of}
 use Rattle.cck_cache_command.proofs.AbsenceLemmas.{all_tested, one_tested}
 use Rattle.cck_cache_command.proofs.absence.add_directories.Goals as goal

@@ -1,5 +1,5 @@
 use Rattle.std.proofs.Common.{◌≡◌, ◌++◌, length, map, take}
-use Rattle.cck_cache_entry.specs.PathTest.{Directory, tests_of}
+use Rattle.cck_cache_rules.specs.PathTest.{Directory, tests_of}
 use Rattle.cck_path.specs.Bytes.{lists_of}
 use Rattle.cck_cache_command.proofs.absence.add_directories.Given as goal
 

@@ -1,7 +1,7 @@
 use Rattle.std.proofs.Common.{rules, tests}
 use Rattle.std.proofs.lemmas.Iterator.{YieldsList-from_slice, cases_from_any}
-use Rattle.cck_cache_base.proofs.ListLemmas.{any_decided}
-use Rattle.cck_cache_entry.specs.HeaderTests.{MayAskForFile}
+use Rattle.cck_cache_rules.proofs.ListLemmas.{any_decided}
+use Rattle.cck_cache_text.specs.HeaderTests.{MayAskForFile}
 use Rattle.cck_cache_command.proofs.judge.ask_for_file.Goals as goal
 
 pub returns : goal.returns

@@ -1,6 +1,6 @@
 use Rattle.std.proofs.Common.{rules, tests}
 use Rattle.std.proofs.lemmas.Iterator.{YieldsList-from_slice, cases_from_any}
-use Rattle.cck_cache_base.proofs.ListLemmas.{any_decided}
+use Rattle.cck_cache_rules.proofs.ListLemmas.{any_decided}
 use Rattle.cck_cache_command.specs.Response.{MayNameArguments}
 use Rattle.cck_cache_command.proofs.judge.name_arguments.Goals as goal
 

@@ -1,7 +1,7 @@
 use Rattle.std.proofs.Common.{◌∙◌, Option, IfSome, String, subst}
 use Rattle.std.proofs.lemmas.Result.{IfOk-weaker}
 use Rattle.std.specs.declared.alloc.Global.{Global}
-use Rattle.cck_cache_entry.specs.Files.{entry_fields}
+use Rattle.cck_cache_rules.specs.Files.{entry_fields}
 use Rattle.cck_path.specs.Bytes.{Bytes}
 use Rattle.cck_cache_command.specs.Input.{IsCalm}
 use Rattle.cck_cache_command.specs.Look.{IsFoundFor, IsKeptObject, IsNameOfKey, IsNamedMatch}

@@ -1,8 +1,8 @@
 use Rattle.std.proofs.Common.{◌≡◌, ◌∙◌, Some, Bor, List, ℕ, string_bytes, subst}
 use Rattle.std.specs.Option.{option_map}
-use Rattle.cck_cache_base.specs.Base.{BaseOf, WordLists}
+use Rattle.cck_cache_rules.specs.Base.{BaseOf, WordLists}
 use Rattle.cck_cache_rules.specs.ObjectName.{object_name}
-use Rattle.cck_file_digest.specs.FileDigest.{digest_text_at}
+use Rattle.cck_files.specs.FileDigest.{digest_text_at}
 use Rattle.cck_include.specs.Include.{includes_in}
 use Rattle.cck_path.specs.Bytes.{Bytes}
 use Rattle.cck_path.specs.Path.{components}

@@ -1,6 +1,6 @@
 use Rattle.std.proofs.Common.{◌≡◌, [], ◌∷◌, ◌++◌, List, refl, sym, ◌∙◌, ap, append_assoc}
 use Rattle.std.proofs.lemmas.List.{append-nil, nil_from_length}
-use Rattle.cck_cache_entry.specs.declared.path_test.PathTest.{PathTest}
+use Rattle.cck_cache_rules.specs.declared.path_test.PathTest.{PathTest}
 use Rattle.cck_cache_command.proofs.record.all_tests.Goals as goal
 
 pub loop-test-init : goal.loop-test-init

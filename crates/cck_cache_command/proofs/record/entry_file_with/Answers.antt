@@ -1,6 +1,6 @@
 use Rattle.std.proofs.Common.{◌≡◌, ◌∙◌, ◌++◌, List, ap}
 use Rattle.std.proofs.lemmas.List.{map-append}
-use Rattle.cck_cache_entry.specs.PathTest.{Test, test_of, tests_of}
+use Rattle.cck_cache_rules.specs.PathTest.{Test, test_of, tests_of}
 use Rattle.cck_cache_command.specs.Record.{recorded_fields}
 use Rattle.cck_cache_command.proofs.record.entry_file_with.Goals as goal
 

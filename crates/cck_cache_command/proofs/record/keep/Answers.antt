@@ -1,5 +1,5 @@
 use Rattle.std.proofs.Common.{Option, refl, subst}
-use Rattle.cck_cache_entry.specs.declared.object_file.ObjectFile.{ObjectFile}
+use Rattle.cck_cache_rules.specs.declared.object_file.ObjectFile.{ObjectFile}
 use Rattle.cck_path.specs.Bytes.{lists_of}
 use Rattle.cck_cache_command.specs.Record.{ObjectShowsBase}
 use Rattle.cck_cache_command.proofs.RecordLemmas.{some_shows}

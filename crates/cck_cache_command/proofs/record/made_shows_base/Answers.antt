@@ -1,6 +1,6 @@
 use Rattle.std.proofs.Common.{inl, inr, refl, sym, subst}
 use Rattle.std.proofs.lemmas.Bool.{false≢true}
-use Rattle.cck_cache_base.specs.Shown.{ShowsBase}
+use Rattle.cck_cache_rules.specs.Shown.{ShowsBase}
 use Rattle.cck_path.specs.Bytes.{Bytes, lists_of}
 use Rattle.cck_cache_command.proofs.record.made_shows_base.Goals as goal
 

@@ -4,7 +4,7 @@ use Rattle.cck_cache_command.specs.Input.{IsCalm}
 use Rattle.cck_cache_command.specs.Record.{IsJudgedByReading, IsOutcome, IsOutcomeOver, ReadsAlone}
 use Rattle.cck_cache_command.specs.declared.record.Outcome.{Outcome}
 use Rattle.cck_cache_rules.specs.declared.refusal.Refusal.{Refusal}
-use Rattle.cck_cache_words.specs.declared.task.Made.{Made}
+use Rattle.cck_cache_arguments.specs.declared.task.Made.{Made}
 use Rattle.cck_cache_command.proofs.RecordLemmas.{outcome_all}
 use Rattle.cck_cache_command.proofs.record.record.Goals as goal
 

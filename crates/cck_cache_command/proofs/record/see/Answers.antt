@@ -1,5 +1,5 @@
 use Rattle.std.proofs.Common.{◌≡◌, ◌∙◌, inl, inr, List, sym, subst}
-use Rattle.cck_cache_entry.specs.PathTest.{Test, tests_of}
+use Rattle.cck_cache_rules.specs.PathTest.{Test, tests_of}
 use Rattle.cck_cache_command.specs.Record.{HasAskedTests, HasPathTests, HasUnnamedTests}
 use Rattle.cck_cache_command.specs.Unnamed.{AreUnnamedTests}
 use Rattle.cck_cache_command.proofs.InputLemmas.{calm_kept}

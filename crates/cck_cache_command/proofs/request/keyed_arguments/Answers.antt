@@ -1,6 +1,6 @@
 use Rattle.std.proofs.Common.{◌≡◌, ◌∙◌, ℕ, Some, None, ap, subst}
 use Rattle.std.specs.Global.{Vec}
-use Rattle.cck_cache_base.specs.Base.{BaseOf, WordLists}
+use Rattle.cck_cache_rules.specs.Base.{BaseOf, WordLists}
 use Rattle.cck_path.specs.Bytes.{lists_of}
 use Rattle.cck_cache_command.specs.Request.{keyed_arguments, request_words}
 use Rattle.cck_cache_command.proofs.RequestLemmas.{keyed_base, keyed_two}

@@ -1,8 +1,8 @@
 use Rattle.std.proofs.Common.{◌≡◌, ◌∙◌, ℕ, List, true, false, arith, length, refl, sym, ap, subst}
 use Rattle.std.specs.Global.{Vec}
 use Rattle.std.proofs.lemmas.List.{take_all}
-use Rattle.cck_cache_entry.specs.SearchList.{search_fields}
-use Rattle.cck_cache_entry.specs.PathTest.{tests_of}
+use Rattle.cck_cache_text.specs.SearchList.{search_fields}
+use Rattle.cck_cache_rules.specs.PathTest.{tests_of}
 use Rattle.cck_cache_command.specs.Searched.{AddsRight, is_expected, none_added}
 use Rattle.cck_cache_command.proofs.SearchedLemmas.{one_unexpected, right_more, wrong_here}
 use Rattle.cck_path.specs.Bytes.{Bytes, lists_of}

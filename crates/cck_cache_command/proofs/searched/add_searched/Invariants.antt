@@ -1,6 +1,6 @@
 use Rattle.std.proofs.Common.{take}
-use Rattle.cck_cache_entry.specs.PathTest.{tests_of}
-use Rattle.cck_cache_entry.specs.SearchList.{search_fields}
+use Rattle.cck_cache_rules.specs.PathTest.{tests_of}
+use Rattle.cck_cache_text.specs.SearchList.{search_fields}
 use Rattle.cck_path.specs.Bytes.{lists_of}
 use Rattle.cck_cache_command.specs.Searched.{AddsRight}
 use Rattle.cck_cache_command.proofs.searched.add_searched.Given as goal

@@ -1,6 +1,6 @@
-use Rattle.cck_cache_entry.specs.SearchList.{search_fields}
+use Rattle.cck_cache_text.specs.SearchList.{search_fields}
 use Rattle.cck_cache_files.specs.declared.sources.Asked.TheVariants.{Paths, Unknown, Time}
-use Rattle.cck_cache_entry.specs.PathTest.{tests_of}
+use Rattle.cck_cache_rules.specs.PathTest.{tests_of}
 use Rattle.cck_cache_command.proofs.SourceTestLemmas.{asked_is, doubtful_of_text, tests_of_text}
 use Rattle.cck_cache_command.proofs.tested.tested_by.Goals as goal
 

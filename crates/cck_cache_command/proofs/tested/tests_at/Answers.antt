@@ -3,10 +3,10 @@ use Rattle.std.specs.Global.{Vec}
 use Rattle.std.specs.Map.Iter.{deref}
 use Rattle.std.proofs.lemmas.List.{length_push, map-append}
 use Rattle.std.proofs.lemmas.Map.Iter.{iter_end}
-use Rattle.cck_cache_entry.specs.PathTest.{test_of, tests_of}
-use Rattle.cck_cache_entry.specs.Sets.{has_key}
-use Rattle.cck_cache_entry.specs.declared.path_test.PathTest.{PathTest}
-use Rattle.cck_cache_entry.proofs.SetLemmas.{set_turn}
+use Rattle.cck_cache_rules.specs.PathTest.{test_of, tests_of}
+use Rattle.cck_cache_text.specs.Sets.{has_key}
+use Rattle.cck_cache_rules.specs.declared.path_test.PathTest.{PathTest}
+use Rattle.cck_cache_text.proofs.SetLemmas.{set_turn}
 use Rattle.cck_cache_files.proofs.StateLemmas.{KeepsStates-trans}
 use Rattle.cck_path.specs.Bytes.{Bytes}
 use Rattle.cck_path.specs.Text.{join_path}

@@ -1,5 +1,5 @@
 use Rattle.std.proofs.Common.{length}
-use Rattle.cck_cache_entry.specs.PathTest.{tests_of}
+use Rattle.cck_cache_rules.specs.PathTest.{tests_of}
 use Rattle.cck_cache_files.specs.PathStates.{KeepsStates}
 use Rattle.cck_cache_command.specs.Tested.{AreTestsAt}
 use Rattle.cck_cache_command.proofs.AbsenceLemmas.{IsAmong}

@@ -1,5 +1,5 @@
 use Rattle.std.proofs.Common.{◌≡◌, ◌⊎◌, true, List, IsTrue, refl, subst}
-use Rattle.cck_cache_entry.specs.Names.{is_named}
+use Rattle.cck_cache_text.specs.Names.{is_named}
 use Rattle.cck_cache_files.specs.Copies.{AreKnown}
 use Rattle.cck_markers.specs.Marks.{Mark, Marks}
 use Rattle.cck_path.specs.Bytes.{Bytes}

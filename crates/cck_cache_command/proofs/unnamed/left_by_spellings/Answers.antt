@@ -4,10 +4,10 @@ use Rattle.std.specs.Global.{Vec}
 use Rattle.std.specs.Map.Iter.{deref}
 use Rattle.std.proofs.lemmas.List.{length_push}
 use Rattle.std.proofs.lemmas.Map.Iter.{iter_end}
-use Rattle.cck_cache_entry.specs.Left.{IsLeftOn}
-use Rattle.cck_cache_entry.specs.Sets.{Adds, has_key}
-use Rattle.cck_cache_entry.proofs.LeftLemmas.{no_key}
-use Rattle.cck_cache_entry.proofs.SetLemmas.{set_turn}
+use Rattle.cck_cache_text.specs.Left.{IsLeftOn}
+use Rattle.cck_cache_text.specs.Sets.{Adds, has_key}
+use Rattle.cck_cache_text.proofs.LeftLemmas.{no_key}
+use Rattle.cck_cache_text.proofs.SetLemmas.{set_turn}
 use Rattle.cck_cache_files.proofs.StateLemmas.{KeepsStates-trans}
 use Rattle.cck_files.proofs.CallsLemmas.{keeps_all, keeps_itself}
 use Rattle.cck_files.specs.FileMap.{FileMap}

@@ -1,5 +1,5 @@
 use Rattle.std.proofs.Common.{IsTrue, length}
-use Rattle.cck_cache_entry.specs.Sets.{has_key}
+use Rattle.cck_cache_text.specs.Sets.{has_key}
 use Rattle.cck_cache_files.specs.PathStates.{KeepsStates}
 use Rattle.cck_files.specs.Calls.{Keeps}
 use Rattle.cck_files.specs.FileState.{FileState, IsQuiet, fault_count}

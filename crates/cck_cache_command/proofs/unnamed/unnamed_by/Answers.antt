@@ -3,11 +3,11 @@ use Rattle.std.specs.BTreeSet.{BTreeSet}
 use Rattle.std.specs.Global.{Vec}
 use Rattle.std.specs.Option.{option_map}
 use Rattle.std.specs.Prelude.{Contains}
-use Rattle.cck_cache_entry.specs.LookedAt.{IsLookedAt}
-use Rattle.cck_cache_entry.specs.PathTest.{Directory, Test, tests_of}
-use Rattle.cck_cache_entry.specs.SearchList.{search_fields}
-use Rattle.cck_cache_entry.specs.Sets.{IsSetOf, has_key}
-use Rattle.cck_cache_entry.specs.declared.path_test.PathTest.{PathTest}
+use Rattle.cck_cache_text.specs.LookedAt.{IsLookedAt}
+use Rattle.cck_cache_rules.specs.PathTest.{Directory, Test, tests_of}
+use Rattle.cck_cache_text.specs.SearchList.{search_fields}
+use Rattle.cck_cache_text.specs.Sets.{IsSetOf, has_key}
+use Rattle.cck_cache_rules.specs.declared.path_test.PathTest.{PathTest}
 use Rattle.cck_cache_files.specs.declared.copies.KnownFile.{KnownFile}
 use Rattle.cck_files.specs.FileMap.{FileMap}
 use Rattle.cck_files.proofs.CallsLemmas.{keeps_all}

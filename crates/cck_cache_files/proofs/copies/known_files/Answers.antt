@@ -1,8 +1,8 @@
 use Rattle.std.proofs.Common.{◌≡◌, ◌∙◌, ◌⊎◌, ◌||◌, IsTrue, ap}
 use Rattle.std.specs.Str.{bytes_eq}
-use Rattle.cck_cache_entry.specs.Names.{is_named}
-use Rattle.cck_cache_entry.specs.Sets.{has_key}
-use Rattle.cck_cache_entry.proofs.SetLemmas.{has-insert}
+use Rattle.cck_cache_text.specs.Names.{is_named}
+use Rattle.cck_cache_text.specs.Sets.{has_key}
+use Rattle.cck_cache_text.proofs.SetLemmas.{has-insert}
 use Rattle.cck_path.specs.Bytes.{Bytes}
 use Rattle.cck_cache_files.proofs.CopyLemmas.{known_same, one_name}
 use Rattle.cck_cache_files.proofs.copies.known_files.Goals as goal

@@ -1,5 +1,5 @@
 use Rattle.std.proofs.Common.{take}
-use Rattle.cck_cache_entry.specs.PathTest.{tests_of}
+use Rattle.cck_cache_rules.specs.PathTest.{tests_of}
 use Rattle.cck_cache_files.specs.PathTests.{AllHold}
 use Rattle.cck_cache_files.proofs.path_tests.first_failing.Given as goal
 

@@ -1,10 +1,10 @@
 use Rattle.std.proofs.Common.{◌≡◌, ◌∙◌, true, false, List, Option, Some, None, map, sym, ap, subst}
 use Rattle.std.specs.Option.{option_map}
-use Rattle.cck_cache_entry.specs.HeaderTests.{AreTests, TestFields, has_dependency, test_fields}
-use Rattle.cck_cache_entry.specs.SearchList.{search_fields}
-use Rattle.cck_cache_entry.specs.Sets.{Adds}
-use Rattle.cck_cache_entry.specs.Splices.{unspliced}
-use Rattle.cck_cache_entry.specs.TestedPaths.{IsPathOfTests}
+use Rattle.cck_cache_text.specs.HeaderTests.{AreTests, TestFields, has_dependency, test_fields}
+use Rattle.cck_cache_text.specs.SearchList.{search_fields}
+use Rattle.cck_cache_text.specs.Sets.{Adds}
+use Rattle.cck_cache_text.specs.Splices.{unspliced}
+use Rattle.cck_cache_text.specs.TestedPaths.{IsPathOfTests}
 use Rattle.cck_path.specs.Bytes.{Bytes}
 use Rattle.cck_cache_files.proofs.SourceLemmas.{asks_by}
 use Rattle.cck_cache_files.proofs.sources.add_source.Goals as goal

@@ -1,7 +1,7 @@
 use Rattle.std.proofs.Common.{◌∙◌, IsTrue, map, sym, subst}
-use Rattle.cck_cache_entry.specs.Names.{is_named}
-use Rattle.cck_cache_entry.specs.SearchList.{search_fields}
-use Rattle.cck_cache_entry.specs.Sets.{has_key}
+use Rattle.cck_cache_text.specs.Names.{is_named}
+use Rattle.cck_cache_text.specs.SearchList.{search_fields}
+use Rattle.cck_cache_text.specs.Sets.{has_key}
 use Rattle.cck_cache_files.proofs.SourceLemmas.{asked_same}
 use Rattle.cck_cache_files.proofs.sources.asked_by.Goals as goal
 

@@ -3,11 +3,11 @@ use Rattle.std.specs.Global.{Vec}
 use Rattle.std.specs.Map.Iter.{deref}
 use Rattle.std.proofs.lemmas.List.{length_push}
 use Rattle.std.proofs.lemmas.Map.Iter.{iter_end}
-use Rattle.cck_cache_entry.specs.HeaderTests.{AreTests, has_dependency}
-use Rattle.cck_cache_entry.specs.SearchList.{search_fields}
-use Rattle.cck_cache_entry.specs.Sets.{Adds, has_key}
-use Rattle.cck_cache_entry.specs.Splices.{unspliced}
-use Rattle.cck_cache_entry.proofs.SetLemmas.{adds_none_below, has_key_at, set_turn}
+use Rattle.cck_cache_text.specs.HeaderTests.{AreTests, has_dependency}
+use Rattle.cck_cache_text.specs.SearchList.{search_fields}
+use Rattle.cck_cache_text.specs.Sets.{Adds, has_key}
+use Rattle.cck_cache_text.specs.Splices.{unspliced}
+use Rattle.cck_cache_text.proofs.SetLemmas.{adds_none_below, has_key_at, set_turn}
 use Rattle.cck_files.proofs.CallsLemmas.{keeps_all, keeps_itself}
 use Rattle.cck_files.specs.FileMap.{FileMap}
 use Rattle.cck_path.specs.Bytes.{Bytes}

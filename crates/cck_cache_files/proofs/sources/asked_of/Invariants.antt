@@ -1,7 +1,7 @@
 use Rattle.std.proofs.Common.{length, map}
-use Rattle.cck_cache_entry.specs.SearchList.{search_fields}
-use Rattle.cck_cache_entry.specs.Sets.{Adds}
-use Rattle.cck_cache_entry.proofs.SetLemmas.{Below}
+use Rattle.cck_cache_text.specs.SearchList.{search_fields}
+use Rattle.cck_cache_text.specs.Sets.{Adds}
+use Rattle.cck_cache_text.proofs.SetLemmas.{Below}
 use Rattle.cck_files.specs.Calls.{Keeps}
 use Rattle.cck_files.specs.FileState.{FileState, IsQuiet, fault_count}
 use Rattle.cck_cache_files.proofs.SourceLemmas.{AsksAt, PlainBelow}

@@ -1,7 +1,7 @@
 use Rattle.std.proofs.Common.{rules, subst}
 use Rattle.std.specs.Option.{option_map}
-use Rattle.cck_cache_entry.specs.Files.{entry_fields, entry_file}
-use Rattle.cck_cache_entry.specs.Reading.{ReadsBack}
+use Rattle.cck_cache_rules.specs.Files.{entry_fields, entry_file}
+use Rattle.cck_cache_rules.specs.Reading.{ReadsBack}
 use Rattle.cck_cache_rules.proofs.ContentLemmas.{none_read, other_read}
 use Rattle.cck_cache_rules.specs.Contents.{key_of_entry}
 use Rattle.cck_cache_rules.proofs.contents.entry_in.Goals as goal

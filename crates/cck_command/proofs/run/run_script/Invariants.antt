@@ -4,7 +4,7 @@ use Rattle.jiff.specs.Words.{plain_zone}
 use Rattle.cck_script.specs.Script.{zone_of}
 use Rattle.cck_script.specs.Seen.{line_of, lines_of}
 use Rattle.c_cache_keys.specs.World.{world_of}
-use Rattle.cck_time.specs.Config.{activated}
+use Rattle.cck_include.specs.Config.{activated}
 use Rattle.cck_command.specs.Made.{AreMade}
 use Rattle.cck_command.specs.MiniCompiler.{mini_compiler}
 use Rattle.cck_command.specs.Run.{armed_by}

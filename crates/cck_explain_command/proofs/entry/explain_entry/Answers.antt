@@ -4,7 +4,7 @@ use Rattle.cck_digest.proofs.StreamLemmas.{after_error}
 use Rattle.cck_explain_command.proofs.BufferLemmas.{if_any}
 use Rattle.cck_explain_command.proofs.WrittenLemmas.{err_of_stream, err_with, ok_of_stream, read_error}
 use Rattle.cck_explain_command.specs.Written.{BeginsOf, WritesOf}
-use Rattle.cck_explain_entry.specs.Bytes.{IsEntryListing}
+use Rattle.cck_explain_listing.specs.Bytes.{IsEntryListing}
 use Rattle.cck_explain_command.proofs.entry.explain_entry.Goals as goal
 
 pub returns-in_err-bytes-clause-begun : goal.returns-in_err-bytes-clause-begun

@@ -1,7 +1,7 @@
 use Rattle.std.proofs.Common.{refl, subst, sym, inl, inr}
 use Rattle.cck_digest.proofs.StreamLemmas.{after_error}
 use Rattle.std.proofs.lemmas.Result.{err_from_is_err_and}
-use Rattle.cck_explain_entry.specs.Bytes.{IsEntryListing}
+use Rattle.cck_explain_listing.specs.Bytes.{IsEntryListing}
 use Rattle.cck_explain_command.proofs.WrittenLemmas.{entry_error, err_with, write_error}
 use Rattle.cck_explain_command.proofs.entry.write_entry.Goals as goal
 

@@ -1,10 +1,9 @@
-use Rattle.std.proofs.Common.{◌+◌, ◌∙◌, [], sym, ap, arith, length}
+use Rattle.std.proofs.Common.{◌+◌, ◌∙◌, [], sym, ap, arith, length, append-nil}
 use Rattle.cck_digest.proofs.StreamLemmas.{after_error}
 use Rattle.cck_explain_command.specs.Key.{part}
 use Rattle.cck_explain_command.specs.Listing.{part_lines, rows}
 use Rattle.cck_explain_command.proofs.BufferLemmas.{puts_nothing}
 use Rattle.cck_explain_command.proofs.PutLemmas.{of_last_row, of_row, so_far_begun, so_far_last, so_far_more}
-use Rattle.std.proofs.Common.{append-nil}
 use Rattle.cck_explain_command.proofs.line.put_rows.Goals as goal
 
 pub loop-rest-init : goal.loop-rest-init

@@ -1,6 +1,6 @@
 use Rattle.std.proofs.Common.{refl, subst, sym, inl, inr}
 use Rattle.cck_digest.proofs.StreamLemmas.{after_error}
-use Rattle.cck_explain_markers.specs.Listing.{AreMarkerLines}
+use Rattle.cck_explain_listing.specs.MarkerListing.{AreMarkerLines}
 use Rattle.cck_explain_command.proofs.markers.write_markers.Goals as goal
 
 pub returns-in_err-lines-clause-begun : goal.returns-in_err-lines-clause-begun

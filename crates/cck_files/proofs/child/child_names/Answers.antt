@@ -3,9 +3,9 @@ use Rattle.std.proofs.lemmas.List.{length_push}
 use Rattle.std.specs.Prelude.{vec_items}
 use Rattle.std.specs.Ordering.{is_eq}
 use Rattle.cck_path.specs.Path.{components, path_cmp}
-use Rattle.cck_path_map.proofs.EntriesLemmas.{all_given, entry_at}
-use Rattle.cck_path_map.specs.Entries.{entries_left}
-use Rattle.cck_path_map.specs.PathMap.{pair_of, part_from, path_of}
+use Rattle.cck_path.proofs.EntriesLemmas.{all_given, entry_at}
+use Rattle.cck_path.specs.Entries.{entries_left}
+use Rattle.cck_path.specs.PathMap.{pair_of, part_from, path_of}
 use Rattle.cck_files.proofs.BelowLemmas.{children_of_part, none_after, not_within}
 use Rattle.cck_files.proofs.NamesLemmas.{IsListed, listed_all, listed_child, listed_other, listed_stop}
 use Rattle.cck_files.proofs.child.child_names.Goals as goal

@@ -1,7 +1,7 @@
 use Rattle.std.proofs.Common.{length, map}
 use Rattle.std.specs.Prelude.{vec_items}
 use Rattle.cck_path.specs.Path.{components}
-use Rattle.cck_path_map.specs.Entries.{entries_left}
+use Rattle.cck_path.specs.Entries.{entries_left}
 use Rattle.cck_files.proofs.NamesLemmas.{IsListed}
 use Rattle.cck_files.proofs.child.child_names.Given as goal
 

@@ -1,8 +1,8 @@
 use Rattle.std.proofs.Common.{◌∙◌, ap, length, map, subst}
 use Rattle.std.proofs.lemmas.List.{length_push}
-use Rattle.cck_path_map.proofs.EntriesLemmas.{all_given, entry_at}
-use Rattle.cck_path_map.specs.Entries.{entries_left}
-use Rattle.cck_path_map.specs.PathMap.{pair_of}
+use Rattle.cck_path.proofs.EntriesLemmas.{all_given, entry_at}
+use Rattle.cck_path.specs.Entries.{entries_left}
+use Rattle.cck_path.specs.PathMap.{pair_of}
 use Rattle.cck_files.proofs.PlacesLemmas.{IsCopied, copied_all, copied_more, copied_none}
 use Rattle.cck_files.specs.FileState.{canonical_of, node_at}
 use Rattle.cck_files.proofs.map_files.copy_places.Goals as goal

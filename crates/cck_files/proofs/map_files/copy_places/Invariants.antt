@@ -1,5 +1,5 @@
 use Rattle.std.proofs.Common.{length}
-use Rattle.cck_path_map.specs.Entries.{entries_left}
+use Rattle.cck_path.specs.Entries.{entries_left}
 use Rattle.cck_files.proofs.PlacesLemmas.{IsCopied}
 use Rattle.cck_files.proofs.map_files.copy_places.Given as goal
 

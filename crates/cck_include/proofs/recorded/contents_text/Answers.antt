@@ -1,5 +1,5 @@
 use Rattle.std.proofs.Common.{[]}
-use Rattle.cck_file_digest.proofs.ReadLemmas.{holds_of_contents}
+use Rattle.cck_files.proofs.ReadLemmas.{holds_of_contents}
 use Rattle.cck_files.specs.FileMap.{contents_at}
 use Rattle.cck_include.proofs.RecordedLemmas.{ok_by}
 use Rattle.cck_path.specs.Path.{components}

@@ -1,7 +1,7 @@
 use Rattle.std.proofs.Common.{[], sym, subst}
 use Rattle.cck_digest.proofs.HasLemmas.{has_iff}
 use Rattle.cck_digest.specs.TimeMacros.{Follows, Has, date_macro, time_macro, timestamp_macro}
-use Rattle.cck_file_digest.proofs.ReadLemmas.{holds_of_contents}
+use Rattle.cck_files.proofs.ReadLemmas.{holds_of_contents}
 use Rattle.cck_files.specs.FileMap.{contents_at}
 use Rattle.cck_include.proofs.RecordedLemmas.{ok_by, same_test}
 use Rattle.cck_include.specs.Recorded.{has_date, has_time, has_timestamp}

@@ -1,8 +1,8 @@
 use Rattle.std.proofs.Common.{◌∙◌, length, map, ap}
 use Rattle.std.proofs.lemmas.List.{length_push}
-use Rattle.cck_path_map.proofs.EntriesLemmas.{all_given, entry_at}
-use Rattle.cck_path_map.specs.Entries.{entries_left}
-use Rattle.cck_path_map.specs.PathMap.{pair_of}
+use Rattle.cck_path.proofs.EntriesLemmas.{all_given, entry_at}
+use Rattle.cck_path.specs.Entries.{entries_left}
+use Rattle.cck_path.specs.PathMap.{pair_of}
 use Rattle.cck_walk.proofs.RecordLemmas.{listed_all, listed_more}
 use Rattle.cck_walk.specs.Digests.{digest_pair}
 use Rattle.cck_walk.proofs.records.list_of.Goals as goal

@@ -1,5 +1,5 @@
 use Rattle.std.proofs.Common.{length}
-use Rattle.cck_path_map.specs.Entries.{entries_left}
+use Rattle.cck_path.specs.Entries.{entries_left}
 use Rattle.cck_walk.proofs.RecordLemmas.{AreListed}
 use Rattle.cck_walk.proofs.records.list_of.Given as goal
 

@@ -1,7 +1,7 @@
 use Rattle.std.proofs.Common.{◌≡◌, ◌++◌, ◌∙◌, ap, sym, Some}
 use Rattle.std.specs.String.{string_bytes}
 use Rattle.cck_digest.specs.Digest.{digest_text}
-use Rattle.cck_file_digest.specs.FileDigest.{digest_text_at}
+use Rattle.cck_files.specs.FileDigest.{digest_text_at}
 use Rattle.cck_path.specs.Path.{components}
 use Rattle.c_cache_keys.proofs.Executable.{with_version, without_version}
 use Rattle.c_cache_keys.proofs.c_compiler.CCompiler.new.Goals as goal

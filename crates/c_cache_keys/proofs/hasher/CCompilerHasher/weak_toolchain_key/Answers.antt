@@ -1,5 +1,5 @@
 use Rattle.std.proofs.Common.{◌++◌, ◌∷◌, ◌∙◌, ap, ap₂}
-use Rattle.cck_file_digest.specs.FolderText.{lossy}
+use Rattle.cck_files.specs.FolderText.{lossy}
 use Rattle.c_cache_keys.specs.Hasher.{toolchain_key}
 use Rattle.c_cache_keys.proofs.hasher.CCompilerHasher.weak_toolchain_key.Goals as goal
 

@@ -1,7 +1,7 @@
 use Rattle.std.proofs.Common.{◌∙◌, sym}
 use Rattle.std.specs.Prelude.{string_bytes}
 use Rattle.cck_path.specs.Path.{components}
-use Rattle.cck_path_map.proofs.ValueLemmas.{contains-map_values}
+use Rattle.cck_path.proofs.ValueLemmas.{contains-map_values}
 use Rattle.cck_walk.proofs.records.Records.contains.Goals as goal
 
 pub returns : goal.returns

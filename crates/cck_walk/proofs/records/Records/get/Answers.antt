@@ -2,7 +2,7 @@ use Rattle.std.proofs.Common.{◌∙◌, Some, ap, sym}
 use Rattle.std.specs.Option.{option_copied, option_map}
 use Rattle.std.specs.Prelude.{string_bytes}
 use Rattle.cck_path.specs.Path.{components}
-use Rattle.cck_path_map.proofs.ValueLemmas.{get-map_values}
+use Rattle.cck_path.proofs.ValueLemmas.{get-map_values}
 use Rattle.cck_walk.proofs.records.Records.get.Goals as goal
 
 pub returns-in_err-digest : goal.returns-in_err-digest

@@ -1,8 +1,8 @@
 use Rattle.std.proofs.Common.{◌∙◌, ap, subst, sym}
 use Rattle.std.specs.Prelude.{string_bytes}
 use Rattle.cck_path.specs.Path.{components}
-use Rattle.cck_path_map.proofs.ValueLemmas.{map_values-insert}
-use Rattle.cck_path_map.specs.Values.{map_values}
+use Rattle.cck_path.proofs.ValueLemmas.{map_values-insert}
+use Rattle.cck_path.specs.Values.{map_values}
 use Rattle.cck_walk.proofs.RecordLemmas.{more_normal}
 use Rattle.cck_walk.specs.Digests.{AreNormal}
 use Rattle.cck_walk.proofs.records.Records.insert.Goals as goal

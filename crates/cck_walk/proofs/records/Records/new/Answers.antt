@@ -1,7 +1,7 @@
 use Rattle.std.proofs.Common.{◌∙◌, ap, subst, sym}
 use Rattle.std.specs.Prelude.{string_bytes}
-use Rattle.cck_path_map.proofs.ValueLemmas.{map_values-empty}
-use Rattle.cck_path_map.specs.Values.{map_values}
+use Rattle.cck_path.proofs.ValueLemmas.{map_values-empty}
+use Rattle.cck_path.specs.Values.{map_values}
 use Rattle.cck_walk.proofs.RecordLemmas.{none_normal}
 use Rattle.cck_walk.specs.Digests.{AreNormal}
 use Rattle.cck_walk.proofs.records.Records.new.Goals as goal

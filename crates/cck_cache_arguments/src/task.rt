@@ -1,0 +1,318 @@
+//! What words ask for.
+ghost use Rattle.std.specs.Prelude.{MatchOption, ℕ, ℤ, Option};
+ghost use Rattle.std.specs.Option.{option_map};
+ghost use Rattle.clap.specs.Matches.{found_of};
+ghost use Rattle.cck_cache_arguments.specs.Task.{IsMade, IsOutputs, IsPacked, IsSince, IsSize, MadeWords, OutputWords, PackedWords, made_words, output_words, packed_words};
+
+use crate::command_line::program;
+use crate::request::{CompilerCall, Request, call_of};
+use crate::stamp::stamp_of;
+use cck_path::Timestamp;
+use clap::error::ErrorKind;
+use clap::{ArgMatches, Error};
+use std::alloc::{AllocError, Global};
+
+// What is wrong with a time.
+const WRONG_TIME: &str =
+    "the value of --since is not a number of seconds, a point and a number of nanoseconds";
+
+// What is wrong where a word of a command is missing.
+const MISSING: &str = "a word of the command is missing";
+
+/// Where the parts of an object file are written.
+#[derive(Drop)]
+pub struct Outputs<'a> {
+    /// The path to which the object is written.
+    pub object: &'a str,
+    /// The path to which the contents of the dependency file are written, if the compilation writes
+    /// one.
+    pub dependencies: Option<&'a str>,
+}
+
+/// What a look-up is for.
+#[derive(Drop)]
+pub struct Look<'a> {
+    /// The path of the store.
+    pub store: &'a str,
+    /// The path of an entry file that is read in place of the store's.
+    pub entry: Option<&'a str>,
+    /// Where the parts of the object file are written.
+    pub outputs: Outputs<'a>,
+    /// The request.
+    pub request: Request<'a>,
+}
+
+/// What is recorded beside the compilation that was asked for.
+#[derive(Drop)]
+pub struct Compilation<'a> {
+    /// The time at which the look-up ended, by the clock of the store's file system.
+    pub since: Timestamp,
+    /// The preprocessor key that the look-up printed.
+    pub key: &'a str,
+    /// The path of what the compiler printed of its directories.
+    pub search: &'a str,
+    /// What the compiler made. `None` where the object is there, and the entry alone is recorded.
+    pub made: Option<Made<'a>>,
+    /// The path to which the entry file is written in place of the store's.
+    pub entry_out: Option<&'a str>,
+    /// The path to which the object file is written in place of the store's.
+    pub object_out: Option<&'a str>,
+}
+
+/// What a compiler made.
+#[derive(Drop)]
+pub struct Made<'a> {
+    /// The path of the object.
+    pub object: &'a str,
+    /// The path of what the compiler printed when the object was made.
+    pub messages: &'a str,
+    /// The path of the dependency file, if the compiler wrote one.
+    pub dependencies: Option<&'a str>,
+    /// The path of the dependency file that the assembler wrote.
+    pub assembled: Option<&'a str>,
+    /// The path of a dependency file that the compiler wrote and that was not asked for, where it wrote
+    /// no other.
+    pub opened: Option<&'a str>,
+}
+
+/// An object file that is not in the store.
+#[derive(Drop)]
+pub struct Packed<'a> {
+    /// The name of the object.
+    pub name: &'a str,
+    /// The path of the object file.
+    pub path: &'a str,
+    /// Where its parts are written.
+    pub outputs: Outputs<'a>,
+}
+
+/// What is done for a call of a compiler.
+#[derive(Drop)]
+pub enum Action<'a> {
+    /// The preprocessor key is printed.
+    PreprocessorKey,
+    /// The object is looked for in the store.
+    Look {
+        /// The path of the store.
+        store: &'a str,
+        /// The path of an entry file that is read in place of the store's.
+        entry: Option<&'a str>,
+    },
+    /// The compilation is recorded.
+    Record {
+        /// The path of the store.
+        store: &'a str,
+        /// What is recorded.
+        compilation: Compilation<'a>,
+    },
+    /// It is printed why a look-up misses.
+    Why {
+        /// The path of the store.
+        store: &'a str,
+    },
+}
+
+/// What the words ask for.
+#[derive(Drop)]
+pub enum Task<'a> {
+    /// Something for a call of a compiler.
+    Call {
+        /// The call.
+        call: CompilerCall<'a>,
+        /// What is done.
+        action: Action<'a>,
+    },
+    /// The object of an object file.
+    Unpack {
+        /// The path of the store.
+        store: &'a str,
+        /// The object file.
+        packed: Packed<'a>,
+    },
+    /// What a store has, and what was counted.
+    Stats {
+        /// The path of the store.
+        store: &'a str,
+    },
+    /// The removal of files.
+    Prune {
+        /// The path of the store.
+        store: &'a str,
+        /// The most bytes that its files may have together.
+        max_size: u64,
+    },
+}
+
+// Where the parts of an object file are written, in the words of `unpack`.
+fn outputs_of<'a>(matches: &ArgMatches<'a>) -> Option<Outputs<'a>>
+    ensures { MatchOption result ((words : OutputWords) → IsOutputs (found_of matches.now) words → ⊥)
+        (λ outputs. IsOutputs (found_of matches.now) (output_words outputs)) }
+{
+    Some(Outputs {
+        object: matches.get_str("out")?,
+        dependencies: matches.get_str("dependencies"),
+    })
+}
+
+// The object file in the words of `unpack`.
+fn packed_of<'a>(matches: &ArgMatches<'a>) -> Option<Packed<'a>>
+    ensures { MatchOption result ((words : PackedWords) → IsPacked (found_of matches.now) words → ⊥)
+        (λ packed. IsPacked (found_of matches.now) (packed_words packed)) }
+{
+    Some(Packed {
+        name: matches.get_str("name")?,
+        path: matches.get_str("packed")?,
+        outputs: outputs_of(matches)?,
+    })
+}
+
+// What the compiler made, in the words of `record`: the paths of the object and of the messages, and
+// with them those of dependency files if they are given; or no path. `None` for all other words.
+fn made_of<'a>(matches: &ArgMatches<'a>) -> Option<Option<Made<'a>>>
+    ensures { MatchOption result ((words : Option MadeWords) → IsMade (found_of matches.now) words → ⊥)
+        (λ made. IsMade (found_of matches.now) (option_map made_words made)) }
+{
+    match (
+        matches.get_str("compiled"),
+        matches.get_str("messages"),
+        matches.get_str("dependencies"),
+        matches.get_str("assembled"),
+        matches.get_str("opened"),
+    ) {
+        (Some(object), Some(messages), dependencies, assembled, opened) => Some(Some(Made {
+            object,
+            messages,
+            dependencies,
+            assembled,
+            opened,
+        })),
+        (None, None, None, None, None) => Some(None),
+        _ => None,
+    }
+}
+
+// The time in the words of `record`.
+fn since_of(matches: &ArgMatches<'_>) -> Option<Timestamp>
+    ensures { MatchOption result ((seconds : ℤ) (nanoseconds : ℕ) → IsSince (found_of matches.now) seconds nanoseconds → ⊥)
+        (λ time. IsSince (found_of matches.now) time.seconds time.nanoseconds) }
+{
+    let text = matches.get_str("since")?;
+    stamp_of(text)
+}
+
+// The size in the words of `prune`.
+fn max_size_of(matches: &ArgMatches<'_>) -> Option<u64>
+    ensures { MatchOption result ((size : ℕ) → IsSize (found_of matches.now) size → ⊥)
+        (λ size. IsSize (found_of matches.now) size) }
+{
+    matches.get_str("max-size")?.parse::<u64>().ok()
+}
+
+// What `look` does.
+fn look_action<'a>(matches: &ArgMatches<'a>) -> Option<Action<'a>> {
+    Some(Action::Look {
+        store: matches.get_str("STORE")?,
+        entry: matches.get_str("entry"),
+    })
+}
+
+// What `record` does.
+fn record_action<'a>(matches: &ArgMatches<'a>) -> Option<Action<'a>> {
+    Some(Action::Record {
+        store: matches.get_str("STORE")?,
+        compilation: Compilation {
+            since: since_of(matches)?,
+            key: matches.get_str("preprocessor-key")?,
+            search: matches.get_str("search")?,
+            made: made_of(matches)?,
+            entry_out: matches.get_str("entry-out"),
+            object_out: matches.get_str("packed-out"),
+        },
+    })
+}
+
+// What `why` does.
+fn why_action<'a>(matches: &ArgMatches<'a>) -> Option<Action<'a>> {
+    Some(Action::Why {
+        store: matches.get_str("STORE")?,
+    })
+}
+
+// What a command of this name does for a call of a compiler.
+fn action_of<'a>(name: &str, matches: &ArgMatches<'a>) -> Option<Action<'a>> {
+    match name {
+        "preprocessor-key" => Some(Action::PreprocessorKey),
+        "look" => look_action(matches),
+        "record" => record_action(matches),
+        "why" => why_action(matches),
+        _ => None,
+    }
+}
+
+// The task in the words of a command that takes a call of a compiler.
+fn call_task<'a>(
+    alloc: Global,
+    name: &str,
+    matches: &ArgMatches<'a>,
+) -> Result<Option<Task<'a>>, AllocError> {
+    let Some(call) = call_of(alloc, matches)? else {
+        return Ok(None);
+    };
+    Ok(match action_of(name, matches) {
+        Some(action) => Some(Task::Call { call, action }),
+        None => None,
+    })
+}
+
+// The task in the words of a command without a call of a compiler.
+fn store_task<'a>(name: &str, matches: &ArgMatches<'a>) -> Option<Task<'a>> {
+    let store = matches.get_str("STORE")?;
+    match name {
+        "stats" => Some(Task::Stats { store }),
+        "prune" => Some(Task::Prune {
+            store,
+            max_size: max_size_of(matches)?,
+        }),
+        "unpack" => Some(Task::Unpack {
+            store,
+            packed: packed_of(matches)?,
+        }),
+        _ => None,
+    }
+}
+
+// The task in these matches. `None` where one of its words is missing or has no meaning.
+fn task_in<'a>(alloc: Global, matches: &ArgMatches<'a>) -> Result<Option<Task<'a>>, AllocError> {
+    let Some((name, command)) = matches.subcommand() else {
+        return Ok(None);
+    };
+    match name {
+        "stats" | "prune" | "unpack" => Ok(store_task(name, command)),
+        _ => call_task(alloc, name, command),
+    }
+}
+
+// Whether there is a time in these matches that is none.
+fn has_wrong_time(matches: &ArgMatches<'_>) -> bool {
+    match matches.subcommand() {
+        Some((_, command)) => command.contains_id("since") && since_of(command).is_none(),
+        None => false,
+    }
+}
+
+/// Reads what these words ask for. The first is the program's name.
+///
+/// The error is clap's, with the text to be printed: for wrong words, among them a stamp that is no
+/// time, for `--help` and for `--version`, or for lack of memory.
+pub fn task_of<'a>(alloc: Global, words: &'a [String]) -> Result<Task<'a>, Error> {
+    let mut program = program(alloc)?;
+    let matches = program.try_get_matches_from_mut(words)?;
+    if has_wrong_time(&matches) {
+        return Err(program.error(ErrorKind::ValueValidation, WRONG_TIME)?);
+    }
+    match task_in(alloc, &matches)? {
+        Some(task) => Ok(task),
+        // The parse lets none of these words pass.
+        None => Err(program.error(ErrorKind::MissingRequiredArgument, MISSING)?),
+    }
+}

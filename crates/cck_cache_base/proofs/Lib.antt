@@ -1,5 +1,0 @@
-pub mod ArgumentLemmas
-pub mod BaseLemmas
-mod Examples
-pub mod ListLemmas
-pub mod TextLemmas

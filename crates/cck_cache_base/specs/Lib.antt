@@ -1,4 +1,0 @@
-pub mod Argument
-pub mod Base
-pub mod Shown
-pub mod Text

@@ -1,7 +1,0 @@
-use Rattle.std.proofs.Common.{◌≡◌, ◌∷◌, take, map}
-use Rattle.cck_cache_entry.proofs.entry_file.EntryFile.write.Given as goal
-
--- the parts so far
-abbrev pub invariant-loop-test : goal.invariant-loop-test
-invariant-loop-test g l = map (λ p. p.now) l.parts.items
-    ≡ l.self.preprocessor_key.items ∷ l.self.entry.items ∷ map (λ p. p.items) (take l.test-index l.test-items)

@@ -1,7 +1,0 @@
-use Rattle.std.proofs.Common.{◌≡◌, ℕ, ◌<◌, true, drop}
-use Rattle.cck_cache_entry.specs.HeaderTests.{is_test_word}
-use Rattle.cck_cache_entry.proofs.header_test.may_ask_for_file.Given as goal
-
--- no name begins at the places so far
-abbrev pub invariant-loop-place : goal.invariant-loop-place
-invariant-loop-place l = (k : ℕ) → k < l.place → is_test_word (drop k l.argument) ≡ true → ⊥

@@ -1,0 +1,10 @@
+use Rattle.std.proofs.Common.{rules, tests}
+use Rattle.std.proofs.lemmas.Iterator.{YieldsList-from_slice, cases_from_any}
+use Rattle.cck_cache_rules.specs.Argument.{AsksForDebug}
+use Rattle.cck_cache_rules.proofs.ListLemmas.{any_decided}
+use Rattle.cck_cache_rules.proofs.base.ask_for_debug.Goals as goal
+
+pub returns : goal.returns
+returns c =
+    any_decided AsksForDebug (λ a. a.items) c.args.arguments.now c.any.result
+    (cases_from_any _ _ c.any.result (λ a. AsksForDebug a.items) (λ a. ¬ (AsksForDebug a.items)) c.any.ensures.ran (YieldsList-from_slice c.args.arguments.now cc) (λ x q k. search (rules, tests)) (λ x q k. search (rules, tests)))

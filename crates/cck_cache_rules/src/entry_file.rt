@@ -1,0 +1,91 @@
+//! The file that keeps an entry.
+ghost use Rattle.std.specs.Prelude.{◌≡◌, IfOk, IsOkUnless, map};
+ghost use Rattle.std.specs.Option.{option_map};
+ghost use Rattle.cck_cache_rules.specs.Files.{entry_fields, entry_file, entry_parts};
+ghost use Rattle.cck_cache_rules.specs.PathTest.{test_bytes, tests_of};
+ghost use Rattle.cck_cache_rules.specs.Reading.{ReadsBack, byte_lists};
+
+use crate::path_test::PathTest;
+use crate::stored::{read_stored, write_stored};
+use cck_digest::{HashState, UtilError};
+use std::alloc::{AllocError, Global};
+
+/// How an entry file begins.
+const KIND: &[u8] = b"cck entry 2\n";
+
+/// What an entry file holds.
+#[derive(Debug, Drop, PartialEq, Eq)]
+pub struct EntryFile {
+    /// The preprocessor key that the entry belongs to.
+    pub preprocessor_key: Vec<u8>,
+    /// The bytes of the entry.
+    pub entry: Vec<u8>,
+    /// What held of paths when the entry was recorded, and must hold before it is used.
+    pub tests: Vec<PathTest>,
+}
+
+// What these parts say. `None` where there are fewer than two, or another one is no test.
+fn file_of(alloc: Global, parts: Vec<Vec<u8>>) -> Result<Option<EntryFile>, AllocError>
+    ensures { IfOk result (λ found. ReadsBack entry_parts (byte_lists parts) (option_map entry_fields found)) }
+{
+    let mut parts = parts.into_iter();
+    let (Some(preprocessor_key), Some(entry)) = (parts.next(), parts.next()) else {
+        return Ok(None);
+    };
+    let mut tests = Vec::new(alloc);
+    for part in parts {
+        let Some(test) = PathTest::read(alloc, &part)? else {
+            return Ok(None);
+        };
+        tests.push(test)?;
+    }
+    Ok(Some(EntryFile {
+        preprocessor_key,
+        entry,
+        tests,
+    }))
+}
+
+// The bytes of each test.
+fn test_parts(alloc: Global, tests: &[PathTest]) -> Result<Vec<Vec<u8>>, AllocError>
+    ensures { IfOk result (λ parts. byte_lists parts ≡ map test_bytes (tests_of tests.now)) }
+{
+    let mut parts = Vec::new(alloc);
+    for test in tests {
+        parts.push(test.write(alloc)?)?;
+    }
+    Ok(parts)
+}
+
+impl EntryFile {
+    /// The bytes of the file.
+    ///
+    /// The only error is [`UtilError::Memory`].
+    pub fn write<H: HashState>(&self, alloc: Global) -> Result<Vec<u8>, UtilError>
+        ensures file { IfOk result (λ bytes. bytes.items ≡ entry_file H.hash (entry_fields self.now)) }
+        ensures errors { IsOkUnless result UtilError.Memory }
+    {
+        let tests = test_parts(alloc, &self.tests)?;
+        let mut parts: Vec<&[u8]> = Vec::new(alloc);
+        parts.push(&self.preprocessor_key)?;
+        parts.push(&self.entry)?;
+        for test in &tests {
+            parts.push(test)?;
+        }
+        write_stored::<H>(alloc, KIND, &parts)
+    }
+
+    /// The file that has these bytes when it is written. `None` where no file has.
+    ///
+    /// The only error is [`UtilError::Memory`].
+    pub fn read<H: HashState>(alloc: Global, bytes: &[u8]) -> Result<Option<EntryFile>, UtilError>
+        ensures read { IfOk result (λ found.
+            ReadsBack (entry_file H.hash) bytes.now (option_map entry_fields found)) }
+        ensures errors { IsOkUnless result UtilError.Memory }
+    {
+        let Some(parts) = read_stored::<H>(alloc, KIND, bytes)? else {
+            return Ok(None);
+        };
+        Ok(file_of(alloc, parts)?)
+    }
+}

@@ -1,0 +1,115 @@
+//! What is tested of a path before an entry is used.
+ghost use Rattle.std.specs.Prelude.{◌≡◌, ◌++◌, IfOk};
+ghost use Rattle.std.specs.Option.{option_map};
+ghost use Rattle.cck_cache_rules.specs.PathTest.{searched_bytes, test_bytes, test_of, test_path};
+ghost use Rattle.cck_cache_rules.specs.Reading.{ReadsBack};
+
+use crate::frames::{length_of, read_length};
+use std::alloc::{AllocError, Global};
+
+/// How the bytes of each test begin.
+const ABSENT: &[u8] = b"absent ";
+
+const FILE: &[u8] = b"file ";
+
+const DIRECTORY: &[u8] = b"directory ";
+
+const SEARCHED: &[u8] = b"searched ";
+
+/// What must hold of a path, so that a preprocessor finds what it found.
+#[derive(Debug, Drop, PartialEq, Eq)]
+pub enum PathTest {
+    /// There is nothing at the path.
+    Absent(Vec<u8>),
+    /// A regular file is at the path, links followed.
+    File(Vec<u8>),
+    /// A directory is at the path, and no link to one.
+    Directory(Vec<u8>),
+    /// A directory is at the path, links followed: one of those that are searched, and the same as at
+    /// this place.
+    Searched {
+        /// The path.
+        path: Vec<u8>,
+        /// The place of the first directory that is the same, counted over these tests in their order:
+        /// the place of this one where no earlier one is.
+        place: usize,
+    },
+}
+
+// These, one after the other.
+fn joined(alloc: Global, front: &[u8], rest: &[u8]) -> Result<Vec<u8>, AllocError>
+    ensures { IfOk result (λ all. all.items ≡ front.now ++ rest.now) }
+{
+    let mut all = front.to_vec(alloc)?;
+    all.extend_from_slice(rest)?;
+    Ok(all)
+}
+
+// What follows this word.
+fn after<'a>(word: &[u8], bytes: &'a [u8]) -> Option<&'a [u8]>
+    ensures { ReadsBack (λ rest. word.now ++ rest) bytes.now (option_map (λ rest. rest.now) result) }
+{
+    bytes.strip_prefix(word)
+}
+
+// The place and the path of the test of a directory that is searched.
+fn read_searched(bytes: &[u8]) -> Option<(usize, &[u8])>
+    ensures { ReadsBack searched_bytes bytes.now (option_map (λ r. (r.0, r.1.now)) result) }
+{
+    let (place, path) = read_length(after(SEARCHED, bytes)?)?;
+    Some((place as usize, path))
+}
+
+impl PathTest {
+    /// The path that is tested.
+    pub fn path(&self) -> &[u8]
+        ensures { result.now ≡ test_path (test_of self.now) }
+    {
+        match self {
+            PathTest::Absent(path) | PathTest::File(path) | PathTest::Directory(path) => path,
+            PathTest::Searched { path, .. } => path,
+        }
+    }
+
+    /// The bytes of the test in an entry file.
+    ///
+    /// The only error is lack of memory.
+    pub fn write(&self, alloc: Global) -> Result<Vec<u8>, AllocError>
+        ensures { IfOk result (λ bytes. bytes.items ≡ test_bytes (test_of self.now)) }
+    {
+        match self {
+            PathTest::Absent(path) => joined(alloc, ABSENT, path),
+            PathTest::File(path) => joined(alloc, FILE, path),
+            PathTest::Directory(path) => joined(alloc, DIRECTORY, path),
+            PathTest::Searched { path, place } => {
+                let mut bytes = joined(alloc, SEARCHED, &length_of(*place))?;
+                bytes.extend_from_slice(path)?;
+                Ok(bytes)
+            }
+        }
+    }
+
+    /// The test that has these bytes. `None` where no test has.
+    ///
+    /// The only error is lack of memory.
+    pub fn read(alloc: Global, bytes: &[u8]) -> Result<Option<PathTest>, AllocError>
+        ensures { IfOk result (λ found. ReadsBack test_bytes bytes.now (option_map test_of found)) }
+    {
+        if let Some(path) = after(ABSENT, bytes) {
+            return Ok(Some(PathTest::Absent(path.to_vec(alloc)?)));
+        }
+        if let Some(path) = after(FILE, bytes) {
+            return Ok(Some(PathTest::File(path.to_vec(alloc)?)));
+        }
+        if let Some(path) = after(DIRECTORY, bytes) {
+            return Ok(Some(PathTest::Directory(path.to_vec(alloc)?)));
+        }
+        let Some((place, path)) = read_searched(bytes) else {
+            return Ok(None);
+        };
+        Ok(Some(PathTest::Searched {
+            path: path.to_vec(alloc)?,
+            place,
+        }))
+    }
+}

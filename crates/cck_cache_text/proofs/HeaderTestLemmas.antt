@@ -1,0 +1,180 @@
+-- Tests for headers, as they are found place by place and line by line.
+use Rattle.std.proofs.Common.{◌≡◌, ℕ, zero, suc, ◌+◌, ◌<◌, ◌⊎◌, inl, inr, Bool, true, false, List, [], ◌∷◌, ◌++◌, ◌&&◌, codes, nat_eq, take, drop, Option, Some, None, length, map, get_or, refl, sym, ap, ◌∙◌, arith, subst, append_assoc}
+use Rattle.std.specs.Prelude.{Contains}
+use Rattle.std.specs.List.{join_with_byte, starts_with}
+use Rattle.std.proofs.lemmas.Bool.{cases_lt}
+use Rattle.std.proofs.lemmas.List.{append-nil, get_or_default, take-append-drop}
+use Rattle.std.proofs.lemmas.List.Splits.{join_with_byte-slice_split}
+use Rattle.std.proofs.lemmas.List.Elements.{Contains-append_cases, Contains-append_left, Contains-append_right}
+use Rattle.std.proofs.lemmas.Slice.Eq.{bytes_eq-Decides}
+use Rattle.cck_digest.specs.TimeMacros.{Has, has}
+use Rattle.cck_digest.proofs.HasLemmas.{has_iff}
+use Rattle.cck_cache_text.specs.SearchList.{text_lines}
+use Rattle.cck_cache_text.specs.HeaderTests.{AreTests, Gains, IsBlindIn, IsLine, IsTestIn, TestFields, is_test, is_test_word, tested}
+
+-- a test at one of the first places of a line
+abbrev pub IsTestBelow : List ℕ → ℕ → TestFields → Type 0
+IsTestBelow line n test = (place : ℕ) × (place < n) × (is_test line place ≡ true) × (tested line place ≡ Some test)
+
+-- each test at one of the first places of a line can be judged
+abbrev pub NoneBlindBelow : List ℕ → ℕ → Type 0
+NoneBlindBelow line n = (place : ℕ) → place < n → is_test line place ≡ true → tested line place ≡ None → ⊥
+
+-- the same of the first lines
+abbrev pub IsTestAbove : List (List ℕ) → ℕ → TestFields → Type 0
+IsTestAbove lines n test = (k : ℕ) × (k < n) × IsTestIn (get_or lines k []) test
+
+abbrev pub NoneBlindAbove : List (List ℕ) → ℕ → Type 0
+NoneBlindAbove lines n = (k : ℕ) → k < n → IsBlindIn (get_or lines k []) → ⊥
+
+pub gains_none : (P : TestFields → Type 0) (old : List TestFields) → ((test : TestFields) → P test → ⊥) → Gains P old old
+gains_none P old none test = (λ h. inl h, λ h. elim h [ inl a ↦ a | inr b ↦ absurd (none test b) ])
+
+pub gains_as : (P Q : TestFields → Type 0) (old new : List TestFields) → ((test : TestFields) → P test → Q test) → ((test : TestFields) → Q test → P test) → Gains P old new → Gains Q old new
+gains_as P Q old new f g gains test = (
+  λ h. elim ((gains test).0 h) [ inl a ↦ inl a | inr b ↦ inr (f test b) ],
+  λ h. elim h [ inl a ↦ (gains test).1 (inl a) | inr b ↦ (gains test).1 (inr (g test b)) ],
+)
+
+pub gains_both : (P Q : TestFields → Type 0) (old middle new : List TestFields) → Gains P old middle → Gains Q middle new → Gains (λ test. P test ⊎ Q test) old new
+gains_both P Q old middle new first second test = (
+  λ h. elim ((second test).0 h) [
+    | inl a ↦ elim ((first test).0 a) [ inl c ↦ inl c | inr d ↦ inr (inl d) ]
+    | inr b ↦ inr (inr b)
+  ],
+  λ h. elim h [
+    | inl a ↦ (second test).1 (inl ((first test).1 (inl a)))
+    | inr b ↦ elim b [ inl c ↦ (second test).1 (inl ((first test).1 (inr c))) | inr d ↦ (second test).1 (inr d) ]
+  ],
+)
+
+alone : (one test : TestFields) → Contains (one ∷ []) test → test ≡ one
+alone one test (k, lt, is) =
+    let first : k ≡ 0 = omega (arith, lt) in
+    sym (subst (λ (i : ℕ). get_or (one ∷ []) i test ≡ test) first is)
+
+pub gains_one : (old new : List TestFields) (one : TestFields) → new ≡ old ++ one ∷ [] → Gains (λ test. test ≡ one) old new
+gains_one old new one e test = (
+  λ h. elim (Contains-append_cases old (one ∷ []) test (subst (λ (xs : List TestFields). Contains xs test) e h)) [
+    | inl a ↦ inl a
+    | inr b ↦ inr (alone one test b)
+  ],
+  λ h. elim h [
+    | inl a ↦ subst (λ (xs : List TestFields). Contains xs test) (sym e) (Contains-append_left old (one ∷ []) test a)
+    | inr b ↦ subst (λ (xs : List TestFields). Contains xs test) (sym e) (Contains-append_right old (one ∷ []) test (0, omega arith, sym b))
+  ],
+)
+
+-- ---- places
+
+-- a place at which there is no test
+pub none_here : (line : List ℕ) (n : ℕ) (old new : List TestFields) → is_test line n ≡ false → Gains (IsTestBelow line n) old new → Gains (IsTestBelow line (n + 1)) old new
+none_here line n old new none gains = gains_as (IsTestBelow line n) (IsTestBelow line (n + 1)) old new
+    (λ test below. (below.0, omega (arith, below.1), below.2, below.3))
+    (λ test more. elim (cases_lt more.0 n) [
+      | inl lt ↦ (more.0, lt, more.2, more.3)
+      | inr ge ↦ (let same : more.0 ≡ n = omega (arith, more.1) in let is : is_test line n ≡ true = ap (is_test line) (sym same) ∙ more.2 in absurd (let h : false ≡ true = sym none ∙ is in cc))
+    ]) gains
+
+pub none_blind_here : (line : List ℕ) (n : ℕ) → is_test line n ≡ false → NoneBlindBelow line n → NoneBlindBelow line (n + 1)
+none_blind_here line n none known place lt is blind =
+    elim (cases_lt place n) [
+      | inl below ↦ known place below is blind
+      | inr ge ↦ (let same : place ≡ n = omega arith in let now : is_test line n ≡ true = ap (is_test line) (sym same) ∙ is in absurd (let h : false ≡ true = sym none ∙ now in cc))
+    ]
+
+-- a place at which there is one
+pub one_here : (line : List ℕ) (n : ℕ) (old middle new : List TestFields) (one : TestFields) → is_test line n ≡ true → tested line n ≡ Some one → new ≡ middle ++ one ∷ [] → Gains (IsTestBelow line n) old middle → Gains (IsTestBelow line (n + 1)) old new
+one_here line n old middle new one is here e gains = gains_as (λ test. IsTestBelow line n test ⊎ (test ≡ one)) (IsTestBelow line (n + 1)) old new
+    (λ test h. elim h [
+      | inl below ↦ (below.0, omega (arith, below.1), below.2, below.3)
+      | inr same ↦ (n, omega arith, is, here ∙ ap Some (sym same))
+    ])
+    (λ test more. elim (cases_lt more.0 n) [
+      | inl lt ↦ inl (more.0, lt, more.2, more.3)
+      | inr ge ↦ (let same : more.0 ≡ n = omega (arith, more.1) in let found : Some test ≡ Some one = sym more.3 ∙ (ap (tested line) same ∙ here) in inr (cc))
+    ])
+    (gains_both (IsTestBelow line n) (λ test. test ≡ one) old middle new gains (gains_one middle new one e))
+
+pub one_blind_here : (line : List ℕ) (n : ℕ) (one : TestFields) → tested line n ≡ Some one → NoneBlindBelow line n → NoneBlindBelow line (n + 1)
+one_blind_here line n one here known place lt is blind =
+    elim (cases_lt place n) [
+      | inl below ↦ known place below is blind
+      | inr ge ↦ (let same : place ≡ n = omega arith in let found : Some one ≡ None = sym here ∙ (ap (tested line) (sym same) ∙ blind) in cc)
+    ]
+
+-- ---- lines
+
+pub line_here : (lines : List (List ℕ)) (n : ℕ) (line : List ℕ) (old middle new : List TestFields) → line ≡ get_or lines n [] → Gains (IsTestIn line) middle new → Gains (IsTestAbove lines n) old middle → Gains (IsTestAbove lines (n + 1)) old new
+line_here lines n line old middle new at second first = gains_as (λ test. IsTestAbove lines n test ⊎ IsTestIn line test) (IsTestAbove lines (n + 1)) old new
+    (λ test h. elim h [
+      | inl above ↦ (above.0, omega (arith, above.1), above.2)
+      | inr here ↦ (n, omega arith, subst (λ (l : List ℕ). IsTestIn l test) at here)
+    ])
+    (λ test more. elim (cases_lt more.0 n) [
+      | inl lt ↦ inl (more.0, lt, more.2)
+      | inr ge ↦ (let same : more.0 ≡ n = omega (arith, more.1) in inr (subst (λ (l : List ℕ). IsTestIn l test) (ap (λ k. get_or lines k []) same ∙ sym at) more.2))
+    ])
+    (gains_both (IsTestAbove lines n) (IsTestIn line) old middle new first second)
+
+pub line_blind_here : (lines : List (List ℕ)) (n : ℕ) (line : List ℕ) → line ≡ get_or lines n [] → (IsBlindIn line → ⊥) → NoneBlindAbove lines n → NoneBlindAbove lines (n + 1)
+line_blind_here lines n line at none known k lt blind =
+    elim (cases_lt k n) [
+      | inl below ↦ known k below blind
+      | inr ge ↦ (let same : k ≡ n = omega arith in none (subst IsBlindIn (ap (λ i. get_or lines i []) same ∙ sym at) blind))
+    ]
+
+-- each line was looked at
+pub all_lines : (text : List ℕ) (lines : List (List ℕ)) (n : ℕ) (new : List TestFields) → lines ≡ text_lines text → n ≡ length lines → NoneBlindAbove lines n → Gains (IsTestAbove lines n) [] new → AreTests text (Some new)
+all_lines text lines n new is end known gains = (
+  λ line at blind. (let here = subst (λ (all : List (List ℕ)). Contains all line) (sym is) at in
+      known here.0 (omega (arith, here.1, end)) (subst IsBlindIn (sym here.2 ∙ get_or_default lines here.0 line [] here.1) blind)),
+  λ test. (
+    λ h. elim ((gains test).0 h) [
+      | inl none ↦ absurd (omega (arith, none.1))
+      | inr above ↦ (get_or lines above.0 [], subst (λ (all : List (List ℕ)). Contains all (get_or lines above.0 [])) is (above.0, omega (arith, above.1, end), get_or_default lines above.0 (get_or lines above.0 []) [] (omega (arith, above.1, end))), above.2)
+    ],
+    λ h. let here = subst (λ (all : List (List ℕ)). Contains all h.0) (sym is) h.1 in
+        (gains test).1 (inr (here.0, omega (arith, here.1, end), subst (λ (l : List ℕ). IsTestIn l test) (sym here.2 ∙ get_or_default lines here.0 h.0 [] here.1) h.2)),
+  ),
+)
+
+-- ---- a text without `__has`
+
+and_first : (a b : Bool) → (a && b) ≡ true → a ≡ true
+and_first true b e = refl
+and_first false b e = e
+
+-- a part of a joined list is a part of it
+joined_part : (c : ℕ) (parts : List (List ℕ)) (part : List ℕ) → Contains parts part → (front : List ℕ) × (back : List ℕ) × (join_with_byte c parts ≡ front ++ (part ++ back))
+joined_part c [] part at = absurd (omega (arith, at.1))
+joined_part c (x ∷ []) part (k, lt, is) =
+    let first : k ≡ 0 = omega (arith, lt) in
+    let same : x ≡ part = subst (λ (i : ℕ). get_or (x ∷ []) i part ≡ part) first is in
+    ([], [], same ∙ sym (append-nil part))
+joined_part c (x ∷ y ∷ more) part (zero, lt, is) = ([], c ∷ join_with_byte c (y ∷ more), ap (λ p. p ++ (c ∷ join_with_byte c (y ∷ more))) is)
+joined_part c (x ∷ y ∷ more) part (suc k, lt, is) =
+    let rest = joined_part c (y ∷ more) part (k, omega (arith, lt), is) in
+    (x ++ (c ∷ rest.0), rest.1, ap (λ j. x ++ (c ∷ j)) rest.2 ∙ sym (append_assoc x (c ∷ rest.0) (part ++ rest.1)))
+
+-- a word in a part of a text is in the text
+word_of_part : (front part back a b word : List ℕ) → part ≡ a ++ (word ++ b) → front ++ (part ++ back) ≡ (front ++ a) ++ (word ++ (b ++ back))
+word_of_part front part back a b word is =
+    ap (λ p. front ++ (p ++ back)) is
+    ∙ (ap (λ p. front ++ p) (append_assoc a (word ++ b) back ∙ ap (λ p. a ++ p) (append_assoc word b back)) ∙ sym (append_assoc front a (word ++ (b ++ back))))
+
+-- a text in which a line has a test has the word
+pub no_test : (text line : List ℕ) (place : ℕ) → has text (codes "__has") ≡ false → IsLine text line → is_test line place ≡ true → ⊥
+no_test text line place none at is =
+    let word = codes "__has" in
+    let first : starts_with nat_eq (drop place line) word ≡ true = and_first (starts_with nat_eq (drop place line) word) _ (and_first (is_test_word (drop place line)) _ is) in
+    let front : take 5 (drop place line) ≡ word = sym ((bytes_eq-Decides word (take 5 (drop place line))).0 first) in
+    let whole : line ≡ take place line ++ (word ++ drop 5 (drop place line)) = sym (take-append-drop place line) ∙ ap (λ rest. take place line ++ rest) (sym (take-append-drop 5 (drop place line)) ∙ ap (λ w. w ++ drop 5 (drop place line)) front) in
+    let part = joined_part 10 (text_lines text) line at in
+    let there : Has text word = (
+      part.0 ++ take place line,
+      drop 5 (drop place line) ++ part.1,
+      sym (join_with_byte-slice_split 10 text) ∙ (part.2 ∙ word_of_part part.0 line part.1 (take place line) (drop 5 (drop place line)) word whole),
+    ) in
+    let both : false ≡ true = sym none ∙ (has_iff text word).1 there in
+    cc

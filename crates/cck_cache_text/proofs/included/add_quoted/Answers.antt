@@ -1,0 +1,6 @@
+use Rattle.cck_cache_text.proofs.IncludedLemmas.{after_words}
+use Rattle.cck_cache_text.proofs.included.add_quoted.Goals as goal
+
+pub returns : goal.returns
+returns c =
+    after_words 34 34 c.args.line.now c.args.names.now c.add_after.new.names c.add_after-2.new.names c.add_after-3.new.names c.in_ok-add_after.ensures c.in_ok-add_after-2.ensures c.in_ok-add_after-3.ensures

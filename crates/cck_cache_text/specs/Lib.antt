@@ -1,0 +1,12 @@
+pub mod Absent
+pub mod HeaderTests
+pub mod Included
+pub mod Left
+pub mod LookedAt
+pub mod Names
+pub mod ReadFiles
+pub mod Rule
+pub mod SearchList
+pub mod Sets
+pub mod Splices
+pub mod TestedPaths

@@ -1,0 +1,27 @@
+-- the paths at which a preprocessor looks for the headers that a source tests for
+use Rattle.std.specs.Prelude.{◌≡◌, ℕ, ◌<◌, ◌⊎◌, Bool, true, false, List, [], ◌++◌, Contains, codes, get_or, length, nat_eq}
+use Rattle.std.specs.List.{starts_with}
+use Rattle.cck_cache_text.specs.Absent.{path_in}
+use Rattle.cck_cache_text.specs.HeaderTests.{TestFields}
+use Rattle.cck_cache_text.specs.Names.{directory_of}
+
+-- the path of a name in a directory of a list
+abbrev pub IsInList : List (List ℕ) → List ℕ → List ℕ → Type 0
+IsInList directories name path = (place : ℕ) × (place < length directories) × (path ≡ path_in (get_or directories place []) name)
+
+-- the path of a name in quotes in the directory of a file
+abbrev pub IsBesideFile : List ℕ → TestFields → List ℕ → Type 0
+IsBesideFile file test path = (test.is_quoted ≡ true) × (path ≡ directory_of file ++ test.name)
+
+abbrev pub is_absolute : List ℕ → Bool
+is_absolute name = starts_with nat_eq name (codes "/")
+
+-- a path at which the header of a test is looked for
+abbrev pub IsPathOfTest : List (List ℕ) → List ℕ → TestFields → List ℕ → Type 0
+IsPathOfTest directories file test path =
+    ((is_absolute test.name ≡ true) × (path ≡ test.name))
+    ⊎ ((is_absolute test.name ≡ false) × (IsBesideFile file test path ⊎ IsInList directories test.name path))
+
+-- the same of one of these tests
+abbrev pub IsPathOfTests : List (List ℕ) → List ℕ → List TestFields → List ℕ → Type 0
+IsPathOfTests directories file tests path = (test : TestFields) × Contains tests test × IsPathOfTest directories file test path

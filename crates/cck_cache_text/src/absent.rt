@@ -1,0 +1,208 @@
+//! The paths at which a preprocessor looked for headers and found none.
+ghost use Rattle.std.specs.Prelude.{◌≡◌, ◌<◌, ◌↔◌, ◌++◌, Contains, IfOk, IsTrue, List, OnOk, [], get_or, length, map, true, ℕ};
+ghost use Rattle.std.specs.Option.{option_map};
+ghost use Rattle.cck_markers.specs.Marks as spec;
+ghost use Rattle.cck_markers.specs.Marks.{Marks};
+ghost use Rattle.cck_cache_text.specs.Absent.{AreAbsentNames, AreAdded, IsBeforeDirectory, IsBeside, IsForName, IsListed, IsInDirectory, path_in, separator};
+ghost use Rattle.cck_cache_rules.specs.Reading.{ReadsBack, byte_lists};
+ghost use Rattle.cck_cache_text.specs.SearchList.{search_fields};
+ghost use Rattle.cck_cache_text.specs.Sets.{Adds, IsSetOf, has_key};
+
+use crate::names::{Named, names_in};
+use crate::search_list::SearchList;
+use std::alloc::{AllocError, Global};
+use std::collections::BTreeSet;
+
+// What a compiler writes between a directory of its list and the name of a file in it.
+fn separator(directory: &[u8]) -> &'static [u8]
+    ensures { result.now ≡ separator directory.now }
+{
+    if directory.ends_with(b"/") { b"" } else { b"/" }
+}
+
+// A name in a directory, without what is between them.
+fn within<'a>(name: &'a [u8], directory: &[u8]) -> Option<&'a [u8]>
+    ensures { ReadsBack (path_in directory.now) name.now (option_map (λ rest. rest.now) result) }
+{
+    name.strip_prefix(directory)?
+        .strip_prefix(separator(directory))
+}
+
+// These three, one after the other.
+pub fn joined(alloc: Global, a: &[u8], b: &[u8], c: &[u8]) -> Result<Vec<u8>, AllocError>
+    ensures { IfOk result (λ all. all.items ≡ a.now ++ b.now ++ c.now) }
+{
+    let mut all = a.to_vec(alloc)?;
+    all.extend_from_slice(b)?;
+    all.extend_from_slice(c)?;
+    Ok(all)
+}
+
+// The path of a name in a directory.
+pub fn path_in(alloc: Global, directory: &[u8], name: &[u8]) -> Result<Vec<u8>, AllocError>
+    ensures { IfOk result (λ path. path.items ≡ path_in directory.now name.now) }
+{
+    joined(alloc, directory, separator(directory), name)
+}
+
+/// Adds a path.
+pub fn add(paths: &mut BTreeSet<Vec<u8>>, path: Vec<u8>) -> Result<(), AllocError>
+    ensures { OnOk result (Adds (λ absent. absent ≡ path.items) paths.old paths.new) }
+{
+    paths.insert(path)?;
+    Ok(())
+}
+
+// Adds the path of a precompiled header, and the path itself unless the text names it.
+fn add_path(
+    alloc: Global,
+    paths: &mut BTreeSet<Vec<u8>>,
+    named: &Named,
+    path: Vec<u8>,
+) -> Result<(), AllocError>
+    ensures { OnOk result (Adds (IsBeside (has_key named.now.names) path.items) paths.old paths.new) }
+{
+    add(paths, joined(alloc, &path, b".gch", b"")?)?;
+    if !named.names.contains(path.as_slice()) {
+        add(paths, path)?;
+    }
+    Ok(())
+}
+
+// Adds the rest of a name in the directory of each file of the text.
+fn add_in_places(
+    alloc: Global,
+    paths: &mut BTreeSet<Vec<u8>>,
+    named: &Named,
+    rest: &[u8],
+) -> Result<(), AllocError>
+    ensures { OnOk result (Adds (λ absent. (directory : List ℕ)
+        × IsTrue (has_key named.now.directories directory)
+        × IsBeside (has_key named.now.names) (directory ++ rest.now) absent) paths.old paths.new) }
+{
+    for directory in &named.directories {
+        add_path(alloc, paths, named, joined(alloc, directory, rest, b"")?)?;
+    }
+    Ok(())
+}
+
+// Adds the rest of a name in each of these directories.
+fn add_in(
+    alloc: Global,
+    paths: &mut BTreeSet<Vec<u8>>,
+    named: &Named,
+    directories: &[Vec<u8>],
+    rest: &[u8],
+) -> Result<(), AllocError>
+    ensures { OnOk result (Adds (λ absent. (place : ℕ) × (place < length directories.now)
+        × IsBeside (has_key named.now.names)
+        (path_in (get_or (map (λ d. d.items) directories.now) place []) rest.now) absent)
+        paths.old paths.new) }
+{
+    for directory in directories {
+        add_path(alloc, paths, named, path_in(alloc, directory, rest)?)?;
+    }
+    Ok(())
+}
+
+// Adds the paths at which a name that is in the directory at this place of the list would have been
+// found earlier. Returns whether it is there.
+fn add_before(
+    alloc: Global,
+    paths: &mut BTreeSet<Vec<u8>>,
+    named: &Named,
+    directories: &[Vec<u8>],
+    place: usize,
+    name: &[u8],
+) -> Result<bool, AllocError>
+    requires { place < length directories.now }
+    ensures found { IfOk result (λ found.
+        IsTrue found ↔ IsInDirectory (map (λ d. d.items) directories.now) name.now place) }
+    ensures added { OnOk result (Adds (IsBeforeDirectory (has_key named.now.directories) (has_key named.now.names)
+        (map (λ d. d.items) directories.now) name.now place) paths.old paths.new) }
+{
+    let Some(rest) = within(name, &directories[place]) else {
+        return Ok(false);
+    };
+    add_in_places(alloc, paths, named, rest)?;
+    add_in(alloc, paths, named, &directories[..place], rest)?;
+    Ok(true)
+}
+
+// Adds the paths for one name. Returns whether the name is in a directory of the list.
+fn add_name(
+    alloc: Global,
+    paths: &mut BTreeSet<Vec<u8>>,
+    named: &Named,
+    directories: &[Vec<u8>],
+    name: &[u8],
+) -> Result<bool, AllocError>
+    ensures found { IfOk result (λ found.
+        IsTrue found ↔ IsListed (map (λ d. d.items) directories.now) name.now) }
+    ensures added { OnOk result (Adds (IsForName (has_key named.now.directories) (has_key named.now.names)
+        (map (λ d. d.items) directories.now) name.now) paths.old paths.new) }
+{
+    add(paths, joined(alloc, name, b".gch", b"")?)?;
+    let mut is_found = false;
+    for place in 0..directories.len() {
+        is_found |= add_before(alloc, paths, named, directories, place, name)?;
+    }
+    Ok(is_found)
+}
+
+// Adds the paths for all names. Returns `false` where a system header is in no directory of the
+// list.
+fn add_names(
+    alloc: Global,
+    paths: &mut BTreeSet<Vec<u8>>,
+    named: &Named,
+    directories: &[Vec<u8>],
+) -> Result<bool, AllocError>
+    ensures { IfOk result (AreAdded (has_key named.now.directories) (has_key named.now.names)
+        (has_key named.now.systems) (map (λ d. d.items) directories.now) paths.old paths.new) }
+{
+    for name in &named.names {
+        let is_found = add_name(alloc, paths, named, directories, name)?;
+        if !is_found && named.systems.contains(name.as_slice()) {
+            return Ok(false);
+        }
+    }
+    Ok(true)
+}
+
+// A set of these paths.
+fn set_of(alloc: Global, all: &[Vec<u8>]) -> Result<BTreeSet<Vec<u8>>, AllocError>
+    ensures { IfOk result (IsSetOf (Contains (map (λ path. path.items) all.now))) }
+{
+    let mut paths = BTreeSet::new(alloc);
+    for path in all {
+        add(&mut paths, path.to_vec(alloc)?)?;
+    }
+    Ok(paths)
+}
+
+/// The paths at which a header that this preprocessed text names would have been found earlier, in
+/// order: for each name in a directory of the list, that name in the directory of each file of the
+/// text, in the working directory and in each directory before it in the list; beside each path and
+/// each name its precompiled header `NAME.gch`; and the directories that the compiler left out of
+/// the list. A path that the text names is not among them, unless it is a precompiled header or was
+/// left out. Paths may be relative to the working directory.
+///
+/// `None` where a system header is in no directory of the list, so that it is not known where it
+/// was looked for. The only error is lack of memory.
+pub fn absent_names(
+    alloc: Global,
+    text: &[u8],
+    search: &SearchList,
+) -> Result<Option<BTreeSet<Vec<u8>>>, AllocError>
+    ensures { IfOk result (λ found. (marks : List spec.Mark) → Marks true text.now marks
+        → AreAbsentNames marks (search_fields search.now) found) }
+{
+    let named = names_in(alloc, text)?;
+    let mut paths = set_of(alloc, &search.missing)?;
+    if add_names(alloc, &mut paths, &named, &search.directories)? {
+        Ok(Some(paths))
+    } else {
+        Ok(None)
+    }
+}

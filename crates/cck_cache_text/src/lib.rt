@@ -1,0 +1,41 @@
+//! What a cache reads from a compiler's and a preprocessor's output, and from sources.
+//!
+//! All calls are on values: none reads a file.
+//!
+//! - [`SearchList`] is a compiler's list of directories for headers, as `gcc -v` prints it.
+//! - [`absent_names`] lists the paths at which a named header would have been found earlier.
+//! - [`file_names`] lists the files that a text names.
+//! - [`looked_at_paths`] lists the paths at which a preprocessor looks for the headers that a text includes.
+//! - [`left_directories`] lists the directories that names of a text leave by `..`, and [`add_left`]
+//!   those of one path.
+//! - [`assembles_alone`] and [`opens_named_alone`] say by dependency files whether the assembler or the
+//!   compiler read other files than those that a text names.
+//! - [`header_tests`] and [`has_dependency_pragma`] say on which files a source may depend that it does
+//!   not include. Both read a source without its splices, which [`unspliced`] returns.
+//!   [`add_tested_paths`] lists the paths at which tests look, and [`may_ask_for_file`] finds both in
+//!   an argument.
+//! - [`laws`] states what `==` means for the types.
+#![tactic(auto)]
+
+mod absent;
+mod header_test;
+mod included;
+pub mod laws;
+mod left;
+mod looked_at;
+mod names;
+mod read_files;
+mod rule;
+mod search_list;
+mod splices;
+mod tested_paths;
+
+pub use absent::absent_names;
+pub use header_test::{HeaderTest, has_dependency_pragma, header_tests, may_ask_for_file};
+pub use left::{add_left, left_directories};
+pub use looked_at::looked_at_paths;
+pub use names::file_names;
+pub use read_files::{assembles_alone, opens_named_alone};
+pub use search_list::SearchList;
+pub use splices::unspliced;
+pub use tested_paths::add_tested_paths;

@@ -1,0 +1,107 @@
+//! The files that a preprocessed text names.
+ghost use Rattle.std.specs.Prelude.{◌≡◌, ◌∷◌, ◌++◌, [], IfOk, List, OnOk, true, ℕ};
+ghost use Rattle.cck_markers.specs.Marks as spec;
+ghost use Rattle.cck_markers.specs.Marks.{Marks};
+ghost use Rattle.cck_cache_text.specs.Names.{AreNames, directory_of, is_named, is_no_file};
+ghost use Rattle.cck_cache_text.specs.Sets.{has_key};
+
+use cck_markers::{Mark, Markers};
+use memchr::memrchr;
+use std::alloc::{AllocError, Global};
+use std::collections::BTreeSet;
+
+/// The names of the files that a text was made of.
+#[derive(Drop)]
+pub struct Named {
+    /// All names.
+    pub names: BTreeSet<Vec<u8>>,
+    /// Those of system headers.
+    pub systems: BTreeSet<Vec<u8>>,
+    /// The working directory, which is empty, and the directories of all names, each empty or ending
+    /// in a slash.
+    pub directories: BTreeSet<Vec<u8>>,
+}
+
+// Whether a name is of no file: `<built-in>` and the like, or a working directory.
+fn is_no_file(name: &[u8]) -> bool
+    ensures { result ≡ is_no_file name.now }
+{
+    name.is_empty() || name.starts_with(b"<") || name.ends_with(b"//")
+}
+
+// A name up to its last slash, which is part of it.
+pub fn directory_of(name: &[u8]) -> &[u8]
+    ensures { result.now ≡ directory_of name.now }
+{
+    match memrchr(b'/', name) {
+        Some(at) => &name[..=at],
+        None => b"",
+    }
+}
+
+impl Named {
+    // Adds the name of a mark that follows others.
+    fn add(&mut self, alloc: Global, name: &[u8], is_system: bool) -> Result<(), AllocError>
+        ensures { OnOk result ((marks : List spec.Mark) → AreNames marks self.old
+            → AreNames (marks ++ spec.Name name.now is_system ∷ []) self.new) }
+    {
+        if is_no_file(name) || self.names.contains(name) {
+            return Ok(());
+        }
+        self.names.insert(name.to_vec(alloc)?)?;
+        self.directories.insert(directory_of(name).to_vec(alloc)?)?;
+        if is_system {
+            self.systems.insert(name.to_vec(alloc)?)?;
+        }
+        Ok(())
+    }
+}
+
+// No names. The working directory is always among the directories.
+fn no_names(alloc: Global) -> Result<Named, AllocError>
+    ensures { IfOk result (λ named. AreNames [] named) }
+{
+    let mut directories = BTreeSet::new(alloc);
+    directories.insert(Vec::new(alloc))?;
+    Ok(Named {
+        names: BTreeSet::new(alloc),
+        systems: BTreeSet::new(alloc),
+        directories,
+    })
+}
+
+/// The names in a text.
+///
+/// The only error is lack of memory.
+pub fn names_in(alloc: Global, text: &[u8]) -> Result<Named, AllocError>
+    ensures { IfOk result (λ named.
+        (marks : List spec.Mark) → Marks true text.now marks → AreNames marks named) }
+{
+    let mut named = no_names(alloc)?;
+    let mut last: &[u8] = b"";
+    for mark in Markers::new(text) {
+        if let Mark::Name { name, is_system } = mark
+            && name != last
+        {
+            named.add(alloc, name, is_system)?;
+            last = name;
+        }
+    }
+    Ok(named)
+}
+
+/// The names of the files that this preprocessed text names, in order and each once: no name of no
+/// file, such as `<built-in>`, and no working directory.
+///
+/// The only error is lack of memory.
+pub fn file_names(alloc: Global, text: &[u8]) -> Result<BTreeSet<Vec<u8>>, AllocError>
+    ensures { IfOk result (λ names. (marks : List spec.Mark) → Marks true text.now marks
+        → (name : List ℕ) → has_key names name ≡ is_named marks name) }
+{
+    let Named {
+        names,
+        systems: _,
+        directories: _,
+    } = names_in(alloc, text)?;
+    Ok(names)
+}

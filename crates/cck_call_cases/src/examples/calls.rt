@@ -1,0 +1,60 @@
+//! A call for a key, by a compiler of this crate's own.
+mod own_compiler;
+
+use crate::examples::calls::own_compiler::OwnCompiler;
+use crate::examples::files::files_of;
+use c_cache_keys::cck_util::{Language, MapFiles, Sha256State, Timestamp};
+use c_cache_keys::{
+    ArtifactDescriptor, CCompiler, CacheControl, CompilerArguments, KeyError, MapStore,
+    ParsedArguments,
+};
+use jiff::tz::TimeZone;
+use std::alloc::Global;
+use std::collections::BTreeMap;
+
+// The command line of `cc -c a.i -o a.o -arch arm64 -arch i386`, parsed.
+fn arguments(alloc: Global) -> Result<ParsedArguments, KeyError> {
+    let mut outputs = BTreeMap::new(alloc);
+    let path = b"a.o".to_vec(alloc)?;
+    let output = ArtifactDescriptor {
+        path,
+        optional: false,
+    };
+    outputs.insert(String::from_str(alloc, "obj")?, output)?;
+    let mut arch_args = Vec::new(alloc);
+    for word in [b"-arch", b"arm64", b"-arch", b"i386".as_slice()] {
+        arch_args.push(word.to_vec(alloc)?)?;
+    }
+    let mut arguments = ParsedArguments::new(alloc, b"a.i".to_vec(alloc)?, Language::CPreprocessed);
+    arguments.compilation_flag = b"-c".to_vec(alloc)?;
+    arguments.outputs = outputs;
+    arguments.arch_args = arch_args;
+    Ok(arguments)
+}
+
+/// The key of a compilation, from a command line on. The empty text if that is no compilation.
+pub(crate) fn key_by_own_compiler(alloc: Global) -> Result<String, KeyError> {
+    let mut files = files_of(alloc, &[(b"/cc", b"cc"), (b"/w/a.i", b"int x;")])?;
+    let own = OwnCompiler {
+        parsed: arguments(alloc)?,
+    };
+    let path = b"/cc".to_vec(alloc)?;
+    let compiler = CCompiler::new::<Sha256State, MapFiles>(alloc, own, path, &mut files)?;
+    let parsed = compiler.parse_arguments(alloc, &mut files, &[], b"/w", &[])?;
+    let CompilerArguments::Ok(hasher) = parsed else {
+        return Ok(String::new(alloc));
+    };
+    let found = hasher.generate_hash_key::<Sha256State, MapFiles, MapStore>(
+        alloc,
+        &mut files,
+        &mut MapStore::new(alloc),
+        b"/w",
+        &[],
+        Timestamp::new(100, 0),
+        &TimeZone::UTC,
+        Default::default(),
+        &[],
+        CacheControl::Default,
+    )?;
+    Ok(found.key)
+}

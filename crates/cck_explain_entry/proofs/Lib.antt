@@ -1,4 +1,0 @@
-pub mod EqualityLemmas
-pub mod FaultLemmas
-pub mod NoEntryLemmas
-pub mod RestLemmas

@@ -1,7 +1,0 @@
-use Rattle.std.proofs.Common.{◌≡◌, ◌-◌}
-use Rattle.cck_explain_entry.specs.Fault.{after_includes}
-use Rattle.cck_explain_entry.proofs.fault.skip_includes.Given as goal
-
--- what is after all is what is after those that are left
-abbrev pub invariant-loop : goal.invariant-loop
-invariant-loop l = after_includes (l.count - l.counter) l.rest ≡ after_includes l.count l.bytes

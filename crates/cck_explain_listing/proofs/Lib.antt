@@ -1,0 +1,9 @@
+pub mod ChecksumLemmas
+pub mod CutLineLemmas
+pub mod EscapeLemmas
+pub mod FaultEqualityLemmas
+pub mod FaultLemmas
+pub mod NoEntryLemmas
+pub mod PlaceEqualityLemmas
+pub mod PlaceLemmas
+pub mod RestLemmas

@@ -1,0 +1,9 @@
+pub mod Bytes
+pub mod Checksum
+pub mod CutListing
+pub mod EntryListing
+pub mod Escaped
+pub mod Fault
+pub mod MarkerListing
+pub mod Place
+pub mod Quoted

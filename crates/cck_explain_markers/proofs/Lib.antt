@@ -1,2 +1,0 @@
-pub mod EqualityLemmas
-pub mod PlaceLemmas

@@ -1,8 +1,0 @@
-use Rattle.std.proofs.Common.{◌≡◌, take}
-use Rattle.std.specs.List.{flat_map}
-use Rattle.cck_explain_markers.specs.Listing.{mark_line}
-use Rattle.cck_explain_markers.proofs.line.lines_of.Given as goal
-
--- the lines of the marks so far
-abbrev pub invariant-loop-mark : goal.invariant-loop-mark
-invariant-loop-mark l = l.lines.items ≡ flat_map (mark_line l.input l.cwd) (take l.mark-index l.placed)

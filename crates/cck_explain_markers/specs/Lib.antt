@@ -1,2 +1,0 @@
-pub mod Listing
-pub mod Place

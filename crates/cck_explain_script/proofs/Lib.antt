@@ -1,2 +1,0 @@
-pub mod JudgedLemmas
-pub mod NotedLemmas

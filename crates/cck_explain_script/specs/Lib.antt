@@ -1,4 +1,0 @@
-pub mod Difference
-pub mod Judged
-pub mod Listing
-pub mod Note

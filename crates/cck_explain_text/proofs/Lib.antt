@@ -1,2 +1,0 @@
-pub mod ChecksumLemmas
-pub mod EscapeLemmas

@@ -1,3 +1,0 @@
-pub mod Checksum
-pub mod Escaped
-pub mod Quoted

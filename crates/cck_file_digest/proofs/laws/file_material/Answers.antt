@@ -1,5 +1,0 @@
-use Rattle.cck_file_digest.proofs.MaterialLemmas.{material_of_file}
-use Rattle.cck_file_digest.proofs.laws.file_material.Goals as goal
-
-pub returns : goal.returns
-returns c = material_of_file

@@ -1,4 +1,0 @@
-pub mod ExpandLemmas
-pub mod FileLemmas
-pub mod InputLemmas
-pub mod LineLemmas

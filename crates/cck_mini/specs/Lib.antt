@@ -1,3 +1,0 @@
-pub mod Printed
-pub mod Errors
-pub mod Seen

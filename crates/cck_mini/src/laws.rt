@@ -1,9 +1,0 @@
-//! Laws about the definitions, each the contract of a function that does nothing.
-ghost use Rattle.std.specs.Prelude.{◌≡◌, ◌↔◌, IsTrue};
-
-use crate::PrintError;
-
-/// Two [`PrintError`]s are equal exactly if they are the same.
-pub fn print_error_equality_is_exact()
-    ensures { (a b : PrintError) → IsTrue (⟦<PrintError as PartialEq>⟧.eq a b) ↔ (a ≡ b) }
-{}

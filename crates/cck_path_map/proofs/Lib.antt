@@ -1,5 +1,0 @@
-pub mod BlockLemmas
-pub mod EntriesLemmas
-pub mod FromLemmas
-pub mod PlaceLemmas
-pub mod ValueLemmas

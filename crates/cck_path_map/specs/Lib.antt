@@ -1,4 +1,0 @@
-pub mod Blocks
-pub mod Entries
-pub mod PathMap
-pub mod Values

@@ -1,5 +1,0 @@
-use Rattle.cck_time.proofs.PartLemmas.{one_day_is}
-use Rattle.cck_time.proofs.laws.one_day.Goals as goal
-
-pub returns : goal.returns
-returns c = one_day_is

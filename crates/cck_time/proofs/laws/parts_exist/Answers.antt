@@ -1,5 +1,0 @@
-use Rattle.cck_time.proofs.PresenceLemmas.{part_there, there_part}
-use Rattle.cck_time.proofs.laws.parts_exist.Goals as goal
-
-pub returns : goal.returns
-returns c = λ date timestamp modified moment zone variables. (there_part date timestamp modified moment zone variables, part_there date timestamp modified moment zone variables)

@@ -1,3 +1,0 @@
-pub mod Calendar
-pub mod Config
-pub mod TimePart
