@@ -113,6 +113,12 @@ def shows_warning(words, path):
     return None if done.returncode else WARNING in done.stderr
 
 
+def has_markers(words, path):
+    """Whether the preprocessor writes line markers."""
+    done = subprocess.run(["gcc", *words, path, "-E"], capture_output=True, text=True, errors="replace")
+    return any(line.startswith("# ") for line in done.stdout.splitlines())
+
+
 def words_of(row):
     """The words of an option, with each value that is tried."""
     name, form, _ = row
@@ -133,8 +139,8 @@ def silenced(rows):
                 hiding = [words for words in words_of(row) if shows_warning(words, path) is False]
                 if row[2] != SILENCING:
                     yield from (f"the warning of a time macro is not on one line with {' '.join(words)}" for words in hiding)
-                elif not hiding:
-                    yield f"the warning of a time macro is on one line with {row[0]}"
+                elif not hiding and all(has_markers(words, path) for words in words_of(row)):
+                    yield f"the warning of a time macro and the line markers are as they have to be with {row[0]}"
 
 
 def negated():

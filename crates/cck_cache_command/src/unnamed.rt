@@ -1,5 +1,5 @@
 //! The paths at which gcc looks for headers, and which the text does not name.
-ghost use Rattle.std.specs.Prelude.{◌≡◌, ◌↔◌, ◌≤◌, IfOk, IfSome, IsTrue, MatchBool, OnOk, length};
+ghost use Rattle.std.specs.Prelude.{◌≡◌, ◌↔◌, ◌≤◌, IfOk, IfSome, IsOkUnless, IsTrue, MatchBool, OnOk, length};
 ghost use Rattle.std.specs.Option.{option_map};
 ghost use Rattle.cck_cache_command.specs.Unnamed.{AreCompared, AreSpellings, IsPresence, IsThere, IsUnnamed, IsUnnamedVerdict, KeepsKnown, LeadsNotTo, LeadsTo, MayImport, begins_import};
 ghost use Rattle.cck_cache_text.specs.Sets.{has_key};
@@ -11,15 +11,15 @@ ghost use Rattle.cck_path.specs.Bytes.{lists_of};
 use crate::absence::add_directories;
 use cck_cache_arguments::Request;
 use cck_cache_files::{
-    KnownFile, PathState, PathStates, add_known, is_in_snapshot, is_one_file, known_files,
-    may_be_copy,
+    ComparedFiles, KnownFile, PathState, PathStates, add_known, compared_paths, is_in_snapshot,
+    is_one_file, known_files, may_be_copy,
 };
 use cck_cache_rules::{PathTest, Refusal};
 use cck_cache_text::{SearchList, add_left, looked_at_paths};
 use cck_digest::UtilError;
 use cck_files::MapFiles;
 use cck_path::{Timestamp, join_path, normalize_path};
-use std::alloc::AllocError;
+use std::alloc::{AllocError, Global};
 use std::collections::BTreeSet;
 use std::rt::Files;
 
@@ -104,8 +104,7 @@ fn verdict_there<R: Files + AllocGlobal>(
     rt: &R,
     files: &mut MapFiles,
     states: &mut PathStates,
-    known: &[KnownFile],
-    since: Timestamp,
+    compared: &ComparedFiles,
     path: &[u8],
 ) -> Result<UnnamedVerdict, UtilError>
     ensures keeps { IfOk result (λ _. Keeps (λ files. files.files) fault_count IsQuiet files.old files.new) }
@@ -120,7 +119,7 @@ fn verdict_there<R: Files + AllocGlobal>(
         }
         return Ok(UnnamedVerdict::Doubtful);
     }
-    if may_be_copy(rt, path, since, known) {
+    if may_be_copy(rt, path, compared) {
         return Ok(UnnamedVerdict::Doubtful);
     }
     Ok(UnnamedVerdict::Passed)
@@ -131,8 +130,7 @@ fn unnamed_verdict<R: Files + AllocGlobal>(
     rt: &R,
     files: &mut MapFiles,
     states: &mut PathStates,
-    known: &[KnownFile],
-    since: Timestamp,
+    compared: &ComparedFiles,
     path: &[u8],
 ) -> Result<UnnamedVerdict, UtilError>
     ensures keeps { IfOk result (λ _. Keeps (λ files. files.files) fault_count IsQuiet files.old files.new) }
@@ -142,7 +140,7 @@ fn unnamed_verdict<R: Files + AllocGlobal>(
     let presence = presence_at(rt, states, path)?;
     match presence {
         Presence::Unread => Ok(UnnamedVerdict::Passed),
-        Presence::There => verdict_there(rt, files, states, known, since, path),
+        Presence::There => verdict_there(rt, files, states, compared, path),
         Presence::Unknown => Ok(UnnamedVerdict::Doubtful),
     }
 }
@@ -153,8 +151,7 @@ fn left_by_spellings<R: Files + AllocGlobal>(
     rt: &R,
     files: &mut MapFiles,
     states: &mut PathStates,
-    known: &[KnownFile],
-    since: Timestamp,
+    compared: &ComparedFiles,
     directory: &[u8],
     names: &BTreeSet<Vec<u8>>,
 ) -> Result<Option<BTreeSet<Vec<u8>>>, UtilError>
@@ -167,7 +164,7 @@ fn left_by_spellings<R: Files + AllocGlobal>(
     let mut left = BTreeSet::new(alloc);
     for name in names {
         let path = join_path(alloc, directory, name)?;
-        let verdict = unnamed_verdict(rt, files, states, known, since, &path)?;
+        let verdict = unnamed_verdict(rt, files, states, compared, &path)?;
         match verdict {
             UnnamedVerdict::Passed => {}
             UnnamedVerdict::Spelling => add_left(alloc, &mut left, &path)?,
@@ -268,6 +265,22 @@ fn compared_files<R: Files + AllocGlobal>(
     Ok(Some(known))
 }
 
+// The paths of the files of a text. `None` where it imports a file, which gcc compares with others too.
+fn paths_of_text(
+    alloc: Global,
+    request: &Request<'_>,
+    text: &[u8],
+) -> Result<Option<Vec<Vec<u8>>>, UtilError>
+    ensures { IsOkUnless result UtilError.Memory }
+{
+    if may_import(text) {
+        return Ok(None);
+    }
+    let directory = request.directory.as_bytes();
+    let paths = compared_paths(alloc, directory, request.input.as_bytes(), text)?;
+    Ok(Some(paths))
+}
+
 /// Judges the paths at which gcc looks for the headers that a text and the arguments of a request
 /// include, and which the text does not name. gcc passes over a copy of a file with `#pragma once`,
 /// so that the text does not name it. `printed` is what the compiler printed of its directories, and
@@ -298,7 +311,13 @@ pub fn unnamed_by<R: Files + AllocGlobal>(
     };
     let directory = request.directory.as_bytes();
     let names = looked_at_paths(alloc, text, &request.arguments, &search)?;
-    let Some(left) = left_by_spellings(rt, files, states, &known, since, directory, &names)? else {
+    let paths = paths_of_text(alloc, request, text)?;
+    let compared = ComparedFiles {
+        known,
+        paths,
+        since,
+    };
+    let Some(left) = left_by_spellings(rt, files, states, &compared, directory, &names)? else {
         return Ok(Unnamed::Refused(Refusal::OtherFile));
     };
     let mut tests = Vec::new(alloc);

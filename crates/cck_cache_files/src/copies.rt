@@ -2,7 +2,7 @@
 //!
 //! Of a file with `#pragma once`, or one that came by `#import`, gcc reads no second one of the same
 //! length, the same time to the second and the same contents, at whatever path it finds it.
-ghost use Rattle.std.specs.Prelude.{◌≡◌, ◌↔◌, ◌⊎◌, Contains, IfOk, IsTrue, IsUtf8, List, MatchBool, OnErr, true};
+ghost use Rattle.std.specs.Prelude.{◌≡◌, ◌↔◌, ◌⊎◌, Contains, IfOk, IsOkUnless, IsTrue, IsUtf8, List, MatchBool, OnErr, true};
 ghost use Rattle.std.specs.Fs.{file_type};
 ghost use Rattle.cck_cache_text.specs.Names.{is_named};
 ghost use Rattle.cck_cache_text.specs.Sets.{has_key};
@@ -29,6 +29,17 @@ pub struct KnownFile {
     length: u64,
     // `None` where it is not known.
     seconds: Option<i64>,
+}
+
+/// The files with which gcc may compare another one.
+#[derive(Drop)]
+pub struct ComparedFiles {
+    /// Their lengths and times.
+    pub known: Vec<KnownFile>,
+    /// The absolute paths of all, whose contents are compared; `None` where some are not known.
+    pub paths: Option<Vec<Vec<u8>>>,
+    /// The time before which they last changed.
+    pub since: Timestamp,
 }
 
 /// Whether the snapshot has something at a path.
@@ -141,6 +152,26 @@ pub fn known_files(
     Ok(known)
 }
 
+/// The absolute paths of the files that a preprocessed text names, and of the input.
+///
+/// The only error is [`UtilError::Memory`].
+pub fn compared_paths(
+    alloc: Global,
+    directory: &[u8],
+    input: &[u8],
+    text: &[u8],
+) -> Result<Vec<Vec<u8>>, UtilError>
+    ensures { IsOkUnless result UtilError.Memory }
+{
+    let mut names = file_names(alloc, text)?;
+    names.insert(input.to_vec(alloc)?)?;
+    let mut paths = Vec::new(alloc);
+    for name in &names {
+        paths.push(join_path(alloc, directory, name)?)?;
+    }
+    Ok(paths)
+}
+
 /// Adds the length and the time of what is at a path, links followed. Returns whether it could be looked
 /// at.
 ///
@@ -217,10 +248,54 @@ fn may_be_taken(found: &fs::Metadata, is_old: bool, is_like: bool) -> bool
     !found.is_file() || !is_old || is_like
 }
 
+// A text without the byte order mark at its front, which gcc takes away before it compares.
+fn without_mark(contents: &[u8]) -> &[u8] {
+    contents.strip_prefix(b"\xef\xbb\xbf").unwrap_or(contents)
+}
+
+// Whether the file at a path has other contents than these. `false` where that can't be known: it is not a
+// regular file, last changed at or after the given time, or can't be read.
+fn differs<R: Files + AllocGlobal>(rt: &R, contents: &[u8], path: &[u8], since: Timestamp) -> bool {
+    let Ok(path) = std::str::from_utf8(path) else {
+        return false;
+    };
+    let Ok(found) = fs::metadata(rt, path) else {
+        return false;
+    };
+    if !found.is_file() || !changed_before(modified(&found), changed(&found), since) {
+        return false;
+    }
+    if !is_length_like(found.len(), contents.len() as u64) {
+        return true;
+    }
+    match fs::read(rt, path) {
+        Ok(other) => without_mark(&other) != without_mark(contents),
+        Err(_) => false,
+    }
+}
+
+// Whether the file at a path has other contents than each file of the text. `false` where that can't be
+// known.
+fn differs_from_all<R: Files + AllocGlobal>(rt: &R, path: &str, compared: &ComparedFiles) -> bool {
+    let Some(paths) = &compared.paths else {
+        return false;
+    };
+    let Ok(contents) = fs::read(rt, path) else {
+        return false;
+    };
+    for other in paths {
+        if !differs(rt, &contents, other, compared.since) {
+            return false;
+        }
+    }
+    true
+}
+
 /// Whether gcc may have taken what is at a path, links followed, for a copy of a known file: a regular
-/// file of a like length and time, or one that did not last change before the given time, or anything
-/// else but a directory. `true` where it can't be looked at.
-pub fn may_be_copy<R: Files>(rt: &R, path: &[u8], since: Timestamp, known: &[KnownFile]) -> bool
+/// file of a like length and time, and of the same contents where the paths of the known files are given;
+/// or one that did not last change before the given time, or anything else but a directory. `true` where
+/// it can't be looked at.
+pub fn may_be_copy<R: Files + AllocGlobal>(rt: &R, path: &[u8], compared: &ComparedFiles) -> bool
     ensures { ¬ (IsUtf8 path.now) → IsTrue result }
 {
     let Ok(path) = std::str::from_utf8(path) else {
@@ -229,7 +304,9 @@ pub fn may_be_copy<R: Files>(rt: &R, path: &[u8], since: Timestamp, known: &[Kno
     let Ok(found) = fs::metadata(rt, path) else {
         return true;
     };
-    let is_old = changed_before(modified(&found), changed(&found), since);
-    let is_like = is_like_one(known, found.len(), second_of(modified(&found)));
+    let is_old = changed_before(modified(&found), changed(&found), compared.since);
+    let seconds = second_of(modified(&found));
+    let is_like = is_like_one(&compared.known, found.len(), seconds)
+        && !differs_from_all(rt, path, compared);
     may_be_taken(&found, is_old, is_like)
 }

@@ -36,7 +36,9 @@ mod store_directory;
 mod times;
 
 pub use compiler::{compiler_digest, shared_compiler_digest};
-pub use copies::{KnownFile, add_known, is_in_snapshot, known_files, may_be_copy};
+pub use copies::{
+    ComparedFiles, KnownFile, add_known, compared_paths, is_in_snapshot, known_files, may_be_copy,
+};
 pub use listing::{StoredFile, list_counts, list_files};
 pub use path_states::{PathState, PathStates};
 pub use path_tests::first_failing;

@@ -59,7 +59,8 @@ pub enum Class {
     /// The messages.
     Message,
     /// The messages, in such a way that a warning of the preprocessor may not be printed, or not on one
-    /// line. The preprocessed text does not depend on it, and the preprocessor is not given it.
+    /// line; or the line markers of a preprocessed text. The rest of that text does not depend on it, and
+    /// the preprocessor is not given it.
     CompilerMessage,
     /// A directory in which headers are looked for.
     Directory,
