@@ -36,7 +36,7 @@ compared() {
 }
 
 # check LABEL WANTED VERDICT ARG..: compiles by gcc, by the wrapper and by ccache. The wrapper must
-# do WANTED, a pattern of the log's last line. VERDICT is `same`, or `differs` for what escapes.
+# do WANTED, a pattern of the log's last line. VERDICT is `same`.
 check() {
     label=$1 wanted=$2 verdict=$3
     shift 3
@@ -227,10 +227,10 @@ printf '#pragma once\nstatic int n = 1;\n' >d1/once.h
 cp -p d1/once.h d2/once.h
 printf '#include "d1/once.h"\n#include "d2/once.h"\nint f(void) { return n; }\n' >once.c
 settle
-check 'two equal headers of one time with #pragma once' 'recorded *' same -c once.c
+check 'two equal headers of one time with #pragma once' 'refused-other-file *' same -c once.c
 printf '#pragma once\nint g(void) { return 2; }\n' >d2/once.h
 settle
-check 'the second one changed: escapes' 'hit *' differs -c once.c
+check 'the second one changed' 'recorded *' same -c once.c
 
 # Tests for the existence of a header.
 printf '#if __has_include("opt.h")\nint v = 2;\n#else\nint v = 1;\n#endif\n' >y.c
