@@ -17,7 +17,7 @@ use crate::input::input_snapshot;
 use crate::naming::name_in;
 use crate::request::{base_words, hasher_of, snapshot_request};
 use crate::tested::{Tested, tested_by};
-use crate::unnamed::{Unnamed, unnamed_by};
+use crate::unnamed::{Unnamed, may_have_copies, unnamed_by};
 use anyhow::Result;
 use cck_cache_arguments::{Compilation, Made, Request};
 use cck_cache_files::{Kind, PathStates, StoreDirectory, add_named_files};
@@ -175,8 +175,9 @@ fn assembles_input_alone<R: Files + AllocGlobal>(
     Ok(assembles_alone(rt.alloc(), input.as_bytes(), &rule)?)
 }
 
-// Why a compilation is not recorded by what the assembler and the compiler say that they read. An entry
-// that is recorded alone is of an object that is there.
+// Why a compilation is not recorded by what the assembler and the compiler say that they read, or since the
+// compiler may not read each file of the text another time. An entry that is recorded alone is of an object
+// that is there.
 fn refusal_by_reading<R: Files + AllocGlobal>(
     rt: &R,
     request: &Request<'_>,
@@ -185,6 +186,9 @@ fn refusal_by_reading<R: Files + AllocGlobal>(
 ) -> Result<Option<Refusal>>
     ensures { IfOk result (IsJudgedByReading request.now text.now (option_map (λ m. m.now) made.entry)) }
 {
+    if may_have_copies(rt, request, text)? {
+        return Ok(Some(Refusal::OtherFile));
+    }
     let Some(made) = made else {
         return Ok(None);
     };

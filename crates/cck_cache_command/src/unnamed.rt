@@ -11,8 +11,8 @@ ghost use Rattle.cck_path.specs.Bytes.{lists_of};
 use crate::absence::add_directories;
 use cck_cache_arguments::Request;
 use cck_cache_files::{
-    ComparedFiles, KnownFile, PathState, PathStates, add_known, compared_paths, is_in_snapshot,
-    is_one_file, known_files, may_be_copy,
+    ComparedFiles, KnownFile, PathState, PathStates, add_known, compared_paths, has_copies,
+    is_in_snapshot, is_one_file, known_files, may_be_copy,
 };
 use cck_cache_rules::{PathTest, Refusal};
 use cck_cache_text::{SearchList, add_left, looked_at_paths};
@@ -265,20 +265,48 @@ fn compared_files<R: Files + AllocGlobal>(
     Ok(Some(known))
 }
 
-// The paths of the files of a text. `None` where it imports a file, which gcc compares with others too.
+// The paths of the files of a text.
 fn paths_of_text(
     alloc: Global,
     request: &Request<'_>,
     text: &[u8],
-) -> Result<Option<Vec<Vec<u8>>>, UtilError>
+) -> Result<BTreeSet<Vec<u8>>, UtilError>
+    ensures { IsOkUnless result UtilError.Memory }
+{
+    let directory = request.directory.as_bytes();
+    let paths = compared_paths(alloc, directory, request.input.as_bytes(), text)?;
+    Ok(paths)
+}
+
+// The same where their contents are compared. `None` where the text imports a file, which gcc compares
+// with others too.
+fn paths_to_compare(
+    alloc: Global,
+    request: &Request<'_>,
+    text: &[u8],
+) -> Result<Option<BTreeSet<Vec<u8>>>, UtilError>
     ensures { IsOkUnless result UtilError.Memory }
 {
     if may_import(text) {
         return Ok(None);
     }
-    let directory = request.directory.as_bytes();
-    let paths = compared_paths(alloc, directory, request.input.as_bytes(), text)?;
+    let paths = paths_of_text(alloc, request, text)?;
     Ok(Some(paths))
+}
+
+/// Whether two files of a text are copies, of which gcc may pass over one once they have the same time.
+///
+/// The only error is [`UtilError::Memory`].
+pub fn may_have_copies<R: Files + AllocGlobal>(
+    rt: &R,
+    request: &Request<'_>,
+    text: &[u8],
+) -> Result<bool, UtilError>
+    ensures { IsOkUnless result UtilError.Memory }
+{
+    let paths = paths_of_text(rt.alloc(), request, text)?;
+    let found = has_copies(rt, &paths, may_import(text))?;
+    Ok(found)
 }
 
 /// Judges the paths at which gcc looks for the headers that a text and the arguments of a request
@@ -311,7 +339,7 @@ pub fn unnamed_by<R: Files + AllocGlobal>(
     };
     let directory = request.directory.as_bytes();
     let names = looked_at_paths(alloc, text, &request.arguments, &search)?;
-    let paths = paths_of_text(alloc, request, text)?;
+    let paths = paths_to_compare(alloc, request, text)?;
     let compared = ComparedFiles {
         known,
         paths,

@@ -37,7 +37,7 @@ pub struct ComparedFiles {
     /// Their lengths and times.
     pub known: Vec<KnownFile>,
     /// The absolute paths of all, whose contents are compared; `None` where some are not known.
-    pub paths: Option<Vec<Vec<u8>>>,
+    pub paths: Option<BTreeSet<Vec<u8>>>,
     /// The time before which they last changed.
     pub since: Timestamp,
 }
@@ -152,7 +152,8 @@ pub fn known_files(
     Ok(known)
 }
 
-/// The absolute paths of the files that a preprocessed text names, and of the input.
+/// The absolute paths of the files that a preprocessed text names, and of the input, without `.` and
+/// `..`.
 ///
 /// The only error is [`UtilError::Memory`].
 pub fn compared_paths(
@@ -160,14 +161,15 @@ pub fn compared_paths(
     directory: &[u8],
     input: &[u8],
     text: &[u8],
-) -> Result<Vec<Vec<u8>>, UtilError>
+) -> Result<BTreeSet<Vec<u8>>, UtilError>
     ensures { IsOkUnless result UtilError.Memory }
 {
     let mut names = file_names(alloc, text)?;
     names.insert(input.to_vec(alloc)?)?;
-    let mut paths = Vec::new(alloc);
+    let mut paths = BTreeSet::new(alloc);
     for name in &names {
-        paths.push(join_path(alloc, directory, name)?)?;
+        let joined = join_path(alloc, directory, name)?;
+        paths.insert(normalize_path(alloc, &joined)?)?;
     }
     Ok(paths)
 }
@@ -309,4 +311,74 @@ pub fn may_be_copy<R: Files + AllocGlobal>(rt: &R, path: &[u8], compared: &Compa
     let is_like = is_like_one(&compared.known, found.len(), seconds)
         && !differs_from_all(rt, path, compared);
     may_be_taken(&found, is_old, is_like)
+}
+
+// The length of the file at a path, links followed. `None` where it can't be looked at.
+fn length_at<R: Files>(rt: &R, path: &[u8]) -> Option<u64> {
+    let path = std::str::from_utf8(path).ok()?;
+    let found = fs::metadata(rt, path).ok()?;
+    Some(found.len())
+}
+
+// The lengths of those of the files at these paths that are like the length of another one.
+fn like_lengths<R: Files + AllocGlobal>(
+    rt: &R,
+    paths: &BTreeSet<Vec<u8>>,
+) -> Result<BTreeSet<u64>, AllocError> {
+    let mut seen = BTreeSet::new(rt.alloc());
+    let mut like = BTreeSet::new(rt.alloc());
+    for path in paths {
+        let Some(length) = length_at(rt, path) else {
+            continue;
+        };
+        for other in [length.saturating_sub(3), length, length.saturating_add(3)] {
+            if seen.contains(&other) {
+                like.insert(other)?;
+                like.insert(length)?;
+            }
+        }
+        seen.insert(length)?;
+    }
+    Ok(like)
+}
+
+// Whether a text has the word of a pragma with which a file is read once.
+fn may_be_read_once(contents: &[u8]) -> bool {
+    contents.windows(4).any(|word| word == b"once".as_slice())
+}
+
+/// Whether two of the files at these paths have the same contents, and gcc may pass over one of them once
+/// they have the same time: their contents have the word `once`, or any file may be imported. `true` where
+/// one of them can't be read.
+///
+/// The only error is lack of memory. No contract can say what a file has.
+pub fn has_copies<R: Files + AllocGlobal>(
+    rt: &R,
+    paths: &BTreeSet<Vec<u8>>,
+    is_any: bool,
+) -> Result<bool, AllocError> {
+    let alloc = rt.alloc();
+    let like = like_lengths(rt, paths)?;
+    let mut found = BTreeSet::new(alloc);
+    for path in paths {
+        let Some(length) = length_at(rt, path) else {
+            continue;
+        };
+        if !like.contains(&length) {
+            continue;
+        }
+        let Ok(path) = std::str::from_utf8(path) else {
+            return Ok(true);
+        };
+        let Ok(contents) = fs::read(rt, path) else {
+            return Ok(true);
+        };
+        if !is_any && !may_be_read_once(&contents) {
+            continue;
+        }
+        if !found.insert(without_mark(&contents).to_vec(alloc)?)? {
+            return Ok(true);
+        }
+    }
+    Ok(false)
 }
