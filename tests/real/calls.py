@@ -221,6 +221,11 @@ class Room:
             is_stable = not any(difference(calls[0], other) for other in calls[1:])
             if not is_stable and (verdict != "hit" or not all(difference(other, got) for other in calls)):
                 differing = []
+        # With -pipe the compiler may end before or after it wrote a file. What is passed on changes nothing in the store.
+        for _ in range(5 if differing and verdict == "passed" else 0):
+            again, _ = self.run_cached(plain, cached, late)
+            if not all(difference(other, without(again, late)) for other in calls):
+                differing, is_stable = [], False
         return Judged(verdict, differing, is_stable, wanted, got)
 
 
