@@ -357,6 +357,8 @@ printf 'value.h other.h\n' >"$room/call/a/header.gcc"
 ln -s nowhere.o "$room/call/link.o"
 ln -s x.c "$room/call/link.c"
 cp "$room/call/a/value.h" "$room/call/value.h"
+# Another time: gcc may pass over a copy of the same one.
+touch -d '1 day ago' "$room/call/a/value.h"
 lines='-DVALUE=1
 '
 check_call 'known options' 'hit *' -O2 -g -Wall -Wextra -fPIC -std=gnu11 -pipe -DVALUE=1 -c x.c -o x.o

@@ -12,7 +12,7 @@ use crate::absence::add_directories;
 use cck_cache_arguments::Request;
 use cck_cache_files::{
     ComparedFiles, KnownFile, PathState, PathStates, add_known, compared_paths, has_copies,
-    is_in_snapshot, is_one_file, known_files, may_be_copy,
+    is_in_snapshot, is_one_file, known_files, may_be_copy, may_be_passed_over,
 };
 use cck_cache_rules::{PathTest, Refusal};
 use cck_cache_text::{SearchList, add_left, looked_at_paths};
@@ -114,6 +114,9 @@ fn verdict_there<R: Files + AllocGlobal>(
 {
     let whole = normalize_path(rt.alloc(), path)?;
     if leads_to(rt, files, states, path, &whole)? {
+        if may_be_passed_over(rt, path, compared) {
+            return Ok(UnnamedVerdict::Doubtful);
+        }
         if is_one_file(rt, path, &whole) {
             return Ok(UnnamedVerdict::Spelling);
         }

@@ -347,6 +347,27 @@ fn may_be_read_once(contents: &[u8]) -> bool {
     contents.windows(4).any(|word| word == b"once".as_slice())
 }
 
+/// Whether gcc may pass over the file at a path, once it was read by another spelling of the path: its
+/// contents have the word `once`, or any file may be imported. `true` where it can't be read.
+pub fn may_be_passed_over<R: Files + AllocGlobal>(
+    rt: &R,
+    path: &[u8],
+    compared: &ComparedFiles,
+) -> bool
+    ensures { ¬ (IsUtf8 path.now) → IsTrue result }
+{
+    let Ok(path) = std::str::from_utf8(path) else {
+        return true;
+    };
+    if compared.paths.is_none() {
+        return true;
+    }
+    match fs::read(rt, path) {
+        Ok(contents) => may_be_read_once(&contents),
+        Err(_) => true,
+    }
+}
+
 /// Whether two of the files at these paths have the same contents, and gcc may pass over one of them once
 /// they have the same time: their contents have the word `once`, or any file may be imported. `true` where
 /// one of them can't be read.

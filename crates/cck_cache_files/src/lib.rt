@@ -38,7 +38,7 @@ mod times;
 pub use compiler::{compiler_digest, shared_compiler_digest};
 pub use copies::{
     ComparedFiles, KnownFile, add_known, compared_paths, has_copies, is_in_snapshot, known_files,
-    may_be_copy,
+    may_be_copy, may_be_passed_over,
 };
 pub use listing::{StoredFile, list_counts, list_files};
 pub use path_states::{PathState, PathStates};
