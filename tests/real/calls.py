@@ -221,11 +221,9 @@ class Room:
             is_stable = not any(difference(calls[0], other) for other in calls[1:])
             if not is_stable and (verdict != "hit" or not all(difference(other, got) for other in calls)):
                 differing = []
-        # With -pipe the compiler may end before or after it wrote a file. What is passed on changes nothing in the store.
-        for _ in range(5 if differing and verdict == "passed" else 0):
-            again, _ = self.run_cached(plain, cached, late)
-            if not all(difference(other, without(again, late)) for other in calls):
-                differing, is_stable = [], False
+        # With -pipe a compiler whose assembler fails ends before or after it wrote a file. Such a call is passed on.
+        if differing and verdict == "passed" and wanted.status and "-pipe" in plain[0]:
+            differing, is_stable = [], False
         return Judged(verdict, differing, is_stable, wanted, got)
 
 
