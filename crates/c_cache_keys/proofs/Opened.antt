@@ -1,10 +1,10 @@
 -- The first part of a call.
-use Rattle.std.proofs.Common.{◌≡◌, ℕ, zero, suc, ◌<◌, Bool, true, false, ◌&&◌, List, [], ◌∷◌, length, map, Option, Some, None, Result, Ok, Err, refl, sym, ap, ◌∙◌, arith}
-use Rattle.std.specs.Prelude.{IsOkAnd, is_none, slice_index_or, string_bytes}
+use Rattle.std.proofs.Common.{◌≡◌, ℕ, zero, suc, ◌<◌, Bool, true, false, ◌&&◌, List, [], ◌∷◌, length, map, Option, Some, None, Result, Ok, Err, refl, sym, ap, ◌∙◌, arith, subst}
+use Rattle.std.specs.Prelude.{IfSome, IsOkAnd, is_none, slice_index_or, string_bytes}
 use Rattle.std.specs.Global.{Vec}
-use Rattle.std.specs.Option.{option_map}
+use Rattle.std.specs.Option.{option_and_then, option_map}
 use Rattle.std.specs.Result.{result_ok}
-use Rattle.std.proofs.lemmas.Option.{none-some}
+use Rattle.std.proofs.lemmas.Option.{none-some, same_Some}
 use Rattle.cck_digest.specs.Digest.{digest_text}
 use Rattle.cck_digest.specs.declared.error.FileError.{FileError}
 use Rattle.cck_digest.specs.declared.error.FileError.TheVariants as file
@@ -24,18 +24,19 @@ use Rattle.cck_digest.specs.declared.key_error.KeyError.{KeyError}
 use Rattle.cck_digest.specs.declared.key_error.KeyError.TheVariants as key
 use Rattle.cck_path.specs.Bytes.{Bytes, lists_of}
 use Rattle.cck_path.specs.Path.{Path, components}
-use Rattle.cck_entry.specs.PreprocessorKey.{preprocessor_material}
+use Rattle.cck_entry.specs.PreprocessorKey.{preprocessor_key, preprocessor_material}
 use Rattle.cck_digest.specs.declared.entry_error.Error.{Error}
 use Rattle.c_cache_keys.specs.Call.{Call}
 use Rattle.cck_util.specs.Language.{is_preprocessed_first}
 use Rattle.c_cache_keys.specs.Keys.{extra_texts, input_file, input_recorded, is_direct, key_material, preprocessor_key_of, request_parts, uses_cache}
-use Rattle.c_cache_keys.specs.Opening.{IsInputError, IsKeyOfInput, IsOpening}
+use Rattle.c_cache_keys.specs.Opening.{IsInputDigest, IsInputError, IsKeyOfInput, IsOpening, IsPreprocessorKey, text_and_digest, text_of}
 use Rattle.c_cache_keys.specs.Errors.{key_error_of}
 use Rattle.c_cache_keys.specs.Seen.{why_of}
 use Rattle.c_cache_keys.specs.Step.{StopsOpening, extra_fault, no_extra, no_used_input, opening_lacks, used_input_fault}
 use Rattle.c_cache_keys.specs.Walk.{input_path}
 use Rattle.c_cache_keys.specs.World.{World, setting}
 use Rattle.c_cache_keys.specs.declared.hasher.opening.Opening.{Opening}
+use Rattle.c_cache_keys.specs.declared.hasher.opening.PreprocessorKey.{PreprocessorKey}
 
 pub some_none : {A : Type 0} {x : A} {o : Option A} → o ≡ Some x → o ≡ None → ⊥
 some_none is none = (none-some _ (sym none ∙ is))
@@ -92,13 +93,23 @@ module _ {V : Type 0} (w : World V) (c : Call V) (F : Type 0) where
       stop_extra e (slice_index_or (map components c.request.arguments.extra_hash_files) r.at [])
       (texts_none w.hash c.files F (map components c.request.arguments.extra_hash_files) r.at r.within) r.cause
 
-  -- the preprocessor key
-  pub key_of_input : (xs : List Bytes) (k : Option Bytes) (found : Result FileNode FileError) → found ≡ file_at c.files (components (input_path c))
-      → IsOkAnd found (λ n. k ≡ option_map (λ r. digest_text w.hash (preprocessor_material (request_parts w c.request (input_path c)) xs r)) (recorded (setting w c) n))
-      → IsKeyOfInput w c xs k
+  -- the recorded digest of the input
+  pub digest_of_input : (d : Option Bytes) (found : Result FileNode FileError) → found ≡ file_at c.files (components (input_path c))
+      → IsOkAnd found (λ n. d ≡ recorded (setting w c) n) → IsInputDigest w c d
   unfolding input_file
-  key_of_input xs k (Ok n) is h = (n, ap result_ok (sym is), h)
-  key_of_input xs k (Err e) is h = absurd h
+  digest_of_input d (Ok n) is h = (n, ap result_ok (sym is), h)
+  digest_of_input d (Err e) is h = absurd h
+
+  -- the preprocessor key, where the input has such a digest, and where it has none
+  abbrev with_digest : List Bytes → Bytes → Bytes × Bytes
+  with_digest xs r = (preprocessor_key w.hash (request_parts w c.request (input_path c)) xs r, r)
+
+  pub key_of_digest : (xs : List Bytes) (text r : Bytes) → IsInputDigest w c (Some r) → text ≡ preprocessor_key w.hash (request_parts w c.request (input_path c)) xs r
+      → IsKeyOfInput w c xs (Some (text, r))
+  key_of_digest xs text r (n, is, h) made = (n, is, ap (λ t. Some (t, r)) made ∙ ap (option_map (with_digest xs)) h)
+
+  pub no_key_of_input : (xs : List Bytes) → IsInputDigest w c None → IsKeyOfInput w c xs None
+  no_key_of_input xs (n, is, h) = (n, is, ap (option_map (with_digest xs)) h)
 
   pub input_failed : (e : Error) → IsIoError (file_at c.files (components (input_path c))) F e → IsInputError w c F (key_error_of e)
   input_failed e h = by_file_error (IsError (file_at c.files (components (input_path c))) F) (λ e. IsInputError w c F (key_error_of e)) e h tt (λ x at. at)
@@ -141,29 +152,59 @@ module _ {V : Type 0} (w : World V) (c : Call V) where
   unfolding preprocessor_key_of key_material
   key_unused off = rw off refl
 
-  key_used : (xs : List Bytes) (k : Option Bytes) → uses_cache w c.request ≡ true → extra_texts w c ≡ Some xs → IsKeyOfInput w c xs k → preprocessor_key_of w c ≡ k
+  abbrev Pair : Type 0
+  Pair = Bytes × Bytes
+
+  key_used : (xs : List Bytes) (k : Option Pair) → uses_cache w c.request ≡ true → extra_texts w c ≡ Some xs → IsKeyOfInput w c xs k → preprocessor_key_of w c ≡ option_map (λ (p : Pair). p.0) k
   unfolding preprocessor_key_of key_material input_recorded
   key_used xs k used extra (n, is, made) =
-      rw (used, extra, is) (by (recorded (setting w c) n)) ∙ sym made
+      rw (used, extra, is) (by (recorded (setting w c) n)) ∙ ap (option_map (λ (p : Pair). p.0)) (sym made)
     where
       by : (o : Option Bytes) → option_map (digest_text w.hash) (option_map (preprocessor_material (request_parts w c.request (input_path c)) xs) o)
-          ≡ option_map (λ r. digest_text w.hash (preprocessor_material (request_parts w c.request (input_path c)) xs r)) o
+          ≡ option_map (λ (p : Pair). p.0) (option_map (λ r. (preprocessor_key w.hash (request_parts w c.request (input_path c)) xs r, r)) o)
       by None = refl
       by (Some r) = refl
+
+  digest_used : (xs : List Bytes) (k : Option Pair) → IsKeyOfInput w c xs k → IfSome k (λ p. input_recorded w c ≡ Some (p.1))
+  unfolding input_recorded
+  digest_used xs None made = tt
+  digest_used xs (Some p) (n, is, made) = ap (option_and_then (recorded (setting w c))) is ∙ by (recorded (setting w c) n) made
+    where
+      by : (o : Option Bytes) → Some p ≡ option_map (λ r. (preprocessor_key w.hash (request_parts w c.request (input_path c)) xs r, r)) o → o ≡ Some (p.1)
+      by None e = absurd (none-some _ (sym e))
+      by (Some r) e = ap Some (sym (ap (λ (q : Pair). q.1) (same_Some p _ e)))
 
   -- the preprocessor cache isn't used
   pub open_without : (o : Opening) → uses_cache w c.request ≡ false → extra_texts w c ≡ Some (map string_bytes o.extra_hashes.items) → o.key ≡ None → IsOpening w c o
   open_without o off extra none = record {
     opened = record { extra = some_none extra; input = λ on. absurd (true_false _ on off) };
     extra = extra;
-    key = key_unused off ∙ ap (option_map string_bytes) (sym none);
+    key = key_unused off ∙ ap (option_map text_of) (sym none);
+    digest = subst (λ k. IfSome k (λ k. input_recorded w c ≡ Some (string_bytes k.input_digest))) (sym none) tt;
   }
+
+  text_used : (k : Option PreprocessorKey) → option_map (λ (p : Pair). p.0) (option_map text_and_digest k) ≡ option_map text_of k
+  text_used None = refl
+  text_used (Some k) = refl
+
+  digest_known : (k : Option PreprocessorKey) → IfSome (option_map text_and_digest k) (λ p. input_recorded w c ≡ Some (p.1)) → IfSome k (λ k. input_recorded w c ≡ Some (string_bytes k.input_digest))
+  digest_known None h = tt
+  digest_known (Some k) h = h
 
   -- it is used
   pub open_with : (o : Opening) → uses_cache w c.request ≡ true → extra_texts w c ≡ Some (map string_bytes o.extra_hashes.items)
-      → IsKeyOfInput w c (map string_bytes o.extra_hashes.items) (option_map string_bytes o.key) → IsOpening w c o
+      → IsKeyOfInput w c (map string_bytes o.extra_hashes.items) (option_map text_and_digest o.key) → IsOpening w c o
   open_with o used extra made = record {
     opened = record { extra = some_none extra; input = λ on. some_none (made.1) };
     extra = extra;
-    key = key_used (map string_bytes o.extra_hashes.items) (option_map string_bytes o.key) used extra made;
+    key = key_used (map string_bytes o.extra_hashes.items) (option_map text_and_digest o.key) used extra made ∙ text_used o.key;
+    digest = digest_known o.key (digest_used (map string_bytes o.extra_hashes.items) (option_map text_and_digest o.key) made);
   }
+
+  key_by : (k : Option PreprocessorKey) → preprocessor_key_of w c ≡ option_map text_of k → IfSome k (λ k. input_recorded w c ≡ Some (string_bytes k.input_digest)) → IsPreprocessorKey w c k
+  key_by None is digest = is
+  key_by (Some k) is digest = (is, digest)
+
+  -- the preprocessor key of a call
+  pub opened_key : (o : Opening) → IsOpening w c o → IsPreprocessorKey w c o.key
+  opened_key o opens = key_by o.key opens.key opens.digest

@@ -9,7 +9,7 @@ use Rattle.cck_store.specs.Store.{Store}
 use Rattle.c_cache_keys.proofs.Widen.{wide_gives, wide_makes}
 use Rattle.c_cache_keys.specs.Asking.{IsFound, IsFoundBy, asked_of}
 use Rattle.c_cache_keys.specs.Call.{CallResult, Call, Keyed, ReturnsError, Memory}
-use Rattle.c_cache_keys.specs.Opening.{IsOpening}
+use Rattle.c_cache_keys.specs.Opening.{IsOpening, text_of}
 use Rattle.c_cache_keys.specs.Seen.{why_of}
 use Rattle.c_cache_keys.specs.Step.{Makes, Step, StopsOpening, asked, made, matching, opening_lacks, stopped}
 use Rattle.c_cache_keys.specs.World.{World}
@@ -29,16 +29,16 @@ module _ {V S : Type 0} (w : World V) (st : Store S) (c : Call V) (F : Type 0) w
 
 module _ {V S : Type 0} (w : World V) (st : Store S) (c : Call V) (o : Opening) (opens : IsOpening w c o) where
   -- what is found under the preprocessor key of the first part is found under the call's key
-  found_under : (F : Type 0) (s t : S) (a : Option CallResult) → IsFoundBy st (option_map string_bytes o.key) c.control (matching w c) F s a t → IsFound w st c F s a t
+  found_under : (F : Type 0) (s t : S) (a : Option CallResult) → IsFoundBy st (option_map text_of o.key) c.control (matching w c) F s a t → IsFound w st c F s a t
   found_under F s t a h = subst (λ key. IsFoundBy st key c.control (matching w c) F s a t) (sym opens.key) h
 
-  found_as : (F : Type 0) (s t : S) (r found : Option (String Global)) → r ≡ found → IsFoundBy st (option_map string_bytes o.key) c.control (matching w c) F s (asked_of (Ok r)) t
+  found_as : (F : Type 0) (s t : S) (r found : Option (String Global)) → r ≡ found → IsFoundBy st (option_map text_of o.key) c.control (matching w c) F s (asked_of (Ok r)) t
       → IsFound w st c F s (asked_of (Ok found)) t
   found_as F s t r found is h = subst (λ r. IsFound w st c F s (asked_of (Ok r)) t) is (found_under F s t (asked_of (Ok r)) h)
 
   module _ (first second last : ℕ) (up : first ≤ second) (s t : S) where
     -- a stored key is returned
-    pub step_hit : (r : Option (String Global)) (key : String Global) → r ≡ Some key → IsFoundBy st (option_map string_bytes o.key) c.control (matching w c) (Rose second last) s (asked_of (Ok r)) t
+    pub step_hit : (r : Option (String Global)) (key : String Global) → r ≡ Some key → IsFoundBy st (option_map text_of o.key) c.control (matching w c) (Rose second last) s (asked_of (Ok r)) t
         → Step w st c (Rose first last) s (Keyed (string_bytes key) false) t
     step_hit r key is h = by (found_as (Rose second last) s t r (Some key) is h)
       where
@@ -49,7 +49,7 @@ module _ {V S : Type 0} (w : World V) (st : Store S) (c : Call V) (o : Opening) 
             (wide_gives (matching w c) (Rose second last) (Rose first last) (rose_earlier first second last up) asks.from_store (Some (Keyed (string_bytes key) false)) asks.gives) (refl, refl)
 
     -- asking the store fails
-    pub step_failed : (e : KeyError) → IsFoundBy st (option_map string_bytes o.key) c.control (matching w c) (Rose second last) s (asked_of (Err e)) t
+    pub step_failed : (e : KeyError) → IsFoundBy st (option_map text_of o.key) c.control (matching w c) (Rose second last) s (asked_of (Err e)) t
         → Step w st c (Rose first last) s (ReturnsError (why_of e)) t
     step_failed e h = by (found_under (Rose second last) s t (Some (ReturnsError (why_of e))) h)
       where
@@ -61,7 +61,7 @@ module _ {V S : Type 0} (w : World V) (st : Store S) (c : Call V) (o : Opening) 
 
     -- the key is computed
     pub step_made : (third : ℕ) → second ≤ third → third ≤ last → (mid : S) (found : Option (String Global)) → found ≡ None
-        → IsFoundBy st (option_map string_bytes o.key) c.control (matching w c) (Rose second third) s (asked_of (Ok found)) mid → (r : CallResult) → Makes w st c (Rose third last) mid r t
+        → IsFoundBy st (option_map text_of o.key) c.control (matching w c) (Rose second third) s (asked_of (Ok found)) mid → (r : CallResult) → Makes w st c (Rose third last) mid r t
         → Step w st c (Rose first last) s r t
     step_made third more rest mid found is h r makes =
         by (found_as (Rose second third) s mid found None is h) (wide_makes w c (Rose third last) (Rose first last) (rose_earlier first third last (omega (up, more, arith))) st mid r t makes)

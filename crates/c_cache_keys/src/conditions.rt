@@ -6,19 +6,19 @@ use jiff::tz::TimeZone;
 
 /// All that a call for a key takes beside the compilation, its files and its store.
 #[derive(Drop)]
-pub(crate) struct Conditions<'a> {
+pub struct Conditions<'a> {
     /// The working directory.
-    pub(crate) cwd: &'a [u8],
+    pub cwd: &'a [u8],
     /// The variables of the environment, as pairs of a name and a value.
-    pub(crate) vars: &'a [(Vec<u8>, Vec<u8>)],
+    pub vars: &'a [(Vec<u8>, Vec<u8>)],
     /// The call time.
-    pub(crate) moment: Timestamp,
+    pub moment: Timestamp,
     /// The zone of local dates and seconds.
-    pub(crate) zone: &'a TimeZone<'a>,
+    pub zone: &'a TimeZone<'a>,
     /// The options by which files are judged.
-    pub(crate) config: PreprocessorCacheModeConfig,
+    pub config: PreprocessorCacheModeConfig,
     /// The directories that are cut out of what is hashed for a key.
-    pub(crate) basedirs: &'a [Vec<u8>],
+    pub basedirs: &'a [Vec<u8>],
     /// Whether a stored key may be returned.
-    pub(crate) control: CacheControl,
+    pub control: CacheControl,
 }

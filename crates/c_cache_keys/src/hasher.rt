@@ -5,11 +5,12 @@ ghost use Rattle.cck_compiler.specs.Arguments.{output_name};
 ghost use Rattle.cck_path.specs.Bytes.{lists_of, variables_of};
 ghost use Rattle.cck_files.specs.Calls.{Keeps, Rose};
 ghost use Rattle.jiff.specs.Words.{plain_zone};
-ghost use Rattle.c_cache_keys.specs.Conditions.{call_under, given_by, world_under};
+ghost use Rattle.c_cache_keys.specs.Conditions.{call_under, given_by, given_of, world_under};
 ghost use Rattle.c_cache_keys.specs.Hasher.{toolchain_key};
+ghost use Rattle.c_cache_keys.specs.Opening.{IsPreprocessorKey};
 ghost use Rattle.c_cache_keys.specs.Reasons.{IsReason};
-ghost use Rattle.c_cache_keys.specs.Seen.{result_of};
-ghost use Rattle.c_cache_keys.specs.Step.{Step};
+ghost use Rattle.c_cache_keys.specs.Seen.{result_of, why_of};
+ghost use Rattle.c_cache_keys.specs.Step.{Step, StopsOpening};
 
 mod asking;
 mod making;
@@ -20,6 +21,7 @@ use crate::call::{CacheControl, HashResult};
 use crate::conditions::Conditions;
 use asking::find;
 use bstr::ByteSlice;
+pub use opening::PreprocessorKey;
 use cck_compiler::{CCompilerImpl, ColorMode, KeyError, ParsedArguments};
 use cck_digest::HashState;
 use cck_files::Files;
@@ -124,6 +126,38 @@ impl<I: CCompilerImpl> CCompilerHasher<I> {
             weak_toolchain_key,
             is_locally_preprocessed: true,
         })
+    }
+
+    /// Returns the preprocessor key of a call under these conditions, or `None`. No store is asked.
+    ///
+    /// There is none if the language of the input needs no preprocessor, the options, the arguments or
+    /// the variable `SCCACHE_DIRECT` don't allow the preprocessor cache, or the input has no recorded
+    /// digest. The control of the conditions decides nothing here.
+    ///
+    /// Errors:
+    ///
+    /// - [`KeyError::Extra`]: an extra file has no digest.
+    /// - [`KeyError::Input`]: the input is no regular file, and the preprocessor cache is used.
+    /// - [`KeyError::Memory`]: memory is lacking.
+    ///
+    /// A fault of the files can also cause `Extra` and `Input`.
+    pub fn preprocessor_key<H: HashState, F: Files>(
+        &self,
+        alloc: Global,
+        files: &mut F,
+        conditions: &Conditions<'_>,
+    ) -> Result<Option<PreprocessorKey>, KeyError>
+        ensures keeps { Keeps F.file_map F.faults F.is_quiet files.old files.new }
+        ensures key { let given = given_of conditions.now in
+            IfOk result (IsPreprocessorKey (world_under H.hash I.compiler given) (call_under I.value (F.file_map files.old) self.now given)) }
+        ensures errors { let given = given_of conditions.now in
+            IfErr result (λ e. StopsOpening (world_under H.hash I.compiler given) (call_under I.value (F.file_map files.old) self.now given)
+            (Rose (F.faults files.old) (F.faults files.new)) (why_of e)) }
+    {
+        match self.open::<H, F>(alloc, files, conditions) {
+            Ok(opening) => Ok(opening.key),
+            Err(error) => Err(error),
+        }
     }
 
     /// The language of the input. It allocates no memory.

@@ -96,4 +96,5 @@ pub use cck_util;
 pub use cck_walk::{
     LineAction, Records, Walk, process_preprocessed_file, process_preprocessor_line,
 };
-pub use hasher::CCompilerHasher;
+pub use conditions::Conditions;
+pub use hasher::{CCompilerHasher, PreprocessorKey};

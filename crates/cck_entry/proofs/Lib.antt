@@ -10,5 +10,6 @@ pub mod LentLemmas
 pub mod LookupLemmas
 pub mod MaterialLemmas
 pub mod ResultLoop
+pub mod StatusLemmas
 pub mod TextLemmas
 pub mod Utf8Lemmas

@@ -7,4 +7,5 @@ pub mod PreprocessorKey
 pub mod PreprocessorKeyRequest
 pub mod Reading
 pub mod Results
+pub mod Statuses
 pub mod Writing

@@ -15,7 +15,8 @@
 //!   reads it back. For other bytes it returns an error, by their cause.
 //! - [`EntryView`] is an entry borrowed from its bytes; [`EntryView::read`] accepts the same bytes.
 //!   [`EntryView::lookup_result_digest`] finds the same result, and nothing but the places of the
-//!   results is kept in memory. [`EntryView::results`] are its results, each a [`ResultRef`], and
+//!   results is kept in memory. [`EntryView::lookup_with_statuses`] does not read a file whose status
+//!   is known and [shows](status_accepts) that it is the one that was included. [`EntryView::results`] are its results, each a [`ResultRef`], and
 //!   [`ResultRef::includes`] yields the [`Includes`] of one.
 //! - [`laws`] has what is proved of the definitions alone.
 //!
@@ -64,7 +65,8 @@
 //! The headers that the input includes are not known at this point. They are in the entry that the
 //! store holds under the key.
 //!
-//! - [`preprocessor_cache_entry_hash_key`] returns the key.
+//! - [`preprocessor_cache_entry_hash_key`] returns the key, and [`PreprocessorKeyRequest::compute`] that
+//!   of an input whose recorded digest is known.
 //! - [`FORMAT_VERSION`] is the format of entries, which is part of the key material.
 #![tactic(auto)]
 
@@ -78,6 +80,7 @@ mod preprocessor_key;
 mod reading;
 mod result_ref;
 mod results;
+mod statuses;
 mod view;
 mod writing;
 
@@ -87,10 +90,13 @@ pub use cck_include::{
     IncludeEntry, IncludeRef, JudgeContext, KnownFiles, PreprocessorCacheModeConfig, gather,
     include_matches, includes_match, local_time_part, recorded_digest,
 };
-pub use cck_path::{FileKind, Metadata, Timestamp};
+pub use cck_path::{FileKind, Metadata, PathMap, Timestamp};
 pub use cck_util::{Language, UnknownLanguage};
 pub use entry::PreprocessorCacheEntry;
 pub use includes::Includes;
-pub use preprocessor_key::{FORMAT_VERSION, preprocessor_cache_entry_hash_key};
+pub use preprocessor_key::{
+    FORMAT_VERSION, PreprocessorKeyRequest, hashed_directory, preprocessor_cache_entry_hash_key,
+};
 pub use result_ref::ResultRef;
+pub use statuses::status_accepts;
 pub use view::EntryView;

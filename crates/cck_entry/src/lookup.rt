@@ -1,7 +1,7 @@
 //! The look-up of the result of an entry whose files are unchanged.
 ghost use Rattle.std.specs.Prelude.{◌≡◌, IfOk, IsOkUnless, map};
 ghost use Rattle.std.specs.FinMap.{entries};
-ghost use Rattle.std.specs.List.{AllByRecursion, list_all};
+ghost use Rattle.std.specs.List.{list_all};
 ghost use Rattle.std.specs.Option.{option_map};
 ghost use Rattle.cck_files.specs.Calls.{Keeps, Rose};
 ghost use Rattle.cck_include.specs.JudgeContext.{setting_of};
@@ -10,19 +10,18 @@ ghost use Rattle.cck_include.specs.Matching.{MayMiss, matches};
 ghost use Rattle.cck_include.specs.Setting.{setting_in};
 ghost use Rattle.jiff.specs.Words.{plain_zone};
 ghost use Rattle.cck_entry.specs.Find.{IsLookup};
-ghost use Rattle.cck_entry.specs.Lent.{IsWhole, includes_begun, result_lent};
+ghost use Rattle.cck_entry.specs.Lent.{result_lent};
 ghost use Rattle.cck_entry.specs.Results.{result_in};
+ghost use Rattle.cck_entry.specs.Statuses.{matches_with};
 
-use crate::reading::read_include;
 use crate::result_ref::ResultRef;
 use crate::results::Results;
+use crate::statuses::include_matches_with;
 use crate::{EntryView, PreprocessorCacheEntry};
 use cck_digest::{Error, HashState};
 use cck_files::Files;
-use cck_include::{
-    JudgeContext, KnownFiles, PreprocessorCacheModeConfig, include_matches, includes_match,
-};
-use cck_path::Timestamp;
+use cck_include::{JudgeContext, KnownFiles, PreprocessorCacheModeConfig, includes_match};
+use cck_path::{Metadata, PathMap, Timestamp};
 use jiff::tz::TimeZone;
 use std::alloc::{AllocError, Global};
 
@@ -95,10 +94,33 @@ impl<'a> EntryView<'a> {
             vars,
             config,
         };
-        match find_lent::<H, F>(alloc, self.results(), files, &context) {
+        let statuses = PathMap::new(alloc);
+        match self.lookup_with_statuses::<H, F>(alloc, &statuses, files, &context) {
             Ok(found) => Ok(found),
             Err(_) => Err(Error::Memory),
         }
+    }
+
+    /// Returns the key of the result whose included files are all unchanged or are accepted by their
+    /// statuses, if there is one: of several the greatest by its bytes. The files are not asked for one
+    /// whose status is known and [accepted](crate::status_accepts).
+    ///
+    /// If the count of faults rose, the result may be `None`, or another such key.
+    ///
+    /// The only error is lack of memory.
+    pub fn lookup_with_statuses<H: HashState, F: Files>(
+        &self,
+        alloc: Global,
+        statuses: &PathMap<Metadata>,
+        files: &mut F,
+        context: &JudgeContext<'_>,
+    ) -> Result<Option<&'a str>, AllocError>
+        ensures keeps { Keeps F.file_map F.faults F.is_quiet files.old files.new }
+        ensures outcome { IfOk result (λ key. IsLookup
+            (matches_with statuses.now (setting_of H.hash context.now) (F.file_map files.old))
+            (entries self.now) (Rose (F.faults files.old) (F.faults files.new)) (option_map (λ k. k.now) key)) }
+    {
+        find_lent::<H, F>(alloc, statuses, self.results(), files, context)
     }
 }
 
@@ -127,37 +149,30 @@ fn find_result<'a, H: HashState, F: Files>(
 // The same in the results of a view.
 fn find_lent<'a, H: HashState, F: Files>(
     alloc: Global,
+    statuses: &PathMap<Metadata>,
     results: &[ResultRef<'a>],
     files: &mut F,
     context: &JudgeContext<'_>,
 ) -> Result<Option<&'a str>, AllocError>
     ensures keeps { Keeps F.file_map F.faults F.is_quiet files.old files.new }
     ensures outcome { IfOk result (λ key. IsLookup
-        (matches (setting_of H.hash context.now) (F.file_map files.old))
+        (matches_with statuses.now (setting_of H.hash context.now) (F.file_map files.old))
         (map result_lent results.now) (Rose (F.faults files.old) (F.faults files.new)) (option_map (λ k. k.now) key)) }
 {
     let mut known = KnownFiles::new(alloc);
     for lent in results.iter().rev() {
-        let matches = lent_matches::<H, F>(alloc, files, &mut known, lent, context)?;
+        let matches = lent_matches::<H, F>(alloc, statuses, files, &mut known, lent, context)?;
         if matches {
-            return Ok(Some(lent.key));
+            return Ok(Some(lent.key()));
         }
     }
     Ok(None)
 }
 
-// The error of an include that is read again. It is never called: the includes of a view are whole, so each can be
-// read again, and no error of `read_include` meets the precondition.
-fn out_of_memory(error: Error) -> AllocError
-    requires { error ≡ Error.Memory }
-{
-    let _ = error;
-    AllocError
-}
-
-// Returns whether the includes of a view's result are all unchanged.
+// Returns whether the includes of a view's result are all unchanged or accepted.
 fn lent_matches<H: HashState, F: Files>(
     alloc: Global,
+    statuses: &PathMap<Metadata>,
     files: &mut F,
     known: &mut KnownFiles,
     lent: &ResultRef<'_>,
@@ -169,19 +184,13 @@ fn lent_matches<H: HashState, F: Files>(
     ensures outcome { let s = setting_of H.hash context.now in
         AreKnown s (F.file_map files.old) known.old
         → IfOk result (λ is_match. MayMiss (Rose (F.faults files.old) (F.faults files.new)) is_match
-        (list_all (matches s (F.file_map files.old)) (includes_begun lent.now.count lent.now.includes.now))) }
+        (list_all (matches_with statuses.now s (F.file_map files.old)) (result_lent lent.now).1)) }
 {
-    let mut rest = lent.includes;
-    for _ in 0..lent.count {
-        let (include, after) = match read_include(rest) {
-            Ok(read) => read,
-            Err(error) => return Err(out_of_memory(error)),
-        };
-        let matches = include_matches::<H, F>(alloc, files, known, &include, context)?;
+    for include in lent.includes() {
+        let matches = include_matches_with::<H, F>(alloc, statuses, files, known, &include, context)?;
         if !matches {
             return Ok(false);
         }
-        rest = after;
     }
     Ok(true)
 }

@@ -27,20 +27,31 @@ use std::marker::Model;
 /// Upstream's `FORMAT_VERSION`.
 pub const FORMAT_VERSION: u8 = 2;
 
-// The parts of a request that are hashed for its key, besides those that depend on files.
+/// The parts of a request that are hashed for its key, besides those that depend on files.
 #[derive(Drop)]
-struct PreprocessorKeyRequest<'a> {
-    compiler_digest: &'a str,
-    plusplus: bool,
-    language: Language,
-    multiarch: bool,
-    preprocessor_args: &'a [Vec<u8>],
-    arch_args: &'a [Vec<u8>],
-    common_args: &'a [Vec<u8>],
-    assembler_digest: Option<&'a str>,
-    env_vars: &'a [(Vec<u8>, Vec<u8>)],
-    input_file: &'a [u8],
-    directory: Option<&'a [u8]>,
+pub struct PreprocessorKeyRequest<'a> {
+    /// The hex digest of the compiler.
+    pub compiler_digest: &'a str,
+    /// Whether the compiler is one of C++.
+    pub plusplus: bool,
+    /// The language of the input.
+    pub language: Language,
+    /// Whether the input is compiled for several architectures.
+    pub multiarch: bool,
+    /// The arguments of the preprocessor.
+    pub preprocessor_args: &'a [Vec<u8>],
+    /// The arguments that name architectures.
+    pub arch_args: &'a [Vec<u8>],
+    /// The other arguments.
+    pub common_args: &'a [Vec<u8>],
+    /// The hex digest of the assembler, if it is part of the key.
+    pub assembler_digest: Option<&'a str>,
+    /// The variables of the environment, as pairs of a name and a value.
+    pub env_vars: &'a [(Vec<u8>, Vec<u8>)],
+    /// The path of the input.
+    pub input_file: &'a [u8],
+    /// The working directory, if it is part of the key.
+    pub directory: Option<&'a [u8]>,
 }
 
 impl<'a> Model for PreprocessorKeyRequest<'a> {
@@ -53,8 +64,8 @@ impl<'a> Model for PreprocessorKeyRequest<'a> {
     ghost view = { parts_of };
 }
 
-// Returns the working directory, if the options make it part of the key.
-fn hashed_directory(config: PreprocessorCacheModeConfig, cwd: &[u8]) -> Option<&[u8]>
+/// Returns the working directory, if the options make it part of the key.
+pub fn hashed_directory(config: PreprocessorCacheModeConfig, cwd: &[u8]) -> Option<&[u8]>
     ensures { option_map (λ directory. directory.now) result ≡ hashed_directory config cwd.now }
 {
     if config.hash_working_directory {
@@ -79,29 +90,34 @@ fn compiler_material<H: HashState>(request: &PreprocessorKeyRequest<'_>) -> Dige
     digest
 }
 
-// Returns the hex digest of the key material.
-#[tactic(auto, unfolding(crate::specs::PreprocessorKey::preprocessor_material))]
-fn key_text<H: HashState>(
-    alloc: Global,
-    request: &PreprocessorKeyRequest<'_>,
-    extra_hashes: &[String],
-    recorded: &str,
-) -> Result<String, UtilError>
-    ensures key { IfOk result (λ key. string_bytes key
-        ≡ preprocessor_key H.hash request.now (map string_bytes extra_hashes.now) recorded.now) }
-    ensures errors { IsOkUnless result UtilError.Memory }
-{
-    let mut digest = compiler_material::<H>(request);
-    hash_text_list(&mut digest, request.preprocessor_args);
-    hash_text_list(&mut digest, request.arch_args);
-    hash_text_list(&mut digest, request.common_args);
-    hash_text_list(&mut digest, extra_hashes);
-    hash_option(&mut digest, request.assembler_digest);
-    hash_request_variables(&mut digest, request.env_vars);
-    hash_len_prefixed(&mut digest, request.input_file);
-    hash_option(&mut digest, request.directory);
-    hash_len_prefixed(&mut digest, recorded.as_bytes());
-    digest.finish(alloc)
+impl PreprocessorKeyRequest<'_> {
+    /// Returns the preprocessor key, with the hex digests of the extra files and the recorded digest of
+    /// the input: the hex digest of the key material, as [`preprocessor_cache_entry_hash_key`] has it.
+    ///
+    /// The only error is [`UtilError::Memory`].
+    #[tactic(auto, unfolding(crate::specs::PreprocessorKey::preprocessor_material))]
+    pub fn compute<H: HashState>(
+        &self,
+        alloc: Global,
+        extra_hashes: &[String],
+        recorded: &str,
+    ) -> Result<String, UtilError>
+        ensures key { IfOk result (λ key. string_bytes key
+            ≡ preprocessor_key H.hash self.now (map string_bytes extra_hashes.now) recorded.now) }
+        ensures errors { IsOkUnless result UtilError.Memory }
+    {
+        let mut digest = compiler_material::<H>(self);
+        hash_text_list(&mut digest, self.preprocessor_args);
+        hash_text_list(&mut digest, self.arch_args);
+        hash_text_list(&mut digest, self.common_args);
+        hash_text_list(&mut digest, extra_hashes);
+        hash_option(&mut digest, self.assembler_digest);
+        hash_request_variables(&mut digest, self.env_vars);
+        hash_len_prefixed(&mut digest, self.input_file);
+        hash_option(&mut digest, self.directory);
+        hash_len_prefixed(&mut digest, recorded.as_bytes());
+        digest.finish(alloc)
+    }
 }
 
 /// Returns the preprocessor key of a request: the hex digest of its key material.
@@ -187,7 +203,7 @@ pub fn preprocessor_cache_entry_hash_key<H: HashState, F: Files>(
         input_file,
         directory: hashed_directory(config, cwd),
     };
-    match key_text::<H>(alloc, &request, extra_hashes, &recorded) {
+    match request.compute::<H>(alloc, extra_hashes, &recorded) {
         Ok(key) => Ok(Some(key)),
         Err(_) => Err(Error::Memory),
     }

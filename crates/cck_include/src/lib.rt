@@ -64,6 +64,6 @@ pub use gathering::gather;
 pub use include::{IncludeEntry, IncludeRef};
 pub use judge_context::JudgeContext;
 pub use known::KnownFiles;
-pub use matching::{include_matches, includes_match};
+pub use matching::{include_matches, includes_match, times_agree};
 pub use part::local_time_part;
 pub use recorded::recorded_digest;

@@ -38,8 +38,9 @@ fn is_moment(time: Option<Timestamp>, expected: Timestamp) -> bool
     }
 }
 
-// Whether the recorded times are those of the file.
-fn times_agree(include: &IncludeRef<'_>, metadata: &Metadata, uses_changed: bool) -> bool
+/// Whether the recorded times are those of the file: both, where both were recorded and the time of the
+/// change counts; or that of the modification, where it alone was recorded.
+pub fn times_agree(include: &IncludeRef<'_>, metadata: &Metadata, uses_changed: bool) -> bool
     ensures { result ≡ times_agree uses_changed include.now.mtime include.now.ctime
         metadata.now.modified metadata.now.changed }
 {

@@ -1,17 +1,47 @@
 -- Two calls that name the same paths: what the walk over a text says of both.
-use Rattle.std.proofs.Common.{◌≡◌, inl, inr, Bool, List, [], ◌∷◌, Ok, sym, ap, ◌∙◌, subst}
+use Rattle.std.proofs.Common.{◌≡◌, inl, inr, Bool, true, List, [], ◌∷◌, Ok, sym, ap, ◌∙◌, subst}
+use Rattle.std.specs.Prelude.{Contains}
 use Rattle.cck_files.specs.FileMap.{FileNode, file_at}
 use Rattle.cck_include.specs.Include.{Include}
 use Rattle.cck_include.specs.Recorded.{recorded}
+use Rattle.cck_markers.proofs.OneList.{one_list}
 use Rattle.cck_markers.specs.Marks.{Malformed, Mark, Name, Refusal}
 use Rattle.cck_path.specs.Bytes.{Bytes}
 use Rattle.cck_path.specs.Path.{Path, components}
+use Rattle.c_cache_keys.proofs.Elements.{none_in, one_of}
 use Rattle.c_cache_keys.specs.Call.{Call}
-use Rattle.c_cache_keys.specs.Walk.{AreRecorded, IsGood, IsLooked, IsNamed, Accepted, IsRecorded, MarksDecide, NotAccepted, Verdict, Walk, input_path, meant_path}
+use Rattle.c_cache_keys.specs.Walk.{AreRecorded, IsGood, IsLooked, IsNamed, Accepted, Errs, IsRecorded, MarksDecide, NotAccepted, Verdict, Walk, input_path, meant_path}
 use Rattle.c_cache_keys.specs.World.{World, setting}
 
 not_accepted : Accepted ≡ NotAccepted → ⊥
 not_accepted e = cc
+
+not_erring : Errs ≡ Accepted → ⊥
+not_erring e = cc
+
+first_name : {a b : Bytes} {s t : Bool} → Name a s ≡ Name b t → a ≡ b
+first_name e = cc
+
+second_name : {a b : Bytes} {s t : Bool} → Name a s ≡ Name b t → s ≡ t
+second_name e = cc
+
+module _ {V : Type 0} (w : World V) (c : Call V) where
+  -- a name among marks that accept is good
+  named_good : (marks : List Mark) (name : Bytes) (system : Bool) → MarksDecide w c marks Accepted → Contains marks (Name name system) → IsLooked w c name system → IsGood w c (meant_path c name)
+  named_good [] name system m at looked = absurd (none_in _ at)
+  named_good (Refusal ∷ marks) name system m at looked = absurd (not_accepted m)
+  named_good (Malformed ∷ marks) name system m at looked = absurd (not_erring (sym m))
+  named_good (Name first other ∷ marks) name system (inr m) at looked = absurd (not_accepted m.2)
+  named_good (Name first other ∷ marks) name system (inl m) at looked =
+      elim (one_of (Name first other) (Name name system) marks at) [
+        | inl is ↦ subst (λ v. IsGood w c (meant_path c v)) (first_name is) (m.0 (subst (λ v. IsLooked w c v other) (sym (first_name is)) (subst (IsLooked w c name) (sym (second_name is)) looked)))
+        | inr more ↦ named_good marks name system m.1 more looked
+      ]
+
+  -- a path that an accepted text names is good
+  pub is_good : (text : Bytes) → Walk w c text Accepted → (p : Path) → IsNamed w c text p → IsGood w c p
+  is_good text (marks, are, m) p is =
+      subst (IsGood w c) (sym is.is) (named_good marks is.name is.system m (subst (λ l. Contains l (Name is.name is.system)) (one_list true text is.marks marks is.are are) is.present) is.looked)
 
 -- two calls that resolve names alike, under options that look at the same names
 pub record SameNames {V U : Type 0} (w : World V) (c : Call V) (x : World U) (d : Call U) : Type 0 where

@@ -1,5 +1,5 @@
 -- What holds over a snapshot of files holds over all of them.
-use Rattle.std.proofs.Common.{◌≡◌, ◌≢◌, inl, inr, ◌∷◌, [], List, Bool, false, true, cond, None, Option, Some, Ok, Err, Result, refl, sym, ap, ◌∙◌, subst}
+use Rattle.std.proofs.Common.{◌≡◌, ◌≢◌, ◌||◌, inl, inr, ◌∷◌, [], List, Bool, false, true, cond, None, Option, Some, Ok, Err, Result, refl, sym, ap, ◌∙◌, subst}
 use Rattle.std.specs.FinMap.{empty, entries, get, insert}
 use Rattle.std.specs.List.{list_all}
 use Rattle.std.specs.Option.{option_and_then, option_map}
@@ -10,22 +10,21 @@ use Rattle.cck_digest.specs.Digest.{digest_text}
 use Rattle.cck_digest.specs.declared.error.FileError.{FileError}
 use Rattle.cck_entry.proofs.LawLemmas.{one_text_one_entry}
 use Rattle.cck_entry.specs.Entry.{Entry, EntryText}
-use Rattle.cck_entry.specs.Find.{IsLookup, found_in}
+use Rattle.cck_entry.specs.Find.{found_in}
 use Rattle.cck_entry.specs.Results.{KeyResult}
+use Rattle.cck_entry.specs.Statuses.{Statuses, known_accepts, matches_with}
 use Rattle.cck_files.specs.FileMap.{FileMap, FileNode, file_at, file_in, folder_at, folder_in}
 use Rattle.cck_include.specs.Include.{Include}
 use Rattle.cck_include.specs.Matching.{file_matches, matches}
 use Rattle.cck_include.specs.Recorded.{recorded}
 use Rattle.cck_include.specs.Setting.{Setting}
-use Rattle.cck_markers.proofs.OneList.{one_list}
-use Rattle.cck_markers.specs.Marks.{Malformed, Mark, Name, Refusal}
 use Rattle.cck_path.specs.Bytes.{Bytes}
 use Rattle.cck_path.specs.Path.{Path, components}
 use Rattle.cck_store.specs.MapStore.{IsGot, State, map_store, empty_state}
 use Rattle.cck_entry.specs.PreprocessorKey.{preprocessor_material}
 use Rattle.cck_store.specs.Store.{Returned}
 use Rattle.cck_util.specs.Key.{material}
-use Rattle.c_cache_keys.proofs.Elements.{all_pass, each_passes, none_in, one_of}
+use Rattle.c_cache_keys.proofs.Elements.{all_pass, each_passes}
 use Rattle.c_cache_keys.proofs.HitPlain.{only_result}
 use Rattle.c_cache_keys.proofs.Includes.{entries-alone, same_ok}
 use Rattle.c_cache_keys.proofs.Judgements.{folder_or_file}
@@ -34,15 +33,16 @@ use Rattle.c_cache_keys.proofs.Stored.{not_both, not_failed}
 use Rattle.c_cache_keys.specs.Call.{Call, CallResult, Fault, Keyed}
 use Rattle.cck_util.specs.Language.{is_preprocessed_first}
 use Rattle.c_cache_keys.specs.Keys.{extra_texts, input_file, input_recorded, key_material, plain_key, plain_parts, preprocessor_key_of, printed, request_parts, text_of, uses_cache}
-use Rattle.c_cache_keys.specs.Step.{Ends, Gives, Opened, OwnPair, Step, asked, damaged, faulted, gives, lacked, made, matched, matching, no_bytes, no_key, none_recorded, nothing, puts, refused, stopped, stops, store_failed, store_lacked, unmatched}
-use Rattle.c_cache_keys.specs.Walk.{Accepted, Errs, IsGood, IsLooked, IsNamed, MarksDecide, NotAccepted, Walk, input_path, meant_path}
+use Rattle.c_cache_keys.specs.Step.{Ends, Gives, Opened, OwnPair, Step, asked, damaged, faulted, gives, lacked, made, matched, no_bytes, no_key, none_recorded, nothing, puts, refused, stopped, stops, store_failed, store_lacked, unmatched}
+use Rattle.c_cache_keys.specs.Walk.{Accepted, IsGood, IsNamed, Walk, input_path}
 use Rattle.c_cache_keys.specs.World.{World, setting}
 use Rattle.c_cache_keys.specs.declared.call.CacheControl.TheVariants.{ForceRecache}
 use Rattle.cck_snapshot.proofs.Hits.{made_fresh}
-use Rattle.cck_snapshot.proofs.Names.{SameNames, all_recorded, walk_accepts}
+use Rattle.cck_snapshot.proofs.Names.{SameNames, all_recorded, is_good, walk_accepts}
 use Rattle.cck_snapshot.proofs.Pairs.{find_one, not_one_pair}
-use Rattle.cck_snapshot.specs.Laws.{HasOneResult, HitOverAll, IsPart, IsSnapshot, RecordingOverAll, over}
-use Rattle.cck_snapshot.specs.Snapshot.{one_pair}
+use Rattle.cck_snapshot.specs.Laws.{HasOneResult, HitOverAll, RecordingOverAll}
+use Rattle.cck_snapshot.specs.Snapshot.{IsPart, IsSnapshot, one_pair, over}
+use Rattle.cck_snapshot.specs.Statuses.{AsksWith, matching_with}
 
 -- ---- nodes
 
@@ -71,21 +71,26 @@ match_here s part whole is i m = by (file_at part (components i.path)) refl m
     by (Err e) at m = absurd cc
     by (Ok n) at m = ap (file_matches s i) (file_here part whole is (components i.path) n at) ∙ m
 
+or_more : (a b more : Bool) → (b ≡ true → more ≡ true) → (a || b) ≡ true → (a || more) ≡ true
+or_more true b more h e = refl
+or_more false b more h e = h e
+
+-- so does one that is accepted or matches
+with_here : (statuses : Statuses) (s : Setting) (part whole : FileMap) → IsPart part whole → (i : Include) → matches_with statuses s part i ≡ true → matches_with statuses s whole i ≡ true
+unfolding matches_with
+with_here statuses s part whole is i m =
+    or_more (known_accepts i (get statuses (components i.path))) (matches s part i) (matches s whole i) (match_here s part whole is i) m
+
 -- the one result of an entry is found if it matches
-found_one : (m : Include → Bool) (r : KeyResult) → list_all m (r.1) ≡ true → found_in m (r ∷ []) ≡ Some r
+pub found_one : (m : Include → Bool) (r : KeyResult) → list_all m (r.1) ≡ true → found_in m (r ∷ []) ≡ Some r
 found_one m r all = ap (λ b. cond b (Some r) None) all
 
-not_accepted : Accepted ≡ NotAccepted → ⊥
-not_accepted e = cc
-
-not_erring : Errs ≡ Accepted → ⊥
-not_erring e = cc
-
-first_name : {a b : Bytes} {s t : Bool} → Name a s ≡ Name b t → a ≡ b
-first_name e = cc
-
-second_name : {a b : Bytes} {s t : Bool} → Name a s ≡ Name b t → s ≡ t
-second_name e = cc
+-- an entry of one result has no other
+pub one_entry : (e : Entry) (bytes key : Bytes) (list : List Include) → HasOneResult bytes → EntryText e bytes → Contains (entries e) (key, list) → entries e ≡ (key, list) ∷ []
+one_entry e bytes key list (own, includes, own_text) text at =
+    let is = only_result e own key includes list bytes text own_text at in
+    let same : e ≡ insert empty own includes = (one_text_one_entry e (insert empty own includes) bytes bytes text own_text).0 refl in
+    ap entries same ∙ entries-alone own includes ∙ ap (λ (r : KeyResult). r ∷ []) (λ i. (sym is.0 i, sym is.1 i))
 
 -- ---- calls
 
@@ -114,7 +119,7 @@ module _ {V : Type 0} (w : World V) (c : Call V) (whole : FileMap) (snapshot : I
   used_same : uses_cache w d.request ≡ uses_cache w c.request
   used_same = refl
 
-  opened_here : Opened w c → Opened w d
+  pub opened_here : Opened w c → Opened w d
   opened_here o = record { extra = λ none. o.extra (sym snapshot.extra ∙ none); input = λ used. input_here (o.input used) }
 
   recorded_here : (r : Bytes) → input_recorded w c ≡ Some r → input_recorded w d ≡ Some r
@@ -123,7 +128,7 @@ module _ {V : Type 0} (w : World V) (c : Call V) (whole : FileMap) (snapshot : I
       let (n, file, digest) = input_known w c r is in
       ap (λ o. option_and_then (recorded (setting w c)) (result_ok o)) (files (components (input_path c)) n file) ∙ digest
 
-  key_here : (k : Bytes) → preprocessor_key_of w c ≡ Some k → preprocessor_key_of w d ≡ Some k
+  pub key_here : (k : Bytes) → preprocessor_key_of w c ≡ Some k → preprocessor_key_of w d ≡ Some k
   unfolding preprocessor_key_of key_material
   key_here k is =
       let (m, is-m, same) = key_known w c k is in
@@ -139,42 +144,45 @@ module _ {V : Type 0} (w : World V) (c : Call V) (whole : FileMap) (snapshot : I
 
   -- ---- hits
 
-  list_here : (list : List Include) → list_all (matching w c) list ≡ true → list_all (matching w d) list ≡ true
-  list_here list all = all_pass (matching w d) list (λ i at. match_here (setting w c) c.files whole snapshot.part i (each_passes (matching w c) list i all at))
+  module _ (statuses : Statuses) where
+    list_here : (list : List Include) → list_all (matching_with w statuses c) list ≡ true → list_all (matching_with w statuses d) list ≡ true
+    list_here list all =
+        all_pass (matching_with w statuses d) list (λ i at. with_here statuses (setting w c) c.files whole snapshot.part i (each_passes (matching_with w statuses c) list i all at))
 
-  lookup_here : (F : Type 0) (e : Entry) (bytes key : Bytes) → HasOneResult bytes → EntryText e bytes → IsLookup (matching w c) (entries e) F (Some key) → IsLookup (matching w d) (entries e) F (Some key)
-  lookup_here F e bytes key (own, includes, own_text) text (list, at, all, which) =
-      let is = only_result e own key includes list bytes text own_text at in
-      let same : e ≡ insert empty own includes = (one_text_one_entry e (insert empty own includes) bytes bytes text own_text).0 refl in
-      let one : entries e ≡ (key, list) ∷ [] = ap entries same ∙ entries-alone own includes ∙ ap (λ (r : KeyResult). r ∷ []) (λ i. (sym is.0 i, sym is.1 i)) in
-      let all' = list_here list all in
-      (list, at, all', inl (ap (found_in (matching w d)) one ∙ found_one (matching w d) (key, list) all'))
+    gives_here : (F : Type 0) (k other bytes key : Bytes) (from_store : Returned) (mid : State) (o : Option CallResult) → o ≡ Some (Keyed key false) → HasOneResult bytes → IsGot (one_pair k bytes) other from_store mid
+        → Gives (matching_with w statuses c) F from_store o → Gives (matching_with w statuses d) F from_store o
+    gives_here F k other bytes key from_store mid o same one got (store_failed is) = store_failed is
+    gives_here F k other bytes key from_store mid o same one got (store_lacked is) = store_lacked is
+    gives_here F k other bytes key from_store mid o same one got (nothing is) = nothing is
+    gives_here F k other bytes key from_store mid o same one got (no_bytes is) = no_bytes is
+    gives_here F k other bytes key from_store mid o same one got (matched found own e list is text present all which) =
+        let held = find_one k other bytes found (sym (subst (λ v. IsGot (one_pair k bytes) other v mid) is got).1) in
+        let all' = list_here list all in
+        matched found own e list is text present all'
+        (inl (ap (found_in (matching_with w statuses d)) (one_entry e found own list (subst HasOneResult (sym held) one) text present) ∙ found_one (matching_with w statuses d) (own, list) all'))
+    gives_here F k other bytes key from_store mid o same one got (unmatched bytes' e is text which) = absurd (none-some _ same)
+    gives_here F k other bytes key from_store mid o same one got (damaged bytes' is some none) = damaged bytes' is some none
+    gives_here F k other bytes key from_store mid o same one got (lacked bytes' is) = lacked bytes' is
 
-  gives_here : (F : Type 0) (k other bytes key : Bytes) (from_store : Returned) (mid : State) (o : Option CallResult) → o ≡ Some (Keyed key false) → HasOneResult bytes → IsGot (one_pair k bytes) other from_store mid
-      → Gives (matching w c) F from_store o → Gives (matching w d) F from_store o
-  gives_here F k other bytes key from_store mid o same one got (store_failed is) = store_failed is
-  gives_here F k other bytes key from_store mid o same one got (store_lacked is) = store_lacked is
-  gives_here F k other bytes key from_store mid o same one got (nothing is) = nothing is
-  gives_here F k other bytes key from_store mid o same one got (no_bytes is) = no_bytes is
-  gives_here F k other bytes key from_store mid o same one got (matched found own e list is text present all which) =
-      let held = find_one k other bytes found (sym (subst (λ v. IsGot (one_pair k bytes) other v mid) is got).1) in
-      let (list', present', all', which') = lookup_here F e found own (subst HasOneResult (sym held) one) text (list, present, all, which) in
-      matched found own e list' is text present' all' which'
-  gives_here F k other bytes key from_store mid o same one got (unmatched bytes' e is text which) = absurd (none-some _ same)
-  gives_here F k other bytes key from_store mid o same one got (damaged bytes' is some none) = damaged bytes' is some none
-  gives_here F k other bytes key from_store mid o same one got (lacked bytes' is) = lacked bytes' is
-
-  pub hit_here : (F : Type 0) (k bytes key : Bytes) (t : State) → HasOneResult bytes → Step w map_store c F (one_pair k bytes) (Keyed key false) t
-      → Step w map_store d F (one_pair k bytes) (Keyed key false) t
-  hit_here F k bytes key t one (stopped why cause is same) = absurd (not_failed is)
-  hit_here F k bytes key t one (made o not makes) = absurd (made_fresh w map_store c F (one_pair k bytes) t key makes)
-  hit_here F k bytes key t one (asked o other is control from_store mid got a given ends) = go a given ends
-    where
-      go : (a : Option CallResult) → Gives (matching w c) F from_store a → Ends w map_store c F a mid (Keyed key false) t → Step w map_store d F (one_pair k bytes) (Keyed key false) t
-      go (Some x) given ends =
-          asked (opened_here o) other (key_here other is) control from_store mid got (Some x)
-          (gives_here F k other bytes key from_store mid (Some x) (ap (λ v. Some v) (sym ends.0)) one got given) ends
-      go None given ends = absurd (made_fresh w map_store c F mid t key ends)
+    pub hit_here : (F : Type 0) (k bytes key : Bytes) (t : State) → HasOneResult bytes → AsksWith w map_store statuses c F (one_pair k bytes) (Keyed key false) t
+        → AsksWith w map_store statuses d F (one_pair k bytes) (Keyed key false) t
+    hit_here F k bytes key t one asks = go asks.outcome asks.gives asks.ends
+      where
+        go : (a : Option CallResult) → Gives (matching_with w statuses c) F asks.returned a → Ends w map_store c F a asks.mid (Keyed key false) t
+            → AsksWith w map_store statuses d F (one_pair k bytes) (Keyed key false) t
+        go (Some x) given ends = record {
+          opened = opened_here asks.opened;
+          key = asks.key;
+          is_key = key_here asks.key asks.is_key;
+          control = asks.control;
+          returned = asks.returned;
+          mid = asks.mid;
+          got = asks.got;
+          outcome = Some x;
+          gives = gives_here F k asks.key bytes key asks.returned asks.mid (Some x) (ap (λ v. Some v) (sym ends.0)) one asks.got given;
+          ends = ends;
+        }
+        go None given ends = absurd (made_fresh w map_store c F asks.mid t key ends)
 
   -- ---- recordings
 
@@ -185,22 +193,10 @@ module _ {V : Type 0} (w : World V) (c : Call V) (whole : FileMap) (snapshot : I
   good_here p (inl folder) = inl (folder_here c.files whole snapshot.part p folder)
   good_here p (inr (n, file, old, digest)) = inr (n, files p n file, old, digest)
 
-  -- a name of an accepted text is good
-  named_good : (marks : List Mark) (name : Bytes) (system : Bool) → MarksDecide w c marks Accepted → Contains marks (Name name system) → IsLooked w c name system → IsGood w c (meant_path c name)
-  named_good [] name system m at looked = absurd (none_in _ at)
-  named_good (Refusal ∷ marks) name system m at looked = absurd (not_accepted m)
-  named_good (Malformed ∷ marks) name system m at looked = absurd (not_erring (sym m))
-  named_good (Name first other ∷ marks) name system (inr m) at looked = absurd (not_accepted m.2)
-  named_good (Name first other ∷ marks) name system (inl m) at looked =
-      elim (one_of (Name first other) (Name name system) marks at) [
-        | inl is ↦ subst (λ v. IsGood w c (meant_path c v)) (first_name is) (m.0 (subst (λ v. IsLooked w c v other) (sym (first_name is)) (subst (IsLooked w c name) (sym (second_name is)) looked)))
-        | inr more ↦ named_good marks name system m.1 more looked
-      ]
-
   -- a file that an accepted text names is in the snapshot
   named_here : (text : Bytes) → Walk w c text Accepted → (p : Path) (n : FileNode) → IsNamed w c text p → file_at whole p ≡ Ok n → file_at c.files p ≡ Ok n
   named_here text (marks, are, m) p n is file =
-      by (subst (IsGood w c) (sym is.is) (named_good marks is.name is.system m (subst (λ l. Contains l (Name is.name is.system)) (one_list true text is.marks marks is.are are) is.present) is.looked))
+      by (is_good w c text (marks, are, m) p is)
     where
       by : IsGood w c p → file_at c.files p ≡ Ok n
       by (inl folder) = absurd (folder_or_file w d p n (folder_here c.files whole snapshot.part p folder) file)
@@ -247,7 +243,7 @@ module _ {V : Type 0} (w : World V) (c : Call V) (whole : FileMap) (snapshot : I
 
 module _ {V : Type 0} (w : World V) where
   pub hit_over_all : HitOverAll w
-  hit_over_all d whole k bytes key t snapshot one step = hit_here w d.call whole snapshot (Fault d) k bytes key t one step
+  hit_over_all d statuses whole k bytes key t snapshot one asks = hit_here w d.call whole snapshot statuses (Fault d) k bytes key t one asks
 
   pub recording_over_all : RecordingOverAll w
   recording_over_all d whole k bytes key snapshot control text step = recording_here w d.call whole snapshot text (Fault d) k bytes key control step

@@ -7,6 +7,8 @@ use Rattle.std.specs.FinMap.Entries.{find, find-put}
 use Rattle.std.specs.Ordering.{is_eq}
 use Rattle.std.proofs.lemmas.Bool.{false≢true}
 use Rattle.std.proofs.lemmas.Option.{none-some}
+use Rattle.cck_entry.specs.Statuses.{Statuses}
+use Rattle.cck_include.specs.Include.{Include}
 use Rattle.cck_path.specs.Bytes.{Bytes}
 use Rattle.cck_path.specs.TextOrder.{text_cmp}
 use Rattle.cck_store.specs.MapStore.{IsGot, IsMapPut, State, call_begun, map_store, empty_state, count_failure}
@@ -15,13 +17,14 @@ use Rattle.cck_store.specs.declared.store.StoreError.TheVariants as store
 use Rattle.c_cache_keys.proofs.Stored.{not_both, not_failed}
 use Rattle.c_cache_keys.specs.Call.{Call, CallResult, Fault, Keyed, ReturnsError, Why}
 use Rattle.c_cache_keys.specs.Keys.{preprocessor_key_of}
-use Rattle.c_cache_keys.specs.Step.{Ends, Gives, OwnPair, Step, Stores, asked, damaged, faulted, gives, lacked, made, matched, matching, no_bytes, no_key, none_recorded, nothing, puts, refused, stopped, stops, store_failed, store_lacked, unmatched}
+use Rattle.c_cache_keys.specs.Step.{Ends, Gives, OwnPair, Step, Stores, asked, damaged, faulted, gives, lacked, made, matched, no_bytes, no_key, none_recorded, nothing, puts, refused, stopped, stops, store_failed, store_lacked, unmatched}
 use Rattle.c_cache_keys.specs.World.{World}
 use Rattle.c_cache_keys.specs.declared.call.CacheControl.TheVariants.{ForceRecache}
 use Rattle.cck_snapshot.proofs.Hits.{made_fresh}
 use Rattle.cck_snapshot.proofs.Pairs.{find_one, holds_one, not_one_pair, put_one}
 use Rattle.cck_snapshot.specs.Laws.{HitOnAnyStore, NothingOnAnyStore, RecordingOnAnyStore}
 use Rattle.cck_snapshot.specs.Snapshot.{one_pair}
+use Rattle.cck_snapshot.specs.Statuses.{AsksWith, matching_with}
 
 -- a key that something is found under is that of the pair
 find_key : (k other bytes x : Bytes) → find text_cmp other ((k, bytes) ∷ []) ≡ Some x → other ≡ k
@@ -46,32 +49,42 @@ same_pairs k l a b e = let pair = same_head (k, a) (l, b) [] [] (ap (λ (v : Sta
 
 module _ {V S : Type 0} (w : World V) (st : Store S) (c : Call V) (F : Type 0) where
   -- what a get of one pair returned for a hit is the pair's bytes, under its key
-  got_hit : (k other bytes key : Bytes) (from_store : Returned) (mid : State) (o : Option CallResult) → o ≡ Some (Keyed key false) → IsGot (one_pair k bytes) other from_store mid → Gives (matching w c) F from_store o
-      → (other ≡ k) × Gives (matching w c) F (Ok (Some bytes)) (Some (Keyed key false))
-  got_hit k other bytes key from_store mid o same got (store_failed is) = absurd (error_key same)
-  got_hit k other bytes key from_store mid o same got (store_lacked is) = absurd (error_key same)
-  got_hit k other bytes key from_store mid o same got (nothing is) = absurd (none_key same)
-  got_hit k other bytes key from_store mid o same got (no_bytes is) = absurd (none_key same)
-  got_hit k other bytes key from_store mid o same got (matched found own e list is text present all which) =
+  got_hit : (test : Include → Bool) (k other bytes key : Bytes) (from_store : Returned) (mid : State) (o : Option CallResult) → o ≡ Some (Keyed key false) → IsGot (one_pair k bytes) other from_store mid → Gives test F from_store o
+      → (other ≡ k) × Gives test F (Ok (Some bytes)) (Some (Keyed key false))
+  got_hit test k other bytes key from_store mid o same got (store_failed is) = absurd (error_key same)
+  got_hit test k other bytes key from_store mid o same got (store_lacked is) = absurd (error_key same)
+  got_hit test k other bytes key from_store mid o same got (nothing is) = absurd (none_key same)
+  got_hit test k other bytes key from_store mid o same got (no_bytes is) = absurd (none_key same)
+  got_hit test k other bytes key from_store mid o same got (matched found own e list is text present all which) =
       let held = sym (subst (λ v. IsGot (one_pair k bytes) other v mid) is got).1 in (
         find_key k other bytes found held,
-        subst (λ v. Gives (matching w c) F (Ok (Some bytes)) v) same
-            (subst (λ b. Gives (matching w c) F (Ok (Some b)) (Some (Keyed own false))) (find_one k other bytes found held) (matched found own e list refl text present all which)),
+        subst (λ v. Gives test F (Ok (Some bytes)) v) same
+            (subst (λ b. Gives test F (Ok (Some b)) (Some (Keyed own false))) (find_one k other bytes found held) (matched found own e list refl text present all which)),
       )
-  got_hit k other bytes key from_store mid o same got (unmatched bytes' e is text which) = absurd (none_key same)
-  got_hit k other bytes key from_store mid o same got (damaged bytes' is some none) = absurd (error_key same)
-  got_hit k other bytes key from_store mid o same got (lacked bytes' is) = absurd (error_key same)
+  got_hit test k other bytes key from_store mid o same got (unmatched bytes' e is text which) = absurd (none_key same)
+  got_hit test k other bytes key from_store mid o same got (damaged bytes' is some none) = absurd (error_key same)
+  got_hit test k other bytes key from_store mid o same got (lacked bytes' is) = absurd (error_key same)
 
-  hit_there : (k bytes key : Bytes) (t : State) (s u : S) → Step w map_store c F (one_pair k bytes) (Keyed key false) t → st.got s k (Ok (Some bytes)) u → Step w st c F s (Keyed key false) u
-  hit_there k bytes key t s u (stopped why cause is same) got = absurd (not_failed is)
-  hit_there k bytes key t s u (made o not makes) got = absurd (made_fresh w map_store c F (one_pair k bytes) t key makes)
-  hit_there k bytes key t s u (asked o other is control from_store mid got_pair a given ends) got = go a given ends
+  hit_there : (statuses : Statuses) (k bytes key : Bytes) (t : State) (s u : S) → AsksWith w map_store statuses c F (one_pair k bytes) (Keyed key false) t → st.got s k (Ok (Some bytes)) u
+      → AsksWith w st statuses c F s (Keyed key false) u
+  hit_there statuses k bytes key t s u asks got = go asks.outcome asks.gives asks.ends
     where
-      go : (a : Option CallResult) → Gives (matching w c) F from_store a → Ends w map_store c F a mid (Keyed key false) t → Step w st c F s (Keyed key false) u
+      go : (a : Option CallResult) → Gives (matching_with w statuses c) F asks.returned a → Ends w map_store c F a asks.mid (Keyed key false) t → AsksWith w st statuses c F s (Keyed key false) u
       go (Some x) given ends =
-          let parts = got_hit k other bytes key from_store mid (Some x) (ap (λ v. Some v) (sym ends.0)) got_pair given in
-          asked o k (subst (λ v. preprocessor_key_of w c ≡ Some v) parts.0 is) control (Ok (Some bytes)) u got (Some (Keyed key false)) parts.1 (refl, refl)
-      go None given ends = absurd (made_fresh w map_store c F mid t key ends)
+          let parts = got_hit (matching_with w statuses c) k asks.key bytes key asks.returned asks.mid (Some x) (ap (λ v. Some v) (sym ends.0)) asks.got given in
+          record {
+            opened = asks.opened;
+            key = k;
+            is_key = subst (λ v. preprocessor_key_of w c ≡ Some v) parts.0 asks.is_key;
+            control = asks.control;
+            returned = Ok (Some bytes);
+            mid = u;
+            got = got;
+            outcome = Some (Keyed key false);
+            gives = parts.1;
+            ends = (refl, refl);
+          }
+      go None given ends = absurd (made_fresh w map_store c F asks.mid t key ends)
 
   -- a put that left one pair is the put of this pair
   put_was : (key k bytes : Bytes) (p q : Bytes) (from_store : Stored) → IsMapPut empty_state p q from_store (one_pair k bytes) → (p ≡ k) × (q ≡ bytes)
@@ -114,7 +127,7 @@ module _ {V S : Type 0} (w : World V) (st : Store S) (c : Call V) (F : Type 0) w
 
 module _ {V S : Type 0} (w : World V) (st : Store S) where
   pub hit_on_any_store : HitOnAnyStore w st
-  hit_on_any_store d k bytes key t s u step got = hit_there w st d.call (Fault d) k bytes key t s u step got
+  hit_on_any_store d statuses k bytes key t s u asks got = hit_there w st d.call (Fault d) statuses k bytes key t s u asks got
 
   pub recording_on_any_store : RecordingOnAnyStore w st
   recording_on_any_store d k bytes key from_store s u control step put = recording_there w st d.call (Fault d) k bytes key from_store s u control step put

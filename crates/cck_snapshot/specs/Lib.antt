@@ -3,7 +3,7 @@ pub mod HoldsNothing
 pub mod LastPut
 pub mod Laws
 pub mod Recordings
-pub mod RequestedKey
 pub mod Requests
 pub mod Snapshot
+pub mod Statuses
 pub mod TextCompiler

@@ -1,17 +1,15 @@
 //! Preprocessor keys.
-ghost use Rattle.std.specs.Prelude.{◌≡◌, IfErr, IfOk, option_map, string_bytes};
+ghost use Rattle.std.specs.Prelude.{IfErr, IfOk};
 ghost use Rattle.cck_files.specs.Calls.{Keeps, Rose};
-ghost use Rattle.c_cache_keys.specs.Keys.{preprocessor_key_of};
+ghost use Rattle.c_cache_keys.specs.Opening.{IsPreprocessorKey};
 ghost use Rattle.c_cache_keys.specs.Seen.{why_of};
 ghost use Rattle.c_cache_keys.specs.Step.{StopsOpening};
 ghost use Rattle.c_cache_keys.specs.declared.call.CacheControl.TheVariants.{Default};
 ghost use Rattle.cck_snapshot.specs.External.{no_text};
 ghost use Rattle.cck_snapshot.specs.Requests.{call_for, world_for};
 
-use crate::looking::stored_key;
-use crate::requested_key::RequestedKey;
-use crate::requests::SnapshotRequest;
-use c_cache_keys::{CacheControl, KeyError};
+use crate::requests::{SnapshotRequest, conditions_of};
+use c_cache_keys::{KeyError, PreprocessorKey};
 use cck_digest::HashState;
 use cck_files::Files;
 use std::alloc::Global;
@@ -34,36 +32,15 @@ pub fn preprocessor_key<H: HashState, F: Files>(
     alloc: Global,
     snapshot: &mut F,
     request: &SnapshotRequest<'_>,
-) -> Result<Option<String>, KeyError>
+) -> Result<Option<PreprocessorKey>, KeyError>
     ensures keeps { Keeps F.file_map F.faults F.is_quiet snapshot.old snapshot.new }
-    ensures key { IfOk result (λ key. option_map string_bytes key
-        ≡ preprocessor_key_of (world_for H.hash no_text request.now) (call_for Default (F.file_map snapshot.old) request.now)) }
+    ensures key { IfOk result (IsPreprocessorKey (world_for H.hash no_text request.now)
+        (call_for Default (F.file_map snapshot.old) request.now)) }
     ensures errors { IfErr result (λ e.
         StopsOpening (world_for H.hash no_text request.now) (call_for Default (F.file_map snapshot.old) request.now)
         (Rose (F.faults snapshot.old) (F.faults snapshot.new)) (why_of e)) }
 {
-    if !request.hasher.language().needs_c_preprocessing() {
-        return Ok(None);
-    }
-    let mut asked = RequestedKey::new();
-    let found = request.hasher.generate_hash_key::<H, F, RequestedKey>(
-        alloc,
-        snapshot,
-        &mut asked,
-        request.cwd,
-        request.vars,
-        request.moment,
-        request.zone,
-        request.config,
-        request.basedirs,
-        CacheControl::Default,
-    );
-    let stored = stored_key(found);
-    match asked.into_key() {
-        Some(key) => Ok(Some(key)),
-        None => match stored {
-            Ok(_) => Ok(None),
-            Err(error) => Err(error),
-        },
-    }
+    request
+        .hasher
+        .preprocessor_key::<H, F>(alloc, snapshot, &conditions_of(request))
 }

@@ -5,10 +5,11 @@
 //! These calls take values alone: a snapshot, a [`SnapshotRequest`], the bytes of one stored entry.
 //!
 //! - [`preprocessor_key`] is the key under which a store may hold an entry.
-//! - [`look_up`] returns the key of a hit. It can't preprocess.
+//! - [`look_up`] returns the key of a hit. It can't preprocess. It reads no file of which a status is given
+//!   that shows that the file is unchanged, by its size and times.
 //! - [`record_text`] returns the key of a text that a preprocessor printed, and the entry to be put.
 //! - [`laws`] carries a hit, and a recording, from one pair to a whole store, and from a snapshot to
-//!   all files.
+//!   all files. A hit by statuses is a hit by contents, if times are honest.
 #![tactic(auto)]
 
 mod compiler;
@@ -17,7 +18,6 @@ mod last_put;
 pub mod laws;
 mod looking;
 mod recordings;
-mod requested_key;
 mod requests;
 mod text_compiler;
 

@@ -1,6 +1,11 @@
 //! Requests over snapshots.
+ghost use Rattle.std.specs.Prelude.{◌≡◌};
+ghost use Rattle.c_cache_keys.specs.Conditions.{given_of};
+ghost use Rattle.c_cache_keys.specs.declared.call.CacheControl.TheVariants.{Default};
+ghost use Rattle.cck_snapshot.specs.Requests.{given_in};
+
 use crate::compiler::ExternalCompiler;
-use c_cache_keys::CCompilerHasher;
+use c_cache_keys::{CCompilerHasher, CacheControl, Conditions};
 use cck_include::PreprocessorCacheModeConfig;
 use cck_path::Timestamp;
 use jiff::tz::TimeZone;
@@ -22,4 +27,19 @@ pub struct SnapshotRequest<'a> {
     pub config: PreprocessorCacheModeConfig,
     /// The directories that are cut out of what is hashed for a key.
     pub basedirs: &'a [Vec<u8>],
+}
+
+/// The conditions of a request, whose call may return a stored key.
+pub(crate) fn conditions_of<'a>(request: &'a SnapshotRequest<'a>) -> Conditions<'a>
+    ensures { given_of result ≡ given_in Default request.now }
+{
+    Conditions {
+        cwd: request.cwd,
+        vars: request.vars,
+        moment: request.moment,
+        zone: request.zone,
+        config: request.config,
+        basedirs: request.basedirs,
+        control: CacheControl::Default,
+    }
 }

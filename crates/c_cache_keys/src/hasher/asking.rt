@@ -1,9 +1,10 @@
 //! The look-up of a key in the store. Nothing here takes a compiler.
-ghost use Rattle.std.specs.Prelude.{◌≡◌, IfErr, List, Some, option_map, string_bytes, ℕ};
+ghost use Rattle.std.specs.Prelude.{◌≡◌, IfErr, List, Some, option_map, ℕ};
 ghost use Rattle.cck_files.specs.Calls.{Keeps, Rose};
 ghost use Rattle.cck_include.specs.Matching.{matches};
 ghost use Rattle.c_cache_keys.specs.Asking.{AsksBy, IsFoundBy, asked_of};
 ghost use Rattle.c_cache_keys.specs.Conditions.{given_of, setting_under};
+ghost use Rattle.c_cache_keys.specs.Opening.{text_of};
 ghost use Rattle.c_cache_keys.specs.Reasons.{IsStoreReason};
 
 use super::opening::Opening;
@@ -30,17 +31,19 @@ pub(super) fn find<H: HashState, F: Files, S: PreprocessorStore>(
     conditions: &Conditions<'_>,
 ) -> Result<Option<String>, KeyError>
     ensures keeps { Keeps F.file_map F.faults F.is_quiet files.old files.new }
-    ensures found { IsFoundBy S.store (option_map string_bytes opening.now.key) conditions.now.control
+    ensures found { IsFoundBy S.store (option_map text_of opening.now.key) conditions.now.control
         (matches (setting_under H.hash (given_of conditions.now)) (F.file_map files.old))
         (Rose (F.faults files.old) (F.faults files.new)) store.old (asked_of result) store.new }
-    ensures reason { IfErr result (λ e. (k : List ℕ) × (option_map string_bytes opening.now.key ≡ Some k)
+    ensures reason { IfErr result (λ e. (k : List ℕ) × (option_map text_of opening.now.key ≡ Some k)
         × IsStoreReason S.store k store.old store.new e) }
 {
     let Some(at) = &opening.key else {
         return Ok(None);
     };
     match conditions.control {
-        CacheControl::Default => ask::<H, F, S>(alloc, files, store, at.as_str(), conditions),
+        CacheControl::Default => {
+            ask::<H, F, S>(alloc, files, store, at.text.as_str(), conditions)
+        }
         CacheControl::ForceRecache => Ok(None),
     }
 }

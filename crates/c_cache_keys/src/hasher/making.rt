@@ -83,7 +83,7 @@ impl<I: CCompilerImpl> CCompilerHasher<I> {
         };
         let input = PreprocessedInput {
             path: &input,
-            key: key.as_str(),
+            key: key.text.as_str(),
             extra_hashes: &opening.extra_hashes,
             text: &text,
         };

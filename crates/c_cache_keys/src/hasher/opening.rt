@@ -1,26 +1,38 @@
 //! The first part of a call: the digests of the extra files, and the preprocessor key.
-ghost use Rattle.std.specs.Prelude.{◌≡◌, ◌&&◌, IfErr, MatchResult, None, if◌then◌else◌, is_none, map, option_map, string_bytes};
+ghost use Rattle.std.specs.Prelude.{◌≡◌, ◌&&◌, IfErr, IfOk, MatchResult, None, if◌then◌else◌, is_none, map, option_map, string_bytes};
 ghost use Rattle.std.specs.Str.{str_eq_ignore_ascii_case};
 ghost use Rattle.cck_compiler.specs.Seen.{arguments_of};
 ghost use Rattle.cck_path.specs.Bytes.{variables_of};
 ghost use Rattle.cck_files.specs.Calls.{Keeps, Rose};
+ghost use Rattle.cck_entry.specs.PreprocessorKey.{preprocessor_key};
 ghost use Rattle.cck_util.specs.Language.{is_preprocessed_first};
-ghost use Rattle.c_cache_keys.specs.Conditions.{call_under, given_of, world_under};
-ghost use Rattle.c_cache_keys.specs.Keys.{is_direct, is_off};
-ghost use Rattle.c_cache_keys.specs.Opening.{IsInputError, IsKeyOfInput, IsOpening};
+ghost use Rattle.c_cache_keys.specs.Conditions.{call_under, given_of, request_under, world_under};
+ghost use Rattle.c_cache_keys.specs.Keys.{is_direct, is_off, request_parts};
+ghost use Rattle.c_cache_keys.specs.Opening.{IsInputDigest, IsInputError, IsKeyOfInput, IsOpening, text_and_digest};
 ghost use Rattle.c_cache_keys.specs.Reasons.{IsFileReason};
 ghost use Rattle.c_cache_keys.specs.Seen.{why_of};
 ghost use Rattle.c_cache_keys.specs.Step.{StopsOpening};
+ghost use Rattle.c_cache_keys.specs.Walk.{input_path};
 
 use super::CCompilerHasher;
 use crate::conditions::Conditions;
 use crate::errors::key_error_of;
 use cck_compiler::{CCompilerImpl, KeyError};
 use cck_digest::HashState;
-use cck_entry::preprocessor_cache_entry_hash_key;
+use cck_entry::{PreprocessorKeyRequest, hashed_directory};
 use cck_files::{Files, hash_all};
+use cck_include::recorded_digest;
 use cck_path::{first_value, join_path};
-use std::alloc::Global;
+use std::alloc::{AllocError, Global};
+
+/// A preprocessor key.
+#[derive(Debug, Drop)]
+pub struct PreprocessorKey {
+    /// Its text: the hex digest of its key material.
+    pub text: String,
+    /// The recorded digest of the input, which is part of the key material.
+    pub input_digest: String,
+}
 
 /// The results of the first part of a call.
 #[derive(Drop)]
@@ -28,7 +40,7 @@ pub(crate) struct Opening {
     /// The hex digests of the extra files, in their order.
     pub(crate) extra_hashes: Vec<String>,
     /// The preprocessor key, if there is one.
-    pub(crate) key: Option<String>,
+    pub(crate) key: Option<PreprocessorKey>,
 }
 
 // Whether these are the same bytes but for the case of ASCII letters.
@@ -109,51 +121,95 @@ impl<I: CCompilerImpl> CCompilerHasher<I> {
                 key: None,
             });
         }
-        match self.preprocessor_key::<H, F>(alloc, files, conditions, &extra_hashes) {
+        match self.key_of_input::<H, F>(alloc, files, conditions, &extra_hashes) {
             Ok(key) => Ok(Opening { extra_hashes, key }),
             Err(error) => Err(error),
         }
     }
 
     // The preprocessor key, where the preprocessor cache is used.
-    fn preprocessor_key<H: HashState, F: Files>(
+    fn key_of_input<H: HashState, F: Files>(
         &self,
         alloc: Global,
         files: &mut F,
         conditions: &Conditions<'_>,
         extra_hashes: &[String],
+    ) -> Result<Option<PreprocessorKey>, KeyError>
+        ensures keeps { Keeps F.file_map F.faults F.is_quiet files.old files.new }
+        ensures outcome { let given = given_of conditions.now in
+            let w = world_under H.hash I.compiler given in
+            let c = call_under I.value (F.file_map files.old) self.now given in
+            MatchResult result (λ key. IsKeyOfInput w c (map string_bytes extra_hashes.now) (option_map text_and_digest key))
+            (IsInputError w c (Rose (F.faults files.old) (F.faults files.new))) }
+    {
+        let input = join_path(alloc, conditions.cwd, &self.parsed_args.input)?;
+        let digest = match self.input_digest::<H, F>(alloc, files, conditions, &input) {
+            Ok(digest) => digest,
+            Err(error) => return Err(error),
+        };
+        let Some(input_digest) = digest else {
+            return Ok(None);
+        };
+        let digest = input_digest.as_str();
+        let text = self.key_text::<H>(alloc, conditions, &input, extra_hashes, digest)?;
+        Ok(Some(PreprocessorKey { text, input_digest }))
+    }
+
+    // The recorded digest of the input at this path, if it has one.
+    fn input_digest<H: HashState, F: Files>(
+        &self,
+        alloc: Global,
+        files: &mut F,
+        conditions: &Conditions<'_>,
+        input: &[u8],
     ) -> Result<Option<String>, KeyError>
         ensures keeps { Keeps F.file_map F.faults F.is_quiet files.old files.new }
         ensures outcome { let given = given_of conditions.now in
             let w = world_under H.hash I.compiler given in
             let c = call_under I.value (F.file_map files.old) self.now given in
-            MatchResult result (λ key. IsKeyOfInput w c (map string_bytes extra_hashes.now) (option_map string_bytes key))
+            input.now ≡ input_path c → MatchResult result (λ digest. IsInputDigest w c (option_map string_bytes digest))
             (IsInputError w c (Rose (F.faults files.old) (F.faults files.new))) }
     {
-        let args = &self.parsed_args;
-        let input = join_path(alloc, conditions.cwd, &args.input)?;
-        let key = preprocessor_cache_entry_hash_key::<H, F>(
-            alloc,
-            self.executable_digest.as_str(),
-            args.language,
-            &args.preprocessor_args,
-            &args.arch_args,
-            &args.common_args,
-            extra_hashes,
-            self.assembler_digest(),
-            conditions.vars,
-            &input,
-            conditions.cwd,
-            self.compiler.plusplus(),
-            args.is_multiarch(),
-            conditions.config,
-            files,
-            conditions.moment,
-            conditions.zone,
-        );
-        match key {
-            Ok(key) => Ok(key),
+        let (moment, zone) = (conditions.moment, conditions.zone);
+        let (vars, config) = (conditions.vars, conditions.config);
+        match recorded_digest::<H, F>(alloc, files, input, moment, zone, vars, config) {
+            Ok(digest) => Ok(digest),
             Err(error) => Err(key_error_of(error)),
+        }
+    }
+
+    // The text of the preprocessor key, by the path of the input, the hex digests of the extra files and the
+    // recorded digest of the input.
+    fn key_text<H: HashState>(
+        &self,
+        alloc: Global,
+        conditions: &Conditions<'_>,
+        input: &[u8],
+        extra_hashes: &[String],
+        recorded: &str,
+    ) -> Result<String, AllocError>
+        ensures { let given = given_of conditions.now in
+            let w = world_under H.hash I.compiler given in
+            IfOk result (λ text. string_bytes text
+            ≡ preprocessor_key H.hash (request_parts w (request_under I.value self.now given) input.now) (map string_bytes extra_hashes.now) recorded.now) }
+    {
+        let args = &self.parsed_args;
+        let request = PreprocessorKeyRequest {
+            compiler_digest: self.executable_digest.as_str(),
+            plusplus: self.compiler.plusplus(),
+            language: args.language,
+            multiarch: args.is_multiarch(),
+            preprocessor_args: &args.preprocessor_args,
+            arch_args: &args.arch_args,
+            common_args: &args.common_args,
+            assembler_digest: self.assembler_digest(),
+            env_vars: conditions.vars,
+            input_file: input,
+            directory: hashed_directory(conditions.config, conditions.cwd),
+        };
+        match request.compute::<H>(alloc, extra_hashes, recorded) {
+            Ok(text) => Ok(text),
+            Err(_) => Err(AllocError),
         }
     }
 }

@@ -9,6 +9,7 @@ use Rattle.c_cache_keys.proofs.Widen.{wide_makes}
 use Rattle.c_cache_keys.proofs.Reasons.{input_reason, text_reason, wide_if}
 use Rattle.c_cache_keys.specs.Conditions.{call_under, given_of, world_under}
 use Rattle.c_cache_keys.specs.Keys.{printed}
+use Rattle.c_cache_keys.specs.Opening.{text_of}
 use Rattle.c_cache_keys.proofs.hasher.CCompilerHasher.make.Goals as goal
 
 pub returns-in_err-input-clause-makes : goal.returns-in_err-input-clause-makes
@@ -99,14 +100,14 @@ returns-in_default-clause-makes g c =
     let F = Rose (g.F.Files.faults c.args.files.now) (g.F.Files.faults c.preprocess.new.files) in
     without_key w g.S.PreprocessorStore.store call F c.args.store.now c.in_ok-plain_key-2.field-0 (map string_bytes c.args.opening.now.extra_hashes.items) c.in-Ok-preprocess.text.items
     (sym c.needs_c_preprocessing.ensures ∙ c.if-not-needs_c_preprocessing.false) c.requires.extra (rw c.deref-2.ensures.value at c.in-Ok-preprocess.ensures.outcome)
-    (c.requires.key ∙ ap (option_map string_bytes) c.in_default.is)
+    (c.requires.key ∙ ap (option_map text_of) c.in_default.is)
     (rw (c.deref-in_default.ensures.value, c.deref-in_default-2.ensures.value) at c.in_ok-plain_key-2.ensures)
 
 pub walk_and_put-requires : goal.walk_and_put-requires
 unfolding printed
 walk_and_put-requires g c = rw c.in-Ok-preprocess.ensures.keeps.same_map record {
   path = c.deref-3.ensures.value ∙ c.in_ok-input.ensures.bytes ∙ ap (join_path c.args.conditions.now.cwd.now) c.deref.ensures.value;
-  key = rw c.as_str.ensures.value (c.requires.key ∙ ap (option_map string_bytes) c.in-Some.is);
+  key = rw c.as_str.ensures.value (c.requires.key ∙ ap (option_map text_of) c.in-Some.is);
   extra = rw c.deref-4.ensures.value c.requires.extra;
   first = sym c.needs_c_preprocessing.ensures ∙ c.if-not-needs_c_preprocessing.false;
   prints = rw (c.deref-2.ensures.value, sym c.deref-5.ensures.value) at c.in-Ok-preprocess.ensures.outcome;

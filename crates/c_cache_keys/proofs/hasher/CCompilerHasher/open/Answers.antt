@@ -38,7 +38,7 @@ returns-in-Err-clause-outcome g c =
     let call = call_under g.I.CCompilerImpl.value (g.F.Files.file_map c.args.files.now) c.args.self.now (given_of c.args.conditions.now) in
     let before = g.F.Files.faults c.args.files.now in
     let middle = g.F.Files.faults c.hash_all.new.files in
-    let after = g.F.Files.faults c.preprocessor_key.new.files in
+    let after = g.F.Files.faults c.key_of_input.new.files in
     wide_opening w call (Rose middle after) (Rose before after) (rose_earlier before middle after c.in_ok-extra_hashes.ensures.keeps.not_lower) _
     (stop_input w call (Rose middle after) c.in-Err.error _ (sym (c.uses_cache.ensures ∙ used w call) ∙ c.if-not-uses_cache.false)
     (texts_here w call _ (rw (c.deref.ensures.value, paths_as c.args.self.now.parsed_args.extra_hash_files.items) at c.in_ok-extra_hashes.ensures.outcome))
@@ -59,6 +59,6 @@ returns-in-Err-clause-reason g c =
     let call = call_under g.I.CCompilerImpl.value (g.F.Files.file_map c.args.files.now) c.args.self.now (given_of c.args.conditions.now) in
     let before = g.F.Files.faults c.args.files.now in
     let middle = g.F.Files.faults c.hash_all.new.files in
-    let after = g.F.Files.faults c.preprocessor_key.new.files in
+    let after = g.F.Files.faults c.key_of_input.new.files in
     wide_reason (Rose middle after) (Rose before after) (rose_earlier before middle after c.in_ok-extra_hashes.ensures.keeps.not_lower) w call _
     (key_reason w call (Rose middle after) c.in-Err.error (rw c.in_ok-extra_hashes.ensures.keeps.same_map at c.in-Err.ensures.outcome))
