@@ -7,4 +7,5 @@ pub mod Paths
 pub mod Searched
 pub mod Snapshot
 pub mod Sources
+pub mod Statuses
 pub mod Times

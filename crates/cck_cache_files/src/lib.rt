@@ -2,7 +2,7 @@
 //!
 //! - A *snapshot* is a [`MapFiles`](cck_files::MapFiles) with the files that one call looks at, as
 //!   they are now: [`add_file`] and [`add_named_files`]. What can't be read, or is in doubt, is left
-//!   out.
+//!   out. [`add_included`] adds a file only where its status does not show that it is unchanged.
 //! - [`PathStates`] says of paths whether there is anything at them, and whether a link on the way
 //!   changed since a given time. It looks at each path once.
 //! - [`first_failing`] makes the tests of an entry file, and [`SearchedDirectories`] says which of the
@@ -32,6 +32,7 @@ mod path_tests;
 mod searched;
 mod snapshot;
 mod sources;
+mod statuses;
 mod store_directory;
 mod times;
 
@@ -46,5 +47,6 @@ pub use path_tests::first_failing;
 pub use searched::SearchedDirectories;
 pub use snapshot::{add_file, add_named_files, is_one_file};
 pub use sources::{Asked, asked_by};
+pub use statuses::add_included;
 pub use store_directory::{Kind, StoreDirectory, open_store};
 pub use times::{changed, modified};

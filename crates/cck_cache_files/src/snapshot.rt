@@ -134,8 +134,10 @@ fn leads_there<R: Files + AllocGlobal>(
     Ok(!states.has_other(rt, joined)? && is_one_file(rt, joined, path))
 }
 
-// Puts what is at a path into the snapshot, as `add_file` does, if the snapshot has nothing there.
-fn add_new_file<R: Files + AllocGlobal>(
+/// Puts what is at a path into the snapshot, as [`add_file`] does, if the snapshot has nothing there.
+///
+/// The only error is [`UtilError::Memory`], and then nothing is changed.
+pub(crate) fn add_new_file<R: Files + AllocGlobal>(
     rt: &R,
     files: &mut MapFiles,
     path: &[u8],
