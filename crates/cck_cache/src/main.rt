@@ -7,7 +7,7 @@
 #![tactic(auto)]
 
 use anyhow::{Result, bail};
-use cck_cache_command::{Environment, locale, run, variables};
+use cck_cache_command::{Environment, locale, reads_all, run, variables};
 use cck_path::Timestamp;
 use jiff::tz::{SystemTimeZone, TimeZoneDatabase};
 use std::process::ExitCode;
@@ -41,6 +41,7 @@ fn start(rt: &HostRuntime) -> Result<u8> {
         zone: system.time_zone(&database)?,
         variables: variables(rt)?,
         locale: locale(rt)?,
+        reads_all: reads_all(rt),
         id: process::id(rt.process()),
     };
     let (mut reader, mut writer, mut errors) = (rt.stdin(), rt.stdout(), rt.stderr());

@@ -2,8 +2,10 @@
 use Rattle.std.specs.Prelude.{◌≡◌, List, [], ◌∷◌, ◌++◌, false, Option, Some, None, codes}
 use Rattle.std.specs.Option.{option_map}
 use Rattle.c_cache_keys.specs.Keys.{preprocessor_key_of}
+use Rattle.c_cache_keys.specs.Opening.{IsPreprocessorKey}
 use Rattle.c_cache_keys.specs.declared.call.CacheControl.TheVariants.{Default}
 use Rattle.c_cache_keys.specs.declared.hasher.CCompilerHasher.{CCompilerHasher}
+use Rattle.c_cache_keys.specs.declared.hasher.opening.PreprocessorKey.{PreprocessorKey}
 use Rattle.cck_cache_rules.specs.Base.{BaseOf, WordLists}
 use Rattle.cck_cache_command.specs.Input.{IsInput}
 use Rattle.cck_cache_command.specs.declared.environment.Environment.{Environment}
@@ -71,6 +73,10 @@ pub record IsRequest (environment : Environment) (request : Request) (time : Mom
 -- the preprocessor key over these files, if there is one
 abbrev pub key_over : SnapshotRequest → FileMap → Option Bytes
 key_over asked files = preprocessor_key_of (world_for sha256 no_text asked) (call_for Default files asked)
+
+-- the same, with the recorded digest of the input
+abbrev pub IsKeyOver : SnapshotRequest → FileMap → PreprocessorKey → Type 0
+IsKeyOver asked files key = IsPreprocessorKey (world_for sha256 no_text asked) (call_for Default files asked) (Some key)
 
 -- this is the preprocessor key over a snapshot that has the input alone, if it has one
 pub record HasPreprocessorKey (environment : Environment) (request : Request) (key : Option Bytes) : Type 0 where

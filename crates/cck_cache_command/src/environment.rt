@@ -41,6 +41,8 @@ pub struct Environment<'a> {
     pub variables: Vec<(Vec<u8>, Vec<u8>)>,
     /// The variables that messages depend on, those of the locale among them, a line each.
     pub locale: Vec<u8>,
+    /// Whether a look-up reads each file that an entry names, whatever its status is.
+    pub reads_all: bool,
     /// The number of the process.
     pub id: u32,
 }
@@ -106,4 +108,9 @@ pub fn locale<R: Env + AllocGlobal>(rt: &R) -> Result<Vec<u8>> {
         }
     }
     Ok(all)
+}
+
+/// Whether a look-up reads all files: whether the variable `CCK_READ` is set.
+pub fn reads_all<R: Env>(rt: &R) -> bool {
+    env::var(rt, "CCK_READ") != Err(env::VarError::NotPresent)
 }

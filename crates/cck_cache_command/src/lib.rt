@@ -8,6 +8,7 @@
 mod absence;
 mod call;
 mod environment;
+mod included;
 mod input;
 mod judge;
 mod look;
@@ -27,5 +28,5 @@ mod unnamed;
 mod unpack;
 mod why;
 
-pub use environment::{Environment, locale, variables};
+pub use environment::{Environment, locale, reads_all, variables};
 pub use program::run;

@@ -1,23 +1,21 @@
 //! Looks for an object in the store.
-ghost use Rattle.std.specs.Prelude.{IfOk, IfSome, OnOk};
+ghost use Rattle.std.specs.Prelude.{[], IfOk, IfSome};
 ghost use Rattle.cck_cache_command.specs.Input.{IsCalm};
-ghost use Rattle.cck_cache_command.specs.Look.{IsEntryRead, IsFoundFor, IsIncludeOf, IsIncluded, IsKeptObject, IsKeyEntry, IsLookMiss, IsLookResult, IsNamedMatch};
-ghost use Rattle.cck_cache_files.specs.Snapshot.{ArePut};
-ghost use Rattle.cck_include.specs.Include.{includes_in};
+ghost use Rattle.cck_cache_command.specs.Look.{IsFoundFor, IsKeptObject, IsKeyEntry, IsLookMiss, IsLookResult, IsNamedMatch};
+ghost use Rattle.cck_cache_command.specs.Request.{IsKeyOver, IsRequest};
 
 use crate::environment::Environment;
+use crate::included::{add_entry_files, entry_view};
 use crate::input::input_snapshot;
 use crate::naming::name_of;
 use crate::outputs::has_outputs;
 use crate::request::{hasher_of, snapshot_request};
 use anyhow::{Context, Result};
+use c_cache_keys::PreprocessorKey;
 use cck_cache_arguments::{Look, Outputs, Request};
-use cck_cache_files::{Kind, StoreDirectory, add_file, first_failing};
+use cck_cache_files::{Kind, StoreDirectory, first_failing};
 use cck_cache_rules::{EntryFile, ObjectFile, entry_in, object_in};
-use cck_digest::UtilError;
-use cck_entry::{Error, PreprocessorCacheEntry};
 use cck_files::MapFiles;
-use cck_include::IncludeEntry;
 use cck_path::Timestamp;
 use cck_snapshot::{SnapshotRequest, look_up, preprocessor_key};
 use cck_util::Sha256State;
@@ -97,75 +95,39 @@ pub fn read_entry<R: Files + AllocGlobal>(
     let Some(bytes) = entry_bytes(rt, store, path, key).context("the entry file")? else {
         return Ok(Kept::Nothing);
     };
-    Ok(match entry_in::<Sha256State>(rt.alloc(), key, &bytes)? {
+    Ok(match entry_in(rt.alloc(), key, &bytes)? {
         Some(file) => Kept::Entry(file),
         None => Kept::Damaged,
     })
 }
 
-// Puts the files that a result of an entry included into the snapshot.
-fn add_includes<R: Files + AllocGlobal>(
-    rt: &R,
-    files: &mut MapFiles,
-    includes: &[IncludeEntry],
-) -> Result<(), UtilError>
-    ensures put { OnOk result
-        (ArePut (IsIncludeOf (includes_in includes.now)) files.old.files files.new.files) }
-    ensures calm { OnOk result (IsCalm files.old → IsCalm files.new) }
-{
-    for include in includes {
-        add_file(rt, files, &include.path)?;
-    }
-    Ok(())
-}
-
-/// Puts the files that an entry names into the snapshot. Returns the entry, or `None` where the bytes are
-/// read as none.
-///
-/// The error is lack of memory. Some of the files may then be in the snapshot.
-pub fn add_entry_files<R: Files + AllocGlobal>(
-    rt: &R,
-    files: &mut MapFiles,
-    bytes: &[u8],
-) -> Result<Option<PreprocessorCacheEntry>>
-    ensures entry { IfOk result (IsEntryRead bytes.now) }
-    ensures put { OnOk result (ArePut (IsIncluded bytes.now) files.old.files files.new.files) }
-    ensures calm { OnOk result (IsCalm files.old → IsCalm files.new) }
-{
-    let entry = match PreprocessorCacheEntry::read(rt.alloc(), bytes) {
-        Ok(entry) => entry,
-        Err(Error::Deserialization | Error::UnknownFormat(_)) => return Ok(None),
-        Err(error) => return Err(error.into()),
-    };
-    for (_, includes) in entry.results().iter() {
-        add_includes(rt, files, includes)?;
-    }
-    Ok(Some(entry))
-}
-
 // The name of the object of a result in the entry that matches, if the tests of paths hold.
 fn matching_name<R: Files + AllocGlobal>(
     rt: &R,
+    environment: &Environment<'_>,
     request: &Request<'_>,
     asked: &SnapshotRequest<'_>,
     files: &mut MapFiles,
-    key: &str,
+    key: &PreprocessorKey,
     file: &EntryFile,
 ) -> Result<Option<String>>
-    ensures { IfOk result (λ found. IsCalm files.old → IfSome found
-        (IsNamedMatch request.now asked.now files.old.files key.now file.now.entry.items)) }
+    ensures { IfOk result (λ found. IsCalm files.old → IsRequest environment.entry.now request.now environment.entry.now.now [] asked.now
+        → IsKeyOver asked.now files.old.files key.now
+        → IfSome found (IsNamedMatch environment.entry.now.reads_all request.now asked.now files.old.files key.now file.now.entry.items)) }
 {
-    if first_failing(rt, &file.tests)?.is_some() {
+    if first_failing(rt, &file.directories, &file.tests)?.is_some() {
         return Ok(None);
     }
-    let Some(entry) = add_entry_files(rt, files, &file.entry)? else {
+    let alloc = rt.alloc();
+    let Some(entry) = entry_view(alloc, &file.entry)? else {
         return Ok(None);
     };
-    let found = look_up::<Sha256State, MapFiles>(rt.alloc(), files, asked, key, &file.entry)?;
+    let statuses = add_entry_files(rt, files, &entry, environment.reads_all)?;
+    let found = look_up::<Sha256State, MapFiles>(alloc, files, &statuses, asked, &entry)?;
     let Some(object) = found else {
         return Ok(None);
     };
-    let name = name_of(rt, request, files, object.as_str(), &entry)?;
+    let name = name_of(alloc, request, key.input_digest.as_str(), object, &entry)?;
     Ok(Some(name))
 }
 
@@ -202,7 +164,7 @@ fn kept_object<R: Files + AllocGlobal>(
     let Some(bytes) = store.read(rt, Kind::Object, object_name.as_str())? else {
         return miss(rt, store, preprocessor_key, Some(object_name), None);
     };
-    match object_in::<Sha256State>(rt.alloc(), object_name.as_str(), &bytes)? {
+    match object_in(rt.alloc(), object_name.as_str(), &bytes)? {
         Some(object) if has_outputs(&object, outputs) => Ok(Found::Hit {
             preprocessor_key,
             object_name,
@@ -232,37 +194,42 @@ fn entry_path<R: AllocGlobal>(
 // Looks for the object of a request that has this preprocessor key over a snapshot of the input.
 fn look_for<R: Files + AllocGlobal>(
     rt: &R,
+    environment: &Environment<'_>,
     store: &StoreDirectory,
     wanted: &Look<'_>,
     asked: &SnapshotRequest<'_>,
     files: &mut MapFiles,
-    key: String,
+    key: PreprocessorKey,
 ) -> Result<Found>
-    ensures { IfOk result (λ found. IsCalm files.old →
-        IsFoundFor wanted.now asked.now files.old.files key found) }
+    ensures { IfOk result (λ found. IsCalm files.old → IsRequest environment.entry.now wanted.now.request environment.entry.now.now [] asked.now
+        → IsKeyOver asked.now files.old.files key
+        → IsFoundFor environment.entry.now.reads_all wanted.now asked.now files.old.files key.text found) }
 {
-    let file = match read_entry(rt, store, wanted.entry, key.as_str())? {
-        Kept::Nothing => return miss(rt, store, key, None, None),
+    let file = match read_entry(rt, store, wanted.entry, key.text.as_str())? {
+        Kept::Nothing => return miss(rt, store, key.text, None, None),
         Kept::Damaged => {
-            let path = entry_path(rt, store, wanted.entry, key.as_str())?;
-            return miss(rt, store, key, None, Some(path));
+            let path = entry_path(rt, store, wanted.entry, key.text.as_str())?;
+            return miss(rt, store, key.text, None, Some(path));
         }
         Kept::Entry(file) => file,
     };
-    match matching_name(rt, &wanted.request, asked, files, key.as_str(), &file)? {
-        Some(name) => kept_object(rt, store, &wanted.outputs, key, name),
-        None => miss(rt, store, key, None, None),
+    match matching_name(rt, environment, &wanted.request, asked, files, &key, &file)? {
+        Some(name) => kept_object(rt, store, &wanted.outputs, key.text, name),
+        None => miss(rt, store, key.text, None, None),
     }
 }
 
 /// Looks for the object of a request.
+///
+/// A file that the entry names is not read if its status shows that it is unchanged, unless the
+/// environment asks that all are read.
 ///
 /// The error is of an input that is no regular file that can be read, of a program of the compiler, of
 /// the store, of a store of digests or of the file at `wanted.entry` that can't be read, of a file that
 /// can't be made in the store after a miss, or lack of memory.
 ///
 /// No contract can say what a disk holds. So what is found is stated over snapshots that there are: one
-/// that has the input alone, and one that has the files that the entry names too.
+/// that has the input alone, and one that has files that the entry names too.
 pub fn look<R: Files + AllocGlobal>(
     rt: &R,
     environment: &Environment<'_>,
@@ -282,7 +249,7 @@ pub fn look<R: Files + AllocGlobal>(
         &[],
     );
     match preprocessor_key::<Sha256State, MapFiles>(rt.alloc(), &mut files, &asked)? {
-        Some(key) => look_for(rt, store, wanted, &asked, &mut files, key),
+        Some(key) => look_for(rt, environment, store, wanted, &asked, &mut files, key),
         None => Ok(Found::NoKey),
     }
 }

@@ -164,6 +164,8 @@ pub fn request_key<R: Files + AllocGlobal>(
     let hasher = hasher_of(rt, environment, request)?;
     let (directory, now) = (request.directory, environment.now);
     let asked = snapshot_request(environment, &hasher, directory, now, &[]);
-    let key = preprocessor_key::<Sha256State, MapFiles>(rt.alloc(), files, &asked)?;
-    Ok(key)
+    match preprocessor_key::<Sha256State, MapFiles>(rt.alloc(), files, &asked)? {
+        Some(key) => Ok(Some(key.text)),
+        None => Ok(None),
+    }
 }

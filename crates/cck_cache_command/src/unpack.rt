@@ -4,7 +4,6 @@ use anyhow::{Context, Result};
 use cck_cache_arguments::Packed;
 use cck_cache_files::StoreDirectory;
 use cck_cache_rules::object_in;
-use cck_util::Sha256State;
 use std::fs;
 use std::io::Write;
 use std::rt::Files;
@@ -22,7 +21,7 @@ pub fn unpack<R: Files + AllocGlobal, E: Write>(
     errors: &mut E,
 ) -> Result<bool> {
     let bytes = fs::read(rt, packed.path).context("the object file")?;
-    let Some(object) = object_in::<Sha256State>(rt.alloc(), packed.name, &bytes)? else {
+    let Some(object) = object_in(rt.alloc(), packed.name, &bytes)? else {
         return Ok(false);
     };
     if !has_outputs(&object, &packed.outputs) {

@@ -1,15 +1,16 @@
 //! Says why a look-up misses.
 use crate::environment::Environment;
 use crate::input::input_snapshot;
-use crate::look::{Kept, NO_KEY, add_entry_files, read_entry};
+use crate::included::{add_entry_files, entry_view};
+use crate::look::{Kept, NO_KEY, read_entry};
 use crate::request::request_key;
-use anyhow::Result;
+use anyhow::{Result, bail};
 use cck_cache_arguments::Request;
 use cck_cache_files::{Kind, StoreDirectory, first_failing};
 use cck_cache_rules::{EntryFile, PathTest};
-use cck_entry::PreprocessorCacheEntry;
+use cck_entry::ResultRef;
 use cck_files::MapFiles;
-use cck_include::{IncludeEntry, JudgeContext, KnownFiles, include_matches};
+use cck_include::{JudgeContext, KnownFiles, include_matches};
 use cck_util::Sha256State;
 use std::io::Write;
 use std::rt::Files;
@@ -27,19 +28,19 @@ fn print_test<W: Write>(writer: &mut W, test: &PathTest) -> Result<()> {
     match test {
         PathTest::Absent(path) => print_path(writer, b"present ", path),
         PathTest::File(path) => print_path(writer, b"absent ", path),
-        PathTest::Directory(path) | PathTest::Searched { path, place: _ } => {
+        PathTest::Directory(path) | PathTest::Searched { path, .. } => {
             print_path(writer, b"changed ", path)
         }
     }
 }
 
-// Prints the path of each included file that does not match.
+// Prints the path of each file that a result included and that does not match.
 fn print_changed<R: AllocGlobal, W: Write>(
     rt: &R,
     environment: &Environment<'_>,
     files: &mut MapFiles,
     known: &mut KnownFiles,
-    includes: &[IncludeEntry],
+    result: &ResultRef<'_>,
     writer: &mut W,
 ) -> Result<()> {
     let context = JudgeContext {
@@ -48,30 +49,19 @@ fn print_changed<R: AllocGlobal, W: Write>(
         vars: &environment.variables,
         config: environment.config(),
     };
-    for include in includes {
+    for include in result.includes() {
         let matches = include_matches::<Sha256State, MapFiles>(
             rt.alloc(),
             files,
             known,
-            &include.lend(),
+            &include,
             &context,
         )?;
         if !matches {
-            print_path(writer, b"changed ", &include.path)?;
+            print_path(writer, b"changed ", include.path)?;
         }
     }
     Ok(())
-}
-
-// Prints the path of a test that does not hold.
-fn print_failing<W: Write>(writer: &mut W, test: &PathTest) -> Result<()> {
-    match test {
-        PathTest::Absent(path) => print_path(writer, b"present ", path),
-        PathTest::File(path) => print_path(writer, b"absent ", path),
-        PathTest::Directory(path) | PathTest::Searched { path, .. } => {
-            print_path(writer, b"changed ", path)
-        }
-    }
 }
 
 // Prints what of an entry does not match.
@@ -82,15 +72,17 @@ fn print_entry<R: Files + AllocGlobal, W: Write>(
     file: &EntryFile,
     writer: &mut W,
 ) -> Result<()> {
-    if let Some(test) = first_failing(rt, &file.tests)? {
-        print_failing(writer, test)?;
+    if let Some(test) = first_failing(rt, &file.directories, &file.tests)? {
+        print_test(writer, test)?;
     }
-    add_entry_files(rt, files, &file.entry)?;
-    let entry = PreprocessorCacheEntry::read(rt.alloc(), &file.entry)?;
+    let Some(entry) = entry_view(rt.alloc(), &file.entry)? else {
+        bail!("the bytes of the entry are malformed");
+    };
+    add_entry_files(rt, files, &entry, true)?;
     let mut known = KnownFiles::new(rt.alloc());
-    for (key, includes) in entry.results().iter() {
-        writeln!(writer, "result {key}")?;
-        print_changed(rt, environment, files, &mut known, includes, writer)?;
+    for result in entry.results() {
+        writeln!(writer, "result {}", result.key())?;
+        print_changed(rt, environment, files, &mut known, result, writer)?;
     }
     Ok(())
 }

@@ -13,6 +13,7 @@ ghost use Rattle.cck_files.specs.FileState.{IsQuiet, fault_count};
 ghost use Rattle.cck_markers.specs.Marks as spec;
 ghost use Rattle.cck_markers.specs.Marks.{Marks};
 
+use crate::read_once::{may_be_read_once, without_mark};
 use crate::times::{changed, changed_before, modified};
 use cck_cache_text::file_names;
 use cck_digest::{FileError, UtilError};
@@ -250,11 +251,6 @@ fn may_be_taken(found: &fs::Metadata, is_old: bool, is_like: bool) -> bool
     !found.is_file() || !is_old || is_like
 }
 
-// A text without the byte order mark at its front, which gcc takes away before it compares.
-fn without_mark(contents: &[u8]) -> &[u8] {
-    contents.strip_prefix(b"\xef\xbb\xbf").unwrap_or(contents)
-}
-
 // Whether the file at a path has other contents than these. `false` where that can't be known: it is not a
 // regular file, last changed at or after the given time, or can't be read.
 fn differs<R: Files + AllocGlobal>(rt: &R, contents: &[u8], path: &[u8], since: Timestamp) -> bool {
@@ -313,40 +309,6 @@ pub fn may_be_copy<R: Files + AllocGlobal>(rt: &R, path: &[u8], compared: &Compa
     may_be_taken(&found, is_old, is_like)
 }
 
-// The length of the file at a path, links followed. `None` where it can't be looked at.
-fn length_at<R: Files>(rt: &R, path: &[u8]) -> Option<u64> {
-    let path = std::str::from_utf8(path).ok()?;
-    let found = fs::metadata(rt, path).ok()?;
-    Some(found.len())
-}
-
-// The lengths of those of the files at these paths that are like the length of another one.
-fn like_lengths<R: Files + AllocGlobal>(
-    rt: &R,
-    paths: &BTreeSet<Vec<u8>>,
-) -> Result<BTreeSet<u64>, AllocError> {
-    let mut seen = BTreeSet::new(rt.alloc());
-    let mut like = BTreeSet::new(rt.alloc());
-    for path in paths {
-        let Some(length) = length_at(rt, path) else {
-            continue;
-        };
-        for other in [length.saturating_sub(3), length, length.saturating_add(3)] {
-            if seen.contains(&other) {
-                like.insert(other)?;
-                like.insert(length)?;
-            }
-        }
-        seen.insert(length)?;
-    }
-    Ok(like)
-}
-
-// Whether a text has the word of a pragma with which a file is read once.
-fn may_be_read_once(contents: &[u8]) -> bool {
-    contents.windows(4).any(|word| word == b"once".as_slice())
-}
-
 /// Whether gcc may pass over the file at a path, once it was read by another spelling of the path: its
 /// contents have the word `once`, or any file may be imported. `true` where it can't be read.
 pub fn may_be_passed_over<R: Files + AllocGlobal>(
@@ -366,40 +328,4 @@ pub fn may_be_passed_over<R: Files + AllocGlobal>(
         Ok(contents) => may_be_read_once(&contents),
         Err(_) => true,
     }
-}
-
-/// Whether two of the files at these paths have the same contents, and gcc may pass over one of them once
-/// they have the same time: their contents have the word `once`, or any file may be imported. `true` where
-/// one of them can't be read.
-///
-/// The only error is lack of memory. No contract can say what a file has.
-pub fn has_copies<R: Files + AllocGlobal>(
-    rt: &R,
-    paths: &BTreeSet<Vec<u8>>,
-    is_any: bool,
-) -> Result<bool, AllocError> {
-    let alloc = rt.alloc();
-    let like = like_lengths(rt, paths)?;
-    let mut found = BTreeSet::new(alloc);
-    for path in paths {
-        let Some(length) = length_at(rt, path) else {
-            continue;
-        };
-        if !like.contains(&length) {
-            continue;
-        }
-        let Ok(path) = std::str::from_utf8(path) else {
-            return Ok(true);
-        };
-        let Ok(contents) = fs::read(rt, path) else {
-            return Ok(true);
-        };
-        if !is_any && !may_be_read_once(&contents) {
-            continue;
-        }
-        if !found.insert(without_mark(&contents).to_vec(alloc)?)? {
-            return Ok(true);
-        }
-    }
-    Ok(false)
 }

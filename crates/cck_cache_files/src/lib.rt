@@ -10,7 +10,7 @@
 //! - [`asked_by`] says on which other files the sources of a text may depend.
 //! - [`may_be_copy`] says of a file whether gcc may have taken it for a copy of one of the files of a
 //!   text, which [`known_files`] returns by their lengths and times, and [`is_one_file`] whether two
-//!   paths lead to one file.
+//!   paths lead to one file. [`has_copies`] says whether two files of a text are copies.
 //! - [`StoreDirectory`] is the directory of a store.
 //! - [`list_files`] and [`list_counts`] list the files of a store.
 //! - [`compiler_digest`] is the digest of a compiler's programs on this machine, and
@@ -29,6 +29,7 @@ pub mod laws;
 mod listing;
 mod path_states;
 mod path_tests;
+mod read_once;
 mod searched;
 mod snapshot;
 mod sources;
@@ -38,12 +39,13 @@ mod times;
 
 pub use compiler::{compiler_digest, shared_compiler_digest};
 pub use copies::{
-    ComparedFiles, KnownFile, add_known, compared_paths, has_copies, is_in_snapshot, known_files,
-    may_be_copy, may_be_passed_over,
+    ComparedFiles, KnownFile, add_known, compared_paths, is_in_snapshot, known_files, may_be_copy,
+    may_be_passed_over,
 };
 pub use listing::{StoredFile, list_counts, list_files};
 pub use path_states::{PathState, PathStates};
 pub use path_tests::first_failing;
+pub use read_once::has_copies;
 pub use searched::SearchedDirectories;
 pub use snapshot::{add_file, add_named_files, is_one_file};
 pub use sources::{Asked, asked_by};
