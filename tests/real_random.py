@@ -45,7 +45,7 @@ PLANTED = {
         for word; do
             shift
             case $word in
-            --since=*) set -- "$@" "$(echo "$word" | sed 's/=./=9/')" ;;
+            --since=*) word=${word#--since=}; set -- "$@" "--since=$((${word%.*} + 300)).${word#*.}" ;;
             *) set -- "$@" "$word" ;;
             esac
         done""",

@@ -4,13 +4,14 @@ use Rattle.std.specs.BTreeSet.{BTreeSet}
 use Rattle.std.specs.Global.{Vec}
 use Rattle.std.specs.Option.{option_and_then}
 use Rattle.std.specs.Prelude.{Contains}
+use Rattle.std.specs.List.{list_any}
 use Rattle.std.specs.Str.{bytes_eq}
 use Rattle.std.proofs.lemmas.Bool.{cases_lt, or_cases, or_left, or_right}
 use Rattle.std.proofs.lemmas.List.Elements.{Contains-append_cases, Contains-append_left, Contains-append_right}
 use Rattle.std.proofs.lemmas.Slice.Eq.{bytes_eq-Decides}
-use Rattle.cck_cache_text.specs.Sets.{has_key}
-use Rattle.cck_cache_text.proofs.SetLemmas.{has_key_at, key_at}
-use Rattle.cck_cache_files.specs.Copies.{AreKnown, IsKnownOf, IsMetadataAt, known_of}
+use Rattle.cck_cache_text.specs.Sets.{Adds, IsSetOf, has_key}
+use Rattle.cck_cache_text.proofs.SetLemmas.{Below, has_key_at, key_at}
+use Rattle.cck_cache_files.specs.Copies.{AreKnown, IsKnownOf, IsMetadataAt, IsPathOfName, known_of}
 use Rattle.cck_cache_files.specs.Snapshot.{named_path}
 use Rattle.cck_cache_files.specs.declared.copies.KnownFile.{KnownFile}
 use Rattle.cck_files.specs.FileMap.{FileMap}
@@ -117,4 +118,29 @@ one_name old new input named grown are name = (
     | inl a ↦ grown name ∙ or_left (bytes_eq name input) (has_key old name) ((bytes_eq-Decides name input).1 a)
     | inr b ↦ grown name ∙ or_right (bytes_eq name input) (has_key old name) (are name ∙ b)
   ],
+)
+
+-- the paths of all names
+pub paths_all : (directory : Bytes) (names none paths : BTreeSet (Vec ℕ)) (n : ℕ) → n ≡ length names.keys → none.keys ≡ []
+    → Adds (Below (λ k p. p ≡ named_path directory (get_or (map (λ (v : Vec ℕ). v.items) names.keys) k [])) n) none paths → IsSetOf (IsPathOfName (λ name. IsTrue (has_key names name)) directory) paths
+paths_all directory names none paths n end empty added path = (
+  λ has. elim ((added path).0 has) [
+    | inl at ↦ (let (k, lt, is) = at in (get_or (map (λ (v : Vec ℕ). v.items) names.keys) k [], has_key_at names.keys k (omega (arith, lt, end)), is))
+    | inr before ↦ absurd (no_key (ap (list_any (λ (v : Vec ℕ). bytes_eq path v.items)) (sym empty) ∙ before))
+  ],
+  λ is.
+      let (name, named, leads) = is in
+      let at = key_at names.keys name named in
+      (added path).1 (inl (at.0, omega (arith, at.1, end), leads ∙ ap (named_path directory) (sym at.2))),
+)
+  where
+    no_key : false ≡ true → ⊥
+    no_key e = cc
+
+-- names that are others of the same
+pub paths_same : (P Q : Bytes → Type 0) (directory : Bytes) (paths : BTreeSet (Vec ℕ)) → ((name : Bytes) → P name → Q name) → ((name : Bytes) → Q name → P name) → IsSetOf (IsPathOfName P directory) paths
+    → IsSetOf (IsPathOfName Q directory) paths
+paths_same P Q directory paths there back are path = (
+  λ has. let (name, is, leads) = (are path).0 has in (name, there name is, leads),
+  λ is. let (name, other, leads) = is in (are path).1 (name, back name other, leads),
 )

@@ -48,6 +48,10 @@ pub record AreKnown (files : FileMap) (directory : Bytes) (IsName : Bytes → Ty
   pub each : (name : Bytes) → IsName name → (file : KnownFile) → IsKnownOf files directory name (Some file) → Contains known file
   pub only : (file : KnownFile) → Contains known file → (name : Bytes) × IsName name × IsKnownOf files directory name (Some file)
 
+-- the absolute path of the file of such a name
+abbrev pub IsPathOfName : (Bytes → Type 0) → Bytes → Bytes → Type 0
+IsPathOfName IsName directory path = (name : Bytes) × IsName name × (path ≡ named_path directory name)
+
 -- what is at a path was added, which is UTF-8; or nothing was
 abbrev pub AddsKnown : Bytes → List KnownFile → List KnownFile → Bool → Type 0
 AddsKnown path old new true = (file : KnownFile) × (new ≡ old ++ file ∷ []) × IsUtf8 path

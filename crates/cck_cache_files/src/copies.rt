@@ -5,8 +5,8 @@
 ghost use Rattle.std.specs.Prelude.{◌≡◌, ◌↔◌, ◌⊎◌, Contains, IfOk, IsOkUnless, IsTrue, IsUtf8, List, MatchBool, OnErr, true};
 ghost use Rattle.std.specs.Fs.{file_type};
 ghost use Rattle.cck_cache_text.specs.Names.{is_named};
-ghost use Rattle.cck_cache_text.specs.Sets.{has_key};
-ghost use Rattle.cck_cache_files.specs.Copies.{AddsKnown, AreKnown, IsInSnapshot, IsKnownAt, IsKnownOf, IsLengthLike, IsLike, IsNotTaken, IsSecondLike, MayBeTaken, known_of, second_of};
+ghost use Rattle.cck_cache_text.specs.Sets.{IsSetOf, has_key};
+ghost use Rattle.cck_cache_files.specs.Copies.{AddsKnown, AreKnown, IsInSnapshot, IsKnownAt, IsKnownOf, IsLengthLike, IsLike, IsNotTaken, IsPathOfName, IsSecondLike, MayBeTaken, known_of, second_of};
 ghost use Rattle.cck_cache_files.specs.declared.copies.KnownFile.{KnownFile};
 ghost use Rattle.cck_files.specs.Calls.{Keeps};
 ghost use Rattle.cck_files.specs.FileState.{IsQuiet, fault_count};
@@ -131,6 +131,20 @@ fn known_files_of(
     Ok(known)
 }
 
+// The names of the files of a text: those that it names, and the input.
+fn names_of(
+    alloc: Global,
+    input: &[u8],
+    text: &[u8],
+) -> Result<BTreeSet<Vec<u8>>, AllocError>
+    ensures { IfOk result (λ names. (marks : List spec.Mark) → Marks true text.now marks
+        → IsSetOf (λ name. (name ≡ input.now) ⊎ IsTrue (is_named marks name)) names) }
+{
+    let mut names = file_names(alloc, text)?;
+    names.insert(input.to_vec(alloc)?)?;
+    Ok(names)
+}
+
 /// The lengths and the times of the files in the snapshot that a preprocessed text names, and of the
 /// input.
 ///
@@ -147,10 +161,27 @@ pub fn known_files(
         → AreKnown files.old.files directory.now
         (λ name. (name ≡ input.now) ⊎ IsTrue (is_named marks name)) known.items) }
 {
-    let mut names = file_names(alloc, text)?;
-    names.insert(input.to_vec(alloc)?)?;
+    let names = names_of(alloc, input, text)?;
     let known = known_files_of(alloc, files, directory, &names)?;
     Ok(known)
+}
+
+// The absolute paths of the files of these names, without `.` and `..`.
+fn paths_of(
+    alloc: Global,
+    directory: &[u8],
+    names: &BTreeSet<Vec<u8>>,
+) -> Result<BTreeSet<Vec<u8>>, UtilError>
+    ensures paths { IfOk result (IsSetOf (IsPathOfName (λ name. IsTrue (has_key names.now name)) directory.now)) }
+    ensures errors { IsOkUnless result UtilError.Memory }
+{
+    let mut paths = BTreeSet::new(alloc);
+    for name in names {
+        let joined = join_path(alloc, directory, name)?;
+        let path = normalize_path(alloc, &joined)?;
+        paths.insert(path)?;
+    }
+    Ok(paths)
 }
 
 /// The absolute paths of the files that a preprocessed text names, and of the input, without `.` and
@@ -163,15 +194,12 @@ pub fn compared_paths(
     input: &[u8],
     text: &[u8],
 ) -> Result<BTreeSet<Vec<u8>>, UtilError>
-    ensures { IsOkUnless result UtilError.Memory }
+    ensures paths { IfOk result (λ paths. (marks : List spec.Mark) → Marks true text.now marks
+        → IsSetOf (IsPathOfName (λ name. (name ≡ input.now) ⊎ IsTrue (is_named marks name)) directory.now) paths) }
+    ensures errors { IsOkUnless result UtilError.Memory }
 {
-    let mut names = file_names(alloc, text)?;
-    names.insert(input.to_vec(alloc)?)?;
-    let mut paths = BTreeSet::new(alloc);
-    for name in &names {
-        let joined = join_path(alloc, directory, name)?;
-        paths.insert(normalize_path(alloc, &joined)?)?;
-    }
+    let names = names_of(alloc, input, text)?;
+    let paths = paths_of(alloc, directory, &names)?;
     Ok(paths)
 }
 
