@@ -1,7 +1,9 @@
 pub mod ArgumentLemmas
 mod BaseExamples
 pub mod BaseLemmas
+mod ChecksumLemmas
 mod ContentLemmas
+mod DifferenceLemmas
 pub mod EqualityLemmas
 mod Examples
 pub mod ListLemmas

@@ -42,9 +42,9 @@ abbrev pub object_parts : ObjectFields → List (List ℕ)
 object_parts file = file.key ∷ file.object ∷ file.messages ∷ file.dependencies ∷ []
 
 -- an entry file
-abbrev pub entry_file : (List ℕ → List ℕ) → EntryFields → List ℕ
-entry_file hash file = stored_file hash (codes "cck entry 2\n") (entry_parts file)
+abbrev pub entry_file : EntryFields → List ℕ
+entry_file file = stored_file (codes "cck entry 3\n") (entry_parts file)
 
 -- an object file of the store
-abbrev pub object_file : (List ℕ → List ℕ) → ObjectFields → List ℕ
-object_file hash file = stored_file hash (codes "cck object 3\n") (object_parts file)
+abbrev pub object_file : ObjectFields → List ℕ
+object_file file = stored_file (codes "cck object 4\n") (object_parts file)

@@ -1,6 +1,7 @@
 pub mod Age
 pub mod Argument
 pub mod Base
+pub mod Checksum
 pub mod Contents
 pub mod Files
 pub mod Frames

@@ -1,6 +1,5 @@
 -- what is tested of a path, and the bytes of a test in an entry file
 use Rattle.std.specs.Prelude.{ℕ, List, ◌++◌, codes, map}
-use Rattle.std.specs.Global.{Vec}
 use Rattle.cck_digest.specs.Frames.{length_bytes}
 use Rattle.cck_cache_rules.specs.declared.path_test.PathTest.{PathTest}
 use Rattle.cck_cache_rules.specs.declared.path_test.PathTest.TheVariants as program

@@ -1,5 +1,5 @@
 //! The file that keeps an entry.
-ghost use Rattle.std.specs.Prelude.{◌≡◌, IfOk, IsOkUnless, map};
+ghost use Rattle.std.specs.Prelude.{◌≡◌, IfOk, map};
 ghost use Rattle.std.specs.Option.{option_map};
 ghost use Rattle.cck_cache_rules.specs.Files.{entry_fields, entry_file, entry_parts};
 ghost use Rattle.cck_cache_rules.specs.PathTest.{test_bytes, tests_of};
@@ -7,11 +7,10 @@ ghost use Rattle.cck_cache_rules.specs.Reading.{ReadsBack, byte_lists};
 
 use crate::path_test::PathTest;
 use crate::stored::{read_stored, write_stored};
-use cck_digest::{HashState, UtilError};
 use std::alloc::{AllocError, Global};
 
 /// How an entry file begins.
-const KIND: &[u8] = b"cck entry 2\n";
+const KIND: &[u8] = b"cck entry 3\n";
 
 /// What an entry file holds.
 #[derive(Debug, Drop, PartialEq, Eq)]
@@ -60,10 +59,9 @@ fn test_parts(alloc: Global, tests: &[PathTest]) -> Result<Vec<Vec<u8>>, AllocEr
 impl EntryFile {
     /// The bytes of the file.
     ///
-    /// The only error is [`UtilError::Memory`].
-    pub fn write<H: HashState>(&self, alloc: Global) -> Result<Vec<u8>, UtilError>
-        ensures file { IfOk result (λ bytes. bytes.items ≡ entry_file H.hash (entry_fields self.now)) }
-        ensures errors { IsOkUnless result UtilError.Memory }
+    /// The only error is lack of memory.
+    pub fn write(&self, alloc: Global) -> Result<Vec<u8>, AllocError>
+        ensures { IfOk result (λ bytes. bytes.items ≡ entry_file (entry_fields self.now)) }
     {
         let tests = test_parts(alloc, &self.tests)?;
         let mut parts: Vec<&[u8]> = Vec::new(alloc);
@@ -72,20 +70,18 @@ impl EntryFile {
         for test in &tests {
             parts.push(test)?;
         }
-        write_stored::<H>(alloc, KIND, &parts)
+        write_stored(alloc, KIND, &parts)
     }
 
     /// The file that has these bytes when it is written. `None` where no file has.
     ///
-    /// The only error is [`UtilError::Memory`].
-    pub fn read<H: HashState>(alloc: Global, bytes: &[u8]) -> Result<Option<EntryFile>, UtilError>
-        ensures read { IfOk result (λ found.
-            ReadsBack (entry_file H.hash) bytes.now (option_map entry_fields found)) }
-        ensures errors { IsOkUnless result UtilError.Memory }
+    /// The only error is lack of memory.
+    pub fn read(alloc: Global, bytes: &[u8]) -> Result<Option<EntryFile>, AllocError>
+        ensures { IfOk result (λ found. ReadsBack entry_file bytes.now (option_map entry_fields found)) }
     {
-        let Some(parts) = read_stored::<H>(alloc, KIND, bytes)? else {
+        let Some(parts) = read_stored(alloc, KIND, bytes)? else {
             return Ok(None);
         };
-        Ok(file_of(alloc, parts)?)
+        file_of(alloc, parts)
     }
 }

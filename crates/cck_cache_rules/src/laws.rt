@@ -1,10 +1,21 @@
 //! Laws about the definitions. Each is the contract of a function with an empty body.
 ghost use Rattle.std.specs.Prelude.{◌≡◌, ◌↔◌, IsTrue};
+ghost use Rattle.cck_cache_rules.specs.Checksum.{ChecksumTellsOneWord, ChecksumTellsTwoWords};
 ghost use Rattle.cck_cache_rules.specs.Files.{entry_fields, object_fields};
 ghost use Rattle.cck_cache_rules.specs.ObjectName.{MaterialTellsObject};
 ghost use Rattle.cck_cache_rules.specs.PathTest.{test_of};
 
 use crate::{EntryFile, ObjectFile, PathTest, Refusal};
+
+/// Bytes that differ in one of their words, of 4 bytes each, have different checksums.
+pub fn checksum_tells_one_word()
+    ensures { ChecksumTellsOneWord }
+{}
+
+/// Bytes that differ in two of their words have different checksums, if they have fewer than 2^32 words.
+pub fn checksum_tells_two_words()
+    ensures { ChecksumTellsTwoWords }
+{}
 
 /// What is hashed for the names of two objects is equal exactly if their keys, the digests of their
 /// inputs and the recorded digests of both groups of their files are. Each length and each count is

@@ -4,14 +4,15 @@
 //! All calls are on values: none reads a file.
 //!
 //! - [`EntryFile`] and [`ObjectFile`] are the two kinds of file of a store. Their bytes end in
-//!   frames, under a digest over all of them, so that a file that was cut or changed is not read.
+//!   frames, after a checksum of these, so that a file that was damaged is not read.
 //!   [`entry_in`] and [`object_in`] return what the bytes of a file hold for a key.
 //! - [`PathTest`] is what must hold of a path before an entry is used.
 //! - [`object_name`] returns the name under which an object is kept.
 //! - [`refusal_of`] says why a compilation is not recorded, by what is known before the files of its
 //!   text are judged.
 //! - [`is_abandoned`] says whether a file was left by a recording that was killed.
-//! - [`laws`] states what equal names have in common, and what `==` means for the types.
+//! - [`laws`] states what equal names have in common, which damage a checksum finds in any case, and
+//!   what `==` means for the types.
 //!
 //! # Base directories
 //!
@@ -27,6 +28,7 @@
 mod age;
 mod argument;
 mod base;
+mod checksum;
 mod contents;
 mod entry_file;
 mod frames;

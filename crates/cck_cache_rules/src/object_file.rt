@@ -1,15 +1,14 @@
 //! The file that keeps an object.
-ghost use Rattle.std.specs.Prelude.{◌≡◌, IfOk, IsOkUnless};
+ghost use Rattle.std.specs.Prelude.{◌≡◌, IfOk};
 ghost use Rattle.std.specs.Option.{option_map};
 ghost use Rattle.cck_cache_rules.specs.Files.{object_fields, object_file, object_parts};
 ghost use Rattle.cck_cache_rules.specs.Reading.{ReadsBack, byte_lists};
 
 use crate::stored::{read_stored, write_stored};
-use cck_digest::{HashState, UtilError};
-use std::alloc::Global;
+use std::alloc::{AllocError, Global};
 
 /// How an object file of the store begins.
-const KIND: &[u8] = b"cck object 3\n";
+const KIND: &[u8] = b"cck object 4\n";
 
 /// What an object file of the store holds.
 #[derive(Debug, Drop, PartialEq, Eq)]
@@ -49,24 +48,21 @@ fn file_of(parts: Vec<Vec<u8>>) -> Option<ObjectFile>
 impl ObjectFile {
     /// The bytes of the file.
     ///
-    /// The only error is [`UtilError::Memory`].
-    pub fn write<H: HashState>(&self, alloc: Global) -> Result<Vec<u8>, UtilError>
-        ensures file { IfOk result (λ bytes. bytes.items ≡ object_file H.hash (object_fields self.now)) }
-        ensures errors { IsOkUnless result UtilError.Memory }
+    /// The only error is lack of memory.
+    pub fn write(&self, alloc: Global) -> Result<Vec<u8>, AllocError>
+        ensures { IfOk result (λ bytes. bytes.items ≡ object_file (object_fields self.now)) }
     {
         let parts: [&[u8]; 4] = [&self.key, &self.object, &self.messages, &self.dependencies];
-        write_stored::<H>(alloc, KIND, &parts)
+        write_stored(alloc, KIND, &parts)
     }
 
     /// The file that has these bytes when it is written. `None` where no file has.
     ///
-    /// The only error is [`UtilError::Memory`].
-    pub fn read<H: HashState>(alloc: Global, bytes: &[u8]) -> Result<Option<ObjectFile>, UtilError>
-        ensures read { IfOk result (λ found.
-            ReadsBack (object_file H.hash) bytes.now (option_map object_fields found)) }
-        ensures errors { IsOkUnless result UtilError.Memory }
+    /// The only error is lack of memory.
+    pub fn read(alloc: Global, bytes: &[u8]) -> Result<Option<ObjectFile>, AllocError>
+        ensures { IfOk result (λ found. ReadsBack object_file bytes.now (option_map object_fields found)) }
     {
-        let Some(parts) = read_stored::<H>(alloc, KIND, bytes)? else {
+        let Some(parts) = read_stored(alloc, KIND, bytes)? else {
             return Ok(None);
         };
         Ok(file_of(parts))

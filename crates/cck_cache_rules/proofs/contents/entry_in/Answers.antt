@@ -6,12 +6,12 @@ use Rattle.cck_cache_rules.proofs.ContentLemmas.{none_read, other_read}
 use Rattle.cck_cache_rules.specs.Contents.{key_of_entry}
 use Rattle.cck_cache_rules.proofs.contents.entry_in.Goals as goal
 
-pub returns-in_default-clause-read : goal.returns-in_default-clause-read
-returns-in_default-clause-read g c =
-    none_read key_of_entry (entry_file g.H.HashState.hash) c.args.key.now c.args.bytes.now
-    (subst (λ found. ReadsBack (entry_file g.H.HashState.hash) c.args.bytes.now (option_map entry_fields found)) c.in_default.is c.in_ok-file.ensures.read)
+pub returns-in_default : goal.returns-in_default
+returns-in_default c =
+    none_read key_of_entry entry_file c.args.key.now c.args.bytes.now
+    (subst (λ found. ReadsBack entry_file c.args.bytes.now (option_map entry_fields found)) c.in_default.is c.in_ok-file.ensures)
 
-pub returns-else-eq-clause-read : goal.returns-else-eq-clause-read
-returns-else-eq-clause-read g c =
-    other_read key_of_entry (entry_file g.H.HashState.hash) c.args.key.now c.args.bytes.now (entry_fields c.in-Some.file)
-    (subst (λ found. ReadsBack (entry_file g.H.HashState.hash) c.args.bytes.now (option_map entry_fields found)) c.in-Some.is c.in_ok-file.ensures.read) (search rules)
+pub returns-else-eq : goal.returns-else-eq
+returns-else-eq c =
+    other_read key_of_entry entry_file c.args.key.now c.args.bytes.now (entry_fields c.in-Some.file)
+    (subst (λ found. ReadsBack entry_file c.args.bytes.now (option_map entry_fields found)) c.in-Some.is c.in_ok-file.ensures) (search rules)

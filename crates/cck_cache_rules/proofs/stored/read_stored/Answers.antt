@@ -1,23 +1,26 @@
 use Rattle.std.proofs.Common.{sym, ◌∙◌}
 use Rattle.std.specs.Option.{option_map}
+use Rattle.std.proofs.lemmas.Result.{IfOk-weaker}
 use Rattle.cck_cache_rules.specs.Reading.{byte_lists}
 use Rattle.cck_cache_rules.proofs.ReadingLemmas.{differ, equal}
-use Rattle.cck_cache_rules.proofs.StoredLemmas.{not_cut, other_digest, whole_file}
+use Rattle.cck_cache_rules.proofs.StoredLemmas.{not_cut, other_checksum, whole_file}
 use Rattle.cck_cache_rules.proofs.stored.read_stored.Goals as goal
 
-pub returns-in_default-clause-read : goal.returns-in_default-clause-read
-returns-in_default-clause-read g c = not_cut g.H.HashState.hash g.met.H.HashState.length_hash c.args.kind.now c.args.bytes.now c.in_default.ensures
+pub returns-in_default : goal.returns-in_default
+returns-in_default c = not_cut c.args.kind.now c.args.bytes.now c.in_default.ensures
 
-pub returns-then-ne-clause-read : goal.returns-then-ne-clause-read
-returns-then-ne-clause-read g c =
-    let text = c.in-Some.text.now in
-    let apart = differ c.as_bytes.result.now text c.if-ne.ensures in
-    other_digest g.H.HashState.hash g.met.H.HashState.length_hash c.args.kind.now c.args.bytes.now text c.in-Some.frames.now c.in-Some.ensures.0 c.in-Some.ensures.1
-    (λ same. apart (c.as_bytes.ensures.value ∙ (c.in_ok-digest.ensures.text ∙ same)))
+pub returns-then-ne : goal.returns-then-ne
+returns-then-ne c =
+    let written = c.in-Some.written.now in
+    let apart = differ c.as_flattened.result.now written c.if-ne.ensures in
+    other_checksum c.args.kind.now c.args.bytes.now written c.in-Some.frames.now c.in-Some.ensures.0 c.in-Some.ensures.1
+    (λ same. apart (c.as_flattened.ensures.value ∙ (c.checksum-sums.ensures ∙ same)))
 
-pub returns-clause-read : goal.returns-clause-read
-returns-clause-read g c =
-    let text = c.in-Some.text.now in
-    let same = equal c.as_bytes.result.now text c.if-ne.ensures in
-    whole_file g.H.HashState.hash g.met.H.HashState.length_hash c.args.kind.now c.args.bytes.now text c.in-Some.frames.now (option_map byte_lists c.in_ok-read_frames.field-0) c.in-Some.ensures.0 c.in-Some.ensures.1
-    (sym c.in_ok-digest.ensures.text ∙ (sym c.as_bytes.ensures.value ∙ same)) c.in_ok-read_frames.ensures
+pub returns : goal.returns
+returns c =
+    let written = c.in-Some.written.now in
+    let same = equal c.as_flattened.result.now written c.if-ne.ensures in
+    IfOk-weaker c.read_frames.result _ _
+    (λ found read. whole_file c.args.kind.now c.args.bytes.now written c.in-Some.frames.now (option_map byte_lists found) c.in-Some.ensures.0 c.in-Some.ensures.1
+    (sym c.checksum-sums.ensures ∙ (sym c.as_flattened.ensures.value ∙ same)) read)
+    c.read_frames.ensures

@@ -3,5 +3,5 @@ use Rattle.cck_cache_rules.proofs.entry_file.EntryFile.write.Given as goal
 
 -- the parts so far
 abbrev pub invariant-loop-test : goal.invariant-loop-test
-invariant-loop-test g l = map (λ p. p.now) l.parts.items
+invariant-loop-test l = map (λ p. p.now) l.parts.items
     ≡ l.self.preprocessor_key.items ∷ l.self.entry.items ∷ map (λ p. p.items) (take l.test-index l.test-items)

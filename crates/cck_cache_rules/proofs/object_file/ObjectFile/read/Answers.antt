@@ -6,11 +6,11 @@ use Rattle.cck_cache_rules.specs.Stored.{stored_file}
 use Rattle.cck_cache_rules.proofs.ReadingLemmas.{read_twice}
 use Rattle.cck_cache_rules.proofs.object_file.ObjectFile.read.Goals as goal
 
-pub returns-in_default-clause-read : goal.returns-in_default-clause-read
-returns-in_default-clause-read g c =
-    let none = rw c.in_default.is at c.in_ok-parts.ensures.read in
+pub returns-in_default : goal.returns-in_default
+returns-in_default c =
+    let none = rw c.in_default.is at c.in_ok-parts.ensures in
     λ x same. none (object_parts x) same
 
-pub returns-clause-read : goal.returns-clause-read
-returns-clause-read g c =
-    read_twice (stored_file g.H.HashState.hash (codes "cck object 3\n")) object_parts c.args.bytes.now (byte_lists c.in-Some.parts) (option_map object_fields c.file_of.result) (rw c.in-Some.is at c.in_ok-parts.ensures.read) c.file_of.ensures
+pub returns : goal.returns
+returns c =
+    read_twice (stored_file (codes "cck object 4\n")) object_parts c.args.bytes.now (byte_lists c.in-Some.parts) (option_map object_fields c.file_of.result) (rw c.in-Some.is at c.in_ok-parts.ensures) c.file_of.ensures

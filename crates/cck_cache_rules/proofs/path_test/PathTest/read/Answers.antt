@@ -1,6 +1,6 @@
 use Rattle.std.proofs.Common.{◌++◌, ◌∙◌, ap, codes}
 use Rattle.cck_digest.specs.Frames.{length_bytes}
-use Rattle.cck_cache_rules.specs.PathTest.{Absent, Directory, File, Searched}
+use Rattle.cck_cache_rules.specs.PathTest.{Absent, Searched}
 use Rattle.cck_cache_rules.proofs.TestLemmas.{no_test, test_read}
 use Rattle.cck_cache_rules.proofs.path_test.PathTest.read.Goals as goal
 
