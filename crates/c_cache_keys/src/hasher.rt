@@ -21,7 +21,6 @@ use crate::call::{CacheControl, HashResult};
 use crate::conditions::Conditions;
 use asking::find;
 use bstr::ByteSlice;
-pub use opening::PreprocessorKey;
 use cck_compiler::{CCompilerImpl, ColorMode, KeyError, ParsedArguments};
 use cck_digest::HashState;
 use cck_files::Files;
@@ -30,6 +29,7 @@ use cck_path::Timestamp;
 use cck_store::PreprocessorStore;
 use cck_util::Language;
 use jiff::tz::TimeZone;
+pub use opening::PreprocessorKey;
 use std::alloc::{AllocError, Global};
 
 /// A compilation whose keys can be computed: a compiler and a parsed command line.

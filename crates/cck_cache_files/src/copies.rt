@@ -132,11 +132,7 @@ fn known_files_of(
 }
 
 // The names of the files of a text: those that it names, and the input.
-fn names_of(
-    alloc: Global,
-    input: &[u8],
-    text: &[u8],
-) -> Result<BTreeSet<Vec<u8>>, AllocError>
+fn names_of(alloc: Global, input: &[u8], text: &[u8]) -> Result<BTreeSet<Vec<u8>>, AllocError>
     ensures { IfOk result (λ names. (marks : List spec.Mark) → Marks true text.now marks
         → IsSetOf (λ name. (name ≡ input.now) ⊎ IsTrue (is_named marks name)) names) }
 {

@@ -187,7 +187,9 @@ fn lent_matches<H: HashState, F: Files>(
         (list_all (matches_with statuses.now s (F.file_map files.old)) (result_lent lent.now).1)) }
 {
     for include in lent.includes() {
-        let matches = include_matches_with::<H, F>(alloc, statuses, files, known, &include, context)?;
+        let matches = include_matches_with::<H, F>(
+            alloc, statuses, files, known, &include, context,
+        )?;
         if !matches {
             return Ok(false);
         }

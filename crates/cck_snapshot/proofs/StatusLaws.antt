@@ -124,7 +124,7 @@ module _ {V S : Type 0} (w : World V) (st : Store S) (size : HasSize w.hash) (la
         mid,
         plain_step,
         from_sound (earlier ++ d.call ∷ []) mid t ds rs (subst (HonestTimes w) (sym (append_assoc earlier (d.call ∷ []) (calls_of ds))) honest)
-        (stays_sound w st size laws earlier d s mid r sound plain_step) rest,
+            (stays_sound w st size laws earlier d s mid r sound plain_step) rest,
       )
 
   -- the first half of the headline
