@@ -1,5 +1,6 @@
 pub mod AbsenceLemmas
 pub mod CallLemmas
+pub mod IncludedLemmas
 pub mod InputLemmas
 pub mod LookLemmas
 pub mod NamingLemmas

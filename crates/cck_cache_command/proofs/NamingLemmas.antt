@@ -1,31 +1,36 @@
 -- the result of a key in an entry
-use Rattle.std.proofs.Common.{◌≡◌, ◌∙◌, List, [], ◌∷◌, Bool, true, false, cond, Option, Some, String, string_bytes, map, refl, ap}
-use Rattle.std.specs.BTreeMap.{is_at}
-use Rattle.std.specs.Cmp.Lexicographic.{slice_cmp}
-use Rattle.std.specs.FinMap.{entries, find, get, get-entries}
-use Rattle.std.specs.Global.{Vec}
-use Rattle.std.specs.Map.{lookup}
-use Rattle.std.specs.Option.{option_map}
-use Rattle.std.specs.Ordering.{nat_cmp}
-use Rattle.std.specs.declared.alloc.Global.{Global}
-use Rattle.cck_entry.specs.Entry.{Entry}
-use Rattle.cck_entry.specs.Results.{KeyResult, result_in}
-use Rattle.cck_include.specs.Include.{includes_in}
-use Rattle.cck_include.specs.declared.include.IncludeEntry.{IncludeEntry}
+use Rattle.std.proofs.Common.{◌≡◌, ◌∙◌, ◌<◌, ◌+◌, ◌⊎◌, ℕ, inl, inr, arith, Bool, true, false, nat_eq, List, [], ◌∷◌, ◌++◌, Ok, get_or, length, map, take, refl, sym, ap, subst}
+use Rattle.std.proofs.lemmas.List.{map-append, take_more}
+use Rattle.std.proofs.lemmas.List.Elements.{Contains-append_cases}
+use Rattle.std.specs.List.{Contains}
+use Rattle.cck_entry.specs.Entry.{Entry, EntryText, Reads}
+use Rattle.cck_entry.specs.Lent.{result_lent}
+use Rattle.cck_entry.specs.Results.{KeyResult}
+use Rattle.cck_entry.specs.declared.result_ref.ResultRef.{ResultRef}
+use Rattle.cck_include.specs.Include.{Include}
 use Rattle.cck_path.specs.Bytes.{Bytes}
-use Rattle.cck_path.specs.TextOrder.{text_cmp}
 
-map_if : {X Y : Type 0} (f : X → Y) (b : Bool) (x : X) (a : Option X) (c : Option Y) → c ≡ option_map f a → cond b (Some (f x)) c ≡ option_map f (cond b (Some x) a)
-map_if f true x a c same = refl
-map_if f false x a c same = same
+-- the one element of a list
+one_element : {X : Type 0} (x y : X) → Contains (x ∷ []) y → x ≡ y
+one_element x y at =
+    let first : at.0 ≡ 0 = omega (arith, at.1) in
+    subst (λ (n : ℕ). get_or (x ∷ []) n y ≡ y) first at.2
 
--- the includes of the result of a key, by their values
-find_result : (key : Bytes) (results : List (String Global × Vec IncludeEntry))
-    → find text_cmp key (map result_in results) ≡ option_map (λ (v : Vec IncludeEntry). includes_in v.items) (lookup (is_at (λ k. slice_cmp nat_cmp key (string_bytes k))) results)
-find_result key [] = refl
-find_result key (r ∷ results) =
-    map_if (λ (v : Vec IncludeEntry). includes_in v.items) (is_at (λ k. slice_cmp nat_cmp key (string_bytes k)) r.0) r.1 (lookup (is_at (λ k. slice_cmp nat_cmp key (string_bytes k))) results) _ (find_result key results)
+-- no result so far has the key, nor has the next one
+pub none_more : (results : List ResultRef) (i : ℕ) (r : ResultRef) (key : Bytes) → i < length results → r ≡ get_or results i r → (r.key.now ≡ key → ⊥)
+    → ((includes : List Include) → Contains (map result_lent (take i results)) (key, includes) → ⊥) → (includes : List Include) → Contains (map result_lent (take (i + 1) results)) (key, includes) → ⊥
+none_more results i r key within is other none includes at =
+    let before = map result_lent (take i results) in
+    let all : map result_lent (take (i + 1) results) ≡ before ++ result_lent r ∷ [] =
+    ap (λ (rs : List ResultRef). map result_lent rs) (take_more results i r within)
+    ∙ (map-append result_lent (take i results) (get_or results i r ∷ []) ∙ ap (λ (v : ResultRef). before ++ result_lent v ∷ []) (sym is))
+    in
+    elim (Contains-append_cases before (result_lent r ∷ []) (key, includes) (subst (λ (rs : List KeyResult). Contains rs (key, includes)) all at)) [
+      | inl earlier ↦ none includes earlier
+      | inr this ↦ other (ap (λ (found : KeyResult). found.0) (one_element (result_lent r) (key, includes) this))
+    ]
 
-pub result_found : (entry : Entry) (key : Bytes) (results : List (String Global × Vec IncludeEntry)) → entries entry ≡ map result_in results
-    → get entry key ≡ option_map (λ (v : Vec IncludeEntry). includes_in v.items) (lookup (is_at (λ k. slice_cmp nat_cmp key (string_bytes k))) results)
-result_found entry key results same = get-entries entry key ∙ (ap (λ (rs : List KeyResult). find text_cmp key rs) same ∙ find_result key results)
+-- bytes that are not empty were read as an entry
+pub entry_read : (entry : Entry) (bytes : Bytes) → Reads (Ok entry) bytes → (bytes ≡ [] → ⊥) → EntryText entry bytes
+entry_read entry bytes (inl text) some = text
+entry_read entry bytes (inr none) some = absurd (some none.0)

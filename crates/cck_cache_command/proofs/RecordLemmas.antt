@@ -7,6 +7,7 @@ use Rattle.cck_cache_rules.specs.Base.{WordLists, word_lists}
 use Rattle.cck_cache_rules.specs.Text.{AreBases}
 use Rattle.cck_cache_rules.specs.declared.base.Words.{Words}
 use Rattle.cck_cache_command.proofs.InputLemmas.{calm_kept, calm_stays, without_fault}
+use Rattle.cck_cache_command.specs.Copies.{IsCopiesVerdict}
 use Rattle.cck_cache_command.specs.Input.{IsCalm, IsInput, NoFault}
 use Rattle.cck_cache_command.specs.Record.{AreFilesOf, AreGathered, HasPathTests, HasAskedTests, HasUnnamedTests, IsAsked, IsLocalTime, IsOneDay, IsOutcome, IsOutcomeOver, ObjectShowsBase, ReadsAlone}
 use Rattle.cck_cache_command.specs.Request.{IsRequest, request_words}
@@ -57,10 +58,10 @@ calm_grown text cwd before after grew =
     calm_stays before after (grew list.0 list.1).calm
 
 -- what was gathered over files that a call kept
-pub gathered_over : (request : Request) (since : Moment) (text : Bytes) (files new : FileMap) (made asked others : List Test) → new ≡ files → AreFilesOf request text files → HasPathTests request since text made → HasAskedTests request since text files asked
+pub gathered_over : (request : Request) (since : Moment) (text : Bytes) (files new : FileMap) (made asked others : List Test) → new ≡ files → AreFilesOf request text files → IsCopiesVerdict files request text false → HasPathTests request since text made → HasAskedTests request since text files asked
     → HasUnnamedTests request since text files others → AreGathered request since text new made asked others
-gathered_over request since text files new made asked others same are path_tests tested unnamed =
-    subst (λ (m : FileMap). AreGathered request since text m made asked others) (sym same) (record { are_files = are; path_tests = path_tests; tested = tested; unnamed = unnamed })
+gathered_over request since text files new made asked others same are no_copies path_tests tested unnamed =
+    subst (λ (m : FileMap). AreGathered request since text m made asked others) (sym same) (record { are_files = are; no_copies = no_copies; path_tests = path_tests; tested = tested; unnamed = unnamed })
 
 -- a base directory is shown by an object file, so there is one
 pub some_shows : (bases : List Bytes) (o : Option ObjectFile) → ObjectShowsBase bases o → (object : ObjectFile) × ObjectShowsBase bases (Some object)

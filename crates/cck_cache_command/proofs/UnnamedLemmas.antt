@@ -6,7 +6,8 @@ use Rattle.std.specs.Option.{IfSome, option_map}
 use Rattle.std.specs.Prelude.{Contains}
 use Rattle.std.proofs.lemmas.List.{get_or_default, length-map}
 use Rattle.std.proofs.lemmas.List.Elements.{Contains-append_left}
-use Rattle.cck_cache_command.specs.Unnamed.{AreCompared, AreFronts, IsPassed, IsSpelling, IsThere, IsUnread, KeepsKnown, LeadsNotTo, LeadsTo, MayImport, normal_path}
+use Rattle.cck_cache_command.specs.Unnamed.{AreCompared, AreFronts, IsPassed, IsSpelling, IsThere, IsUnread, KeepsKnown, LeadsNotTo, LeadsTo, normal_path}
+use Rattle.cck_cache_command.specs.Copies.{MayImport}
 use Rattle.cck_cache_command.proofs.AbsenceLemmas.{IsAmong, more_names, next_name}
 use Rattle.cck_cache_text.specs.Left.{IsLeftOn}
 use Rattle.cck_cache_text.specs.Names.{is_named}

@@ -4,12 +4,15 @@ use Rattle.std.specs.declared.alloc.Global.{Global}
 use Rattle.cck_cache_rules.specs.Shown.{ShowsBase}
 use Rattle.cck_cache_rules.specs.Text.{AreBases}
 use Rattle.cck_cache_command.specs.Absence.{AreTestsOf, IsRefusedByPath}
+use Rattle.cck_cache_command.specs.Copies.{IsCopiesVerdict}
 use Rattle.cck_cache_command.specs.Input.{IsCalm, IsInput, NoFault}
-use Rattle.cck_cache_command.specs.Naming.{IsName}
+use Rattle.cck_cache_command.specs.Naming.{IsNameIn}
 use Rattle.cck_cache_command.specs.Tested.{AreAskedTests, IsRefusedBySource}
-use Rattle.cck_cache_command.specs.Request.{IsRequest, key_over, request_words}
+use Rattle.cck_cache_command.specs.Request.{IsKeyOver, IsRequest, key_over, request_words}
 use Rattle.cck_cache_command.specs.Unnamed.{AreUnnamedTests, IsRefusedByUnnamed}
 use Rattle.cck_cache_command.specs.declared.environment.Environment.{Environment}
+use Rattle.cck_cache_command.specs.declared.record.InputVerdict.{InputVerdict}
+use Rattle.cck_cache_command.specs.declared.record.InputVerdict.TheVariants.{Key, Refused as KeyRefused}
 use Rattle.cck_cache_command.specs.declared.record.Gathered.{Gathered}
 use Rattle.cck_cache_command.specs.declared.record.Outcome.{Outcome}
 use Rattle.cck_cache_command.specs.declared.record.Outcome.TheVariants.{Recorded, Refused}
@@ -27,6 +30,7 @@ use Rattle.cck_cache_rules.specs.declared.refusal.Refusal.TheVariants.{Assembler
 use Rattle.cck_cache_arguments.specs.declared.request.Request.{Request}
 use Rattle.cck_cache_arguments.specs.declared.task.Compilation.{Compilation}
 use Rattle.cck_cache_arguments.specs.declared.task.Made.{Made}
+use Rattle.c_cache_keys.specs.declared.hasher.opening.PreprocessorKey.{PreprocessorKey}
 use Rattle.cck_files.specs.FileMap.{FileMap}
 use Rattle.cck_markers.specs.Marks.{Mark, Marks}
 use Rattle.cck_path.specs.Bytes.{Bytes, lists_of}
@@ -87,10 +91,11 @@ pub record HasUnnamedTests (request : Request) (since : Moment) (text : Bytes) (
   pub printed : Bytes
   pub tests_are : AreUnnamedTests states files request.directory.now text (lists_of request.arguments.items) printed tests
 
--- Files that were gathered for a text. No path at which a header would have been found earlier, or at which a source looks for one, is in doubt, nor is
+-- Files that were gathered for a text, of which no two are copies. No path at which a header would have been found earlier, or at which a source looks for one, is in doubt, nor is
 -- one at which a header of the text is looked for and which the text does not name. The tests of an entry are the first, the second and the others.
 pub record AreGathered (request : Request) (since : Moment) (text : Bytes) (files : FileMap) (made asked others : List Test) : Type 0 where
   pub are_files : AreFilesOf request text files
+  pub no_copies : IsCopiesVerdict files request text false
   pub path_tests : HasPathTests request since text made
   pub tested : HasAskedTests request since text files asked
   pub unnamed : HasUnnamedTests request since text files others
@@ -118,10 +123,18 @@ pub record HasUnnamedRefusal (request : Request) (since : Moment) (text : Bytes)
   pub printed : Bytes
   pub refused : IsRefusedByUnnamed states request.directory.now text (lists_of request.arguments.items) printed refusal
 
--- why a compilation is not recorded by its text: what a source asks for, or a path
+-- two files of the text are copies, of files that were gathered for it
+pub record HasCopiesRefusal (request : Request) (text : Bytes) (refusal : Refusal) : Type 0 where
+  pub files : FileMap
+  pub are_files : AreFilesOf request text files
+  pub found : IsCopiesVerdict files request text true
+  pub is_other : refusal ≡ OtherFile
+
+-- why a compilation is not recorded by its text: what a source asks for, two copies, or a path
 abbrev pub IsRefusedByText : Request → Moment → Bytes → Refusal → Type 0
 IsRefusedByText request since text refusal =
-    HasSourceRefusal request since text refusal ⊎ (HasPathRefusal request since text refusal ⊎ HasUnnamedRefusal request since text refusal)
+    HasSourceRefusal request since text refusal
+    ⊎ (HasPathRefusal request since text refusal ⊎ (HasUnnamedRefusal request since text refusal ⊎ HasCopiesRefusal request text refusal))
 
 abbrev pub IsSeen : Request → Moment → Bytes → Seen → Type 0
 IsSeen request since text (Files gathered) =
@@ -159,6 +172,11 @@ abbrev pub IsJudgedByInput : Environment → SnapshotRequest → FileMap → Byt
 IsJudgedByInput environment asked files key refusal =
     (one_day : Bool) × IsOneDay (plain_zone asked.zone.now) asked.moment.seconds environment.now.seconds one_day × IsRefusal (key_over asked files) key one_day refusal
 
+-- the preprocessor key over these files, where neither the input nor the time keeps the compilation from being recorded; or why it is not
+abbrev pub IsInputVerdict : Environment → SnapshotRequest → FileMap → Bytes → InputVerdict → Type 0
+IsInputVerdict environment asked files key (Key own) = IsJudgedByInput environment asked files key None × IsKeyOver asked files own
+IsInputVerdict environment asked files key (KeyRefused refusal) = IsJudgedByInput environment asked files key (Some refusal)
+
 -- one of the base directories is in a part of the object file, if there is one
 abbrev pub ObjectShowsBase : List Bytes → Option ObjectFile → Type 0
 ObjectShowsBase bases None = ⊥
@@ -179,15 +197,17 @@ pub record IsAsked (environment : Environment) (request : Request) (compilation 
   pub is_request : IsRequest environment request compilation.since bases asked
 
 -- The recording over these files has an entry, and neither the input nor the time keeps it from being recorded. The name is that of the object of the
--- recording's key, by this entry.
+-- recording's key, by this entry and the recorded digest of the input.
 pub record IsRecordedOver (environment : Environment) (request : Request) (compilation : Compilation) (text : Bytes) (files : FileMap) (name : String Global) : Type 0 where
   pub asked : SnapshotRequest
   pub is_asked : IsAsked environment request compilation text asked
   pub judged : IsJudgedByInput environment asked files compilation.key.now None
+  pub own : PreprocessorKey
+  pub is_own : IsKeyOver asked files own
   pub key : String Global
   pub entry : RecordedEntry
   pub recorded : IsRecording sha256 files asked NoFault text (record { key = key; put = Some entry })
-  pub is_name : IsName request files entry.bytes.items (string_bytes key) (string_bytes name)
+  pub is_name : IsNameIn request (string_bytes own.input_digest) entry.bytes.items (string_bytes key) (string_bytes name)
 
 -- the input or the time keeps it from being recorded
 pub record IsRefusedByInput (environment : Environment) (request : Request) (compilation : Compilation) (text : Bytes) (files : FileMap) (refusal : Refusal) : Type 0 where

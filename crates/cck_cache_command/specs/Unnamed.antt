@@ -3,6 +3,7 @@ use Rattle.std.specs.Prelude.{◌≡◌, ◌≢◌, ◌<◌, ◌⊎◌, ℕ, Boo
 use Rattle.std.specs.BTreeSet.{BTreeSet}
 use Rattle.std.specs.Global.{Vec}
 use Rattle.std.specs.List.{starts_with}
+use Rattle.cck_cache_command.specs.Copies.{MayImport}
 use Rattle.cck_cache_command.specs.declared.unnamed.Presence.{Presence}
 use Rattle.cck_cache_command.specs.declared.unnamed.Presence.TheVariants.{Unread, There, Unknown}
 use Rattle.cck_cache_command.specs.declared.unnamed.Unnamed.{Unnamed}
@@ -104,13 +105,6 @@ pub record HasUnclearPath (states : PathStates) (directory text : Bytes) (argume
   pub search : SearchFields
   pub is_search : IsSearchList printed (Some search)
   pub unclear : (marks : List Mark) → Marks true text marks → HasUnclear states directory (IsLookedAt marks text arguments search.directories)
-
--- the word of a directive that imports a file is at this place of a text, or at one of its places
-abbrev pub begins_import : Bytes → ℕ → Bool
-begins_import text place = starts_with nat_eq (drop place text) (codes "#import ")
-
-abbrev pub MayImport : Bytes → Type 0
-MayImport text = (place : ℕ) × (place < length text) × (begins_import text place ≡ true)
 
 -- what was known is known
 abbrev pub KeepsKnown : List KnownFile → List KnownFile → Type 0

@@ -111,6 +111,6 @@ pub fn locale<R: Env + AllocGlobal>(rt: &R) -> Result<Vec<u8>> {
 }
 
 /// Whether a look-up reads all files: whether the variable `CCK_READ` is set.
-pub fn reads_all<R: Env>(rt: &R) -> bool {
+pub fn reads_all<R: Env + AllocGlobal>(rt: &R) -> bool {
     env::var(rt, "CCK_READ") != Err(env::VarError::NotPresent)
 }

@@ -35,13 +35,13 @@ fn add_includes<R: Files + AllocGlobal>(
     rt: &R,
     files: &mut MapFiles,
     statuses: &mut PathMap<Metadata>,
-    result: &ResultRef<'_>,
+    included: &ResultRef<'_>,
     reads_all: bool,
 ) -> Result<(), UtilError>
-    ensures grown { OnOk result (SnapshotGrows (IsIncludeOf (result_lent result.entry.now).1) files.old files.new) }
+    ensures grown { OnOk result (SnapshotGrows (IsIncludeOf (result_lent included.now).1) files.old files.new) }
     ensures read { reads_all ≡ true → OnOk result (statuses.new ≡ statuses.old) }
 {
-    for include in result.includes() {
+    for include in included.includes() {
         add_included(rt, files, statuses, &include, reads_all)?;
     }
     Ok(())

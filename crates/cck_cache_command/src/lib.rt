@@ -7,6 +7,7 @@
 
 mod absence;
 mod call;
+mod copies;
 mod environment;
 mod included;
 mod input;

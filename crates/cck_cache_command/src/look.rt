@@ -115,7 +115,7 @@ fn matching_name<R: Files + AllocGlobal>(
         → IsKeyOver asked.now files.old.files key.now
         → IfSome found (IsNamedMatch environment.entry.now.reads_all request.now asked.now files.old.files key.now file.now.entry.items)) }
 {
-    if first_failing(rt, &file.directories, &file.tests)?.is_some() {
+    if first_failing(rt, &file.tests)?.is_some() {
         return Ok(None);
     }
     let alloc = rt.alloc();

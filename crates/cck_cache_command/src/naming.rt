@@ -27,17 +27,10 @@ fn result_of<'a>(entry: &EntryView<'a>, key: &str) -> Option<ResultRef<'a>>
 }
 
 // The files that a result included.
-fn includes_of<'a>(
-    alloc: Global,
-    result: &ResultRef<'a>,
-) -> Result<Vec<IncludeRef<'a>>, AllocError>
-    ensures { IfOk result (λ all. map include_lent all.items ≡ (result_lent result.entry.now).1) }
+fn includes_of<'a>(alloc: Global, found: &ResultRef<'a>) -> Result<Vec<IncludeRef<'a>>, AllocError>
+    ensures { IfOk result (λ all. map include_lent all.items ≡ (result_lent found.now).1) }
 {
-    let mut all = Vec::new(alloc);
-    for include in result.includes() {
-        all.push(include)?;
-    }
-    Ok(all)
+    found.includes().collect(alloc)
 }
 
 /// The name of the object of a key that is a result of this entry, for an input of this recorded digest.

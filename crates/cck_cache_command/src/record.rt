@@ -2,7 +2,7 @@
 ghost use Rattle.std.specs.Prelude.{◌≡◌, ◌++◌, ◌↔◌, IfOk, IfSome, IsTrue, MatchOption, OnOk, Some};
 ghost use Rattle.std.specs.Option.{option_map};
 ghost use Rattle.cck_cache_command.specs.Input.{IsCalm};
-ghost use Rattle.cck_cache_command.specs.Record.{HasNoLocalTime, IsJudgedByInput, IsJudgedByReading, IsLocalTime, IsOneDay, IsOutcome, IsOutcomeOver, IsRefusedByBase, IsSeen, IsTold, ObjectShowsBase, recorded_fields};
+ghost use Rattle.cck_cache_command.specs.Record.{HasNoLocalTime, IsInputVerdict, IsJudgedByReading, IsLocalTime, IsOneDay, IsOutcome, IsOutcomeOver, IsRefusedByBase, IsSeen, IsTold, ObjectShowsBase, recorded_fields};
 ghost use Rattle.cck_cache_rules.specs.Files.{entry_fields};
 ghost use Rattle.cck_cache_rules.specs.PathTest.{tests_of};
 ghost use Rattle.cck_cache_text.specs.ReadFiles.{IsAssembledRule, IsOpenedRule};
@@ -12,13 +12,15 @@ ghost use Rattle.cck_path.specs.Bytes.{lists_of};
 ghost use Rattle.jiff.specs.Words.{plain_zone};
 
 use crate::absence::{Absence, absence_of};
+use crate::copies::may_have_copies;
 use crate::environment::Environment;
 use crate::input::input_snapshot;
 use crate::naming::name_in;
 use crate::request::{base_words, hasher_of, snapshot_request};
 use crate::tested::{Tested, tested_by};
-use crate::unnamed::{Unnamed, may_have_copies, unnamed_by};
+use crate::unnamed::{Unnamed, unnamed_by};
 use anyhow::Result;
+use c_cache_keys::PreprocessorKey;
 use cck_cache_arguments::{Compilation, Made, Request};
 use cck_cache_files::{Kind, PathStates, StoreDirectory, add_named_files};
 use cck_cache_rules::{
@@ -116,6 +118,9 @@ fn see<R: Files + AllocGlobal>(
         Tested::Refused(cause) => return Ok(Seen::Refused(cause)),
         Tested::Tests(asked_tests) => asked_tests,
     };
+    if may_have_copies(rt.alloc(), &mut files, request, text)? {
+        return Ok(Seen::Refused(Refusal::OtherFile));
+    }
     let since = compilation.since;
     let others = unnamed_by(
         rt,
@@ -175,9 +180,8 @@ fn assembles_input_alone<R: Files + AllocGlobal>(
     Ok(assembles_alone(rt.alloc(), input.as_bytes(), &rule)?)
 }
 
-// Why a compilation is not recorded by what the assembler and the compiler say that they read, or since the
-// compiler may not read each file of the text another time. An entry that is recorded alone is of an object
-// that is there.
+// Why a compilation is not recorded by what the assembler and the compiler say that they read. An entry that
+// is recorded alone is of an object that is there.
 fn refusal_by_reading<R: Files + AllocGlobal>(
     rt: &R,
     request: &Request<'_>,
@@ -186,9 +190,6 @@ fn refusal_by_reading<R: Files + AllocGlobal>(
 ) -> Result<Option<Refusal>>
     ensures { IfOk result (IsJudgedByReading request.now text.now (option_map (λ m. m.now) made.entry)) }
 {
-    if may_have_copies(rt, request, text)? {
-        return Ok(Some(Refusal::OtherFile));
-    }
     let Some(made) = made else {
         return Ok(None);
     };
@@ -220,23 +221,38 @@ fn known_of<'a>(found: Option<&'a str>, key: &'a str, is_one_day: bool) -> Known
     }
 }
 
-// Why a compilation is not recorded, by its input or its time alone.
-fn refusal_by_input<R: AllocGlobal>(
+// What is known by the input and the time of a compilation alone.
+enum InputVerdict {
+    // The preprocessor key. Neither keeps the compilation from being recorded.
+    Key(PreprocessorKey),
+    // The compilation is not recorded.
+    Refused(Refusal),
+}
+
+// The preprocessor key over the files that were gathered, or why the compilation is not recorded, by its
+// input or its time alone.
+fn judge_input<R: AllocGlobal>(
     rt: &R,
     environment: &Environment<'_>,
     asked: &SnapshotRequest<'_>,
     files: &mut MapFiles,
     key: &str,
-) -> Result<Option<Refusal>>
+) -> Result<InputVerdict>
     ensures judged { IfOk result
-        (IsJudgedByInput environment.entry.now asked.now files.old.files key.now) }
+        (IsInputVerdict environment.entry.now asked.now files.old.files key.now) }
     ensures keeps { OnOk result
         (Keeps (λ files. files.files) fault_count IsQuiet files.old files.new) }
 {
     let found = preprocessor_key::<Sha256State, MapFiles>(rt.alloc(), files, asked)?;
     let is_one_day = is_one_day(asked.zone, asked.moment, environment.now);
-    let found = found.as_deref();
-    Ok(refusal_of(&known_of(found, key, is_one_day)))
+    let Some(own) = found else {
+        return Ok(InputVerdict::Refused(Refusal::NoKey));
+    };
+    let text = own.text.as_str();
+    match refusal_of(&known_of(Some(text), key, is_one_day)) {
+        Some(refusal) => Ok(InputVerdict::Refused(refusal)),
+        None => Ok(InputVerdict::Key(own)),
+    }
 }
 
 // Writes a file of the store, to this path, if one is given, in place of the store's.
@@ -265,7 +281,7 @@ fn write_files<R: Files + AllocGlobal>(
 ) -> Result<()> {
     let alloc = rt.alloc();
     if let Some(object) = object {
-        let bytes = object.write::<Sha256State>(alloc)?;
+        let bytes = object.write(alloc)?;
         write_file(
             rt,
             store,
@@ -275,7 +291,7 @@ fn write_files<R: Files + AllocGlobal>(
             &bytes,
         )?;
     }
-    let bytes = file.write::<Sha256State>(alloc)?;
+    let bytes = file.write(alloc)?;
     write_file(
         rt,
         store,
@@ -418,10 +434,10 @@ fn record_over<R: Files + AllocGlobal>(
     let hasher = hasher_of(rt, environment, request)?;
     let (directory, since) = (request.directory, compilation.since);
     let asked = snapshot_request(environment, &hasher, directory, since, &bases);
-    let key = compilation.key;
-    if let Some(refusal) = refusal_by_input(rt, environment, &asked, &mut files, key)? {
-        return Ok(Outcome::Refused(refusal));
-    }
+    let own = match judge_input(rt, environment, &asked, &mut files, compilation.key)? {
+        InputVerdict::Key(own) => own,
+        InputVerdict::Refused(refusal) => return Ok(Outcome::Refused(refusal)),
+    };
     if is_doubtful {
         return Ok(Outcome::Refused(Refusal::NamedFile));
     }
@@ -430,7 +446,8 @@ fn record_over<R: Files + AllocGlobal>(
     let Some(entry) = put else {
         return Ok(Outcome::Refused(Refusal::NamedFile));
     };
-    let name = name_in(rt, request, &mut files, object.as_str(), &entry.bytes)?;
+    let input = own.input_digest.as_str();
+    let name = name_in(rt.alloc(), request, input, object.as_str(), &entry.bytes)?;
     let file = entry_file_with(entry, tests, asked_tests, unnamed_tests)?;
     match keep(rt, store, compilation, &bases, name.as_str(), &file)? {
         Some(refusal) => Ok(Outcome::Refused(refusal)),

@@ -1,7 +1,7 @@
 //! The paths at which gcc looks for headers, and which the text does not name.
-ghost use Rattle.std.specs.Prelude.{◌≡◌, ◌↔◌, ◌≤◌, IfOk, IfSome, IsOkUnless, IsTrue, MatchBool, OnOk, length};
+ghost use Rattle.std.specs.Prelude.{◌≡◌, IfOk, IfSome, IsOkUnless, IsTrue, MatchBool, OnOk};
 ghost use Rattle.std.specs.Option.{option_map};
-ghost use Rattle.cck_cache_command.specs.Unnamed.{AreCompared, AreSpellings, IsPresence, IsThere, IsUnnamed, IsUnnamedVerdict, KeepsKnown, LeadsNotTo, LeadsTo, MayImport, begins_import};
+ghost use Rattle.cck_cache_command.specs.Unnamed.{AreCompared, AreSpellings, IsPresence, IsThere, IsUnnamed, IsUnnamedVerdict, KeepsKnown, LeadsNotTo, LeadsTo};
 ghost use Rattle.cck_cache_text.specs.Sets.{has_key};
 ghost use Rattle.cck_cache_files.specs.PathStates.{KeepsStates};
 ghost use Rattle.cck_files.specs.Calls.{Keeps};
@@ -9,9 +9,10 @@ ghost use Rattle.cck_files.specs.FileState.{IsQuiet, fault_count};
 ghost use Rattle.cck_path.specs.Bytes.{lists_of};
 
 use crate::absence::add_directories;
+use crate::copies::may_import;
 use cck_cache_arguments::Request;
 use cck_cache_files::{
-    ComparedFiles, KnownFile, PathState, PathStates, add_known, compared_paths, has_copies,
+    ComparedFiles, KnownFile, PathState, PathStates, add_known, compared_paths,
     is_in_snapshot, is_one_file, known_files, may_be_copy, may_be_passed_over,
 };
 use cck_cache_rules::{PathTest, Refusal};
@@ -177,26 +178,6 @@ fn left_by_spellings<R: Files + AllocGlobal>(
     Ok(Some(left))
 }
 
-// Whether the word of a directive that imports a file is at this place.
-fn begins_import(text: &[u8], place: usize) -> bool
-    requires { place ≤ length text.now }
-    ensures { result ≡ begins_import text.now place }
-{
-    text[place..].starts_with(b"#import ")
-}
-
-// Whether a text may have a directive that imports a file.
-fn may_import(text: &[u8]) -> bool
-    ensures { IsTrue result ↔ MayImport text.now }
-{
-    for place in 0..text.len() {
-        if begins_import(text, place) {
-            return true;
-        }
-    }
-    false
-}
-
 // Adds the file that a test wants at a path. Returns whether it could be looked at.
 fn add_tested<R: Files>(
     rt: &R,
@@ -268,21 +249,8 @@ fn compared_files<R: Files + AllocGlobal>(
     Ok(Some(known))
 }
 
-// The paths of the files of a text.
-fn paths_of_text(
-    alloc: Global,
-    request: &Request<'_>,
-    text: &[u8],
-) -> Result<BTreeSet<Vec<u8>>, UtilError>
-    ensures { IsOkUnless result UtilError.Memory }
-{
-    let directory = request.directory.as_bytes();
-    let paths = compared_paths(alloc, directory, request.input.as_bytes(), text)?;
-    Ok(paths)
-}
-
-// The same where their contents are compared. `None` where the text imports a file, which gcc compares
-// with others too.
+// The paths of the files of a text where their contents are compared. `None` where the text imports a
+// file, which gcc compares with others too.
 fn paths_to_compare(
     alloc: Global,
     request: &Request<'_>,
@@ -293,23 +261,9 @@ fn paths_to_compare(
     if may_import(text) {
         return Ok(None);
     }
-    let paths = paths_of_text(alloc, request, text)?;
+    let directory = request.directory.as_bytes();
+    let paths = compared_paths(alloc, directory, request.input.as_bytes(), text)?;
     Ok(Some(paths))
-}
-
-/// Whether two files of a text are copies, of which gcc may pass over one once they have the same time.
-///
-/// The only error is [`UtilError::Memory`].
-pub fn may_have_copies<R: Files + AllocGlobal>(
-    rt: &R,
-    request: &Request<'_>,
-    text: &[u8],
-) -> Result<bool, UtilError>
-    ensures { IsOkUnless result UtilError.Memory }
-{
-    let paths = paths_of_text(rt.alloc(), request, text)?;
-    let found = has_copies(rt, &paths, may_import(text))?;
-    Ok(found)
 }
 
 /// Judges the paths at which gcc looks for the headers that a text and the arguments of a request

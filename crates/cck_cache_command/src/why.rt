@@ -1,7 +1,7 @@
 //! Says why a look-up misses.
 use crate::environment::Environment;
-use crate::input::input_snapshot;
 use crate::included::{add_entry_files, entry_view};
+use crate::input::input_snapshot;
 use crate::look::{Kept, NO_KEY, read_entry};
 use crate::request::request_key;
 use anyhow::{Result, bail};
@@ -40,7 +40,7 @@ fn print_changed<R: AllocGlobal, W: Write>(
     environment: &Environment<'_>,
     files: &mut MapFiles,
     known: &mut KnownFiles,
-    result: &ResultRef<'_>,
+    found: &ResultRef<'_>,
     writer: &mut W,
 ) -> Result<()> {
     let context = JudgeContext {
@@ -49,7 +49,7 @@ fn print_changed<R: AllocGlobal, W: Write>(
         vars: &environment.variables,
         config: environment.config(),
     };
-    for include in result.includes() {
+    for include in found.includes() {
         let matches = include_matches::<Sha256State, MapFiles>(
             rt.alloc(),
             files,
@@ -72,7 +72,7 @@ fn print_entry<R: Files + AllocGlobal, W: Write>(
     file: &EntryFile,
     writer: &mut W,
 ) -> Result<()> {
-    if let Some(test) = first_failing(rt, &file.directories, &file.tests)? {
+    if let Some(test) = first_failing(rt, &file.tests)? {
         print_test(writer, test)?;
     }
     let Some(entry) = entry_view(rt.alloc(), &file.entry)? else {

@@ -1,11 +1,15 @@
-use Rattle.std.proofs.Common.{◌∙◌, Option, Some, String, string_bytes, refl, sym, ap, subst}
+use Rattle.std.proofs.Common.{◌∙◌, Option, Some, string_bytes, [], refl, sym, subst}
 use Rattle.std.proofs.lemmas.Result.{IfOk-weaker}
-use Rattle.std.specs.Option.{option_map}
-use Rattle.std.specs.declared.alloc.Global.{Global}
+use Rattle.c_cache_keys.specs.Opening.{IsPreprocessorKey}
+use Rattle.c_cache_keys.specs.declared.call.CacheControl.TheVariants.{Default}
+use Rattle.c_cache_keys.specs.declared.hasher.opening.PreprocessorKey.{PreprocessorKey}
 use Rattle.cck_files.specs.FileMap.{FileMap}
+use Rattle.cck_snapshot.specs.External.{no_text}
+use Rattle.cck_snapshot.specs.Requests.{call_for, world_for}
+use Rattle.sha2.specs.Sha256.{sha256}
 use Rattle.cck_cache_command.specs.Input.{IsCalm}
 use Rattle.cck_cache_command.specs.Look.{IsLookResult, IsFoundFor}
-use Rattle.cck_cache_command.specs.Request.{HasPreprocessorKey}
+use Rattle.cck_cache_command.specs.Request.{HasPreprocessorKey, IsKeyOver, IsRequest}
 use Rattle.cck_cache_command.specs.declared.look.Found.{Found}
 use Rattle.cck_cache_command.proofs.InputLemmas.{calm_kept}
 use Rattle.cck_cache_command.proofs.LookLemmas.{found_all}
@@ -19,16 +23,21 @@ returns-in-Some g c =
     let after = c.preprocessor_key.new.snapshot in
     let asked = c.snapshot_request-asked.result in
     let key = c.in-Some.key in
-    let has : HasPreprocessorKey environment wanted.request (Some (string_bytes key)) = record {
+    let is_request = c.snapshot_request-asked.ensures wanted.request refl c.in_ok-hasher.ensures in
+    let own : IsKeyOver asked files.files key =
+    subst (λ (o : Option PreprocessorKey). IsPreprocessorKey (world_for sha256 no_text asked) (call_for Default files.files asked) o) c.in-Some.is c.in_ok-field-0.ensures.key in
+    let has : HasPreprocessorKey environment wanted.request (Some (string_bytes key.text)) = record {
       input = files.files;
       is_input = c.in_ok-files.ensures.input;
       asked = asked;
-      is_request = c.snapshot_request-asked.ensures wanted.request refl c.in_ok-hasher.ensures;
-      is_key = sym c.in_ok-key.ensures.key ∙ ap (λ (o : Option (String Global)). option_map string_bytes o) c.in-Some.is;
+      is_request = is_request;
+      is_key = own.0;
     } in
-    IfOk-weaker c.look_for.result (λ (found : Found). IsCalm after → IsFoundFor wanted asked after.files key found) (IsLookResult environment wanted)
-    (λ found is. found_all environment wanted key has found
-    (subst (λ (m : FileMap). IsFoundFor wanted asked m key found) c.in_ok-key.ensures.keeps.same_map (is (calm_kept files after c.in_ok-key.ensures.keeps c.in_ok-files.ensures.calm))))
+    let same = c.in_ok-field-0.ensures.keeps.same_map in
+    IfOk-weaker c.look_for.result (λ (found : Found). IsCalm after → IsRequest environment wanted.request environment.now [] asked → IsKeyOver asked after.files key → IsFoundFor environment.reads_all wanted asked after.files key.text found) (IsLookResult environment wanted)
+    (λ found is. found_all environment wanted key.text has found
+    (subst (λ (m : FileMap). IsFoundFor environment.reads_all wanted asked m key.text found) same
+    (is (calm_kept files after c.in_ok-field-0.ensures.keeps c.in_ok-files.ensures.calm) is_request (subst (λ (m : FileMap). IsKeyOver asked m key) (sym same) own))))
     c.look_for.ensures
 
 pub returns : goal.returns
@@ -37,5 +46,5 @@ returns g c = record {
   is_input = c.in_ok-files.ensures.input;
   asked = c.snapshot_request-asked.result;
   is_request = c.snapshot_request-asked.ensures c.args.wanted.now.request refl c.in_ok-hasher.ensures;
-  is_key = sym c.in_ok-key.ensures.key ∙ ap (λ (o : Option (String Global)). option_map string_bytes o) c.in-None.is;
+  is_key = rw c.in-None.is at c.in_ok-field-0.ensures.key;
 }

@@ -1,37 +1,44 @@
-use Rattle.std.proofs.Common.{ℕ, Option, Some, String, string_bytes, subst}
-use Rattle.std.specs.declared.alloc.Global.{Global}
-use Rattle.cck_cache_files.specs.Snapshot.{ArePut}
+use Rattle.std.proofs.Common.{◌≡◌, [], List, ℕ, Option, Some, false, string_bytes, refl, subst}
+use Rattle.std.specs.Option.{option_map}
 use Rattle.cck_files.specs.Calls.{Rose}
-use Rattle.cck_files.specs.FileMap.{FileMap}
 use Rattle.cck_path.specs.Bytes.{Bytes}
+use Rattle.cck_entry.specs.Entry.{EntryText}
 use Rattle.cck_snapshot.specs.Snapshot.{IsLookedUp}
 use Rattle.sha2.specs.Sha256.{sha256}
 use Rattle.cck_cache_command.specs.Input.{NoFault}
-use Rattle.cck_cache_command.specs.Look.{IsEntryRead, IsIncluded}
 use Rattle.cck_cache_command.specs.Naming.{IsName}
-use Rattle.cck_cache_command.proofs.InputLemmas.{without_fault}
+use Rattle.cck_cache_command.proofs.InputLemmas.{calm_stays, without_fault}
+use Rattle.cck_cache_command.proofs.RequestLemmas.{key_of_part}
 use Rattle.cck_cache_command.proofs.look.matching_name.Goals as goal
 
 pub returns : goal.returns
-returns g c calm =
+returns g c calm is_request own =
+    let environment = c.args.environment.now in
     let request = c.args.request.now in
     let asked = c.args.asked.now in
     let key = c.args.key.now in
     let bytes = c.args.file.now.entry.items in
+    let input = c.args.files.now in
+    let entry = c.in-Some.entry in
     let before = c.add_entry_files.new.files in
-    let object = c.in-Some-found.object in
-    let put = subst (λ (b : Bytes). ArePut (IsIncluded b) c.args.files.now.files before.files) c.deref-2.ensures.value c.in_ok-entry.ensures.put in
-    let looked = without_fault (λ (m n : ℕ). IsLookedUp sha256 before.files asked (Rose m n) key c.deref-3.result.now c.in_ok-found.found) before c.look_up.new.snapshot c.in_ok-found.ensures.keeps (c.in_ok-entry.ensures.calm calm) c.in_ok-found.ensures.found in
-    let read = subst (λ (b : Bytes). IsEntryRead b (Some c.in-Some.entry)) c.deref-2.ensures.value (rw c.in-Some.is at c.in_ok-entry.ensures.entry) in
-    let named = c.in_ok-name.ensures bytes read in
+    let statuses = c.in_ok-statuses.statuses in
+    let object = c.in-Some-found.object.now in
+    let grown = c.in_ok-statuses.ensures.grown in
+    let is_entry : EntryText entry bytes = subst (λ (b : Bytes). EntryText entry b) c.deref-2.ensures.value (rw c.in-Some.is at c.in_ok-entry.ensures) in
+    let looked = without_fault (λ (m n : ℕ). IsLookedUp sha256 before.files asked (Rose m n) statuses entry (option_map (λ k. k.now) c.in_ok-found.found)) before c.look_up.new.snapshot c.in_ok-found.ensures.keeps
+        (calm_stays input before grown.calm calm) c.in_ok-found.ensures.found in
+    let found : IsLookedUp sha256 before.files asked NoFault statuses entry (Some object) = rw c.in-Some-found.is at looked in
     record {
+      entry = entry;
+      is_entry = is_entry;
       object = object;
       matched = record {
         files = before.files;
-        grown = put;
-        found = subst (λ (o : Option (String Global)). IsLookedUp sha256 before.files asked NoFault key bytes o) c.in-Some-found.is
-            (subst (λ (b : Bytes). IsLookedUp sha256 before.files asked NoFault key b c.in_ok-found.found) c.deref-3.ensures.value looked);
+        grown = grown.put;
+        kept = grown.kept calm.quiet;
+        statuses = statuses;
+        read = c.in_ok-statuses.ensures.read;
+        found = found (string_bytes key.text) bytes (key_of_part environment request environment.now [] asked input.files before.files key is_request own (grown.kept calm.quiet)) is_entry;
       };
-      is_name = subst (λ (m : FileMap). IsName request m bytes (string_bytes object) (string_bytes c.in_ok-name.name)) c.in_ok-found.ensures.keeps.same_map
-          (subst (λ (k : Bytes). IsName request c.look_up.new.snapshot.files bytes k (string_bytes c.in_ok-name.name)) c.as_str.ensures.value named);
+      is_name = subst (λ (i : Bytes). IsName request i entry object (string_bytes c.in_ok-name.name)) c.as_str.ensures.value c.in_ok-name.ensures;
     }

@@ -1,14 +1,15 @@
 use Rattle.std.proofs.Common.{inl, inr, Option, Some, None, string_bytes, refl, subst}
 use Rattle.cck_cache_rules.specs.declared.refusal.Refusal.{Refusal}
-use Rattle.cck_cache_command.specs.Naming.{IsName}
-use Rattle.cck_cache_command.specs.Record.{IsJudgedByInput}
+use Rattle.cck_cache_command.specs.Naming.{IsNameIn}
+use Rattle.cck_cache_command.specs.Record.{IsInputVerdict}
+use Rattle.cck_cache_command.specs.declared.record.InputVerdict.TheVariants.{Key}
 use Rattle.cck_files.specs.FileMap.{FileMap}
 use Rattle.cck_path.specs.Bytes.{Bytes}
 use Rattle.cck_cache_command.proofs.RecordLemmas.{asked_of, recorded_over}
 use Rattle.cck_cache_command.proofs.record.record_over.Goals as goal
 
-pub returns-in-Some : goal.returns-in-Some
-returns-in-Some g c calm =
+pub returns-in-Refused : goal.returns-in-Refused
+returns-in-Refused g c calm =
     let environment = c.args.environment.now in
     let request = c.args.request.now in
     let compilation = c.args.compilation.now in
@@ -19,7 +20,7 @@ returns-in-Some g c calm =
     inl (record {
       asked = asked;
       is_asked = is_asked;
-      judged = subst (λ (o : Option Refusal). IsJudgedByInput environment asked gathered.files.files compilation.key.now o) c.in-Some.is c.in_ok-refusal.ensures.judged;
+      judged = rw c.in-Refused.is at c.in_ok-field-0.ensures.judged;
     })
 
 pub returns-in_default-put : goal.returns-in_default-put
@@ -37,8 +38,8 @@ returns-in_default-put g c calm =
         asked = asked;
         is_asked = is_asked;
         key = c.in_ok-recording.recording.key;
-        recorded = recorded_over asked text gathered.files c.refusal_by_input.new.files c.record_text.new.snapshot c.in_ok-recording.recording None
-            calm c.in_ok-refusal.ensures.keeps c.in_ok-recording.ensures.keeps c.in_default-put.is c.in_ok-recording.ensures.recorded;
+        recorded = recorded_over asked text gathered.files c.judge_input.new.files c.record_text.new.snapshot c.in_ok-recording.recording None
+            calm c.in_ok-field-0.ensures.keeps c.in_ok-recording.ensures.keeps c.in_default-put.is c.in_ok-recording.ensures.recorded;
       }),
     ))
 
@@ -51,19 +52,21 @@ returns g c calm =
     let gathered = c.args.gathered in
     let asked = c.snapshot_request-asked.result in
     let is_asked = asked_of environment request compilation text c.base_words.result c.in_ok-bases.bases c.deref.result.now asked c.base_words.ensures c.in_ok-bases.ensures c.deref.ensures.value (c.snapshot_request-asked.ensures request refl c.in_ok-hasher.ensures) in
+    let found : IsInputVerdict environment asked gathered.files.files compilation.key.now (Key c.in-Key.own) = rw c.in-Key.is at c.in_ok-field-0.ensures.judged in
     let key = c.in_ok-recording.recording.key in
     let entry = c.in-Some-put.entry in
     let name = c.in_ok-name.name in
     record {
       asked = asked;
       is_asked = is_asked;
-      judged = subst (λ (o : Option Refusal). IsJudgedByInput environment asked gathered.files.files compilation.key.now o) c.in_default.is c.in_ok-refusal.ensures.judged;
+      judged = found.0;
+      own = c.in-Key.own;
+      is_own = found.1;
       key = key;
       entry = entry;
-      recorded = recorded_over asked text gathered.files c.refusal_by_input.new.files c.record_text.new.snapshot c.in_ok-recording.recording (Some entry)
-          calm c.in_ok-refusal.ensures.keeps c.in_ok-recording.ensures.keeps c.in-Some-put.is c.in_ok-recording.ensures.recorded;
-      is_name = subst (λ (m : FileMap). IsName request m entry.bytes.items (string_bytes key) (string_bytes name)) c.in_ok-refusal.ensures.keeps.same_map
-          (subst (λ (m : FileMap). IsName request m entry.bytes.items (string_bytes key) (string_bytes name)) c.in_ok-recording.ensures.keeps.same_map
-          (subst (λ (b : Bytes). IsName request c.record_text.new.snapshot.files b (string_bytes key) (string_bytes name)) c.deref-2.ensures.value
-          (subst (λ (k : Bytes). IsName request c.record_text.new.snapshot.files c.deref-2.result.now k (string_bytes name)) c.as_str.ensures.value c.in_ok-name.ensures)));
+      recorded = recorded_over asked text gathered.files c.judge_input.new.files c.record_text.new.snapshot c.in_ok-recording.recording (Some entry)
+          calm c.in_ok-field-0.ensures.keeps c.in_ok-recording.ensures.keeps c.in-Some-put.is c.in_ok-recording.ensures.recorded;
+      is_name = subst (λ (i : Bytes). IsNameIn request i entry.bytes.items (string_bytes key) (string_bytes name)) c.as_str-input.ensures.value
+          (subst (λ (b : Bytes). IsNameIn request c.as_str-input.result.now b (string_bytes key) (string_bytes name)) c.deref-2.ensures.value
+          (subst (λ (k : Bytes). IsNameIn request c.as_str-input.result.now c.deref-2.result.now k (string_bytes name)) c.as_str.ensures.value c.in_ok-name.ensures));
     }

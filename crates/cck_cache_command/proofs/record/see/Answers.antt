@@ -1,5 +1,6 @@
-use Rattle.std.proofs.Common.{◌≡◌, ◌∙◌, inl, inr, List, sym, subst}
+use Rattle.std.proofs.Common.{◌≡◌, ◌∙◌, inl, inr, List, true, false, refl, sym, subst}
 use Rattle.cck_cache_rules.specs.PathTest.{Test, tests_of}
+use Rattle.cck_cache_command.specs.Copies.{IsCopiesVerdict}
 use Rattle.cck_cache_command.specs.Record.{HasAskedTests, HasPathTests, HasUnnamedTests}
 use Rattle.cck_cache_command.specs.Unnamed.{AreUnnamedTests}
 use Rattle.cck_cache_command.proofs.InputLemmas.{calm_kept}
@@ -24,14 +25,27 @@ returns-in-Refused-tested g c =
       refused = rw c.in-Refused-tested.is at c.in_ok-tested.ensures.tested;
     })
 
+pub returns-then-may_have_copies : goal.returns-then-may_have_copies
+returns-then-may_have_copies g c =
+    let request = c.args.request.now in
+    let text = c.args.text.now in
+    let cwd = c.as_bytes.result.now in
+    let after = c.add_named_files.new.files in
+    inr (inr (inr (record {
+      files = after.files;
+      are_files = files_of request text cwd c.in_ok-files.files after c.in_ok-files.ensures.calm c.in_ok-files.ensures.input c.in_ok-is_doubtful.ensures.named c.as_bytes.ensures.value;
+      found = subst (λ (m : FileMap). IsCopiesVerdict m request text true) c.in_ok-tested.ensures.keeps.same_map (rw c.if-may_have_copies.is at c.in_ok-may_have_copies.ensures.found);
+      is_other = refl;
+    })))
+
 pub returns-in-Refused-others : goal.returns-in-Refused-others
 returns-in-Refused-others g c =
-    inr (inr (record {
+    inr (inr (inl (record {
       states = c.unnamed_by.new.states;
       since_is = c.unnamed_by.ensures.kept.since ∙ (c.in_ok-is_doubtful.ensures.kept.since ∙ (c.in_ok-refusal.ensures.kept.since ∙ c.new-states.ensures.since));
       printed = c.deref-3.result.now;
       refused = rw c.in-Refused-others.is at c.in_ok-others.ensures.unnamed;
-    }))
+    })))
 
 pub returns-in-Tests-others : goal.returns-in-Tests-others
 returns-in-Tests-others g c =
@@ -42,6 +56,7 @@ returns-in-Tests-others g c =
     let before = c.in_ok-files.files in
     let after = c.add_named_files.new.files in
     let middle = c.tested_by.new.files in
+    let compared = c.may_have_copies.new.files in
     let new = c.unnamed_by.new.files in
     let made = tests_of c.in-Tests.tests.items in
     let tests = tests_of c.in-Tests-tested.asked_tests.items in
@@ -58,15 +73,17 @@ returns-in-Tests-others g c =
       printed = c.deref-2.result.now;
       tests_are = rw c.in-Tests-tested.is at c.in_ok-tested.ensures.tested;
     } in
-    let unnamed : HasUnnamedTests request since text middle.files others = record {
+    let unnamed : HasUnnamedTests request since text compared.files others = record {
       states = c.unnamed_by.new.states;
       since_is = c.unnamed_by.ensures.kept.since ∙ (c.in_ok-is_doubtful.ensures.kept.since ∙ (c.in_ok-refusal.ensures.kept.since ∙ c.new-states.ensures.since));
       printed = c.deref-3.result.now;
       tests_are = rw c.in-Tests-others.is at c.in_ok-others.ensures.unnamed;
     } in
     let are = files_of request text cwd before after c.in_ok-files.ensures.calm c.in_ok-files.ensures.input c.in_ok-is_doubtful.ensures.named c.as_bytes.ensures.value in
-    let keeps = keeps_all after middle new c.in_ok-tested.ensures.keeps c.in_ok-others.ensures.keeps in
-    let there : HasUnnamedTests request since text after.files others = subst (λ (m : FileMap). HasUnnamedTests request since text m others) c.in_ok-tested.ensures.keeps.same_map unnamed in (
-      gathered_over request since text after.files new.files made tests others keeps.same_map are path_tests tested there,
+    let first = keeps_all after middle compared c.in_ok-tested.ensures.keeps c.in_ok-may_have_copies.ensures.keeps in
+    let keeps = keeps_all after compared new first c.in_ok-others.ensures.keeps in
+    let no_copies = subst (λ (m : FileMap). IsCopiesVerdict m request text false) c.in_ok-tested.ensures.keeps.same_map (rw c.if-may_have_copies.is at c.in_ok-may_have_copies.ensures.found) in
+    let there : HasUnnamedTests request since text after.files others = subst (λ (m : FileMap). HasUnnamedTests request since text m others) first.same_map unnamed in (
+      gathered_over request since text after.files new.files made tests others keeps.same_map are no_copies path_tests tested there,
       calm_kept after new keeps (calm_grown text cwd before after c.in_ok-is_doubtful.ensures.named c.in_ok-files.ensures.calm),
     )

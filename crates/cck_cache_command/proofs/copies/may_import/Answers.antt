@@ -1,5 +1,5 @@
 use Rattle.std.proofs.Common.{◌≡◌, true, false, ◌∙◌, below_more}
-use Rattle.cck_cache_command.proofs.unnamed.may_import.Goals as goal
+use Rattle.cck_cache_command.proofs.copies.may_import.Goals as goal
 
 false_true : false ≡ true → ⊥
 false_true e = cc
