@@ -131,19 +131,20 @@ fn counted_arguments(
     Ok(all)
 }
 
-/// The compilation that a call asks for.
+/// The compilation that a call asks for, which runs these programs.
 ///
 /// The error is lack of memory.
 pub fn request_of<'a>(
     alloc: Global,
     call: &CompilerCall<'a>,
+    programs: &'a str,
     asked: &Call<'_>,
     paths: &CallPaths<'a>,
 ) -> Result<Request<'a>, AllocError>
-    ensures { IfOk result (IsCallRequest call.now asked.now paths.now) }
+    ensures { IfOk result (IsCallRequest call.now programs.now asked.now paths.now) }
 {
     Ok(Request {
-        compiler: call.compiler,
+        compiler: programs,
         directory: call.directory,
         input: paths.input,
         arguments: counted_arguments(alloc, asked, paths)?,
@@ -152,10 +153,16 @@ pub fn request_of<'a>(
     })
 }
 
-// The lines of a call for a shell: one with its paths, that of no dependency file empty, and one with the
-// arguments of the preprocessor.
-fn call_lines(alloc: Global, asked: &Call<'_>, paths: &CallPaths<'_>) -> Result<Vec<u8>, AllocError>
-    ensures { IfOk result (λ lines. lines.items ≡ call_lines (call_of asked.now) paths.now) }
+// The lines of a call for a shell: one with its paths, that of no dependency file empty, and its programs, and one
+// with the arguments of the preprocessor.
+fn call_lines(
+    alloc: Global,
+    asked: &Call<'_>,
+    paths: &CallPaths<'_>,
+    programs: &str,
+) -> Result<Vec<u8>, AllocError>
+    ensures { IfOk result (λ lines.
+        lines.items ≡ call_lines (call_of asked.now) paths.now programs.now) }
 {
     let dependencies = match &paths.dependencies {
         Some(path) => path.as_str(),
@@ -165,23 +172,25 @@ fn call_lines(alloc: Global, asked: &Call<'_>, paths: &CallPaths<'_>) -> Result<
     push_word(&mut lines, paths.input.as_bytes())?;
     push_word(&mut lines, paths.output.as_bytes())?;
     push_word(&mut lines, dependencies.as_bytes())?;
+    push_word(&mut lines, programs.as_bytes())?;
     lines.push(b'\n')?;
     push_preprocessor_arguments(&mut lines, &asked.keyed)?;
     lines.push(b'\n')?;
     Ok(lines)
 }
 
-/// Prints the paths of a call, and the arguments that the preprocessor has, a line for each. A shell
-/// reads them back. Where no dependency file is written its path is empty.
+/// Prints the paths of a call and the programs that it runs, and the arguments that the preprocessor has,
+/// a line for each. A shell reads them back. Where no dependency file is written its path is empty.
 ///
 /// The error is of a failed write, or lack of memory.
 pub fn print_call<W: Write>(
     alloc: Global,
     asked: &Call<'_>,
     paths: &CallPaths<'_>,
+    programs: &str,
     writer: &mut W,
 ) -> Result<()> {
-    let lines = call_lines(alloc, asked, paths)?;
+    let lines = call_lines(alloc, asked, paths, programs)?;
     writer.write_all(&lines)?;
     Ok(())
 }

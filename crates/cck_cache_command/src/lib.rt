@@ -15,6 +15,7 @@ mod naming;
 mod outputs;
 mod places;
 mod program;
+mod programs;
 mod prune;
 mod record;
 mod request;
@@ -27,5 +28,5 @@ mod unnamed;
 mod unpack;
 mod why;
 
-pub use environment::{Environment, locale, variables};
+pub use environment::{Environment, is_passed_on, locale, search_variables, variables};
 pub use program::run;
