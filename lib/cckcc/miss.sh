@@ -156,13 +156,13 @@ add_loaded() {
     esac
 }
 
-# The programs that a compilation runs, and what they load, are kept in a file of the store, for each compiler, PATH and
+# The programs that a compilation runs, and what they load, are kept in a list in the store, for each compiler, PATH and
 # what is found in it, and variables of libraries. The program reads it, and tests whether it counts
-# (crates/cck_cache_files/src/programs.rt). It has the lines of `context`, the file that the compiler is, which a link
-# leads to, and the programs, or `-` if the compiler is not known.
-context=$located$newline$assembler$newline$PATH$newline$LD_LIBRARY_PATH$newline$LD_PRELOAD
+# (crates/cck_cache_files/src/programs.rt). It has the lines of the context, the file that the compiler is, which a link
+# leads to, the directory of cc1, and the programs, or `-` if the compiler is not known.
+context=$located$newline$assembler$newline$PATH$newline$LD_LIBRARY_PATH$newline$LD_PRELOAD$newline
 
-# Sets `list` to the path of that file. Its name has the length of the context in bytes.
+# Sets `list` to the path of the list, whose name has the length of the context in bytes.
 name_list() { list=$store/compilers/${compiler##*/}-$(LC_ALL=C; echo ${#context}); }
 
 # Asks the compiler for the programs, and keeps them. It fails where there is no temporary directory.
@@ -179,7 +179,8 @@ find_programs() {
     rm -rf "$tried"
     name_list
     {
-        mkdir -p "$store/compilers" && printf '%s\n' "$context" "$driver" "$programs" > "$list.new$$" &&
+        mkdir -p "$store/compilers" &&
+            printf '%s%s\n%s\n%s\n' "$context" "$driver" "${proper%/*}" "$programs" > "$list.new$$" &&
             mv "$list.new$$" "$list"
         [ -e "$store/empty.h" ] || : > "$store/empty.h"
     } 2>/dev/null
@@ -345,8 +346,8 @@ look_for_text() {
     exit 0
 }
 
-# Asks the program about the call: a directory that keeps objects is looked into.
-ask() {
+# Has the program look for the call's object, or where no directory keeps objects make its key.
+look_up() {
     if [ -n "$keeps" ]; then
         found=$("$program" look "$store" "$@")
     else
@@ -362,7 +363,7 @@ set -- --driver="$compiler" "$@"
 scratch= failed=
 if [ -n "$server" ]; then
     make_scratch || keeps=
-    ask "$@"
+    look_up "$@"
 fi
 case $found in
 'passed programs-unknown')
@@ -370,7 +371,7 @@ case $found in
     [ "$programs" != - ] || { found='passed compiler'; pass_on "$@"; }
     shift
     set -- --compiler="$programs" "$@"
-    ask "$@"
+    look_up "$@"
     ;;
 'passed variable'|'passed compiler') pass_on "$@" ;;
 esac

@@ -35,7 +35,7 @@ pub struct CompilerCall<'a> {
 #[derive(Drop)]
 pub struct Request<'a> {
     /// The paths of the programs that the compiler runs, with colons between them.
-    pub compiler: &'a str,
+    pub compiler: String,
     /// The working directory.
     pub directory: &'a str,
     /// The input, as the call has it.

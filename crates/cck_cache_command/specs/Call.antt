@@ -20,7 +20,7 @@ counted_arguments asked output = map (λ k. k.argument.now) asked.keyed.items ++
 
 -- the compilation of a call that runs these programs: that of its input and its directory, by those of its arguments that count
 pub record IsCallRequest (call : CompilerCall) (programs : Bytes) (asked : Call) (paths : CallPaths) (request : Request) : Type 0 where
-  pub compiler : request.compiler.now ≡ programs
+  pub compiler : string_bytes request.compiler ≡ programs
   pub directory : request.directory ≡ call.directory
   pub input : request.input ≡ paths.input
   pub arguments : lists_of request.arguments.items ≡ counted_arguments asked (string_bytes paths.output)
@@ -75,8 +75,10 @@ abbrev pub bytes_or_none : Option Bytes → Bytes
 bytes_or_none None = []
 bytes_or_none (Some bytes) = bytes
 
+-- the paths of a call, that of no dependency file empty
+abbrev pub call_paths : CallPaths → List Bytes
+call_paths paths = paths.input.now ∷ string_bytes paths.output ∷ bytes_or_none (option_map string_bytes paths.dependencies) ∷ []
+
 -- what a shell is given of a call: a line with the paths and the programs, and one with the arguments of the preprocessor
 abbrev pub call_lines : Asked → CallPaths → Bytes → Bytes
-call_lines call paths programs =
-    command (paths.input.now ∷ string_bytes paths.output ∷ bytes_or_none (option_map string_bytes paths.dependencies) ∷ programs ∷ [])
-    ++ 10 ∷ preprocessor_command call.keyed ++ 10 ∷ []
+call_lines call paths programs = command (call_paths paths ++ programs ∷ []) ++ 10 ∷ preprocessor_command call.keyed ++ 10 ∷ []

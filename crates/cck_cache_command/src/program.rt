@@ -64,7 +64,7 @@ fn run_preprocessor_key<R: Files + AllocGlobal, W: Write>(
     match request_key(rt, environment, &wanted.request, &mut files)? {
         Some(key) => {
             writeln!(writer, "{key}")?;
-            let programs = wanted.request.compiler;
+            let programs = wanted.request.compiler.as_str();
             print_call(rt.alloc(), &wanted.asked, &wanted.paths, programs, writer)?;
             Ok(DONE)
         }
@@ -288,10 +288,10 @@ fn run_look_for_call<R: Files + AllocGlobal, W: Write, E: Write>(
         paths,
         request,
     } = wanted;
-    let (outputs, programs) = (outputs_of(&paths), request.compiler);
+    let (outputs, programs) = (outputs_of(&paths), request.compiler.clone()?);
     let status = run_look(rt, environment, places, outputs, request, writer, errors)?;
     if status == MISS {
-        print_call(rt.alloc(), &asked, &paths, programs, writer)?;
+        print_call(rt.alloc(), &asked, &paths, programs.as_str(), writer)?;
     }
     Ok(status)
 }
@@ -352,7 +352,7 @@ fn run_call<R: Files + AllocGlobal, I: Read, W: Write, E: Write>(
     if !are_free(rt, &paths) {
         return print_passed(writer, Passed::Output);
     }
-    let request = request_of(alloc, call, programs.as_str(), &asked, &paths)?;
+    let request = request_of(alloc, call, programs, &asked, &paths)?;
     let wanted = Wanted {
         asked,
         paths,

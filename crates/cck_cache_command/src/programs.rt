@@ -19,7 +19,9 @@ pub enum Named {
 // that of the digests.
 fn store_of<'a>(call: &CompilerCall<'a>, action: &Action<'a>) -> Option<&'a str> {
     match action {
-        Action::Look { store, .. } | Action::Record { store, .. } | Action::Why { store } => Some(*store),
+        Action::Look { store, .. } | Action::Record { store, .. } | Action::Why { store } => Some(
+            *store,
+        ),
         Action::PreprocessorKey => call.digests,
     }
 }
@@ -35,11 +37,13 @@ fn kept<R: Files + AllocGlobal>(
     let (Some(store), Some(variables)) = (store, &environment.search) else {
         return Ok(Named::PassedOn(Passed::Programs));
     };
-    Ok(match kept_programs(rt, store, directory, compiler, variables)? {
-        KeptPrograms::Paths(paths) => Named::Paths(paths),
-        KeptPrograms::UnknownCompiler => Named::PassedOn(Passed::Compiler),
-        KeptPrograms::Nothing => Named::PassedOn(Passed::Programs),
-    })
+    Ok(
+        match kept_programs(rt, store, directory, compiler, variables)? {
+            KeptPrograms::Paths(paths) => Named::Paths(paths),
+            KeptPrograms::UnknownCompiler => Named::PassedOn(Passed::Compiler),
+            KeptPrograms::Nothing => Named::PassedOn(Passed::Programs),
+        },
+    )
 }
 
 /// The programs that the compiler of a call runs: those that the call has, or those that a store keeps of
