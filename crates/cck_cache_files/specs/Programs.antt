@@ -1,5 +1,5 @@
 -- the programs of a compiler that a store keeps
-use Rattle.std.specs.Prelude.{◌≡◌, ◌≢◌, ◌==◌, ◌⊎◌, ℕ, List, [], ◌∷◌, ◌++◌, Bool, true, false, not, cond, Option, Some, None, EachIndex, slice_index, length, bit_and, codes, map, string_bytes}
+use Rattle.std.specs.Prelude.{◌≡◌, ◌≢◌, ◌==◌, ◌⊎◌, ◌<◌, ◌^◌, ℕ, List, [], ◌∷◌, ◌++◌, Bool, true, false, not, cond, Option, Some, None, EachIndex, slice_index, length, bit_and, codes, map, string_bytes}
 use Rattle.std.specs.Fmt.{decimal}
 use Rattle.std.specs.List.{slice_split}
 use Rattle.cck_cache_files.specs.declared.programs.Listed.{Listed}
@@ -90,3 +90,7 @@ pub record HasLines (first text : List ℕ) (lines : List (List ℕ)) : Type 0 w
 abbrev pub IsListRead : List ℕ → List ℕ → Option Listed → Type 0
 IsListRead first text None = (file directory programs : List ℕ) → HasLines first text (file ∷ directory ∷ programs ∷ []) → ⊥
 IsListRead first text (Some listed) = HasLines first text (listed.file.now ∷ listed.directory.now ∷ listed.programs.now ∷ [])
+
+-- in one store two lists have one path only if their names and lengths are the same
+abbrev pub ListPathsDiffer : Type 0
+ListPathsDiffer = (store m n : List ℕ) (i j : ℕ) → i < 2 ^ 64 → j < 2 ^ 64 → list_path store m i ≡ list_path store n j → (m ≡ n) × (i ≡ j)
