@@ -7,8 +7,9 @@ readelf of binutils; the table was made for gcc 12 and glibc 2.36 on x86-64.
   library logs (tests/real/getenv.c); those that the code of gcc, cc1, the assembler and their libraries gives to `getenv`;
   and those of the section "Environment Variables" of gcc's manual.
 - The names with `key` are exactly those of the lists of crates/cck_util/src/variables.rt and of
-  crates/cck_cache_command/src/environment.rt. Those with `passed` are exactly those that bin/cckcc tests for being set,
-  and those with `programs` are exactly those in the context for which it keeps the paths of the compiler's programs.
+  crates/cck_cache_command/src/environment.rt but for two lists of the latter: PASSED has exactly the names with `passed`,
+  and SEARCHED exactly those with `programs`, which lib/cckcc/miss.sh has in the context for which it keeps the paths of
+  the compiler's programs.
 - No variable with `none` changes an output of some calls, whatever of some values it has.
 
 With --print it prints who asks for which name. The last line is `all passed`."""
@@ -23,7 +24,8 @@ sys.path.insert(0, os.path.join(os.path.dirname(os.path.abspath(__file__)), "rea
 from calls import TOP, WRAPPER, Room, difference  # noqa: E402
 
 TABLE = TOP + "/tests/real/variables.txt"
-KEYS = [TOP + "/crates/cck_util/src/variables.rt", TOP + "/crates/cck_cache_command/src/environment.rt"]
+LISTS = [TOP + "/crates/cck_util/src/variables.rt", TOP + "/crates/cck_cache_command/src/environment.rt"]
+SCRIPTS = [WRAPPER, TOP + "/lib/cckcc/miss.sh"]
 LIBRARY = TOP + "/tests/real/getenv.c"
 TREATMENTS = ("key", "passed", "programs", "directory", "none")
 # What "Environment Variables Affecting GCC" of gcc 12's manual has.
@@ -155,18 +157,21 @@ def compare(what, wanted, got):
 
 def in_code(treated):
     """What the table has otherwise than the code."""
-    keys = set()
-    lines = [line for path in KEYS for line in lines_of(path)]
-    for part in re.findall(r"const \w+: \[&(?:str|\[u8\]); \d+\] = \[(.*?)\];", "\n".join(lines), re.S):
-        keys |= set(re.findall(r'"(\w+)"', part))
-    wrapper = "\n".join(line for line in lines_of(WRAPPER) if not line.lstrip().startswith("#"))
-    passed = set(re.findall(r"\$\{([A-Z][A-Z0-9_]*)\+x\}", wrapper))
-    context = "\n".join(re.findall(r"^context=.*", wrapper, re.M))
-    programs_in_code = set(re.findall(r"\$\{?([A-Z][A-Z0-9_]*)", context))
-    is_directory = {"PWD"} if '--directory="$PWD"' in wrapper else set()
-    faults = []
-    for what, got in (("key", keys), ("passed", passed), ("programs", programs_in_code), ("directory", is_directory)):
-        faults += compare(what, {name for name in treated if treated[name] == what}, got)
+    got = {"key": set(), "passed": set(), "programs": set(), "directory": {"PWD"}}
+    lines = [line for path in LISTS for line in lines_of(path)]
+    for name, part in re.findall(r"const (\w+): \[&(?:str|\[u8\]); \d+\] = \[(.*?)\];", "\n".join(lines), re.S):
+        what = {"PASSED": "passed", "SEARCHED": "programs"}.get(name, "key")
+        got[what] |= set(re.findall(r'"(\w+)"', part))
+    context, faults = set(), []
+    for path in SCRIPTS:
+        script = "\n".join(line for line in lines_of(path) if not line.lstrip().startswith("#"))
+        for line in re.findall(r"^context=.*", script, re.M):
+            context |= set(re.findall(r"\$\{?([A-Z][A-Z0-9_]*)", line))
+        if '--directory="$PWD"' not in script:
+            faults.append(f"{path} does not give PWD as the directory")
+    faults += compare("programs", got["programs"], context)
+    for what, names in got.items():
+        faults += compare(what, {name for name in treated if treated[name] == what}, names)
     return faults
 
 

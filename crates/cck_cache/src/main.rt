@@ -7,7 +7,9 @@
 #![tactic(auto)]
 
 use anyhow::{Result, bail};
-use cck_cache_command::{Environment, locale, reads_all, run, variables};
+use cck_cache_command::{
+    Environment, is_passed_on, locale, reads_all, run, search_variables, variables,
+};
 use cck_path::Timestamp;
 use jiff::tz::{SystemTimeZone, TimeZoneDatabase};
 use std::process::ExitCode;
@@ -41,7 +43,9 @@ fn start(rt: &HostRuntime) -> Result<u8> {
         zone: system.time_zone(&database)?,
         variables: variables(rt)?,
         locale: locale(rt)?,
-        reads_all: reads_all(rt),
+        reads_all: reads_all(rt)?,
+        is_passed_on: is_passed_on(rt)?,
+        search: search_variables(rt)?,
         id: process::id(rt.process()),
     };
     let (mut reader, mut writer, mut errors) = (rt.stdin(), rt.stdout(), rt.stderr());

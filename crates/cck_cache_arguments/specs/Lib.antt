@@ -1,2 +1,3 @@
+pub mod Programs
 pub mod Stamp
 pub mod Task

@@ -25,14 +25,19 @@ const DEPENDENCIES: OptionWords<'static> = (
     "Where the dependency file is written",
 );
 
-const CALL_REQUIRED: [OptionWords<'static>; 2] = [
-    (
-        "compiler",
-        "PATHS",
-        "The programs that the compiler runs, with colons between them",
-    ),
-    ("directory", "DIR", "The working directory"),
-];
+const COMPILER: OptionWords<'static> = (
+    "compiler",
+    "PATHS",
+    "The programs that the compiler runs, with colons between them",
+);
+
+const DRIVER: OptionWords<'static> = (
+    "driver",
+    "COMPILER",
+    "The compiler as it is called, whose programs the store keeps; in place of --compiler",
+);
+
+const CALL_REQUIRED: [OptionWords<'static>; 1] = [("directory", "DIR", "The working directory")];
 
 const CALL_EXTRA: [OptionWords<'static>; 2] = [
     (
@@ -113,6 +118,16 @@ const RECORD_EXTRA: [OptionWords<'static>; 2] = [
     ),
 ];
 
+// An option that takes a value.
+fn option_of<'a>(alloc: Global, words: OptionWords<'a>) -> Arg<'a> {
+    let (name, value, help) = words;
+    Arg::new(alloc, name)
+        .long(name)
+        .value_name(value)
+        .action(ArgAction::Set)
+        .help(help)
+}
+
 // A command with these options, which take a value each.
 fn with_options<'a>(
     alloc: Global,
@@ -121,12 +136,8 @@ fn with_options<'a>(
     need: Need<'a>,
 ) -> Result<Command<'a>, AllocError> {
     let mut command = command;
-    for (name, value, help) in options {
-        let option = Arg::new(alloc, name)
-            .long(name)
-            .value_name(value)
-            .action(ArgAction::Set)
-            .help(help);
+    for words in options {
+        let option = option_of(alloc, *words);
         let option = match need {
             Need::Always => option.required(true),
             Need::Never => option,
@@ -137,8 +148,18 @@ fn with_options<'a>(
     Ok(command)
 }
 
+// A command with the two options for a compiler's programs, of which one has to be given.
+fn with_programs<'a>(alloc: Global, command: Command<'a>) -> Result<Command<'a>, AllocError> {
+    let (driver, _, _) = DRIVER;
+    let compiler = option_of(alloc, COMPILER)
+        .required_unless_present(driver)?
+        .conflicts_with(driver)?;
+    command.arg(compiler)?.arg(option_of(alloc, DRIVER))
+}
+
 // A command with the words of a compiler's call after its own.
 fn with_call<'a>(alloc: Global, command: Command<'a>) -> Result<Command<'a>, AllocError> {
+    let command = with_programs(alloc, command)?;
     let command = with_options(alloc, command, &CALL_REQUIRED, Need::Always)?;
     let command = with_options(alloc, command, &CALL_EXTRA, Need::Never)?;
     command.arg(

@@ -9,6 +9,6 @@ mod request;
 mod stamp;
 mod task;
 
-pub use request::{CompilerCall, Request};
+pub use request::{CompilerCall, Programs, Request};
 pub use stamp::stamp_of;
 pub use task::{Action, Compilation, Look, Made, Outputs, Packed, Task, task_of};

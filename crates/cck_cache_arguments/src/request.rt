@@ -1,12 +1,25 @@
 //! The call of a compiler that words have, and the compilation that it asks for.
+ghost use Rattle.std.specs.Prelude.{MatchOption};
+ghost use Rattle.clap.specs.Matches.{found_of};
+ghost use Rattle.cck_cache_arguments.specs.Programs.{HasNoPrograms, HasPrograms};
+
 use clap::ArgMatches;
 use std::alloc::{AllocError, Global};
+
+/// What words say of the programs that a compiler runs.
+#[derive(Clone, Copy)]
+pub enum Programs<'a> {
+    /// Their paths, with colons between them.
+    Paths(&'a str),
+    /// The compiler, as it is called: they are those that a store keeps of it.
+    Driver(&'a str),
+}
 
 /// A call of a compiler: what the words of the command line say of it.
 #[derive(Drop)]
 pub struct CompilerCall<'a> {
-    /// The paths of the programs that the compiler runs, with colons between them.
-    pub compiler: &'a str,
+    /// The programs that the compiler runs.
+    pub programs: Programs<'a>,
     /// The working directory.
     pub directory: &'a str,
     /// The compiler's arguments, as they came.
@@ -22,7 +35,7 @@ pub struct CompilerCall<'a> {
 #[derive(Drop)]
 pub struct Request<'a> {
     /// The paths of the programs that the compiler runs, with colons between them.
-    pub compiler: &'a str,
+    pub compiler: String,
     /// The working directory.
     pub directory: &'a str,
     /// The input, as the call has it.
@@ -47,6 +60,18 @@ fn arguments_of(alloc: Global, matches: &ArgMatches<'_>) -> Result<Vec<Vec<u8>>,
     Ok(all)
 }
 
+// The programs in the words of a command. `None` where they have none.
+fn programs_of<'a>(matches: &ArgMatches<'a>) -> Option<Programs<'a>>
+    ensures { MatchOption result (HasNoPrograms (found_of matches.now))
+        (HasPrograms (found_of matches.now)) }
+{
+    if let Some(paths) = matches.get_str("compiler") {
+        return Some(Programs::Paths(paths));
+    }
+    let driver = matches.get_str("driver")?;
+    Some(Programs::Driver(driver))
+}
+
 /// The call of a compiler in the words of a command. `None` where one of its words is missing, which
 /// `clap` does not let pass.
 ///
@@ -55,14 +80,12 @@ pub(crate) fn call_of<'a>(
     alloc: Global,
     matches: &ArgMatches<'a>,
 ) -> Result<Option<CompilerCall<'a>>, AllocError> {
-    let (Some(compiler), Some(directory)) = (
-        matches.get_str("compiler"),
-        matches.get_str("directory"),
-    ) else {
+    let (Some(programs), Some(directory)) = (programs_of(matches), matches.get_str("directory"))
+    else {
         return Ok(None);
     };
     Ok(Some(CompilerCall {
-        compiler,
+        programs,
         directory,
         arguments: arguments_of(alloc, matches)?,
         digests: matches.get_str("digests"),

@@ -18,9 +18,9 @@ target_arguments depends targets output = cond (depends && not targets) (codes "
 abbrev pub counted_arguments : Call → Bytes → List Bytes
 counted_arguments asked output = map (λ k. k.argument.now) asked.keyed.items ++ target_arguments asked.depends asked.targets output
 
--- the compilation of a call: that of its input, its programs and its directory, by those of its arguments that count
-pub record IsCallRequest (call : CompilerCall) (asked : Call) (paths : CallPaths) (request : Request) : Type 0 where
-  pub compiler : request.compiler ≡ call.compiler
+-- the compilation of a call that runs these programs: that of its input and its directory, by those of its arguments that count
+pub record IsCallRequest (call : CompilerCall) (programs : Bytes) (asked : Call) (paths : CallPaths) (request : Request) : Type 0 where
+  pub compiler : string_bytes request.compiler ≡ programs
   pub directory : request.directory ≡ call.directory
   pub input : request.input ≡ paths.input
   pub arguments : lists_of request.arguments.items ≡ counted_arguments asked (string_bytes paths.output)
@@ -75,8 +75,10 @@ abbrev pub bytes_or_none : Option Bytes → Bytes
 bytes_or_none None = []
 bytes_or_none (Some bytes) = bytes
 
--- what a shell is given of a call: a line with the paths, and one with the arguments of the preprocessor
-abbrev pub call_lines : Asked → CallPaths → Bytes
-call_lines call paths =
-    command (paths.input.now ∷ string_bytes paths.output ∷ bytes_or_none (option_map string_bytes paths.dependencies) ∷ [])
-    ++ 10 ∷ preprocessor_command call.keyed ++ 10 ∷ []
+-- the paths of a call, that of no dependency file empty
+abbrev pub call_paths : CallPaths → List Bytes
+call_paths paths = paths.input.now ∷ string_bytes paths.output ∷ bytes_or_none (option_map string_bytes paths.dependencies) ∷ []
+
+-- what a shell is given of a call: a line with the paths and the programs, and one with the arguments of the preprocessor
+abbrev pub call_lines : Asked → CallPaths → Bytes → Bytes
+call_lines call paths programs = command (call_paths paths ++ programs ∷ []) ++ 10 ∷ preprocessor_command call.keyed ++ 10 ∷ []

@@ -5,7 +5,7 @@ use Rattle.cck_cache_command.specs.Call.{ArePaths, HasNoPaths}
 use Rattle.cck_cache_command.specs.declared.judge.Judged.{Judged}
 use Rattle.cck_cache_command.specs.declared.judge.Judged.TheVariants.{Asks, PassedOn}
 use Rattle.cck_cache_command.specs.declared.judge.Passed.{Passed}
-use Rattle.cck_cache_command.specs.declared.judge.Passed.TheVariants.{Arguments, HeaderTest, ResponseFile, Path, Output}
+use Rattle.cck_cache_command.specs.declared.judge.Passed.TheVariants.{Variable, Programs, Compiler, Arguments, HeaderTest, ResponseFile, Path, Output}
 use Rattle.cck_cache_command.specs.Response.{MayNameArguments}
 use Rattle.cck_cache_text.specs.HeaderTests.{MayAskForFile}
 use Rattle.cck_cache_options.specs.Call.{Asked, asks, call_of, parse, passed}
@@ -15,6 +15,9 @@ use Rattle.cck_path.specs.Bytes.{Bytes}
 
 -- the name under which a call that is passed on is counted
 abbrev pub passed_name : Passed → Bytes
+passed_name Variable = codes "variable"
+passed_name Programs = codes "programs-unknown"
+passed_name Compiler = codes "compiler"
 passed_name (Arguments reason) = reason_name reason
 passed_name HeaderTest = codes "header-test"
 passed_name ResponseFile = codes "response-file"
@@ -30,7 +33,8 @@ abbrev pub NameArguments : List Bytes → Type 0
 NameArguments arguments = Any MayNameArguments arguments
 
 -- A call is cached if its arguments ask for something, by the table, none may make a source depend on another file or name a file of arguments, and
--- its paths are texts. Else it is passed on, and the reason is the first of these that does not hold. What is at the paths is no matter here.
+-- its paths are texts. Else it is passed on, and the reason is the first of these that does not hold. What is at the paths is no matter here, nor are the variables and
+-- the programs.
 abbrev pub IsJudged : List Entry → List Bytes → Judged → Type 0
 IsJudged table arguments (Asks call paths) = (parse table arguments ≡ asks (call_of call)) × ¬ (AskForFile arguments) × ¬ (NameArguments arguments) × ArePaths (call_of call) paths
 IsJudged table arguments (PassedOn (Arguments reason)) = parse table arguments ≡ passed reason
@@ -38,3 +42,6 @@ IsJudged table arguments (PassedOn HeaderTest) = (call : Asked) × (parse table 
 IsJudged table arguments (PassedOn ResponseFile) = (call : Asked) × (parse table arguments ≡ asks call) × ¬ (AskForFile arguments) × NameArguments arguments
 IsJudged table arguments (PassedOn Path) = (call : Asked) × (parse table arguments ≡ asks call) × ¬ (AskForFile arguments) × ¬ (NameArguments arguments) × HasNoPaths call
 IsJudged table arguments (PassedOn Output) = ⊥
+IsJudged table arguments (PassedOn Variable) = ⊥
+IsJudged table arguments (PassedOn Programs) = ⊥
+IsJudged table arguments (PassedOn Compiler) = ⊥

@@ -1,7 +1,8 @@
 //! The compilation that a call of a compiler asks for, and the paths of its files.
 ghost use Rattle.std.specs.Prelude.{◌≡◌, ◌++◌, IfOk, IsUtf8, MatchOption, OnOk, map, string_bytes};
 ghost use Rattle.std.specs.Option.{option_map};
-ghost use Rattle.cck_cache_command.specs.Call.{AreDependencies, ArePaths, AreTexts, AreUtf8, HasNoPaths, IsCallRequest, IsOutput, call_lines, counted_arguments};
+ghost use Rattle.cck_cache_command.specs.Call.{AreDependencies, ArePaths, AreTexts, AreUtf8, HasNoPaths, IsCallRequest, IsOutput, call_lines, call_paths, counted_arguments};
+ghost use Rattle.cck_cache_options.specs.Quote.{command};
 ghost use Rattle.cck_cache_options.specs.Call.{call_of};
 ghost use Rattle.cck_path.specs.Bytes.{lists_of};
 
@@ -131,19 +132,20 @@ fn counted_arguments(
     Ok(all)
 }
 
-/// The compilation that a call asks for.
+/// The compilation that a call asks for, which runs these programs.
 ///
 /// The error is lack of memory.
 pub fn request_of<'a>(
     alloc: Global,
     call: &CompilerCall<'a>,
+    programs: String,
     asked: &Call<'_>,
     paths: &CallPaths<'a>,
 ) -> Result<Request<'a>, AllocError>
-    ensures { IfOk result (IsCallRequest call.now asked.now paths.now) }
+    ensures { IfOk result (IsCallRequest call.now (string_bytes programs) asked.now paths.now) }
 {
     Ok(Request {
-        compiler: call.compiler,
+        compiler: programs,
         directory: call.directory,
         input: paths.input,
         arguments: counted_arguments(alloc, asked, paths)?,
@@ -152,36 +154,51 @@ pub fn request_of<'a>(
     })
 }
 
-// The lines of a call for a shell: one with its paths, that of no dependency file empty, and one with the
-// arguments of the preprocessor.
-fn call_lines(alloc: Global, asked: &Call<'_>, paths: &CallPaths<'_>) -> Result<Vec<u8>, AllocError>
-    ensures { IfOk result (λ lines. lines.items ≡ call_lines (call_of asked.now) paths.now) }
+// Appends the paths of a call as words for a shell. That of no dependency file is empty.
+fn push_paths(words: &mut Vec<u8>, paths: &CallPaths<'_>) -> Result<(), AllocError>
+    ensures { OnOk result (words.new.items ≡ words.old.items ++ command (call_paths paths.now)) }
 {
     let dependencies = match &paths.dependencies {
         Some(path) => path.as_str(),
         None => "",
     };
+    push_word(words, paths.input.as_bytes())?;
+    push_word(words, paths.output.as_bytes())?;
+    push_word(words, dependencies.as_bytes())
+}
+
+// The lines of a call for a shell: one with its paths and its programs, and one with the arguments of the
+// preprocessor.
+fn call_lines(
+    alloc: Global,
+    asked: &Call<'_>,
+    paths: &CallPaths<'_>,
+    programs: &str,
+) -> Result<Vec<u8>, AllocError>
+    ensures { IfOk result (λ lines.
+        lines.items ≡ call_lines (call_of asked.now) paths.now programs.now) }
+{
     let mut lines = Vec::new(alloc);
-    push_word(&mut lines, paths.input.as_bytes())?;
-    push_word(&mut lines, paths.output.as_bytes())?;
-    push_word(&mut lines, dependencies.as_bytes())?;
+    push_paths(&mut lines, paths)?;
+    push_word(&mut lines, programs.as_bytes())?;
     lines.push(b'\n')?;
     push_preprocessor_arguments(&mut lines, &asked.keyed)?;
     lines.push(b'\n')?;
     Ok(lines)
 }
 
-/// Prints the paths of a call, and the arguments that the preprocessor has, a line for each. A shell
-/// reads them back. Where no dependency file is written its path is empty.
+/// Prints the paths of a call and the programs that it runs, and the arguments that the preprocessor has,
+/// a line for each. A shell reads them back. Where no dependency file is written its path is empty.
 ///
 /// The error is of a failed write, or lack of memory.
 pub fn print_call<W: Write>(
     alloc: Global,
     asked: &Call<'_>,
     paths: &CallPaths<'_>,
+    programs: &str,
     writer: &mut W,
 ) -> Result<()> {
-    let lines = call_lines(alloc, asked, paths)?;
+    let lines = call_lines(alloc, asked, paths, programs)?;
     writer.write_all(&lines)?;
     Ok(())
 }

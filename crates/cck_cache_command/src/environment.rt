@@ -4,6 +4,7 @@ ghost use Rattle.cck_cache_command.specs.Environment.{variable_names};
 ghost use Rattle.cck_include.specs.Config.{activated};
 
 use anyhow::{Result, bail};
+use cck_cache_files::SearchVariables;
 use cck_include::PreprocessorCacheModeConfig;
 use cck_path::Timestamp;
 use cck_util::request_variable_names;
@@ -30,6 +31,26 @@ const LOCALE: [&str; 10] = [
     "COLUMNS",
 ];
 
+// The variables with which a call is passed on, if one is set, even to nothing. By these the compiler finds its
+// programs and directories, its libraries theirs, and the dynamic linker further ones; or the compiler
+// writes further files, compiles twice, or writes its messages otherwise.
+const PASSED: [&str; 11] = [
+    "GCC_EXEC_PREFIX",
+    "COMPILER_PATH",
+    "GCC_ROOT",
+    "BINUTILS_ROOT",
+    "DEPENDENCIES_OUTPUT",
+    "SUNPRO_DEPENDENCIES",
+    "GCC_COMPARE_DEBUG",
+    "GCONV_PATH",
+    "LOCPATH",
+    "OUTPUT_CHARSET",
+    "LD_AUDIT",
+];
+
+// The variables by which programs and the libraries that they load are found.
+const SEARCHED: [&str; 3] = ["PATH", "LD_LIBRARY_PATH", "LD_PRELOAD"];
+
 /// What a process is given beside its words.
 #[derive(Drop)]
 pub struct Environment<'a> {
@@ -43,6 +64,10 @@ pub struct Environment<'a> {
     pub locale: Vec<u8>,
     /// Whether a look-up reads each file that an entry names, whatever its status is.
     pub reads_all: bool,
+    /// Whether a variable is set with which each call is passed on.
+    pub is_passed_on: bool,
+    /// The variables by which programs are found. `None` where one of them is not UTF-8.
+    pub search: Option<SearchVariables>,
     /// The number of the process.
     pub id: u32,
 }
@@ -110,7 +135,60 @@ pub fn locale<R: Env + AllocGlobal>(rt: &R) -> Result<Vec<u8>> {
     Ok(all)
 }
 
+// Whether a variable is set.
+fn is_set<R: Env + AllocGlobal>(rt: &R, name: &str) -> Result<bool> {
+    match env::var(rt, name) {
+        Ok(_) | Err(env::VarError::NotUnicode) => Ok(true),
+        Err(env::VarError::NotPresent) => Ok(false),
+        Err(env::VarError::OutOfMemory) => bail!("out of memory"),
+    }
+}
+
+/// Whether a variable is set, empty or not, with which each call of a compiler is passed on.
+///
+/// The only error is lack of memory.
+pub fn is_passed_on<R: Env + AllocGlobal>(rt: &R) -> Result<bool> {
+    for name in PASSED {
+        if is_set(rt, name)? {
+            return Ok(true);
+        }
+    }
+    Ok(false)
+}
+
+// The value of a variable, which is empty if the variable is not set. `None` where it is not UTF-8.
+fn text_of<R: Env + AllocGlobal>(rt: &R, name: &str) -> Result<Option<String>> {
+    match env::var(rt, name) {
+        Ok(value) => Ok(Some(value)),
+        Err(env::VarError::NotPresent) => Ok(Some(String::new(rt.alloc()))),
+        Err(env::VarError::NotUnicode) => Ok(None),
+        Err(env::VarError::OutOfMemory) => bail!("out of memory"),
+    }
+}
+
+/// The variables by which programs and the libraries that they load are found. One that is not set is empty.
+/// `None` where one is not UTF-8.
+///
+/// The only error is lack of memory.
+pub fn search_variables<R: Env + AllocGlobal>(rt: &R) -> Result<Option<SearchVariables>> {
+    let [path, library_path, preload] = SEARCHED;
+    let (Some(path), Some(library_path), Some(preload)) = (
+        text_of(rt, path)?,
+        text_of(rt, library_path)?,
+        text_of(rt, preload)?,
+    ) else {
+        return Ok(None);
+    };
+    Ok(Some(SearchVariables {
+        path,
+        library_path,
+        preload,
+    }))
+}
+
 /// Whether a look-up reads all files: whether the variable `CCK_READ` is set.
-pub fn reads_all<R: Env + AllocGlobal>(rt: &R) -> bool {
-    env::var(rt, "CCK_READ") != Err(env::VarError::NotPresent)
+///
+/// The only error is lack of memory.
+pub fn reads_all<R: Env + AllocGlobal>(rt: &R) -> Result<bool> {
+    is_set(rt, "CCK_READ")
 }

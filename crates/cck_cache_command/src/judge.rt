@@ -13,6 +13,12 @@ use std::alloc::{AllocError, Global};
 /// Why a call is not cached.
 #[derive(Clone, Copy)]
 pub enum Passed {
+    /// A variable is set with which no call is cached.
+    Variable,
+    /// The store keeps no programs of the compiler that count for the call.
+    Programs,
+    /// The compiler is not known.
+    Compiler,
     /// What its arguments say is not cached.
     Arguments(Reason),
     /// An argument may make a source test for a header, or compare the times of files.
@@ -31,6 +37,9 @@ impl Passed {
         ensures { result.now ≡ passed_name self }
     {
         match self {
+            Passed::Variable => "variable",
+            Passed::Programs => "programs-unknown",
+            Passed::Compiler => "compiler",
             Passed::Arguments(reason) => reason.as_str(),
             Passed::HeaderTest => "header-test",
             Passed::ResponseFile => "response-file",

@@ -17,6 +17,7 @@ mod naming;
 mod outputs;
 mod places;
 mod program;
+mod programs;
 mod prune;
 mod record;
 mod request;
@@ -29,5 +30,7 @@ mod unnamed;
 mod unpack;
 mod why;
 
-pub use environment::{Environment, locale, reads_all, variables};
+pub use environment::{
+    Environment, is_passed_on, locale, reads_all, search_variables, variables,
+};
 pub use program::run;

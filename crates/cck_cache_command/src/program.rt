@@ -6,6 +6,7 @@ use crate::judge::{Judged, Passed, judge};
 use crate::look::{Found, NO_KEY, look};
 use crate::outputs::write_outputs;
 use crate::places::are_free;
+use crate::programs::{Named, programs_of};
 use crate::prune::prune;
 use crate::record::{Outcome, record};
 use crate::request::request_key;
@@ -63,7 +64,8 @@ fn run_preprocessor_key<R: Files + AllocGlobal, W: Write>(
     match request_key(rt, environment, &wanted.request, &mut files)? {
         Some(key) => {
             writeln!(writer, "{key}")?;
-            print_call(rt.alloc(), &wanted.asked, &wanted.paths, writer)?;
+            let programs = wanted.request.compiler.as_str();
+            print_call(rt.alloc(), &wanted.asked, &wanted.paths, programs, writer)?;
             Ok(DONE)
         }
         None => {
@@ -286,10 +288,10 @@ fn run_look_for_call<R: Files + AllocGlobal, W: Write, E: Write>(
         paths,
         request,
     } = wanted;
-    let outputs = outputs_of(&paths);
+    let (outputs, programs) = (outputs_of(&paths), request.compiler.clone()?);
     let status = run_look(rt, environment, places, outputs, request, writer, errors)?;
     if status == MISS {
-        print_call(rt.alloc(), &asked, &paths, writer)?;
+        print_call(rt.alloc(), &asked, &paths, programs.as_str(), writer)?;
     }
     Ok(status)
 }
@@ -338,6 +340,10 @@ fn run_call<R: Files + AllocGlobal, I: Read, W: Write, E: Write>(
     errors: &mut E,
 ) -> Result<u8> {
     let alloc = rt.alloc();
+    let programs = match programs_of(rt, environment, call, action)? {
+        Named::Paths(programs) => programs,
+        Named::PassedOn(reason) => return print_passed(writer, reason),
+    };
     let rows = rows_of(alloc, GCC)?;
     let (asked, paths) = match judge(alloc, &rows, &call.arguments)? {
         Judged::Asks(asked, paths) => (asked, paths),
@@ -346,7 +352,7 @@ fn run_call<R: Files + AllocGlobal, I: Read, W: Write, E: Write>(
     if !are_free(rt, &paths) {
         return print_passed(writer, Passed::Output);
     }
-    let request = request_of(alloc, call, &asked, &paths)?;
+    let request = request_of(alloc, call, programs, &asked, &paths)?;
     let wanted = Wanted {
         asked,
         paths,

@@ -90,9 +90,9 @@ fn digest_of<R: Files + AllocGlobal>(
     let digest = match request.digests {
         Some(directory) => {
             let store = store_in(rt, environment, directory)?;
-            shared_compiler_digest(rt, &store, request.compiler)
+            shared_compiler_digest(rt, &store, request.compiler.as_str())
         }
-        None => compiler_digest(rt, request.compiler),
+        None => compiler_digest(rt, request.compiler.as_str()),
     };
     digest.context("a program of the compiler")
 }

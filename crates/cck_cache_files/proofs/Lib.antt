@@ -2,6 +2,7 @@ pub mod CompilerLemmas
 pub mod CopyLemmas
 pub mod ListingLemmas
 pub mod PathLemmas
+pub mod ProgramLemmas
 pub mod ReadOnceLemmas
 pub mod SnapshotLemmas
 pub mod SourceLemmas

@@ -4,6 +4,7 @@ pub mod Listing
 pub mod PathStates
 pub mod PathTests
 pub mod Paths
+pub mod Programs
 pub mod ReadOnce
 pub mod Searched
 pub mod Snapshot

@@ -1,6 +1,7 @@
 //! Laws about the definitions. Each is the contract of a function with an empty body.
 ghost use Rattle.std.specs.Prelude.{◌≡◌, ◌↔◌, IsTrue};
 ghost use Rattle.cck_cache_files.specs.Paths.{DigestPathsDiffer, KeyPathsDiffer};
+ghost use Rattle.cck_cache_files.specs.Programs.{ListPathsDiffer};
 
 use crate::{Kind, PathState};
 
@@ -9,6 +10,12 @@ use crate::{Kind, PathState};
 pub fn key_paths_differ()
     ensures keys { KeyPathsDiffer }
     ensures digests { DigestPathsDiffer }
+{}
+
+/// In a store the lists of two compilers have one path only if the last parts of the names by which they are called are
+/// the same, and the lengths of their first lines.
+pub fn list_paths_differ()
+    ensures { ListPathsDiffer }
 {}
 
 /// Two [`Kind`]s are equal exactly if they are the same.

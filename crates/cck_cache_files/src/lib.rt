@@ -14,13 +14,14 @@
 //! - [`StoreDirectory`] is the directory of a store.
 //! - [`list_files`] and [`list_counts`] list the files of a store.
 //! - [`compiler_digest`] is the digest of a compiler's programs on this machine, and
-//!   [`shared_compiler_digest`] that of their contents.
+//!   [`shared_compiler_digest`] that of their contents. [`kept_programs`] says which these are, as a
+//!   store keeps it.
 //! - [`laws`] states properties of the definitions.
 //!
 //! No contract says what a disk holds. The contracts here are on values alone: the paths of a
 //! store, the names in a directory, the parts of a time, the states that are kept of paths, the places
-//! of directories, and the lines that are hashed, with some numbers or contents for what was read. Beyond them these calls
-//! are proved to be safe.
+//! of directories and of programs, the lines of a list of programs, and those that are hashed, with some numbers or
+//! contents for what was read. Beyond them these calls are proved to be safe.
 #![tactic(auto)]
 
 mod compiler;
@@ -29,6 +30,7 @@ pub mod laws;
 mod listing;
 mod path_states;
 mod path_tests;
+mod programs;
 mod read_once;
 mod searched;
 mod snapshot;
@@ -45,6 +47,7 @@ pub use copies::{
 pub use listing::{StoredFile, list_counts, list_files};
 pub use path_states::{PathState, PathStates};
 pub use path_tests::first_failing;
+pub use programs::{KeptPrograms, SearchVariables, kept_programs};
 pub use read_once::has_copies;
 pub use searched::SearchedDirectories;
 pub use snapshot::{add_file, add_named_files, is_one_file};
