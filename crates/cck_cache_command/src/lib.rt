@@ -30,7 +30,5 @@ mod unnamed;
 mod unpack;
 mod why;
 
-pub use environment::{
-    Environment, is_passed_on, locale, reads_all, search_variables, variables,
-};
+pub use environment::{Environment, is_passed_on, locale, reads_all, search_variables, variables};
 pub use program::run;

@@ -12,8 +12,8 @@ use crate::absence::add_directories;
 use crate::copies::may_import;
 use cck_cache_arguments::Request;
 use cck_cache_files::{
-    ComparedFiles, KnownFile, PathState, PathStates, add_known, compared_paths,
-    is_in_snapshot, is_one_file, known_files, may_be_copy, may_be_passed_over,
+    ComparedFiles, KnownFile, PathState, PathStates, add_known, compared_paths, is_in_snapshot,
+    is_one_file, known_files, may_be_copy, may_be_passed_over,
 };
 use cck_cache_rules::{PathTest, Refusal};
 use cck_cache_text::{SearchList, add_left, looked_at_paths};

@@ -18,7 +18,7 @@ loop-result-preserved g c =
     let r = c.result-item.result in
     let within : c.loop-result.result-index < length results = omega arith in
     let at : Contains (entries entry) (result_lent r) = subst (λ (all : List KeyResult). Contains all (result_lent r)) (sym c.results-result-items.ensures.entries)
-        (contains_map result_lent results r (c.loop-result.result-index, within, sym c.result-item.is)) in
+    (contains_map result_lent results r (c.loop-result.result-index, within, sym c.result-item.is)) in
     record {
       grown = grows_all (IsIncluded entry) c.args.files.now c.loop-result.files c.add_includes.new.files c.loop-result.invariant.grown
           (grows_among (IsIncludeOf (result_lent r).1) (IsIncluded entry) c.loop-result.files c.add_includes.new.files (λ path is. (result_lent r, at, is)) c.in_ok-add_includes.ensures.grown);

@@ -26,7 +26,7 @@ returns g c calm is_request own =
     let grown = c.in_ok-statuses.ensures.grown in
     let is_entry : EntryText entry bytes = subst (λ (b : Bytes). EntryText entry b) c.deref-2.ensures.value (rw c.in-Some.is at c.in_ok-entry.ensures) in
     let looked = without_fault (λ (m n : ℕ). IsLookedUp sha256 before.files asked (Rose m n) statuses entry (option_map (λ k. k.now) c.in_ok-found.found)) before c.look_up.new.snapshot c.in_ok-found.ensures.keeps
-        (calm_stays input before grown.calm calm) c.in_ok-found.ensures.found in
+    (calm_stays input before grown.calm calm) c.in_ok-found.ensures.found in
     let found : IsLookedUp sha256 before.files asked NoFault statuses entry (Some object) = rw c.in-Some-found.is at looked in
     record {
       entry = entry;
