@@ -1,7 +1,10 @@
 -- The definitions at literal values.
-use Rattle.std.proofs.Common.{arith, ◌≡◌, true, false, pos, Some, None, [], ◌∷◌, codes, refl}
+use Rattle.std.proofs.Common.{arith, ◌≡◌, true, false, pos, negsuc, Some, None, [], ◌∷◌, ◌++◌, codes, refl}
+use Rattle.cck_digest.specs.Frames.{length_bytes}
+use Rattle.cck_include.specs.TimePart.{i64_bytes, u32_bytes}
 use Rattle.cck_cache_rules.specs.Age.{IsAbandoned}
 use Rattle.cck_cache_rules.specs.Checksum.{sums_of, words}
+use Rattle.cck_cache_rules.specs.DirectoryStatus.{status_bytes}
 use Rattle.cck_cache_rules.specs.Refusal.{IsRefusal}
 use Rattle.cck_cache_rules.specs.declared.refusal.Refusal.TheVariants.{DayChanged, NoKey}
 
@@ -33,3 +36,11 @@ two_words = refl
 three_sums : sums_of (1 ∷ 2 ∷ 3 ∷ []) ≡ record { first = 6; second = 10; third = 15; fourth = 21 }
 unfolding sums_of
 three_sums = refl
+
+-- a directory that was modified at second 5 and 7 nanoseconds, and changed a nanosecond before 1970
+a_status : status_bytes (record { path = codes "/a"; device = 1; inode = 258; modified = record { seconds = pos 5; nanoseconds = 7 }; changed = record { seconds = negsuc 0; nanoseconds = 999999999 } })
+    ≡ codes "status " ++ (1 ∷ 0 ∷ 0 ∷ 0 ∷ 0 ∷ 0 ∷ 0 ∷ 0 ∷ 2 ∷ 1 ∷ 0 ∷ 0 ∷ 0 ∷ 0 ∷ 0 ∷ 0
+    ∷ 5 ∷ 0 ∷ 0 ∷ 0 ∷ 0 ∷ 0 ∷ 0 ∷ 0 ∷ 7 ∷ 0 ∷ 0 ∷ 0
+    ∷ 255 ∷ 255 ∷ 255 ∷ 255 ∷ 255 ∷ 255 ∷ 255 ∷ 255 ∷ 255 ∷ 201 ∷ 154 ∷ 59 ∷ codes "/a")
+unfolding length_bytes i64_bytes u32_bytes
+a_status = refl

@@ -4,6 +4,8 @@ pub mod BaseLemmas
 mod ChecksumLemmas
 mod ContentLemmas
 mod DifferenceLemmas
+mod DirectoryStatusLemmas
+mod EntryFileLemmas
 pub mod EqualityLemmas
 mod Examples
 pub mod ListLemmas

@@ -1,14 +1,15 @@
 -- Frames are read in one way.
 use Rattle.std.specs.Str.{bytes_eq}
 use Rattle.std.proofs.lemmas.Slice.Eq.{bytes_eq-Decides}
-use Rattle.std.proofs.Common.{◌≡◌, ◌≢◌, Bool, true, false, not, ◌==◌, ℕ, ◌+◌, ◌<◌, List, [], ◌∷◌, ◌++◌, length, Option, Some, None, refl, sym, ap, ◌∙◌, arith, append_assoc}
-use Rattle.std.proofs.lemmas.List.{append-nil, length-append, nil_from_length}
+use Rattle.std.proofs.Common.{◌≡◌, ◌≢◌, Bool, true, false, not, ◌==◌, ℕ, ◌+◌, ◌<◌, List, [], ◌∷◌, ◌++◌, length, get_or, take, Option, Some, None, inl, inr, refl, sym, ap, ◌∙◌, arith, append_assoc}
+use Rattle.std.proofs.lemmas.Bool.{cases_lt}
+use Rattle.std.proofs.lemmas.List.{append-nil, get_or-append-add, get_or-take, get_or_past, length-append, length-take, nil_from_length}
 use Rattle.std.proofs.lemmas.Bool.Decides.{Decides-eqb}
 use Rattle.std.specs.List.{flat_map}
 use Rattle.cck_digest.specs.Frames.{frame, length_bytes}
 use Rattle.cck_digest.proofs.FrameLemmas.{frame_reads_back, length_reads_back}
 use Rattle.cck_cache_rules.specs.Frames.{frame_before}
-use Rattle.cck_cache_rules.specs.Reading.{ReadsBack}
+use Rattle.cck_cache_rules.specs.Reading.{IsAny, ReadsBack, ReadsBackOf}
 
 -- the bytes of a length
 pub length-length_bytes : (n : ℕ) → length (length_bytes n) ≡ 8
@@ -45,12 +46,12 @@ too_few bytes short other same =
 no_bytes : (x : List ℕ) (s : List ℕ) → frame x ++ s ≡ [] → ⊥
 no_bytes x s e = omega (arith, ap length e, length-append (frame x) s, length-frame x)
 
--- bytes, of which there are none
-pub empty : (xs : List ℕ) → (length xs == 0) ≡ true → xs ≡ []
+-- a list of nothing
+pub empty : {X : Type 0} (xs : List X) → (length xs == 0) ≡ true → xs ≡ []
 empty xs e = nil_from_length xs ((Decides-eqb (length xs) 0).0 e)
 
--- some bytes
-pub not_empty : (xs : List ℕ) → (length xs == 0) ≡ false → xs ≡ [] → ⊥
+-- a list of something
+pub not_empty : {X : Type 0} (xs : List X) → (length xs == 0) ≡ false → xs ≡ [] → ⊥
 not_empty [] e none = cc
 not_empty (x ∷ xs) e none = cc
 
@@ -92,11 +93,38 @@ no_frames bytes rest done is some none other same = go b.left b.is
     go [] e = some (sym e)
     go (x ∷ left) e = none (x, flat_map frame left) e
 
+-- the first of some bytes are bytes
+pub front_fits : (n : ℕ) (bytes : List ℕ) → ((i : ℕ) → get_or bytes i 0 < 256) → (i : ℕ) → get_or (take n bytes) i 0 < 256
+front_fits n bytes fits i =
+    elim (cases_lt i n) [
+      | inl lt ↦ rw (get_or-take n bytes i 0 lt) (fits i)
+      | inr le ↦ rw (get_or_past (take n bytes) i 0 (omega (arith, length-take n bytes))) (omega arith)
+    ]
+
+-- what follows others are bytes
+pub rest_fits : (bytes front rest : List ℕ) → bytes ≡ front ++ rest → ((i : ℕ) → get_or bytes i 0 < 256) → (i : ℕ) → get_or rest i 0 < 256
+rest_fits bytes front rest is fits i =
+    let here : get_or bytes (length front + i) 0 ≡ get_or rest i 0 = ap (λ (b : List ℕ). get_or b (length front + i) 0) is ∙ get_or-append-add front rest i 0 in
+    omega (arith, here, fits (length front + i))
+
+-- fewer bytes than a number has
+pub no_number : (n : ℕ) (rest bytes : List ℕ) → length bytes < 8 → length_bytes n ++ rest ≡ bytes → ⊥
+no_number n rest bytes short same = absurd (omega (arith, ap length same, length-append (length_bytes n) rest, length-length_bytes n))
+
 -- what is read in two steps
-pub read_twice : {X Y Z : Type 0} (outer : Y → Z) (inner : X → Y) (written : Z) (middle : Y) (found : Option X) → ReadsBack outer written (Some middle) → ReadsBack inner middle found → ReadsBack (λ x. outer (inner x)) written found
-read_twice outer inner written middle None first second = λ x same. second x (first.1 (inner x) same)
-read_twice outer inner written middle (Some found) first second =
-    (ap outer second.0 ∙ first.0, λ x same. second.1 x (first.1 (inner x) same))
+pub read_twice : {X Y Z : Type 0} (Is : X → Type 0) (outer : Y → Z) (inner : X → Y) (written : Z) (middle : Y) (found : Option X) → ReadsBack outer written (Some middle) → ReadsBackOf Is inner middle found → ReadsBackOf Is (λ x. outer (inner x)) written found
+read_twice Is outer inner written middle None first second = λ x right same. second x right (first.1 (inner x) same)
+read_twice Is outer inner written middle (Some found) first second =
+    (second.0, ap outer second.1 ∙ first.0, λ x right same. second.2 x right (first.1 (inner x) same))
+
+-- what is read with no property
+pub of_any : {X Y : Type 0} (write : X → Y) (written : Y) (found : Option X) → ReadsBack write written found → ReadsBackOf IsAny write written found
+of_any write written None none = λ x right same. none x same
+of_any write written (Some found) (is, one) = (tt, is, λ x right same. one x same)
+
+pub from_any : {X Y : Type 0} (write : X → Y) (written : Y) (found : Option X) → ReadsBackOf IsAny write written found → ReadsBack write written found
+from_any write written None none = λ x same. none x tt same
+from_any write written (Some found) (_, is, one) = (is, λ x same. one x tt same)
 
 -- ---- bytes that are compared
 

@@ -1,14 +1,12 @@
 -- Tests of paths are read in one way.
-use Rattle.std.proofs.Common.{◌≡◌, ◌≢◌, ℕ, List, [], ◌∷◌, ◌++◌, Option, Some, None, Bor, map, get_or, length, ◌<◌, refl, sym, ap, ◌∙◌, append_assoc, arith, codes}
+use Rattle.std.proofs.Common.{◌≡◌, ◌≢◌, ℕ, List, ◌∷◌, ◌++◌, Option, Some, None, Bor, get_or, length, ◌<◌, sym, ap, ◌∙◌, arith, codes}
 use Rattle.std.specs.Option.{MatchOption, option_map}
-use Rattle.std.proofs.lemmas.List.{append_cancel_left, length-append, map-append}
+use Rattle.std.proofs.lemmas.List.{append_cancel_left}
 use Rattle.cck_digest.specs.Frames.{length_bytes}
 use Rattle.cck_digest.proofs.FrameLemmas.{length_reads_back}
-use Rattle.cck_cache_rules.specs.Files.{EntryFields, entry_parts}
-use Rattle.cck_cache_rules.specs.PathTest.{Test, Absent, File, Directory, Searched, searched_bytes, test_bytes, test_of, tests_of}
+use Rattle.cck_cache_rules.specs.PathTest.{Test, Absent, File, Directory, Searched, searched_bytes, test_bytes}
 use Rattle.cck_cache_rules.specs.Reading.{ReadsBack}
-use Rattle.cck_cache_rules.specs.declared.path_test.PathTest.{PathTest}
-use Rattle.cck_cache_rules.proofs.ReadingLemmas.{length-length_bytes}
+use Rattle.cck_cache_rules.proofs.ReadingLemmas.{no_number}
 
 searched_same : (path other : List ℕ) (place known : ℕ) → searched_bytes (place, path) ≡ searched_bytes (known, other) → Searched path place ≡ Searched other known
 searched_same path other place known e =
@@ -16,7 +14,7 @@ searched_same path other place known e =
     let both = length_reads_back place known path other rest in
     λ i. Searched (both.1 i) (both.0 i)
 
-apart : (a b : ℕ) → a ≢ b → (x y : List ℕ) → a ∷ x ≡ b ∷ y → {X : Type 0} → X
+pub apart : (a b : ℕ) → a ≢ b → (x y : List ℕ) → a ∷ x ≡ b ∷ y → {X : Type 0} → X
 apart a b other x y e = absurd (other (ap (λ (l : List ℕ). get_or l 0 0) e))
 
 -- no two tests have the same bytes
@@ -60,7 +58,7 @@ stripped word bytes (Some found) is = (sym is, λ rest same. append_cancel_left 
 pub too_short : (bytes rest : List ℕ) → codes "searched " ++ rest ≡ bytes → length rest < 8 → ReadsBack searched_bytes bytes None
 too_short bytes rest is short other same =
     let left : length_bytes other.0 ++ other.1 ≡ rest = append_cancel_left (codes "searched ") (length_bytes other.0 ++ other.1) rest (same ∙ sym is) in
-    absurd (omega (arith, ap length left, length-append (length_bytes other.0) other.1, length-length_bytes other.0))
+    no_number other.0 other.1 rest short left
 
 -- a directory that is searched, after its word
 pub searched_read : (bytes rest path : List ℕ) (place : ℕ) → codes "searched " ++ rest ≡ bytes → rest ≡ length_bytes place ++ path → ReadsBack searched_bytes bytes (Some (place, path))
@@ -73,46 +71,3 @@ searched_read bytes rest path place is parts = (
       let both = length_reads_back other.0 place other.1 path left in
       λ i. (both.0 i, both.1 i),
 )
-
--- a part at one place of those that are written for tests is written for a test
-pub part_is_written : (tests : List Test) (before after : List (List ℕ)) (part : List ℕ) → map test_bytes tests ≡ before ++ part ∷ after → (test : Test) × (test_bytes test ≡ part)
-part_is_written [] [] after part e = absurd cc
-part_is_written [] (b ∷ before) after part e = absurd cc
-part_is_written (t ∷ tests) [] after part e = (t, cc)
-part_is_written (t ∷ tests) (b ∷ before) after part e = part_is_written tests before after part cc
-
-pub all_tests_differ : (a b : List Test) → map test_bytes a ≡ map test_bytes b → a ≡ b
-all_tests_differ [] [] e = refl
-all_tests_differ [] (y ∷ ys) e = absurd cc
-all_tests_differ (x ∷ xs) [] e = absurd cc
-all_tests_differ (x ∷ xs) (y ∷ ys) e =
-    let first : x ≡ y = tests_differ x y cc in
-    let others : xs ≡ ys = all_tests_differ xs ys cc in
-    λ i. first i ∷ others i
-
-pub fields_differ : (a b : EntryFields) → entry_parts a ≡ entry_parts b → a ≡ b
-fields_differ a b same =
-    let first : a.preprocessor_key ≡ b.preprocessor_key = cc in
-    let second : a.entry ≡ b.entry = cc in
-    let others : map test_bytes a.tests ≡ map test_bytes b.tests = cc in
-    let tests = all_tests_differ a.tests b.tests others in
-    λ i. record { preprocessor_key = first i; entry = second i; tests = tests i }
-
--- a part that is no test, after those of tests
-pub no_file : (file : EntryFields) (key entry : List ℕ) (before after : List (List ℕ)) (part : List ℕ) → ReadsBack test_bytes part None → entry_parts file ≡ key ∷ entry ∷ (before ++ part ∷ after) → ⊥
-no_file file key entry before after part none same =
-    let others : map test_bytes file.tests ≡ before ++ part ∷ after = cc in
-    let found = part_is_written file.tests before after part others in
-    none found.0 found.1
-
--- the parts of one more test
-pub next_part : (all left rest : List (List ℕ)) (before after : List PathTest) (test : PathTest) (part : List ℕ) → all ≡ map test_bytes (tests_of before) ++ left → left ≡ part ∷ rest → after ≡ before ++ test ∷ []
-    → test_bytes (test_of test) ≡ part → all ≡ map test_bytes (tests_of after) ++ rest
-next_part all left rest before after test part so_far first more is =
-    let written : map test_bytes (tests_of after) ≡ map test_bytes (tests_of before) ++ part ∷ [] =
-    ap (λ (ts : List PathTest). map test_bytes (tests_of ts)) more
-    ∙ (ap (map test_bytes) (map-append test_of before (test ∷ []))
-    ∙ (map-append test_bytes (tests_of before) (test_of test ∷ []) ∙ ap (λ (b : List ℕ). map test_bytes (tests_of before) ++ b ∷ []) is))
-    in
-    so_far ∙ (ap (λ (l : List (List ℕ)). map test_bytes (tests_of before) ++ l) first
-    ∙ (sym (append_assoc (map test_bytes (tests_of before)) (part ∷ []) rest) ∙ ap (λ (l : List (List ℕ)). l ++ rest) (sym written)))

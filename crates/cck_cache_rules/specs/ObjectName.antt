@@ -17,7 +17,7 @@ digests_outside base includes = map (λ i. i.digest) (filter (λ i. not (is_insi
 abbrev pub digests_inside : Option (List ℕ) → List Include → List (List ℕ)
 digests_inside base includes = map (λ i. i.digest) (filter (λ i. is_inside base i.path) includes)
 
--- a key, the hex digest of the contents of an input, and the recorded digests of two groups of files
+-- a key, and the recorded digests of an input and of two groups of files
 abbrev pub object_material : List ℕ → List ℕ → List (List ℕ) → List (List ℕ) → List ℕ
 object_material key input outside inside =
     frame key ++ frame input ++ framed_list frame outside ++ framed_list frame inside

@@ -7,6 +7,15 @@ abbrev pub ReadsBack : {X Y : Type 0} → (X → Y) → Y → Option X → Type 
 ReadsBack {X} write written None = (x : X) → write x ≡ written → ⊥
 ReadsBack {X} write written (Some found) = (write found ≡ written) × ((x : X) → write x ≡ written → x ≡ found)
 
+-- The same of the values with a property alone.
+abbrev pub ReadsBackOf : {X Y : Type 0} → (X → Type 0) → (X → Y) → Y → Option X → Type 0
+ReadsBackOf {X} Is write written None = (x : X) → Is x → write x ≡ written → ⊥
+ReadsBackOf {X} Is write written (Some found) = Is found × (write found ≡ written) × ((x : X) → Is x → write x ≡ written → x ≡ found)
+
+-- no property
+abbrev pub IsAny : {X : Type 0} → X → Type 0
+IsAny x = Unit {0}
+
 -- the bytes of each part
 abbrev pub byte_lists : Vec (Vec ℕ) → List (List ℕ)
 byte_lists parts = map (λ p. p.items) parts.items

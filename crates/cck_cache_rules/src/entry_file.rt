@@ -1,10 +1,12 @@
 //! The file that keeps an entry.
-ghost use Rattle.std.specs.Prelude.{◌≡◌, IfOk, map};
+ghost use Rattle.std.specs.Prelude.{◌≡◌, ◌++◌, IfOk, map};
 ghost use Rattle.std.specs.Option.{option_map};
-ghost use Rattle.cck_cache_rules.specs.Files.{entry_fields, entry_file, entry_parts};
+ghost use Rattle.cck_cache_rules.specs.DirectoryStatus.{status_bytes, statuses_of};
+ghost use Rattle.cck_cache_rules.specs.Files.{IsEntryFile, entry_fields, entry_file, entry_parts};
 ghost use Rattle.cck_cache_rules.specs.PathTest.{test_bytes, tests_of};
-ghost use Rattle.cck_cache_rules.specs.Reading.{ReadsBack, byte_lists};
+ghost use Rattle.cck_cache_rules.specs.Reading.{ReadsBackOf, byte_lists};
 
+use crate::directory_status::DirectoryStatus;
 use crate::path_test::PathTest;
 use crate::stored::{read_stored, write_stored};
 use std::alloc::{AllocError, Global};
@@ -19,20 +21,31 @@ pub struct EntryFile {
     pub preprocessor_key: Vec<u8>,
     /// The bytes of the entry.
     pub entry: Vec<u8>,
+    /// What the system said of directories when the entry was recorded.
+    pub directories: Vec<DirectoryStatus>,
     /// What held of paths when the entry was recorded, and must hold before it is used.
     pub tests: Vec<PathTest>,
 }
 
-// What these parts say. `None` where there are fewer than two, or another one is no test.
+// What these parts say. `None` where there are fewer than two, where another one is no status and no
+// test, and where a status follows a test.
 fn file_of(alloc: Global, parts: Vec<Vec<u8>>) -> Result<Option<EntryFile>, AllocError>
-    ensures { IfOk result (λ found. ReadsBack entry_parts (byte_lists parts) (option_map entry_fields found)) }
+    ensures { IfOk result (λ found. ReadsBackOf IsEntryFile entry_parts (byte_lists parts) (option_map entry_fields found)) }
 {
     let mut parts = parts.into_iter();
     let (Some(preprocessor_key), Some(entry)) = (parts.next(), parts.next()) else {
         return Ok(None);
     };
+    let mut directories = Vec::new(alloc);
     let mut tests = Vec::new(alloc);
     for part in parts {
+        if let Some(status) = DirectoryStatus::read(alloc, &part)? {
+            if !tests.is_empty() {
+                return Ok(None);
+            }
+            directories.push(status)?;
+            continue;
+        }
         let Some(test) = PathTest::read(alloc, &part)? else {
             return Ok(None);
         };
@@ -41,15 +54,24 @@ fn file_of(alloc: Global, parts: Vec<Vec<u8>>) -> Result<Option<EntryFile>, Allo
     Ok(Some(EntryFile {
         preprocessor_key,
         entry,
+        directories,
         tests,
     }))
 }
 
-// The bytes of each test.
-fn test_parts(alloc: Global, tests: &[PathTest]) -> Result<Vec<Vec<u8>>, AllocError>
-    ensures { IfOk result (λ parts. byte_lists parts ≡ map test_bytes (tests_of tests.now)) }
+// The bytes of each status, and of each test.
+fn parts_of(
+    alloc: Global,
+    directories: &[DirectoryStatus],
+    tests: &[PathTest],
+) -> Result<Vec<Vec<u8>>, AllocError>
+    ensures { IfOk result (λ parts. byte_lists parts
+        ≡ map status_bytes (statuses_of directories.now) ++ map test_bytes (tests_of tests.now)) }
 {
     let mut parts = Vec::new(alloc);
+    for status in directories {
+        parts.push(status.write(alloc)?)?;
+    }
     for test in tests {
         parts.push(test.write(alloc)?)?;
     }
@@ -63,12 +85,12 @@ impl EntryFile {
     pub fn write(&self, alloc: Global) -> Result<Vec<u8>, AllocError>
         ensures { IfOk result (λ bytes. bytes.items ≡ entry_file (entry_fields self.now)) }
     {
-        let tests = test_parts(alloc, &self.tests)?;
+        let others = parts_of(alloc, &self.directories, &self.tests)?;
         let mut parts: Vec<&[u8]> = Vec::new(alloc);
         parts.push(&self.preprocessor_key)?;
         parts.push(&self.entry)?;
-        for test in &tests {
-            parts.push(test)?;
+        for part in &others {
+            parts.push(part)?;
         }
         write_stored(alloc, KIND, &parts)
     }
@@ -77,7 +99,7 @@ impl EntryFile {
     ///
     /// The only error is lack of memory.
     pub fn read(alloc: Global, bytes: &[u8]) -> Result<Option<EntryFile>, AllocError>
-        ensures { IfOk result (λ found. ReadsBack entry_file bytes.now (option_map entry_fields found)) }
+        ensures { IfOk result (λ found. ReadsBackOf IsEntryFile entry_file bytes.now (option_map entry_fields found)) }
     {
         let Some(parts) = read_stored(alloc, KIND, bytes)? else {
             return Ok(None);

@@ -8,43 +8,41 @@ ghost use Rattle.cck_cache_rules.specs.Reading.{ReadsBack, byte_lists};
 
 use std::alloc::{AllocError, Global};
 
-/// The 8 bytes of a length, the lowest first.
-pub fn length_of(length: usize) -> [u8; 8]
-    ensures { result ≡ length_bytes length }
+/// The 8 bytes of a number, the lowest first.
+pub fn number_bytes(number: u64) -> [u8; 8]
+    ensures { result ≡ length_bytes number }
 {
-    let length = length as u64;
-    length.to_le_bytes()
+    number.to_le_bytes()
 }
 
 /// Appends a frame of these bytes.
 pub fn push_frame(all: &mut Vec<u8>, bytes: &[u8]) -> Result<(), AllocError>
     ensures { OnOk result (all.new.items ≡ all.old.items ++ frame bytes.now) }
 {
-    all.extend_from_slice(&length_of(bytes.len()))?;
+    all.extend_from_slice(&number_bytes(bytes.len() as u64))?;
     all.extend_from_slice(bytes)?;
     Ok(())
 }
 
-/// The length at the beginning of these bytes, and the bytes after it. `None` where there are fewer
-/// than 8.
-pub fn read_length(bytes: &[u8]) -> Option<(u64, &[u8])>
+/// The number in the first 8 bytes, and the bytes after it. `None` where there are fewer than 8.
+pub fn read_number(bytes: &[u8]) -> Option<(u64, &[u8])>
     ensures { MatchOption result (length bytes.now < 8) (λ r. bytes.now ≡ length_bytes r.0 ++ r.1.now) }
 {
     if bytes.len() < 8 {
         return None;
     }
     let (front, rest) = bytes.split_at(8);
-    let length = u64::from_le_bytes([
+    let number = u64::from_le_bytes([
         front[0], front[1], front[2], front[3], front[4], front[5], front[6], front[7],
     ]);
-    Some((length, rest))
+    Some((number, rest))
 }
 
 /// The bytes of the frame at the beginning, and what is after it. `None` where there is no frame.
 pub fn read_frame(bytes: &[u8]) -> Option<(&[u8], &[u8])>
     ensures { ReadsBack frame_before bytes.now (option_map (λ r. (r.0.now, r.1.now)) result) }
 {
-    let (length, rest) = read_length(bytes)?;
+    let (length, rest) = read_number(bytes)?;
     if (rest.len() as u64) < length {
         return None;
     }

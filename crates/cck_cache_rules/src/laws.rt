@@ -1,11 +1,12 @@
 //! Laws about the definitions. Each is the contract of a function with an empty body.
 ghost use Rattle.std.specs.Prelude.{◌≡◌, ◌↔◌, IsTrue};
 ghost use Rattle.cck_cache_rules.specs.Checksum.{ChecksumTellsOneWord, ChecksumTellsTwoWords};
+ghost use Rattle.cck_cache_rules.specs.DirectoryStatus.{status_of};
 ghost use Rattle.cck_cache_rules.specs.Files.{entry_fields, object_fields};
 ghost use Rattle.cck_cache_rules.specs.ObjectName.{MaterialTellsObject};
 ghost use Rattle.cck_cache_rules.specs.PathTest.{test_of};
 
-use crate::{EntryFile, ObjectFile, PathTest, Refusal};
+use crate::{DirectoryStatus, EntryFile, ObjectFile, PathTest, Refusal};
 
 /// Bytes that differ in one of their words, of 4 bytes each, have different checksums.
 pub fn checksum_tells_one_word()
@@ -17,9 +18,9 @@ pub fn checksum_tells_two_words()
     ensures { ChecksumTellsTwoWords }
 {}
 
-/// What is hashed for the names of two objects is equal exactly if their keys, the digests of their
-/// inputs and the recorded digests of both groups of their files are. Each length and each count is
-/// written before its bytes or items.
+/// What is hashed for the names of two objects is equal exactly if their keys and the recorded digests
+/// of their inputs and of both groups of their files are. Each length and each count is written before
+/// its bytes or items.
 pub fn material_tells_object()
     ensures { MaterialTellsObject }
 {}
@@ -39,6 +40,12 @@ pub fn entry_file_equality_is_exact()
 pub fn object_file_equality_is_exact()
     ensures { (a b : ObjectFile) →
         IsTrue (⟦<ObjectFile as PartialEq>⟧.eq a b) ↔ (object_fields a ≡ object_fields b) }
+{}
+
+/// Two [`DirectoryStatus`]es are equal exactly if all their fields are.
+pub fn directory_status_equality_is_exact()
+    ensures { (a b : DirectoryStatus) →
+        IsTrue (⟦<DirectoryStatus as PartialEq>⟧.eq a b) ↔ (status_of a ≡ status_of b) }
 {}
 
 /// Two [`PathTest`]s are equal exactly if they are of one kind, and their paths and places are equal.

@@ -55,9 +55,12 @@ fn groups_of<'a>(
     Ok(Groups { outside, inside })
 }
 
-/// The name of the object of this key: the hex digest of the key, of this hex digest of the input's
-/// contents, and of the recorded digests of the included files. So two states of a source that have one
-/// preprocessed text, and with it one key, have objects of two names.
+/// The name of the object of this key: the hex digest of the key, of this recorded digest of the
+/// input, and of those of the included files. So two states of a source that have one preprocessed
+/// text, and with it one key, have objects of two names.
+///
+/// The recorded digest of the input is the hex digest of its contents, 64 digits, and 64 more where they
+/// show a date.
 ///
 /// The files below the base directory are a group of their own. Those of two checkouts lie among the
 /// system's files at other places, as their paths do, and have one order among themselves.

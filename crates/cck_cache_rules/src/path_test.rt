@@ -4,7 +4,7 @@ ghost use Rattle.std.specs.Option.{option_map};
 ghost use Rattle.cck_cache_rules.specs.PathTest.{searched_bytes, test_bytes, test_of, test_path};
 ghost use Rattle.cck_cache_rules.specs.Reading.{ReadsBack};
 
-use crate::frames::{length_of, read_length};
+use crate::frames::{number_bytes, read_number};
 use std::alloc::{AllocError, Global};
 
 /// How the bytes of each test begin.
@@ -45,8 +45,8 @@ fn joined(alloc: Global, front: &[u8], rest: &[u8]) -> Result<Vec<u8>, AllocErro
     Ok(all)
 }
 
-// What follows this word.
-fn after<'a>(word: &[u8], bytes: &'a [u8]) -> Option<&'a [u8]>
+/// What follows this word.
+pub fn after<'a>(word: &[u8], bytes: &'a [u8]) -> Option<&'a [u8]>
     ensures { ReadsBack (λ rest. word.now ++ rest) bytes.now (option_map (λ rest. rest.now) result) }
 {
     bytes.strip_prefix(word)
@@ -56,7 +56,7 @@ fn after<'a>(word: &[u8], bytes: &'a [u8]) -> Option<&'a [u8]>
 fn read_searched(bytes: &[u8]) -> Option<(usize, &[u8])>
     ensures { ReadsBack searched_bytes bytes.now (option_map (λ r. (r.0, r.1.now)) result) }
 {
-    let (place, path) = read_length(after(SEARCHED, bytes)?)?;
+    let (place, path) = read_number(after(SEARCHED, bytes)?)?;
     Some((place as usize, path))
 }
 
@@ -82,7 +82,7 @@ impl PathTest {
             PathTest::File(path) => joined(alloc, FILE, path),
             PathTest::Directory(path) => joined(alloc, DIRECTORY, path),
             PathTest::Searched { path, place } => {
-                let mut bytes = joined(alloc, SEARCHED, &length_of(*place))?;
+                let mut bytes = joined(alloc, SEARCHED, &number_bytes(*place as u64))?;
                 bytes.extend_from_slice(path)?;
                 Ok(bytes)
             }

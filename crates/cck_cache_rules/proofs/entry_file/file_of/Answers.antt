@@ -1,9 +1,11 @@
-use Rattle.std.proofs.Common.{◌≡◌, ℕ, List, [], ◌∷◌, ◌++◌, map, sym, ◌∙◌, ap}
+use Rattle.std.proofs.Common.{◌≡◌, ◌==◌, ℕ, List, [], ◌∷◌, ◌++◌, map, sym, ◌∙◌, ap}
 use Rattle.std.specs.Global.{Vec}
 use Rattle.std.specs.Vec.Iter.{into_iter_items}
-use Rattle.std.proofs.lemmas.List.{append-nil, nil_from_length}
-use Rattle.cck_cache_rules.specs.PathTest.{test_bytes, tests_of}
-use Rattle.cck_cache_rules.proofs.TestLemmas.{fields_differ, next_part, no_file}
+use Rattle.std.proofs.lemmas.List.{append-nil, length-map, nil_from_length}
+use Rattle.cck_cache_rules.specs.DirectoryStatus.{status_bytes, status_of, statuses_of}
+use Rattle.cck_cache_rules.specs.PathTest.{test_bytes, test_of, tests_of}
+use Rattle.cck_cache_rules.proofs.EntryFileLemmas.{fields_differ, more_are, next_status, no_file, no_order}
+use Rattle.cck_cache_rules.proofs.ReadingLemmas.{empty, not_empty}
 use Rattle.cck_cache_rules.proofs.entry_file.file_of.Goals as goal
 
 -- the bytes of each part
@@ -15,42 +17,66 @@ all_are : (key entry : Vec ℕ) (all after rest : List (Vec ℕ)) (written : Lis
 all_are key entry all after rest written first second third =
     ap lists first ∙ ap (λ l. key.items ∷ l) (ap lists second ∙ ap (λ l. entry.items ∷ l) third)
 
-pub returns-in_default-2 : goal.returns-in_default-2
-returns-in_default-2 c x same =
+-- the same where a part of the iterator was taken after those that are written
+all_from : (key entry : Vec ℕ) (all after rest left next : List (Vec ℕ)) (part : Vec ℕ) (written : List (List ℕ)) → all ≡ key ∷ after → after ≡ entry ∷ rest → lists rest ≡ written ++ lists left → left ≡ part ∷ next
+    → lists all ≡ key.items ∷ entry.items ∷ (written ++ part.items ∷ lists next)
+all_from key entry all after rest left next part written first second others taken =
+    all_are key entry all after rest (written ++ part.items ∷ lists next) first second (others ∙ ap (λ l. written ++ lists l) taken)
+
+pub returns-then-not-is_empty : goal.returns-then-not-is_empty
+returns-then-not-is_empty c x right same =
     let key = c.in-Some-Some.preprocessor_key in
     let entry = c.in-Some-Some.entry in
-    let written = map test_bytes (tests_of c.loop-part.tests.items) in
+    let statuses = statuses_of c.loop-part.directories.items in
+    let tests = tests_of c.loop-part.tests.items in
     let part = c.in-Some.part in
-    let after = lists (into_iter_items c.next-in-loop-part.new.self) in
-    let left : lists (into_iter_items c.loop-part.part-iterator) ≡ part.items ∷ after = ap lists (rw c.in-Some.is at c.next-in-loop-part.ensures.steps).0 in
-    let others : lists (into_iter_items c.next-2.new.self) ≡ written ++ part.items ∷ after =
-    ap (λ it. lists (into_iter_items it)) (sym c.into_iter-part-iterator.ensures.into_iter_gives) ∙ (c.loop-part.invariant ∙ ap (λ l. written ++ l) left)
+    let after = into_iter_items c.next-in-loop-part.new.self in
+    let all = all_from key entry c.args.parts.items (into_iter_items c.next.new.self) (into_iter_items c.next-2.new.self) (into_iter_items c.loop-part.part-iterator) after part
+    (map status_bytes statuses ++ map test_bytes tests) (sym c.into_iter-parts.ensures.rest ∙ c.in-Some-Some.ensures.cases.0) c.in-Some-Some.ensures'.cases.0
+    (ap (λ it. lists (into_iter_items it)) (sym c.into_iter-part-iterator.ensures.into_iter_gives) ∙ c.loop-part.invariant.parts) (rw c.in-Some.is at c.next-in-loop-part.ensures.steps).0
     in
-    let all : lists c.args.parts.items ≡ key.items ∷ entry.items ∷ (written ++ part.items ∷ after) =
-    all_are key entry c.args.parts.items (into_iter_items c.next.new.self) (into_iter_items c.next-2.new.self) (written ++ part.items ∷ after)
-    (sym c.into_iter-parts.ensures.rest ∙ c.in-Some-Some.ensures.cases.0) c.in-Some-Some.ensures'.cases.0 others
-    in
-    no_file x key.items entry.items written after part.items (rw c.deref.ensures.value at (rw c.in_default-2.is at c.in_ok-test.ensures)) (same ∙ all)
+    let some : tests ≡ [] → ⊥ = not_empty tests (ap (λ n. n == 0) (length-map c.loop-part.tests.items test_of ∙ sym (c.loop-part.tests).ok.0) ∙ (sym c.is_empty.ensures ∙ c.if-not-is_empty.true)) in
+    let status_is = (rw c.in-Some-2.is at c.in_ok-status.ensures).1 in
+    no_order x key.items entry.items statuses tests (status_of c.in-Some-2.status) (lists after) part.items some (status_is ∙ c.deref.ensures.value) (same ∙ all)
 
-pub loop-part-preserved : goal.loop-part-preserved
-loop-part-preserved c =
+pub loop-part-preserved-in-Some-2 : goal.loop-part-preserved-in-Some-2
+loop-part-preserved-in-Some-2 c =
     let part = c.in-Some.part in
     let after = lists (into_iter_items c.next-in-loop-part.new.self) in
     let left : lists (into_iter_items c.loop-part.part-iterator) ≡ part.items ∷ after = ap lists (rw c.in-Some.is at c.next-in-loop-part.ensures.steps).0 in
-    next_part (lists (into_iter_items c.into_iter-part-iterator.result)) (lists (into_iter_items c.loop-part.part-iterator)) after c.loop-part.tests.items c.push.new.self.items c.in-Some-2.test part.items
-    c.loop-part.invariant left c.in_ok-push.ensures.items ((rw c.in-Some-2.is at c.in_ok-test.ensures).0 ∙ c.deref.ensures.value)
+    let read = rw c.in-Some-2.is at c.in_ok-status.ensures in
+    let none : c.loop-part.tests.items ≡ [] = empty c.loop-part.tests.items (ap (λ n. n == 0) (sym (c.loop-part.tests).ok.0) ∙ (sym c.is_empty.ensures ∙ c.if-not-is_empty.false)) in
+    record {
+      parts = next_status (lists (into_iter_items c.into_iter-part-iterator.result)) (lists (into_iter_items c.loop-part.part-iterator)) after c.loop-part.directories.items c.push.new.self.items (tests_of c.loop-part.tests.items) c.in-Some-2.status part.items
+          c.loop-part.invariant.parts left c.in_ok-push.ensures.items (ap tests_of none) (read.1 ∙ c.deref.ensures.value);
+      are = more_are c.loop-part.directories.items c.push.new.self.items c.in-Some-2.status c.loop-part.invariant.are read.0 c.in_ok-push.ensures.items;
+    }
+
+pub returns-in_default-3 : goal.returns-in_default-3
+returns-in_default-3 c x right same =
+    let key = c.in-Some-Some.preprocessor_key in
+    let entry = c.in-Some-Some.entry in
+    let written = map status_bytes (statuses_of c.loop-part.directories.items) ++ map test_bytes (tests_of c.loop-part.tests.items) in
+    let part = c.in-Some.part in
+    let after = into_iter_items c.next-in-loop-part.new.self in
+    let all = all_from key entry c.args.parts.items (into_iter_items c.next.new.self) (into_iter_items c.next-2.new.self) (into_iter_items c.loop-part.part-iterator) after part
+    written (sym c.into_iter-parts.ensures.rest ∙ c.in-Some-Some.ensures.cases.0) c.in-Some-Some.ensures'.cases.0
+    (ap (λ it. lists (into_iter_items it)) (sym c.into_iter-part-iterator.ensures.into_iter_gives) ∙ c.loop-part.invariant.parts) (rw c.in-Some.is at c.next-in-loop-part.ensures.steps).0
+    in
+    no_file x key.items entry.items written (lists after) part.items right (rw c.deref.ensures.value at (rw c.in_default-2.is at c.in_ok-status.ensures))
+    (rw c.deref-in-loop-part.ensures.value at (rw c.in_default-3.is at c.in_ok-test.ensures)) (same ∙ all)
 
 pub returns : goal.returns
 returns c =
     let key = c.in-Some-Some.preprocessor_key in
     let entry = c.in-Some-Some.entry in
-    let written = map test_bytes (tests_of c.loop-part.tests.items) in
+    let written = map status_bytes (statuses_of c.loop-part.directories.items) ++ map test_bytes (tests_of c.loop-part.tests.items) in
     let none : into_iter_items c.loop-part.part-iterator ≡ [] = nil_from_length _ (sym (c.loop-part.part-iterator).rest.ok.0 ∙ c.in-None.ensures.steps.0) in
     let others : lists (into_iter_items c.next-2.new.self) ≡ written =
-    ap (λ it. lists (into_iter_items it)) (sym c.into_iter-part-iterator.ensures.into_iter_gives) ∙ (c.loop-part.invariant ∙ (ap (λ l. written ++ lists l) none ∙ append-nil written))
+    ap (λ it. lists (into_iter_items it)) (sym c.into_iter-part-iterator.ensures.into_iter_gives) ∙ (c.loop-part.invariant.parts ∙ (ap (λ l. written ++ lists l) none ∙ append-nil written))
     in
     let all : lists c.args.parts.items ≡ key.items ∷ entry.items ∷ written =
     all_are key entry c.args.parts.items (into_iter_items c.next.new.self) (into_iter_items c.next-2.new.self) written
     (sym c.into_iter-parts.ensures.rest ∙ c.in-Some-Some.ensures.cases.0) c.in-Some-Some.ensures'.cases.0 others
     in
-    (sym all, λ x same. fields_differ x _ (same ∙ all))
+    (c.loop-part.invariant.are, sym all, λ x right same. fields_differ x _ right c.loop-part.invariant.are (same ∙ all))
