@@ -14,7 +14,7 @@ use anyhow::{Context, Result};
 use c_cache_keys::PreprocessorKey;
 use cck_cache_arguments::{Look, Outputs, Request};
 use cck_cache_files::{Kind, StoreDirectory, first_failing};
-use cck_cache_rules::{EntryFile, ObjectFile, entry_in, object_in};
+use cck_cache_rules::{DirectoryStatus, EntryFile, ObjectFile, entry_in, object_in};
 use cck_files::MapFiles;
 use cck_path::Timestamp;
 use cck_snapshot::{SnapshotRequest, look_up, preprocessor_key};
@@ -101,6 +101,11 @@ pub fn read_entry<R: Files + AllocGlobal>(
     })
 }
 
+// The directories by which absent paths are not tested: none of them, where all is read.
+fn directories_of(file: &EntryFile, reads_all: bool) -> &[DirectoryStatus] {
+    if reads_all { &[] } else { &file.directories }
+}
+
 // The name of the object of a result in the entry that matches, if the tests of paths hold.
 fn matching_name<R: Files + AllocGlobal>(
     rt: &R,
@@ -115,7 +120,7 @@ fn matching_name<R: Files + AllocGlobal>(
         → IsKeyOver asked.now files.old.files key.now
         → IfSome found (IsNamedMatch environment.entry.now.reads_all request.now asked.now files.old.files key.now file.now.entry.items)) }
 {
-    if first_failing(rt, &file.tests)?.is_some() {
+    if first_failing(rt, directories_of(file, environment.reads_all), &file.tests)?.is_some() {
         return Ok(None);
     }
     let alloc = rt.alloc();
@@ -221,8 +226,8 @@ fn look_for<R: Files + AllocGlobal>(
 
 /// Looks for the object of a request.
 ///
-/// A file that the entry names is not read if its status shows that it is unchanged, unless the
-/// environment asks that all are read.
+/// A file that the entry names is not read if its status shows that it is unchanged, and a path is not
+/// tested if its directory's does, unless the environment asks that all are read.
 ///
 /// The error is of an input that is no regular file that can be read, of a program of the compiler, of
 /// the store, of a store of digests or of the file at `wanted.entry` that can't be read, of a file that

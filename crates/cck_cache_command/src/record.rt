@@ -1,8 +1,9 @@
 //! Records a compilation in the store.
-ghost use Rattle.std.specs.Prelude.{◌≡◌, ◌++◌, ◌↔◌, IfOk, IfSome, IsTrue, MatchOption, OnOk, Some};
+ghost use Rattle.std.specs.Prelude.{◌≡◌, ◌++◌, ◌↔◌, IfOk, IfSome, IsTrue, List, MatchOption, OnOk, Some};
 ghost use Rattle.std.specs.Option.{option_map};
 ghost use Rattle.cck_cache_command.specs.Input.{IsCalm};
 ghost use Rattle.cck_cache_command.specs.Record.{HasNoLocalTime, IsInputVerdict, IsJudgedByReading, IsLocalTime, IsOneDay, IsOutcome, IsOutcomeOver, IsRefusedByBase, IsSeen, IsTold, ObjectShowsBase, recorded_fields};
+ghost use Rattle.cck_cache_rules.specs.DirectoryStatus.{Status, statuses_of};
 ghost use Rattle.cck_cache_rules.specs.Files.{entry_fields};
 ghost use Rattle.cck_cache_rules.specs.PathTest.{tests_of};
 ghost use Rattle.cck_cache_text.specs.ReadFiles.{IsAssembledRule, IsOpenedRule};
@@ -22,9 +23,10 @@ use crate::unnamed::{Unnamed, unnamed_by};
 use anyhow::Result;
 use c_cache_keys::PreprocessorKey;
 use cck_cache_arguments::{Compilation, Made, Request};
-use cck_cache_files::{Kind, PathStates, StoreDirectory, add_named_files};
+use cck_cache_files::{Kind, PathStates, StoreDirectory, add_named_files, directory_statuses};
 use cck_cache_rules::{
-    EntryFile, Known, ObjectFile, PathTest, Refusal, bases_of, refusal_of, shows_base,
+    DirectoryStatus, EntryFile, Known, ObjectFile, PathTest, Refusal, bases_of, refusal_of,
+    shows_base,
 };
 use cck_cache_text::{assembles_alone, opens_named_alone};
 use cck_files::MapFiles;
@@ -385,29 +387,38 @@ fn all_tests(tests: Vec<PathTest>, others: Vec<PathTest>) -> Result<Vec<PathTest
 }
 
 // The entry file of what was recorded.
-fn entry_file_of(entry: RecordedEntry, tests: Vec<PathTest>) -> EntryFile
-    ensures { entry_fields result ≡ recorded_fields entry (tests_of tests.items) }
+fn entry_file_of(
+    entry: RecordedEntry,
+    directories: Vec<DirectoryStatus>,
+    tests: Vec<PathTest>,
+) -> EntryFile
+    ensures { entry_fields result ≡ recorded_fields entry (statuses_of directories.items) (tests_of tests.items) }
 {
     EntryFile {
         preprocessor_key: entry.preprocessor_key.into_bytes(),
         entry: entry.bytes,
+        directories,
         tests,
     }
 }
 
-// The entry file of what was recorded, with these tests, one list after the other.
-fn entry_file_with(
+// The entry file of what was recorded, with these tests, one list after the other. It has the directories of
+// absent paths in which no name came or went at this time or later.
+fn entry_file_with<R: Files + AllocGlobal>(
+    rt: &R,
+    since: Timestamp,
     entry: RecordedEntry,
     made: Vec<PathTest>,
     asked: Vec<PathTest>,
     others: Vec<PathTest>,
 ) -> Result<EntryFile, AllocError>
-    ensures { IfOk result (λ file. entry_fields file ≡ recorded_fields entry
-        ((tests_of made.items ++ tests_of asked.items) ++ tests_of others.items)) }
+    ensures { IfOk result (λ file. (directories : List Status) × (entry_fields file ≡ recorded_fields entry directories
+        ((tests_of made.items ++ tests_of asked.items) ++ tests_of others.items))) }
 {
     let tests = all_tests(made, asked)?;
     let tests = all_tests(tests, others)?;
-    Ok(entry_file_of(entry, tests))
+    let directories = directory_statuses(rt, since, &tests)?;
+    Ok(entry_file_of(entry, directories, tests))
 }
 
 // Records a compilation over the files that were gathered for its text.
@@ -448,7 +459,7 @@ fn record_over<R: Files + AllocGlobal>(
     };
     let input = own.input_digest.as_str();
     let name = name_in(rt.alloc(), request, input, object.as_str(), &entry.bytes)?;
-    let file = entry_file_with(entry, tests, asked_tests, unnamed_tests)?;
+    let file = entry_file_with(rt, since, entry, tests, asked_tests, unnamed_tests)?;
     match keep(rt, store, compilation, &bases, name.as_str(), &file)? {
         Some(refusal) => Ok(Outcome::Refused(refusal)),
         None => Ok(Outcome::Recorded(name)),

@@ -72,7 +72,7 @@ fn print_entry<R: Files + AllocGlobal, W: Write>(
     file: &EntryFile,
     writer: &mut W,
 ) -> Result<()> {
-    if let Some(test) = first_failing(rt, &file.tests)? {
+    if let Some(test) = first_failing(rt, &[], &file.tests)? {
         print_test(writer, test)?;
     }
     let Some(entry) = entry_view(rt.alloc(), &file.entry)? else {

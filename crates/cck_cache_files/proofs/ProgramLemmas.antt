@@ -76,16 +76,18 @@ no_slash_by_contains name h = λ k l e. false≢true ((contains_char 47 name fal
 pub list_path_joined : (store name size : List ℕ) → store ++ (codes "/compilers/" ++ (name ++ 45 ∷ size)) ≡ store ++ codes "/compilers/" ++ name ++ codes "-" ++ size
 list_path_joined store name size = simp append_assoc
 
+-- a path that is divided at its last slash
+pub parts_last : (path front name : List ℕ) → (i : ℕ) × (j : ℕ) × RFindsChar 47 path (Some (i, j)) × (front ≡ take i path) × (name ≡ drop j path) × (i ≤ j) × (length front ≡ i) × (length name + j ≡ length path)
+    → Lacks 47 name × (path ≡ front ++ 47 ∷ name)
+parts_last path front name h = (
+  λ k l e. NoCharPasses-char 47 (drop h.1 path) k h.2.0 (omega arith) (subst (λ t. k < length t) h.4 l) (ap (λ t. get_or t k 0) (sym h.4) ∙ e),
+  sym (take-append-drop h.0 path) ∙ ap (λ t. take h.0 path ++ t) (drop_at_char 47 path h.0 h.1 h.2.1 (omega arith))
+      ∙ ap (λ t. t ++ 47 ∷ drop h.1 path) (sym h.3) ∙ ap (λ t. front ++ 47 ∷ t) (sym h.4),
+)
+
 pub last_part : (path front name : List ℕ) → (i : ℕ) × (j : ℕ) × RFindsChar 47 path (Some (i, j)) × (front ≡ take i path) × (name ≡ drop j path) × (i ≤ j) × (length front ≡ i) × (length name + j ≡ length path)
     → IsLastPart path name
-last_part path front name h = record {
-  no_slash = λ k l e. NoCharPasses-char 47 (drop h.1 path) k h.2.0 (omega arith) (subst (λ t. k < length t) h.4 l) (ap (λ t. get_or t k 0) (sym h.4) ∙ e);
-  last = inr (
-    front,
-    sym (take-append-drop h.0 path) ∙ ap (λ t. take h.0 path ++ t) (drop_at_char 47 path h.0 h.1 h.2.1 (omega arith))
-        ∙ ap (λ t. t ++ 47 ∷ drop h.1 path) (sym h.3) ∙ ap (λ t. front ++ 47 ∷ t) (sym h.4),
-  );
-}
+last_part path front name h = let both = parts_last path front name h in record { no_slash = both.0; last = inr (front, both.1) }
 
 pub whole_part : (path : List ℕ) → RFindsChar 47 path None → IsLastPart path path
 whole_part path h = record { no_slash = λ k. NoCharPasses-char 47 path k h (omega arith); last = inl refl }

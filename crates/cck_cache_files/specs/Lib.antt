@@ -1,5 +1,6 @@
 pub mod Compiler
 pub mod Copies
+pub mod Directories
 pub mod Listing
 pub mod PathStates
 pub mod PathTests

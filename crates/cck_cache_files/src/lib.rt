@@ -5,8 +5,9 @@
 //!   out. [`add_included`] adds a file only where its status does not show that it is unchanged.
 //! - [`PathStates`] says of paths whether there is anything at them, and whether a link on the way
 //!   changed since a given time. It looks at each path once.
-//! - [`first_failing`] makes the tests of an entry file, and [`SearchedDirectories`] says which of the
-//!   directories that are searched are the same.
+//! - [`first_failing`] makes the tests of an entry file. [`directory_statuses`] says of the directories of
+//!   absent paths when a name last came or went there, so that a path in one that is unchanged is not tested.
+//!   [`SearchedDirectories`] says which of the directories that are searched are the same.
 //! - [`asked_by`] says on which other files the sources of a text may depend.
 //! - [`may_be_copy`] says of a file whether gcc may have taken it for a copy of one of the files of a
 //!   text, which [`known_files`] returns by their lengths and times, and [`is_one_file`] whether two
@@ -26,6 +27,7 @@
 
 mod compiler;
 mod copies;
+mod directories;
 pub mod laws;
 mod listing;
 mod path_states;
@@ -44,6 +46,7 @@ pub use copies::{
     ComparedFiles, KnownFile, add_known, compared_paths, is_in_snapshot, known_files, may_be_copy,
     may_be_passed_over,
 };
+pub use directories::directory_statuses;
 pub use listing::{StoredFile, list_counts, list_files};
 pub use path_states::{PathState, PathStates};
 pub use path_tests::first_failing;
