@@ -25,7 +25,7 @@ returns-in-Some g c =
     let key = c.in-Some.key in
     let is_request = c.snapshot_request-asked.ensures wanted.request refl c.in_ok-hasher.ensures in
     let own : IsKeyOver asked files.files key =
-    subst (λ (o : Option PreprocessorKey). IsPreprocessorKey (world_for sha256 no_text asked) (call_for Default files.files asked) o) c.in-Some.is c.in_ok-field-0.ensures.key in
+    subst (λ (o : Option PreprocessorKey). IsPreprocessorKey (world_for sha256 no_text asked) (call_for Default files.files asked) o) c.in-Some.is c.in_ok-key.ensures.key in
     let has : HasPreprocessorKey environment wanted.request (Some (string_bytes key.text)) = record {
       input = files.files;
       is_input = c.in_ok-files.ensures.input;
@@ -33,11 +33,11 @@ returns-in-Some g c =
       is_request = is_request;
       is_key = own.0;
     } in
-    let same = c.in_ok-field-0.ensures.keeps.same_map in
+    let same = c.in_ok-key.ensures.keeps.same_map in
     IfOk-weaker c.look_for.result (λ (found : Found). IsCalm after → IsRequest environment wanted.request environment.now [] asked → IsKeyOver asked after.files key → IsFoundFor environment.reads_all wanted asked after.files key.text found) (IsLookResult environment wanted)
     (λ found is. found_all environment wanted key.text has found
     (subst (λ (m : FileMap). IsFoundFor environment.reads_all wanted asked m key.text found) same
-    (is (calm_kept files after c.in_ok-field-0.ensures.keeps c.in_ok-files.ensures.calm) is_request (subst (λ (m : FileMap). IsKeyOver asked m key) (sym same) own))))
+    (is (calm_kept files after c.in_ok-key.ensures.keeps c.in_ok-files.ensures.calm) is_request (subst (λ (m : FileMap). IsKeyOver asked m key) (sym same) own))))
     c.look_for.ensures
 
 pub returns : goal.returns
@@ -46,5 +46,5 @@ returns g c = record {
   is_input = c.in_ok-files.ensures.input;
   asked = c.snapshot_request-asked.result;
   is_request = c.snapshot_request-asked.ensures c.args.wanted.now.request refl c.in_ok-hasher.ensures;
-  is_key = rw c.in-None.is at c.in_ok-field-0.ensures.key;
+  is_key = rw c.in-None.is at c.in_ok-key.ensures.key;
 }

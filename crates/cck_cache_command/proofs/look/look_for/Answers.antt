@@ -19,7 +19,7 @@ returns-in-Some g c =
     let key = c.args.key in
     let name = c.in-Some.name in
     let bytes = c.in-Entry.file.entry.items in
-    let of_key = rw c.in-Entry.is at c.in_ok-field-0.ensures in
+    let of_key = rw c.in-Entry.is at c.in_ok-read_entry.ensures in
     let is : IsCalm files → IsRequest environment wanted.request environment.now [] asked → IsKeyOver asked files.files key → IsNameOfKey reads_all wanted.request asked files.files key.text name = λ calm is_request own. (
       entry_fields c.in-Entry.file,
       of_key ∙ c.as_str.ensures.value,
@@ -27,7 +27,7 @@ returns-in-Some g c =
         key,
         refl,
         own,
-        subst (λ (o : Option (String Global)). IfSome o (IsNamedMatch reads_all wanted.request asked files.files key bytes)) c.in-Some.is (c.in_ok-field-0-2.ensures calm is_request own),
+        subst (λ (o : Option (String Global)). IfSome o (IsNamedMatch reads_all wanted.request asked files.files key bytes)) c.in-Some.is (c.in_ok-name.ensures calm is_request own),
       ),
     ) in
     IfOk-weaker c.kept_object.result (IsKeptObject wanted.outputs key.text name)

@@ -20,11 +20,11 @@ returns-in-Refused g c calm =
     inl (record {
       asked = asked;
       is_asked = is_asked;
-      judged = rw c.in-Refused.is at c.in_ok-field-0.ensures.judged;
+      judged = rw c.in-Refused.is at c.in_ok-own.ensures.judged;
     })
 
-pub returns-in_default-put : goal.returns-in_default-put
-returns-in_default-put g c calm =
+pub returns-in_default : goal.returns-in_default
+returns-in_default g c calm =
     let environment = c.args.environment.now in
     let request = c.args.request.now in
     let compilation = c.args.compilation.now in
@@ -39,7 +39,7 @@ returns-in_default-put g c calm =
         is_asked = is_asked;
         key = c.in_ok-recording.recording.key;
         recorded = recorded_over asked text gathered.files c.judge_input.new.files c.record_text.new.snapshot c.in_ok-recording.recording None
-            calm c.in_ok-field-0.ensures.keeps c.in_ok-recording.ensures.keeps c.in_default-put.is c.in_ok-recording.ensures.recorded;
+            calm c.in_ok-own.ensures.keeps c.in_ok-recording.ensures.keeps c.in_default.is c.in_ok-recording.ensures.recorded;
       }),
     ))
 
@@ -52,9 +52,9 @@ returns g c calm =
     let gathered = c.args.gathered in
     let asked = c.snapshot_request-asked.result in
     let is_asked = asked_of environment request compilation text c.base_words.result c.in_ok-bases.bases c.deref.result.now asked c.base_words.ensures c.in_ok-bases.ensures c.deref.ensures.value (c.snapshot_request-asked.ensures request refl c.in_ok-hasher.ensures) in
-    let found : IsInputVerdict environment asked gathered.files.files compilation.key.now (Key c.in-Key.own) = rw c.in-Key.is at c.in_ok-field-0.ensures.judged in
+    let found : IsInputVerdict environment asked gathered.files.files compilation.key.now (Key c.in-Key.own) = rw c.in-Key.is at c.in_ok-own.ensures.judged in
     let key = c.in_ok-recording.recording.key in
-    let entry = c.in-Some-put.entry in
+    let entry = c.in-Some.entry in
     let name = c.in_ok-name.name in
     record {
       asked = asked;
@@ -65,7 +65,7 @@ returns g c calm =
       key = key;
       entry = entry;
       recorded = recorded_over asked text gathered.files c.judge_input.new.files c.record_text.new.snapshot c.in_ok-recording.recording (Some entry)
-          calm c.in_ok-field-0.ensures.keeps c.in_ok-recording.ensures.keeps c.in-Some-put.is c.in_ok-recording.ensures.recorded;
+          calm c.in_ok-own.ensures.keeps c.in_ok-recording.ensures.keeps c.in-Some.is c.in_ok-recording.ensures.recorded;
       is_name = subst (λ (i : Bytes). IsNameIn request i entry.bytes.items (string_bytes key) (string_bytes name)) c.as_str-input.ensures.value
           (subst (λ (b : Bytes). IsNameIn request c.as_str-input.result.now b (string_bytes key) (string_bytes name)) c.deref-2.ensures.value
           (subst (λ (k : Bytes). IsNameIn request c.as_str-input.result.now c.deref-2.result.now k (string_bytes name)) c.as_str.ensures.value c.in_ok-name.ensures));

@@ -25,8 +25,8 @@ returns-in-Refused-tested g c =
       refused = rw c.in-Refused-tested.is at c.in_ok-tested.ensures.tested;
     })
 
-pub returns-then-may_have_copies : goal.returns-then-may_have_copies
-returns-then-may_have_copies g c =
+pub returns-then-branch : goal.returns-then-branch
+returns-then-branch g c =
     let request = c.args.request.now in
     let text = c.args.text.now in
     let cwd = c.as_bytes.result.now in
@@ -34,7 +34,7 @@ returns-then-may_have_copies g c =
     inr (inr (inr (record {
       files = after.files;
       are_files = files_of request text cwd c.in_ok-files.files after c.in_ok-files.ensures.calm c.in_ok-files.ensures.input c.in_ok-is_doubtful.ensures.named c.as_bytes.ensures.value;
-      found = subst (λ (m : FileMap). IsCopiesVerdict m request text true) c.in_ok-tested.ensures.keeps.same_map (rw c.if-may_have_copies.is at c.in_ok-may_have_copies.ensures.found);
+      found = subst (λ (m : FileMap). IsCopiesVerdict m request text true) c.in_ok-tested.ensures.keeps.same_map (rw c.if-branch.true at c.in_ok-may_have_copies.ensures.found);
       is_other = refl;
     })))
 
@@ -82,7 +82,7 @@ returns-in-Tests-others g c =
     let are = files_of request text cwd before after c.in_ok-files.ensures.calm c.in_ok-files.ensures.input c.in_ok-is_doubtful.ensures.named c.as_bytes.ensures.value in
     let first = keeps_all after middle compared c.in_ok-tested.ensures.keeps c.in_ok-may_have_copies.ensures.keeps in
     let keeps = keeps_all after compared new first c.in_ok-others.ensures.keeps in
-    let no_copies = subst (λ (m : FileMap). IsCopiesVerdict m request text false) c.in_ok-tested.ensures.keeps.same_map (rw c.if-may_have_copies.is at c.in_ok-may_have_copies.ensures.found) in
+    let no_copies = subst (λ (m : FileMap). IsCopiesVerdict m request text false) c.in_ok-tested.ensures.keeps.same_map (rw c.if-branch.false at c.in_ok-may_have_copies.ensures.found) in
     let there : HasUnnamedTests request since text after.files others = subst (λ (m : FileMap). HasUnnamedTests request since text m others) first.same_map unnamed in (
       gathered_over request since text after.files new.files made tests others keeps.same_map are no_copies path_tests tested there,
       calm_kept after new keeps (calm_grown text cwd before after c.in_ok-is_doubtful.ensures.named c.in_ok-files.ensures.calm),

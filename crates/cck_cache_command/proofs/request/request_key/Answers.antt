@@ -7,14 +7,14 @@ returns-in-Some g c is_input = record {
   is_input = is_input;
   asked = c.snapshot_request-asked.result;
   is_request = c.snapshot_request-asked.ensures c.args.request.now refl c.in_ok-hasher.ensures;
-  is_key = (rw c.in-Some.is at c.in_ok-field-0.ensures.key).0;
+  is_key = (rw c.in-Some.is at c.in_ok-key.ensures.key).0;
 }
 
-pub returns-in-None : goal.returns-in-None
-returns-in-None g c is_input = record {
+pub returns : goal.returns
+returns g c is_input = record {
   input = c.args.files.now.files;
   is_input = is_input;
   asked = c.snapshot_request-asked.result;
   is_request = c.snapshot_request-asked.ensures c.args.request.now refl c.in_ok-hasher.ensures;
-  is_key = rw c.in-None.is at c.in_ok-field-0.ensures.key;
+  is_key = rw c.in-None.is at c.in_ok-key.ensures.key;
 }
