@@ -1,5 +1,5 @@
 -- the files that an entry names
-use Rattle.std.proofs.Common.{◌≡◌, ◌∙◌, ◌<◌, ℕ, inl, inr, List, length, ◌∷◌, [], ◌++◌, Bool, true, false, map, refl, sym, ap, append_assoc, subst}
+use Rattle.std.proofs.Common.{◌≡◌, ◌∙◌, ◌<◌, ℕ, inl, inr, List, ◌∷◌, [], ◌++◌, Bool, true, map, sym, ap, append_assoc, subst}
 use Rattle.std.proofs.lemmas.Bool.{false≢true}
 use Rattle.std.proofs.lemmas.List.Elements.{Contains-append_left, Contains-push}
 use Rattle.std.proofs.lemmas.List.{get_or-map, length-map}

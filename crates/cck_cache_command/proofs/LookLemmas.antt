@@ -1,5 +1,5 @@
 -- what a look-up finds
-use Rattle.std.proofs.Common.{◌≡◌, ◌∙◌, Bool, Option, Some, None, String, string_bytes, IfSome, sym, ap, subst}
+use Rattle.std.proofs.Common.{◌∙◌, Bool, Option, Some, None, String, string_bytes, IfSome, sym, ap, subst}
 use Rattle.std.specs.declared.alloc.Global.{Global}
 use Rattle.cck_cache_command.specs.Look.{IsFoundFor, IsKeptObject, IsLookMiss, IsLookResult, IsNameOfKey}
 use Rattle.cck_cache_command.specs.Request.{HasPreprocessorKey}

@@ -1,5 +1,5 @@
 -- the result of a key in an entry
-use Rattle.std.proofs.Common.{◌≡◌, ◌∙◌, ◌<◌, ◌+◌, ◌⊎◌, ℕ, inl, inr, arith, Bool, true, false, nat_eq, List, [], ◌∷◌, ◌++◌, Ok, get_or, length, map, take, refl, sym, ap, subst}
+use Rattle.std.proofs.Common.{◌≡◌, ◌∙◌, ◌<◌, ◌+◌, ℕ, inl, inr, arith, List, [], ◌∷◌, ◌++◌, Ok, get_or, length, map, take, sym, ap, subst}
 use Rattle.std.proofs.lemmas.List.{map-append, take_more}
 use Rattle.std.proofs.lemmas.List.Elements.{Contains-append_cases}
 use Rattle.std.specs.List.{Contains}

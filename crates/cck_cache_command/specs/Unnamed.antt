@@ -1,8 +1,7 @@
 -- the paths at which headers are looked for and which a text does not name
-use Rattle.std.specs.Prelude.{◌≡◌, ◌≢◌, ◌<◌, ◌⊎◌, ℕ, Bool, true, List, Contains, IsTrue, Option, Some, None, codes, drop, length, map, nat_eq}
+use Rattle.std.specs.Prelude.{◌≡◌, ◌≢◌, ◌<◌, ◌⊎◌, ℕ, true, List, Contains, IsTrue, Option, Some, None, length, map}
 use Rattle.std.specs.BTreeSet.{BTreeSet}
 use Rattle.std.specs.Global.{Vec}
-use Rattle.std.specs.List.{starts_with}
 use Rattle.cck_cache_command.specs.Copies.{MayImport}
 use Rattle.cck_cache_command.specs.declared.unnamed.Presence.{Presence}
 use Rattle.cck_cache_command.specs.declared.unnamed.Presence.TheVariants.{Unread, There, Unknown}

@@ -1,4 +1,4 @@
-use Rattle.std.proofs.Common.{◌≡◌, ◌⊎◌, IsTrue, true, List, subst}
+use Rattle.std.proofs.Common.{◌≡◌, ◌⊎◌, IsTrue, subst}
 use Rattle.cck_cache_command.specs.Copies.{ArePathsOfText}
 use Rattle.cck_cache_files.specs.Copies.{IsPathOfName}
 use Rattle.cck_cache_text.specs.Names.{is_named}

@@ -1,4 +1,4 @@
-use Rattle.std.proofs.Common.{◌≡◌, ◌∙◌, ◌<◌, List, arith, length, map, sym, subst}
+use Rattle.std.proofs.Common.{◌∙◌, ◌<◌, List, arith, length, sym, subst}
 use Rattle.std.specs.FinMap.{entries}
 use Rattle.std.specs.List.{Contains}
 use Rattle.cck_cache_files.proofs.SnapshotLemmas.{grows_among, grows_not}

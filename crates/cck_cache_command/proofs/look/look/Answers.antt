@@ -1,4 +1,4 @@
-use Rattle.std.proofs.Common.{◌∙◌, Option, Some, string_bytes, [], refl, sym, subst}
+use Rattle.std.proofs.Common.{Option, Some, string_bytes, [], refl, sym, subst}
 use Rattle.std.proofs.lemmas.Result.{IfOk-weaker}
 use Rattle.c_cache_keys.specs.Opening.{IsPreprocessorKey}
 use Rattle.c_cache_keys.specs.declared.call.CacheControl.TheVariants.{Default}

@@ -1,4 +1,4 @@
-use Rattle.std.proofs.Common.{◌≡◌, [], List, ℕ, Option, Some, false, string_bytes, refl, subst}
+use Rattle.std.proofs.Common.{[], ℕ, Some, string_bytes, subst}
 use Rattle.std.specs.Option.{option_map}
 use Rattle.cck_files.specs.Calls.{Rose}
 use Rattle.cck_path.specs.Bytes.{Bytes}

@@ -1,9 +1,7 @@
-use Rattle.std.proofs.Common.{inl, inr, Option, Some, None, string_bytes, refl, subst}
-use Rattle.cck_cache_rules.specs.declared.refusal.Refusal.{Refusal}
+use Rattle.std.proofs.Common.{inl, inr, Some, None, string_bytes, refl, subst}
 use Rattle.cck_cache_command.specs.Naming.{IsNameIn}
 use Rattle.cck_cache_command.specs.Record.{IsInputVerdict}
 use Rattle.cck_cache_command.specs.declared.record.InputVerdict.TheVariants.{Key}
-use Rattle.cck_files.specs.FileMap.{FileMap}
 use Rattle.cck_path.specs.Bytes.{Bytes}
 use Rattle.cck_cache_command.proofs.RecordLemmas.{asked_of, recorded_over}
 use Rattle.cck_cache_command.proofs.record.record_over.Goals as goal

@@ -1,11 +1,9 @@
-use Rattle.std.proofs.Common.{◌≡◌, ◌∙◌, inl, inr, List, true, false, refl, sym, subst}
-use Rattle.cck_cache_rules.specs.PathTest.{Test, tests_of}
+use Rattle.std.proofs.Common.{◌∙◌, inl, inr, true, false, refl, subst}
+use Rattle.cck_cache_rules.specs.PathTest.{tests_of}
 use Rattle.cck_cache_command.specs.Copies.{IsCopiesVerdict}
 use Rattle.cck_cache_command.specs.Record.{HasAskedTests, HasPathTests, HasUnnamedTests}
-use Rattle.cck_cache_command.specs.Unnamed.{AreUnnamedTests}
 use Rattle.cck_cache_command.proofs.InputLemmas.{calm_kept}
 use Rattle.cck_cache_command.proofs.RecordLemmas.{calm_grown, files_of, gathered_over}
-use Rattle.cck_cache_files.specs.PathStates.{KeepsStates}
 use Rattle.cck_files.proofs.CallsLemmas.{keeps_all}
 use Rattle.cck_files.specs.FileMap.{FileMap}
 use Rattle.cck_cache_command.proofs.record.see.Goals as goal

@@ -1,4 +1,4 @@
-use Rattle.std.proofs.Common.{Some, None, refl}
+use Rattle.std.proofs.Common.{refl}
 use Rattle.cck_cache_command.proofs.request.request_key.Goals as goal
 
 pub returns-in-Some : goal.returns-in-Some

@@ -1,4 +1,4 @@
-use Rattle.std.proofs.Common.{◌≡◌, ◌+◌, ◌∙◌, ℕ, List, [], IsTrue, false, get_or, length, map, refl, sym, ap, subst, arith}
+use Rattle.std.proofs.Common.{◌≡◌, ◌+◌, ◌∙◌, ℕ, [], IsTrue, get_or, length, map, refl, sym, ap, subst, arith}
 use Rattle.std.specs.BTreeSet.{BTreeSet}
 use Rattle.std.specs.Global.{Vec}
 use Rattle.std.specs.Map.Iter.{deref}
@@ -13,9 +13,8 @@ use Rattle.cck_files.proofs.CallsLemmas.{keeps_all, keeps_itself}
 use Rattle.cck_files.specs.FileMap.{FileMap}
 use Rattle.cck_path.specs.Bytes.{Bytes}
 use Rattle.cck_path.specs.Text.{join_path}
-use Rattle.cck_cache_command.specs.Unnamed.{AreFronts, IsPassed, IsSpelling, IsUnclear, IsUnnamedVerdict}
+use Rattle.cck_cache_command.specs.Unnamed.{AreFronts, IsUnclear, IsUnnamedVerdict}
 use Rattle.cck_cache_command.specs.declared.unnamed.UnnamedVerdict.{UnnamedVerdict}
-use Rattle.cck_cache_command.specs.declared.unnamed.UnnamedVerdict.TheVariants.{Doubtful, Passed, Spelling}
 use Rattle.cck_cache_command.proofs.AbsenceLemmas.{IsAmong, among_keys, key_among}
 use Rattle.cck_cache_command.proofs.UnnamedLemmas.{fronts_same, next_passed, next_spelling, no_fronts}
 use Rattle.cck_cache_command.proofs.unnamed.left_by_spellings.Goals as goal

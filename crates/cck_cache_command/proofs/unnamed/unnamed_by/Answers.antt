@@ -1,10 +1,9 @@
-use Rattle.std.proofs.Common.{◌≡◌, ◌∙◌, inl, inr, [], ◌++◌, List, ℕ, IsTrue, Option, Some, None, true, ap, map, subst}
-use Rattle.std.specs.BTreeSet.{BTreeSet}
+use Rattle.std.proofs.Common.{◌∙◌, inl, inr, ◌++◌, List, IsTrue, Option, true, ap, map, subst}
 use Rattle.std.specs.Global.{Vec}
 use Rattle.std.specs.Option.{option_map}
 use Rattle.std.specs.Prelude.{Contains}
 use Rattle.cck_cache_text.specs.LookedAt.{IsLookedAt}
-use Rattle.cck_cache_rules.specs.PathTest.{Directory, Test, tests_of}
+use Rattle.cck_cache_rules.specs.PathTest.{Directory, tests_of}
 use Rattle.cck_cache_text.specs.SearchList.{search_fields}
 use Rattle.cck_cache_text.specs.Sets.{IsSetOf, has_key}
 use Rattle.cck_cache_rules.specs.declared.path_test.PathTest.{PathTest}
