@@ -256,14 +256,14 @@ ask() {
 get() {
     : > "$3"
     is_up || return 1
-    ask GET "cck:3:$1:$2" > "$3" || { : > "$3"; return 1; }
+    ask GET "cck:4:$1:$2" > "$3" || { : > "$3"; return 1; }
     [ -s "$3" ]
 }
 
 # Puts the file $3 of the kind $1 and the key $2 to the server.
 put() {
     is_up || return 1
-    ask -x SETEX "cck:3:$1:$2" "${CCK_TTL:-2592000}" < "$3" > "$scratch/reply" || return 1
+    ask -x SETEX "cck:4:$1:$2" "${CCK_TTL:-2592000}" < "$3" > "$scratch/reply" || return 1
     count "server-put-$1"
 }
 
