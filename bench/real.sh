@@ -1,20 +1,39 @@
 #!/bin/sh
-# Times builds of lua's 34 files at -O2 -g: by gcc, by the wrapper and by ccache in direct mode, with an
-# empty store and with all hits, and the parts of one hit. JOBS is the number of jobs, 1 by default, and
-# ROUNDS the number of rounds, 3 by default: a round has each build once, with all hits three times, and
-# the least time of each counts. Needs gcc, make, Python 3 and Debian's package archive, and ccache for its
-# lines.
+# Times builds of a project's C files at -O2 -g: by gcc, by the wrapper and by ccache in direct mode, with an
+# empty store and with all hits, and what one hit takes. PROJECT is lua, the default, zstd, freetype or libxml2.
+# JOBS is the number of jobs, 1 by default, and ROUNDS the number of rounds, 3 by default: a round has each
+# build once, with all hits three times, and the least time of each counts. Needs gcc, make, Python 3 and
+# Debian's package archive; ccache for its lines, and strace and valgrind for theirs.
 set -eu
 top=$(cd "$(dirname "$0")/.." && pwd)
 . "$top/tests/real/common.sh"
 . "$top/tests/real/times.sh"
-[ -n "${CCK_SOURCES-}" ] || download
+PROJECT=${PROJECT:-lua}
+flags='-O2 -g -Wall'
+files='*.c'
+case $PROJECT in
+lua) package=lua5.4 directory=src flags="$flags -DLUA_COMPAT_5_3 -DLUA_USE_POSIX" ;;
+zstd)
+    package=libzstd directory=lib flags="$flags -I. -Icommon -DXXH_NAMESPACE=ZSTD_ -DZSTD_DISABLE_ASM"
+    files='common/*.c compress/*.c decompress/*.c dictBuilder/*.c'
+    ;;
+freetype)
+    package=freetype directory=. flags="$flags -Iinclude -DFT2_BUILD_LIBRARY"
+    files='src/base/*.c src/cff/*.c src/psaux/*.c src/sfnt/*.c src/truetype/*.c src/type1/*.c'
+    ;;
+libxml2) package=libxml2 directory=. flags="$flags -DHAVE_CONFIG_H -D_REENTRANT -I. -Iinclude" ;;
+*)
+    echo "bench/real.sh: no project $PROJECT" >&2
+    exit 2
+    ;;
+esac
+[ -n "${CCK_SOURCES-}" ] || download "$package"
 unset CCK_LOG
 CCACHE_DIR=$room/ccache
 export CCACHE_DIR
-unpack lua5.4 lua
-cd "$room/lua/src"
-flags='-O2 -g -Wall -DLUA_COMPAT_5_3 -DLUA_USE_POSIX'
+unpack "$package" project
+cd "$room/project/$directory"
+[ "$PROJECT" != libxml2 ] || ./configure --without-python --without-lzma --without-zlib >"$room/configured" 2>&1
 with_ccache=
 if command -v ccache >/dev/null; then with_ccache=1; fi
 
@@ -29,35 +48,10 @@ for round in $(seq "${ROUNDS:-3}"); do
         timed 'make alone' true
     done
 done
+echo "$PROJECT: $(ls $files | wc -l) files, ${JOBS:-1} jobs"
 print_times gcc
+"$CCK_PROGRAM" stats "$CCK_STORE"
 
-# The parts of one hit, each the least of 100 runs, one after the other in each round.
-programs=$(sed -n 2p "$CCK_STORE"/compilers/*)
-python3 - "$programs" <<'P'
-import os, subprocess, sys, time
-program, store, flags = os.environ["CCK_PROGRAM"], os.environ["CCK_STORE"], "-O2 -g -Wall -DLUA_COMPAT_5_3 -DLUA_USE_POSIX".split()
-def call(name):
-    return ["--compiler", sys.argv[1], "--directory", os.getcwd(), "--", *flags, "-c", name, "-o", name[:-2] + ".o"]
-parts = {"a process: true": ["true"], "a shell: sh -c :": ["sh", "-c", ":"],
-         "a program: cck_cache --version": [program, "--version"]}
-for name in "lvm.c", "lzio.c":
-    out = name[:-2] + ".o"
-    parts["cck_cache preprocessor-key, " + name] = [program, "preprocessor-key", *call(name)]
-    parts["cck_cache look, " + name] = [program, "look", store, *call(name)]
-    parts["cckcc gcc, " + name] = ["cckcc", "gcc", *flags, "-c", name, "-o", out]
-    parts["ccache gcc, " + name] = ["ccache", "gcc", *flags, "-c", name, "-o", out]
-    parts["gcc -O2, " + name] = ["gcc", *flags, "-c", name, "-o", out]
-least = {}
-for turn in range(100):
-    for label, words in parts.items():
-        if words[0] == "gcc" and turn >= 5:
-            continue
-        try:
-            begun = time.perf_counter()
-            subprocess.run(words, stdout=subprocess.DEVNULL, stderr=subprocess.DEVNULL, check=False)
-            least[label] = min(least.get(label, 1e9), time.perf_counter() - begun)
-        except FileNotFoundError:
-            pass
-for label, seconds in least.items():
-    print(f"{label:32} {seconds * 1e3:8.2f} ms")
-P
+# One hit on the largest file and on the smallest one.
+export flags
+python3 "$top/bench/lib/one_hit.py" $(ls -S $files | sed -n '1p;$p')

@@ -8,7 +8,7 @@ top=$(cd "$(dirname "$0")/.." && pwd)
 . "$top/tests/real/common.sh"
 . "$top/tests/real/team.sh"
 . "$top/tests/real/times.sh"
-[ -n "${CCK_SOURCES-}" ] || download
+[ -n "${CCK_SOURCES-}" ] || download lua5.4
 unset CCK_LOG
 HOME=$room/home
 export HOME

@@ -5,7 +5,7 @@
 set -eu
 top=$(cd "$(dirname "$0")/.." && pwd)
 . "$top/tests/real/common.sh"
-[ -n "${CCK_SOURCES-}" ] || download
+[ -n "${CCK_SOURCES-}" ] || download zlib lua5.4
 flags='-O2 -g -Wall -DLUA_COMPAT_5_3 -DLUA_USE_POSIX'
 # The options for dependency files, in which make replaces $*, and how many are made for an object.
 dependencies=

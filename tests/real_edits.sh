@@ -6,7 +6,7 @@
 set -eu
 top=$(cd "$(dirname "$0")/.." && pwd)
 . "$top/tests/real/common.sh"
-[ -n "${CCK_SOURCES-}" ] || download
+[ -n "${CCK_SOURCES-}" ] || download zlib
 unpack zlib zlib
 cd "$room/zlib"
 MAKEFILE=$top/tests/real/objects.mk python3 "$top/tests/real/edits.py"

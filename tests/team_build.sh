@@ -13,7 +13,7 @@ top=$(cd "$(dirname "$0")/.." && pwd)
 for program in redis-server redis-cli; do
     command -v $program >/dev/null || { echo "needs $program"; exit 1; }
 done
-[ -n "${CCK_SOURCES-}" ] || download
+[ -n "${CCK_SOURCES-}" ] || download lua5.4
 start_server
 trap 'stop_servers; rm -rf "$room"' EXIT
 

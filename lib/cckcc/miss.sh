@@ -117,7 +117,8 @@ make_directory() {
 make_scratch() {
     [ -z "$scratch" ] || return 0
     scratch=$(make_directory) || return 1
-    trap 'rm -rf "$scratch"' EXIT
+    # What still writes there ends first.
+    trap 'wait; rm -rf "$scratch"' EXIT
     trap 'exit 130' INT TERM HUP
 }
 
@@ -415,21 +416,33 @@ preprocess() {
         "$1" '-dI -E -v -o "$scratch/text"' 2> "$scratch/search" || : > "$scratch/failed"
 }
 
+# Writes the text of the call. No entry is made of a text that names no file beside the input. Such a text names an empty
+# one.
+write_text() {
+    preprocess ''
+    if [ ! -e "$scratch/failed" ] && ! grep -q '^# [0-9]* ".*" 1' "$scratch/text"; then
+        preprocess '-imacros "$store/empty.h"'
+    fi
+    ! grep -q 'might prevent reproducible builds' "$scratch/search" || : > "$scratch/shows-time"
+}
+
 make_scratch || { found='no scratch'; pass_on "$@"; }
-preprocess ''
-# No entry is made of a text that names no file beside the input. Such a text names an empty one.
-if [ ! -e "$scratch/failed" ] && ! grep -q '^# [0-9]* ".*" 1' "$scratch/text"; then
-    preprocess '-imacros "$store/empty.h"'
-fi
-refused=
-if grep -q 'might prevent reproducible builds' "$scratch/search"; then refused=time-macro; fi
 entry_out=
 [ -n "$keeps" ] || entry_out=$scratch/entry
-if [ -n "$server" ] && [ ! -e "$scratch/failed" ] && [ -z "$refused" ]; then look_for_text "$@"; fi
+# The preprocessor runs beside the compiler, unless a server may have the object of its text.
+if [ -n "$server" ]; then
+    write_text
+    if [ ! -e "$scratch/failed" ] && [ ! -e "$scratch/shows-time" ]; then look_for_text "$@"; fi
+else
+    write_text &
+fi
 compile "$@" > "$scratch/output" 2> "$scratch/messages"
 status=$?
-cat "$scratch/output"
-cat "$scratch/messages" >&2
+[ ! -s "$scratch/output" ] || cat "$scratch/output"
+[ ! -s "$scratch/messages" ] || cat "$scratch/messages" >&2
+wait
+refused=
+[ ! -e "$scratch/shows-time" ] || refused=time-macro
 # What an assembler prints there is not kept, nor a message that names a temporary file.
 [ ! -s "$scratch/output" ] || refused=output
 if [ -s "$scratch/messages" ] && grep -q '/cc[A-Za-z0-9]\{6\}\.s' "$scratch/messages"; then refused=temporary-name; fi

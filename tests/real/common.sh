@@ -1,7 +1,6 @@
 # What the tests over real files share. The caller has set `top`, the top of the repository.
 # CCK_PROGRAM is the program, by default the one that was proved and built here; CCK_SOURCES is a
-# directory with the archives of Debian's source packages zlib and lua5.4, which are downloaded
-# where it is not set.
+# directory with the archives of Debian's source packages, which are downloaded where it is not set.
 room=$(mktemp -d)
 trap 'rm -rf "$room"' EXIT
 trap 'exit 130' INT TERM HUP
@@ -27,14 +26,15 @@ finish() {
     echo 'all passed'
 }
 
-# Downloads the archives of the source packages into the room.
+# Downloads the archives of these source packages into the room.
 download() {
+    packages=$*
     mkdir -p "$room/apt/lists/partial" "$room/sources"
     echo 'deb-src http://deb.debian.org/debian stable main' >"$room/apt/sources.list"
     set -- -o Dir::Etc::sourcelist="$room/apt/sources.list" -o Dir::Etc::sourceparts=- \
         -o Dir::State::lists="$room/apt/lists"
     apt-get "$@" update >"$room/apt.log" 2>&1
-    (cd "$room/sources" && apt-get "$@" source --download-only zlib lua5.4 >>"$room/apt.log" 2>&1)
+    (cd "$room/sources" && apt-get "$@" source --download-only $packages >>"$room/apt.log" 2>&1)
     CCK_SOURCES=$room/sources
 }
 

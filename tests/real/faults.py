@@ -257,6 +257,27 @@ def swapped():
         faults.append("input written before the recording")
 
 
+def rewritten():
+    """A header, or the input, that is rewritten after its recording, with its size and its time of modification kept."""
+    for name in ("r.h", "r.c"):
+        shutil.rmtree(STORE, ignore_errors=True)
+        write("r.h", "int v = 1;\n")
+        write("r.c", '#include "r.h"\nint r = 1;\n')
+        settle()
+        missed, _ = look("r.c")
+        preprocess("r.c")
+        compile_("r.c")
+        said = record("r.c", missed)
+        before, first = os.stat(name), look("r.c")[0]
+        write(name, contents(name).replace(b"1", b"2").decode())
+        os.utime(name, ns=(before.st_atime_ns, before.st_mtime_ns))
+        after, second = os.stat(name), look("r.c")[0]
+        kept = (before.st_size, before.st_mtime_ns) == (after.st_size, after.st_mtime_ns)
+        print(f"{name} rewritten, size and time kept: {said.split()[0]}, {first[0]}, then {second[0]}")
+        if not kept or (first[0], second[0]) != ("hit", "miss"):
+            faults.append(f"{name} rewritten")
+
+
 def swapped_while_read():
     """The input, or a header, that changes while a recording reads it, its length the same."""
     library = ROOM + "/swap.so"
@@ -376,6 +397,7 @@ def pruned():
 killed(int(os.environ.get("KILLS", "300")))
 damaged(int(os.environ.get("DAMAGES", "1000")))
 swapped()
+rewritten()
 swapped_while_read()
 at_once(15)
 full()

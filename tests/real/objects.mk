@@ -1,6 +1,8 @@
-# Compiles every C file of the working directory to an object beside it: make -f objects.mk CC=.. CFLAGS=..
+# Compiles C files to objects beside them: make -f objects.mk CC=.. CFLAGS=.. FILES=.., where FILES are patterns, by
+# default every C file of the working directory.
 # CFLAGS may ask for a dependency file $*.d, the object's name with another suffix.
-OBJECTS := $(patsubst %.c,%.o,$(sort $(wildcard *.c)))
+FILES := *.c
+OBJECTS := $(patsubst %.c,%.o,$(sort $(wildcard $(FILES))))
 all: $(OBJECTS)
 %.o: %.c
 	$(CC) $(CFLAGS) -c $< -o $@

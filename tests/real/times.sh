@@ -1,10 +1,12 @@
-# Times of builds. The caller has read common.sh, is in the directory of the C files, and has set `flags`.
+# Times of builds. The caller has read common.sh, is in the directory of the C files, and has set `flags`, and `files`
+# to patterns of the C files, where these are not all of the directory.
 
 # Builds by the compiler $2, and notes the nanoseconds under the label $1.
 timed() {
-    make -s -f "$top/tests/real/objects.mk" clean
+    make -s -f "$top/tests/real/objects.mk" FILES="${files:-*.c}" clean
     before=$(date +%s%N)
-    make -s -j "${JOBS:-1}" -f "$top/tests/real/objects.mk" CC="$2" CFLAGS="$flags"
+    make -s -j "${JOBS:-1}" -f "$top/tests/real/objects.mk" FILES="${files:-*.c}" CC="$2" \
+        CFLAGS="$flags"
     echo "$(($(date +%s%N) - before)) $1" >>"$room/times"
 }
 
