@@ -131,6 +131,8 @@ class Room:
         self.variables = {"PATH": os.environ["PATH"], "HOME": self.top + "/home", "TMPDIR": self.top + "/tmp",
                           "CCK_STORE": self.top + "/store", "CCK_LOG": self.log, "CCK_PROGRAM": PROGRAM,
                           "CCACHE_DIR": self.top + "/ccache"}
+        # All calls read all files, if that is wished.
+        self.variables.update({name: os.environ[name] for name in ("CCK_READ",) if name in os.environ})
 
     def run(self, words, directory, variables, umask, is_known=False):
         """Makes a call, puts the tree back, and returns the outcome. One that is known, of the same call in the same
