@@ -1,12 +1,11 @@
 -- the files that an entry names
-use Rattle.std.proofs.Common.{◌≡◌, ◌∙◌, ◌<◌, ℕ, inl, inr, List, ◌∷◌, [], ◌++◌, Bool, true, map, sym, ap, append_assoc, subst}
-use Rattle.std.proofs.lemmas.Bool.{false≢true}
+use Rattle.std.proofs.Common.{◌≡◌, ◌∙◌, ◌<◌, ℕ, inl, inr, List, ◌∷◌, [], ◌++◌, map, sym, ap, append_assoc, subst}
 use Rattle.std.proofs.lemmas.List.Elements.{Contains-append_left, Contains-push}
 use Rattle.std.proofs.lemmas.List.{get_or-map, length-map}
 use Rattle.std.specs.List.{Contains}
 use Rattle.cck_cache_files.proofs.SnapshotLemmas.{calm_all, grows_more}
 use Rattle.cck_cache_files.specs.Snapshot.{IsPart, SnapshotGrows, StaysCalm}
-use Rattle.cck_cache_files.specs.Statuses.{IsIncludeAdded}
+use Rattle.cck_cache_files.specs.PathStatuses.{IsIncludeAdded}
 use Rattle.cck_cache_command.proofs.InputLemmas.{put_all}
 use Rattle.cck_entry.specs.Statuses.{Statuses}
 use Rattle.cck_files.specs.FileState.{FileState, IsQuiet}
@@ -20,15 +19,10 @@ among {X} done left rest all x steps same =
     (subst (λ (xs : List X). Contains xs x) whole (Contains-append_left (done ++ x ∷ []) rest x (Contains-push done x)), whole)
 
 -- an include was added to a snapshot that has grown by such files
-pub grows_included : (At : Bytes → Type 0) (a b c : FileState) (i : Include) (reads_all : Bool) (old new : Statuses) → SnapshotGrows At a b → At i.path → IsIncludeAdded i reads_all b c old new
+pub grows_included : (At : Bytes → Type 0) (a b c : FileState) (i : Include) (known : Statuses) → SnapshotGrows At a b → At i.path → IsIncludeAdded i known b c
     → (IsQuiet b → IsPart b.files c.files) → StaysCalm b c → SnapshotGrows At a c
-grows_included At a b c i reads_all old new grown at (inl by_status) kept calm = subst (λ (s : FileState). SnapshotGrows At a s) (sym by_status.2) grown
-grows_included At a b c i reads_all old new grown at (inr by_file) kept calm = grows_more At a b c i.path grown at by_file.0 kept calm
-
--- where all files are read the statuses are as they were
-pub no_status : (i : Include) (reads_all : Bool) (b c : FileState) (old new : Statuses) → IsIncludeAdded i reads_all b c old new → reads_all ≡ true → new ≡ old
-no_status i reads_all b c old new (inl by_status) all = absurd (false≢true (sym by_status.0 ∙ all))
-no_status i reads_all b c old new (inr by_file) all = by_file.1
+grows_included At a b c i known grown at (inl by_status) kept calm = subst (λ (s : FileState). SnapshotGrows At a s) (sym by_status.1) grown
+grows_included At a b c i known grown at (inr by_file) kept calm = grows_more At a b c i.path grown at by_file.1 kept calm
 
 -- an element of a list under a function
 pub contains_map : {X Y : Type 0} (f : X → Y) (xs : List X) (x : X) → Contains xs x → Contains (map f xs) (f x)

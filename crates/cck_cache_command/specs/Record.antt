@@ -18,7 +18,7 @@ use Rattle.cck_cache_command.specs.declared.record.Outcome.{Outcome}
 use Rattle.cck_cache_command.specs.declared.record.Outcome.TheVariants.{Recorded, Refused}
 use Rattle.cck_cache_command.specs.declared.record.Seen.{Seen}
 use Rattle.cck_cache_command.specs.declared.record.Seen.TheVariants.{Files, Refused as NotSeen}
-use Rattle.cck_cache_rules.specs.DirectoryStatus.{Status}
+use Rattle.cck_cache_rules.specs.PathStatus.{Status}
 use Rattle.cck_cache_rules.specs.Files.{EntryFields}
 use Rattle.cck_cache_rules.specs.PathTest.{Test, tests_of}
 use Rattle.cck_cache_text.specs.ReadFiles.{IsAssembledRule, IsOpenedRule}
@@ -187,10 +187,10 @@ ObjectShowsBase bases (Some object) = ShowsBase bases object.object.items ⊎ (S
 abbrev pub IsRefusedByBase : List Bytes → Refusal → Type 0
 IsRefusedByBase bases refusal = (refusal ≡ BaseDirectory) × ((object : ObjectFile) × ObjectShowsBase bases (Some object))
 
--- the entry file of an entry, with these directories and tests of paths
+-- the entry file of an entry, with these statuses and tests of paths
 abbrev pub recorded_fields : RecordedEntry → List Status → List Test → EntryFields
-recorded_fields entry directories made =
-    record { preprocessor_key = string_bytes entry.preprocessor_key; entry = entry.bytes.items; directories = directories; tests = made }
+recorded_fields entry statuses made =
+    record { preprocessor_key = string_bytes entry.preprocessor_key; entry = entry.bytes.items; statuses = statuses; tests = made }
 
 -- the request of a compilation over a snapshot, at the time at which its look-up ended
 pub record IsAsked (environment : Environment) (request : Request) (compilation : Compilation) (text : Bytes) (asked : SnapshotRequest) : Type 0 where

@@ -1,6 +1,5 @@
 //! The entry of a look-up, and the files that it names.
-ghost use Rattle.std.specs.Prelude.{◌≡◌, IfOk, MatchOption, OnOk, true};
-ghost use Rattle.std.specs.FinMap.{empty};
+ghost use Rattle.std.specs.Prelude.{IfOk, MatchOption, OnOk};
 ghost use Rattle.cck_cache_command.specs.Included.{IsIncludeOf, IsIncluded};
 ghost use Rattle.cck_cache_files.specs.Snapshot.{SnapshotGrows};
 ghost use Rattle.cck_entry.specs.Entry.{Entry, EntryText};
@@ -34,35 +33,31 @@ pub fn entry_view(alloc: Global, bytes: &[u8]) -> Result<Option<EntryView<'_>>>
 fn add_includes<R: Files + AllocGlobal>(
     rt: &R,
     files: &mut MapFiles,
-    statuses: &mut PathMap<Metadata>,
+    known: &PathMap<Metadata>,
     included: &ResultRef<'_>,
-    reads_all: bool,
 ) -> Result<(), UtilError>
-    ensures grown { OnOk result (SnapshotGrows (IsIncludeOf (result_lent included.now).1) files.old files.new) }
-    ensures read { reads_all ≡ true → OnOk result (statuses.new ≡ statuses.old) }
+    ensures { OnOk result (SnapshotGrows (IsIncludeOf (result_lent included.now).1) files.old files.new) }
 {
     for include in included.includes() {
-        add_included(rt, files, statuses, &include, reads_all)?;
+        add_included(rt, files, known, &include)?;
     }
     Ok(())
 }
 
-/// Adds to the snapshot the files that an entry names, but for those whose status shows that they are
-/// unchanged. Returns these statuses. With `reads_all` there are none.
+/// Adds to the snapshot the files that an entry names, but for those of which what is known shows that they
+/// are unchanged.
 ///
 /// The only error is lack of memory. Some of the files may then be in the snapshot.
 pub fn add_entry_files<R: Files + AllocGlobal>(
     rt: &R,
     files: &mut MapFiles,
+    known: &PathMap<Metadata>,
     entry: &EntryView<'_>,
-    reads_all: bool,
-) -> Result<PathMap<Metadata>, UtilError>
-    ensures grown { OnOk result (SnapshotGrows (IsIncluded entry.now) files.old files.new) }
-    ensures read { reads_all ≡ true → IfOk result (λ statuses. statuses ≡ empty) }
+) -> Result<(), UtilError>
+    ensures { OnOk result (SnapshotGrows (IsIncluded entry.now) files.old files.new) }
 {
-    let mut statuses = PathMap::new(rt.alloc());
     for result in entry.results() {
-        add_includes(rt, files, &mut statuses, result, reads_all)?;
+        add_includes(rt, files, known, result)?;
     }
-    Ok(statuses)
+    Ok(())
 }

@@ -1,5 +1,5 @@
 //! Looks for an object in the store.
-ghost use Rattle.std.specs.Prelude.{[], IfOk, IfSome};
+ghost use Rattle.std.specs.Prelude.{◌≡◌, [], IfOk, IfSome, true};
 ghost use Rattle.cck_cache_command.specs.Input.{IsCalm};
 ghost use Rattle.cck_cache_command.specs.Look.{IsFoundFor, IsKeptObject, IsKeyEntry, IsLookMiss, IsLookResult, IsNamedMatch};
 ghost use Rattle.cck_cache_command.specs.Request.{IsKeyOver, IsRequest};
@@ -13,8 +13,8 @@ use crate::request::{hasher_of, snapshot_request};
 use anyhow::{Context, Result};
 use c_cache_keys::PreprocessorKey;
 use cck_cache_arguments::{Look, Outputs, Request};
-use cck_cache_files::{Kind, StoreDirectory, first_failing};
-use cck_cache_rules::{DirectoryStatus, EntryFile, ObjectFile, entry_in, object_in};
+use cck_cache_files::{Kind, StoreDirectory, first_failing, unchanged_statuses};
+use cck_cache_rules::{EntryFile, ObjectFile, PathStatus, entry_in, object_in};
 use cck_files::MapFiles;
 use cck_path::Timestamp;
 use cck_snapshot::{SnapshotRequest, look_up, preprocessor_key};
@@ -101,9 +101,11 @@ pub fn read_entry<R: Files + AllocGlobal>(
     })
 }
 
-// The directories by which absent paths are not tested: none of them, where all is read.
-fn directories_of(file: &EntryFile, reads_all: bool) -> &[DirectoryStatus] {
-    if reads_all { &[] } else { &file.directories }
+// The statuses by which files are not read and absent paths not tested: none, where all is read.
+fn statuses_of(file: &EntryFile, reads_all: bool) -> &[PathStatus]
+    ensures { reads_all ≡ true → result.now ≡ [] }
+{
+    if reads_all { &[] } else { &file.statuses }
 }
 
 // The name of the object of a result in the entry that matches, if the tests of paths hold.
@@ -120,15 +122,16 @@ fn matching_name<R: Files + AllocGlobal>(
         → IsKeyOver asked.now files.old.files key.now
         → IfSome found (IsNamedMatch environment.entry.now.reads_all request.now asked.now files.old.files key.now file.now.entry.items)) }
 {
-    if first_failing(rt, directories_of(file, environment.reads_all), &file.tests)?.is_some() {
+    let known = unchanged_statuses(rt, statuses_of(file, environment.reads_all))?;
+    if first_failing(rt, &known, &file.tests)?.is_some() {
         return Ok(None);
     }
     let alloc = rt.alloc();
     let Some(entry) = entry_view(alloc, &file.entry)? else {
         return Ok(None);
     };
-    let statuses = add_entry_files(rt, files, &entry, environment.reads_all)?;
-    let found = look_up::<Sha256State, MapFiles>(alloc, files, &statuses, asked, &entry)?;
+    add_entry_files(rt, files, &known, &entry)?;
+    let found = look_up::<Sha256State, MapFiles>(alloc, files, &known, asked, &entry)?;
     let Some(object) = found else {
         return Ok(None);
     };

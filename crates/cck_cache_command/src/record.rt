@@ -3,7 +3,7 @@ ghost use Rattle.std.specs.Prelude.{◌≡◌, ◌++◌, ◌↔◌, IfOk, IfSome
 ghost use Rattle.std.specs.Option.{option_map};
 ghost use Rattle.cck_cache_command.specs.Input.{IsCalm};
 ghost use Rattle.cck_cache_command.specs.Record.{HasNoLocalTime, IsInputVerdict, IsJudgedByReading, IsLocalTime, IsOneDay, IsOutcome, IsOutcomeOver, IsRefusedByBase, IsSeen, IsTold, ObjectShowsBase, recorded_fields};
-ghost use Rattle.cck_cache_rules.specs.DirectoryStatus.{Status, statuses_of};
+ghost use Rattle.cck_cache_rules.specs.PathStatus.{Status, statuses_of};
 ghost use Rattle.cck_cache_rules.specs.Files.{entry_fields};
 ghost use Rattle.cck_cache_rules.specs.PathTest.{tests_of};
 ghost use Rattle.cck_cache_text.specs.ReadFiles.{IsAssembledRule, IsOpenedRule};
@@ -23,10 +23,12 @@ use crate::unnamed::{Unnamed, unnamed_by};
 use anyhow::Result;
 use c_cache_keys::PreprocessorKey;
 use cck_cache_arguments::{Compilation, Made, Request};
-use cck_cache_files::{Kind, PathStates, StoreDirectory, add_named_files, directory_statuses};
+use cck_cache_files::{
+    Kind, PathStates, StoreDirectory, add_directory_statuses, add_named_files, compared_paths,
+    text_statuses,
+};
 use cck_cache_rules::{
-    DirectoryStatus, EntryFile, Known, ObjectFile, PathTest, Refusal, bases_of, refusal_of,
-    shows_base,
+    EntryFile, Known, ObjectFile, PathStatus, PathTest, Refusal, bases_of, refusal_of, shows_base,
 };
 use cck_cache_text::{assembles_alone, opens_named_alone};
 use cck_files::MapFiles;
@@ -77,7 +79,9 @@ fn is_one_day(zone: &TimeZone<'_>, a: Timestamp, b: Timestamp) -> bool
 struct Gathered {
     // The input and the files that the text names.
     files: MapFiles,
-    // Whether a name that was left out has the path of one of the files.
+    // What the system says of the files.
+    statuses: Vec<PathStatus>,
+    // Whether a name that was left out has the path of one of the files, or the way to one is in doubt.
     is_doubtful: bool,
     // The tests of paths that must hold.
     tests: Vec<PathTest>,
@@ -120,6 +124,12 @@ fn see<R: Files + AllocGlobal>(
         Tested::Refused(cause) => return Ok(Seen::Refused(cause)),
         Tested::Tests(asked_tests) => asked_tests,
     };
+    let paths = compared_paths(
+        rt.alloc(),
+        directory.as_bytes(),
+        request.input.as_bytes(),
+        text,
+    )?;
     if may_have_copies(rt.alloc(), &mut files, request, text)? {
         return Ok(Seen::Refused(Refusal::OtherFile));
     }
@@ -136,13 +146,17 @@ fn see<R: Files + AllocGlobal>(
     )?;
     match others {
         Unnamed::Refused(cause) => Ok(Seen::Refused(cause)),
-        Unnamed::Tests(unnamed_tests) => Ok(Seen::Files(Gathered {
-            files,
-            is_doubtful,
-            tests,
-            asked_tests,
-            unnamed_tests,
-        })),
+        Unnamed::Tests(unnamed_tests) => {
+            let found = text_statuses(rt, since, &paths)?;
+            Ok(Seen::Files(Gathered {
+                files,
+                statuses: found.statuses,
+                is_doubtful: is_doubtful || found.is_doubtful,
+                tests,
+                asked_tests,
+                unnamed_tests,
+            }))
+        }
     }
 }
 
@@ -389,36 +403,38 @@ fn all_tests(tests: Vec<PathTest>, others: Vec<PathTest>) -> Result<Vec<PathTest
 // The entry file of what was recorded.
 fn entry_file_of(
     entry: RecordedEntry,
-    directories: Vec<DirectoryStatus>,
+    statuses: Vec<PathStatus>,
     tests: Vec<PathTest>,
 ) -> EntryFile
-    ensures { entry_fields result ≡ recorded_fields entry (statuses_of directories.items) (tests_of tests.items) }
+    ensures { entry_fields result ≡ recorded_fields entry (statuses_of statuses.items) (tests_of tests.items) }
 {
     EntryFile {
         preprocessor_key: entry.preprocessor_key.into_bytes(),
         entry: entry.bytes,
-        directories,
+        statuses,
         tests,
     }
 }
 
-// The entry file of what was recorded, with these tests, one list after the other. It has the directories of
-// absent paths in which no name came or went at this time or later.
+// The entry file of what was recorded, with these tests, one list after the other. It has these statuses, and
+// those of the directories of absent paths in which no name came or went at this time or later.
 fn entry_file_with<R: Files + AllocGlobal>(
     rt: &R,
     since: Timestamp,
     entry: RecordedEntry,
+    statuses: Vec<PathStatus>,
     made: Vec<PathTest>,
     asked: Vec<PathTest>,
     others: Vec<PathTest>,
 ) -> Result<EntryFile, AllocError>
-    ensures { IfOk result (λ file. (directories : List Status) × (entry_fields file ≡ recorded_fields entry directories
+    ensures { IfOk result (λ file. (statuses : List Status) × (entry_fields file ≡ recorded_fields entry statuses
         ((tests_of made.items ++ tests_of asked.items) ++ tests_of others.items))) }
 {
     let tests = all_tests(made, asked)?;
     let tests = all_tests(tests, others)?;
-    let directories = directory_statuses(rt, since, &tests)?;
-    Ok(entry_file_of(entry, directories, tests))
+    let mut statuses = statuses;
+    add_directory_statuses(rt, &mut statuses, since, &tests)?;
+    Ok(entry_file_of(entry, statuses, tests))
 }
 
 // Records a compilation over the files that were gathered for its text.
@@ -436,6 +452,7 @@ fn record_over<R: Files + AllocGlobal>(
 {
     let Gathered {
         mut files,
+        statuses,
         is_doubtful,
         tests,
         asked_tests,
@@ -459,7 +476,7 @@ fn record_over<R: Files + AllocGlobal>(
     };
     let input = own.input_digest.as_str();
     let name = name_in(rt.alloc(), request, input, object.as_str(), &entry.bytes)?;
-    let file = entry_file_with(rt, since, entry, tests, asked_tests, unnamed_tests)?;
+    let file = entry_file_with(rt, since, entry, statuses, tests, asked_tests, unnamed_tests)?;
     match keep(rt, store, compilation, &bases, name.as_str(), &file)? {
         Some(refusal) => Ok(Outcome::Refused(refusal)),
         None => Ok(Outcome::Recorded(name)),

@@ -8,7 +8,7 @@ use anyhow::{Result, bail};
 use cck_cache_arguments::Request;
 use cck_cache_files::{Kind, StoreDirectory, first_failing};
 use cck_cache_rules::{EntryFile, PathTest};
-use cck_entry::ResultRef;
+use cck_entry::{PathMap, ResultRef};
 use cck_files::MapFiles;
 use cck_include::{JudgeContext, KnownFiles, include_matches};
 use cck_util::Sha256State;
@@ -72,13 +72,14 @@ fn print_entry<R: Files + AllocGlobal, W: Write>(
     file: &EntryFile,
     writer: &mut W,
 ) -> Result<()> {
-    if let Some(test) = first_failing(rt, &[], &file.tests)? {
+    let nothing_known = PathMap::new(rt.alloc());
+    if let Some(test) = first_failing(rt, &nothing_known, &file.tests)? {
         print_test(writer, test)?;
     }
     let Some(entry) = entry_view(rt.alloc(), &file.entry)? else {
         bail!("the bytes of the entry are malformed");
     };
-    add_entry_files(rt, files, &entry, true)?;
+    add_entry_files(rt, files, &nothing_known, &entry)?;
     let mut known = KnownFiles::new(rt.alloc());
     for result in entry.results() {
         writeln!(writer, "result {}", result.key())?;

@@ -7,5 +7,6 @@ pub mod ReadOnceLemmas
 pub mod SnapshotLemmas
 pub mod SourceLemmas
 pub mod StateLemmas
+pub mod StatusLemmas
 pub mod TestLemmas
 pub mod TimeLemmas

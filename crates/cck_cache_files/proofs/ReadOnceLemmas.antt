@@ -1,5 +1,5 @@
 -- Two files of a text with one contents.
-use Rattle.std.proofs.Common.{◌≡◌, ◌∙◌, ◌<◌, ◌+◌, ◌⊎◌, inl, inr, ℕ, Bool, true, false, ◌||◌, List, [], Option, Some, None, Ok, Result, IsTrue, MatchBool, get_or, length, map, refl, sym, ap, subst, arith}
+use Rattle.std.proofs.Common.{◌≡◌, ◌∙◌, ◌<◌, ◌+◌, inl, inr, ℕ, Bool, true, false, ◌||◌, List, [], Some, None, Ok, Result, IsTrue, MatchBool, get_or, length, map, refl, sym, ap, subst, arith}
 use Rattle.std.specs.BTreeSet.{BTreeSet}
 use Rattle.std.specs.Bool.{Decides}
 use Rattle.std.specs.Global.{Vec}
@@ -10,7 +10,7 @@ use Rattle.std.proofs.lemmas.Slice.Eq.{bytes_eq-Decides}
 use Rattle.cck_cache_text.specs.Sets.{has_key}
 use Rattle.cck_cache_files.specs.ReadOnce.{HasCopies, IsReadOnce, unmarked}
 use Rattle.cck_digest.specs.declared.error.FileError.{FileError}
-use Rattle.cck_files.specs.FileMap.{FileMap, contents_at}
+use Rattle.cck_files.specs.FileMap.{FileMap}
 use Rattle.cck_path.specs.Bytes.{Bytes}
 
 same_ok : (a b : Bytes) → ◌≡◌ {A = Result Bytes FileError} (Ok a) (Ok b) → a ≡ b

@@ -1,5 +1,5 @@
 -- Files are put into a snapshot, and the quiet one keeps what it has.
-use Rattle.std.proofs.Common.{◌≡◌, ◌⊎◌, ◌<◌, ◌+◌, ◌^◌, ◌↔◌, ◌∙◌, ℕ, inl, inr, arith, List, [], ◌∷◌, ◌++◌, Bool, true, false, Option, Some, Result, Ok, Err, OnErr, OnOk, cond, refl, sym, ap, subst}
+use Rattle.std.proofs.Common.{◌≡◌, ◌⊎◌, ◌<◌, ◌+◌, ◌^◌, ◌∙◌, ℕ, inl, inr, arith, List, [], ◌∷◌, ◌++◌, Bool, false, Option, Some, Result, Ok, Err, OnErr, OnOk, cond, refl, sym, ap, subst}
 use Rattle.std.specs.FinMap.{get, get-insert}
 use Rattle.std.specs.Ordering.{is_eq}
 use Rattle.std.specs.Option.{is_some}
@@ -12,10 +12,8 @@ use Rattle.cck_files.specs.Calls.{Keeps, Rose}
 use Rattle.cck_files.specs.FileMap.{FileMap, FileNode, exists_at}
 use Rattle.cck_files.specs.FileState.{FileState, IsQuiet, fault_count}
 use Rattle.cck_markers.specs.Marks.{Mark, Name}
-use Rattle.cck_path.proofs.OrderLemmas.{path_cmp-same}
 use Rattle.cck_path.specs.Bytes.{Bytes}
-use Rattle.cck_path.specs.Path.{Path, components, joined, normal, path_cmp, path_cmp_total, path_cmp-IsAntisymmetric}
-use Rattle.cck_path.specs.Text.{path_text}
+use Rattle.cck_path.specs.Path.{Path, components, path_cmp, path_cmp_total, path_cmp-IsAntisymmetric}
 use Rattle.cck_cache_files.specs.Snapshot.{ArePut, SnapshotGrows, IsAdded, IsNamedFile, IsPart, IsNodePut, StaysCalm, named_path, none_put, one_more, with_node}
 
 -- one node was put

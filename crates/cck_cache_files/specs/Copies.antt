@@ -1,5 +1,5 @@
 -- which files gcc may take for copies of the files of a text
-use Rattle.std.specs.Prelude.{◌≡◌, ℕ, ℤ, ◌+◌, ◌⊎◌, Bool, true, false, List, [], ◌∷◌, ◌++◌, Contains, IsUtf8, Option, Some, None, Result, Ok, Err, option_and_then}
+use Rattle.std.specs.Prelude.{◌≡◌, ℕ, ℤ, ◌+◌, ◌⊎◌, Bool, true, false, List, [], ◌∷◌, ◌++◌, Contains, IsUtf8, Option, Some, None, Ok, Err, option_and_then}
 use Rattle.std.specs.Fs.{IsDir, IsFile}
 use Rattle.std.specs.declared.fs.attrs.FileType.{FileType}
 use Rattle.cck_cache_files.specs.Snapshot.{named_path}

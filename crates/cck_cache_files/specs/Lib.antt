@@ -1,6 +1,6 @@
 pub mod Compiler
 pub mod Copies
-pub mod Directories
+pub mod PathStatuses
 pub mod Listing
 pub mod PathStates
 pub mod PathTests
@@ -10,5 +10,4 @@ pub mod ReadOnce
 pub mod Searched
 pub mod Snapshot
 pub mod Sources
-pub mod Statuses
 pub mod Times

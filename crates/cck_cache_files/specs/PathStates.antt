@@ -50,6 +50,10 @@ abbrev pub AreOnTheWay : (PathState → Type 0) → PathStates → List ℕ → 
 AreOnTheWay P states path count =
     (place : ℕ) → place < count → EndsAt path place → (state : PathState) × (state_at states (take place path) ≡ Some state) × P state
 
+-- something is at a path that is not in doubt
+abbrev pub IsThere : PathState → Type 0
+IsThere state = (state ≡ Directory) ⊎ ((state ≡ Link) ⊎ (state ≡ File))
+
 -- a directory, or a link, which may lead to one
 abbrev pub LeadsOn : PathState → Type 0
 LeadsOn state = (state ≡ Directory) ⊎ (state ≡ Link)

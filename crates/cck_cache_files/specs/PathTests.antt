@@ -1,5 +1,5 @@
 -- tests of paths that were made
-use Rattle.std.specs.Prelude.{◌≡◌, ℕ, List, [], ◌∷◌, ◌++◌, Option, Some, None, IsUtf8}
+use Rattle.std.specs.Prelude.{◌≡◌, List, [], ◌∷◌, ◌++◌, Option, Some, None, IsUtf8}
 use Rattle.cck_cache_rules.specs.PathTest.{Test, Absent, File, Directory, Searched}
 use Rattle.cck_cache_files.specs.Searched.{IsFirstSame, IsPlaceOf}
 use Rattle.cck_cache_files.specs.declared.searched.Identity.{Identity}

@@ -1,5 +1,5 @@
 -- files that gcc reads once
-use Rattle.std.specs.Prelude.{◌≡◌, ◌⊎◌, ◌<◌, ℕ, Bool, true, List, [], ◌∷◌, Option, Some, None, Ok, codes, drop, get_or, length, map, nat_eq, if◌then◌else◌}
+use Rattle.std.specs.Prelude.{◌≡◌, ◌⊎◌, ◌<◌, ℕ, Bool, true, [], ◌∷◌, Option, Some, None, Ok, codes, drop, get_or, length, map, nat_eq, if◌then◌else◌}
 use Rattle.std.specs.BTreeSet.{BTreeSet}
 use Rattle.std.specs.Global.{Vec}
 use Rattle.std.specs.List.{starts_with}

@@ -1,5 +1,5 @@
 -- what the sources of a text ask for beside the files that they include
-use Rattle.std.specs.Prelude.{◌≡◌, ◌⊎◌, ℕ, true, false, List, Option, Some, None, Ok, Err, IsTrue}
+use Rattle.std.specs.Prelude.{◌≡◌, ℕ, true, false, List, Option, Some, None, Ok, Err, IsTrue}
 use Rattle.std.specs.BTreeSet.{BTreeSet}
 use Rattle.std.specs.Global.{Vec}
 use Rattle.cck_cache_text.specs.HeaderTests.{AreTests, TestFields, has_dependency}

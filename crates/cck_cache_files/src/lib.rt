@@ -2,12 +2,13 @@
 //!
 //! - A *snapshot* is a [`MapFiles`](cck_files::MapFiles) with the files that one call looks at, as
 //!   they are now: [`add_file`] and [`add_named_files`]. What can't be read, or is in doubt, is left
-//!   out. [`add_included`] adds a file only where its status does not show that it is unchanged.
+//!   out. [`add_included`] adds a file only where what is known of it does not show that it is unchanged.
 //! - [`PathStates`] says of paths whether there is anything at them, and whether a link on the way
 //!   changed since a given time. It looks at each path once.
-//! - [`first_failing`] makes the tests of an entry file. [`directory_statuses`] says of the directories of
-//!   absent paths when a name last came or went there, so that a path in one that is unchanged is not tested.
-//!   [`SearchedDirectories`] says which of the directories that are searched are the same.
+//! - [`text_statuses`] and [`add_directory_statuses`] say what the system says of the files of a text and of
+//!   the directories of absent paths when an entry is recorded, and [`unchanged_statuses`] of which it
+//!   says the same when the entry is looked for.
+//! - [`first_failing`] makes the tests of an entry file. [`SearchedDirectories`] says which of the directories that are searched are the same.
 //! - [`asked_by`] says on which other files the sources of a text may depend.
 //! - [`may_be_copy`] says of a file whether gcc may have taken it for a copy of one of the files of a
 //!   text, which [`known_files`] returns by their lengths and times, and [`is_one_file`] whether two
@@ -27,17 +28,16 @@
 
 mod compiler;
 mod copies;
-mod directories;
 pub mod laws;
 mod listing;
 mod path_states;
+mod path_statuses;
 mod path_tests;
 mod programs;
 mod read_once;
 mod searched;
 mod snapshot;
 mod sources;
-mod statuses;
 mod store_directory;
 mod times;
 
@@ -46,15 +46,16 @@ pub use copies::{
     ComparedFiles, KnownFile, add_known, compared_paths, is_in_snapshot, known_files, may_be_copy,
     may_be_passed_over,
 };
-pub use directories::directory_statuses;
 pub use listing::{StoredFile, list_counts, list_files};
 pub use path_states::{PathState, PathStates};
+pub use path_statuses::{
+    TextStatuses, add_directory_statuses, add_included, text_statuses, unchanged_statuses,
+};
 pub use path_tests::first_failing;
 pub use programs::{KeptPrograms, SearchVariables, kept_programs};
 pub use read_once::has_copies;
 pub use searched::SearchedDirectories;
 pub use snapshot::{add_file, add_named_files, is_one_file};
 pub use sources::{Asked, asked_by};
-pub use statuses::add_included;
 pub use store_directory::{Kind, StoreDirectory, open_store};
 pub use times::{changed, modified};

@@ -1,7 +1,7 @@
 //! What there is on the way to a path.
 ghost use Rattle.std.specs.Prelude.{◌≡◌, ℕ, List, None, length, IfOk, IsTrue, IsUtf8, MatchBool, OnErr};
 ghost use Rattle.std.specs.Fs.{file_type};
-ghost use Rattle.cck_cache_files.specs.PathStates.{AreOnTheWay, HasOther, IsFirstOther, IsStateFound, IsStateOf, IsUnchanged, KeepsStates, LeadsOn, state_at};
+ghost use Rattle.cck_cache_files.specs.PathStates.{AreOnTheWay, HasOther, IsFirstOther, IsStateFound, IsStateOf, IsThere, IsUnchanged, KeepsStates, LeadsOn, state_at};
 
 use crate::times::{changed, is_settled, modified};
 use cck_path::Timestamp;
@@ -29,6 +29,16 @@ pub enum PathState {
 }
 
 impl PathState {
+    /// Whether something is at a path that is not in doubt.
+    pub fn is_there(self) -> bool
+        ensures { MatchBool result (IsThere self) (¬ (IsThere self)) }
+    {
+        match self {
+            PathState::Directory | PathState::Link | PathState::File => true,
+            PathState::Absent | PathState::Doubtful => false,
+        }
+    }
+
     // Whether a path may lead on: a directory, or a link, which may lead to one.
     fn leads_on(self) -> bool
         ensures { MatchBool result (LeadsOn self) (¬ (LeadsOn self)) }

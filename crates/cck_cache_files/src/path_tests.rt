@@ -5,12 +5,12 @@ ghost use Rattle.cck_cache_rules.specs.PathTest.{test_of, tests_of};
 ghost use Rattle.cck_cache_rules.specs.PathTest as spec;
 ghost use Rattle.cck_cache_files.specs.PathTests.{Fails, Holds, IsFirstFailing};
 
-use crate::directories::{stays_absent, unchanged_directories};
+use crate::path_statuses::stays_absent;
 use crate::path_states::{is_absent, is_directory, is_file};
 use crate::searched::SearchedDirectories;
-use cck_cache_rules::{DirectoryStatus, PathTest};
+use cck_cache_rules::PathTest;
+use cck_path::{Metadata, PathMap};
 use std::alloc::AllocError;
-use std::collections::BTreeSet;
 use std::rt::Files;
 
 // Whether a directory is at a path, of which the first one that is the same has this place. It is added
@@ -34,7 +34,7 @@ fn is_searched_at<R: Files + AllocGlobal>(
 // Whether a test holds now.
 fn holds<R: Files + AllocGlobal>(
     rt: &R,
-    unchanged: &BTreeSet<Vec<u8>>,
+    known: &PathMap<Metadata>,
     searched: &mut SearchedDirectories,
     test: &PathTest,
 ) -> Result<bool, AllocError>
@@ -43,7 +43,7 @@ fn holds<R: Files + AllocGlobal>(
         (Fails searched.old.identities.items (test_of test.now))) }
 {
     match test {
-        PathTest::Absent(path) => Ok(stays_absent(unchanged, path) || is_absent(rt, path)),
+        PathTest::Absent(path) => Ok(stays_absent(known, path) || is_absent(rt, path)),
         PathTest::File(path) => Ok(is_file(rt, path)),
         PathTest::Directory(path) => Ok(is_directory(rt, path)),
         PathTest::Searched { path, place } => is_searched_at(rt, searched, path, *place),
@@ -51,23 +51,21 @@ fn holds<R: Files + AllocGlobal>(
 }
 
 /// The first of these tests that does not hold now. One of an absent path is not made where the path is that
-/// of a name in one of the directories of which the system says the same as when they were recorded. One of
-/// a directory that is searched holds only if a directory is at its path, and the first that is the same,
+/// of a name in a directory that is known to be unchanged. One of a directory that is searched holds only if a directory is at its path, and the first that is the same,
 /// by device and inode, has its place.
 ///
 /// The only error is lack of memory.
 pub fn first_failing<'a, R: Files + AllocGlobal>(
     rt: &R,
-    directories: &[DirectoryStatus],
+    known: &PathMap<Metadata>,
     tests: &'a [PathTest],
 ) -> Result<Option<&'a PathTest>, AllocError>
     ensures { IfOk result (λ found.
         IsFirstFailing (tests_of tests.now) (option_map (λ t. test_of t.now) found)) }
 {
-    let unchanged = unchanged_directories(rt, directories)?;
     let mut searched = SearchedDirectories::new(rt);
     for test in tests {
-        if !holds(rt, &unchanged, &mut searched, test)? {
+        if !holds(rt, known, &mut searched, test)? {
             return Ok(Some(test));
         }
     }

@@ -8,7 +8,7 @@ ghost use Rattle.cck_markers.specs.Marks as marks;
 ghost use Rattle.cck_cache_files.specs.PathStates.{KeepsStates};
 ghost use Rattle.cck_cache_files.specs.Snapshot.{SnapshotGrows, IsAdded, IsNamedFile, IsPart, IsNodePut, StaysCalm};
 
-use crate::path_states::{PathState, PathStates};
+use crate::path_states::PathStates;
 use crate::times::{changed, modified};
 use cck_digest::UtilError;
 use cck_files::{Files as FilesInMemory, MapFiles, Node};
@@ -125,7 +125,7 @@ fn leads_there<R: Files + AllocGlobal>(
 {
     let (_, state) = states.first_other(rt, joined)?;
     // With -g gcc names the working directory too.
-    if state == PathState::Absent || state == PathState::Doubtful {
+    if !state.is_there() {
         return Ok(false);
     }
     if joined == path {

@@ -3,12 +3,12 @@ use Rattle.std.proofs.Common.{◌≡◌, ℕ, suc, List, [], ◌∷◌, ◌++◌
 use Rattle.std.specs.List.{All}
 use Rattle.std.proofs.lemmas.List.{map-append}
 use Rattle.std.proofs.lemmas.List.Elements.{All-append, All-cons, All-nil}
-use Rattle.cck_cache_rules.specs.DirectoryStatus.{AreStatuses, IsStatus, Status, status_bytes, status_of, statuses_of}
+use Rattle.cck_cache_rules.specs.PathStatus.{AreStatuses, IsStatus, Status, status_bytes, status_of, statuses_of}
 use Rattle.cck_cache_rules.specs.Files.{EntryFields, IsEntryFile, entry_parts}
 use Rattle.cck_cache_rules.specs.PathTest.{Test, Absent, File, Directory, Searched, test_bytes}
 use Rattle.cck_cache_rules.specs.Reading.{ReadsBack, ReadsBackOf}
-use Rattle.cck_cache_rules.specs.declared.directory_status.DirectoryStatus.{DirectoryStatus}
-use Rattle.cck_cache_rules.proofs.DirectoryStatusLemmas.{statuses_differ}
+use Rattle.cck_cache_rules.specs.declared.path_status.PathStatus.{PathStatus}
+use Rattle.cck_cache_rules.proofs.PathStatusLemmas.{statuses_differ}
 use Rattle.cck_cache_rules.proofs.TestLemmas.{apart, tests_differ}
 
 -- a list of texts, of which the first are written for values of one kind, and the others for values of another
@@ -68,16 +68,16 @@ pub fields_differ : (a b : EntryFields) → IsEntryFile a → IsEntryFile b → 
 fields_differ a b p q same =
     let first : a.preprocessor_key ≡ b.preprocessor_key = cc in
     let second : a.entry ≡ b.entry = cc in
-    let others : parts_of a.directories a.tests ≡ parts_of b.directories b.tests = cc in
-    let (directories, tests) = both_are IsStatus status_bytes test_bytes statuses_differ tests_differ no_both_bytes a.directories b.directories a.tests b.tests p q others in
-    λ i. record { preprocessor_key = first i; entry = second i; directories = directories i; tests = tests i }
+    let others : parts_of a.statuses a.tests ≡ parts_of b.statuses b.tests = cc in
+    let (statuses, tests) = both_are IsStatus status_bytes test_bytes statuses_differ tests_differ no_both_bytes a.statuses b.statuses a.tests b.tests p q others in
+    λ i. record { preprocessor_key = first i; entry = second i; statuses = statuses i; tests = tests i }
 
 -- a part that is no status and no test, after others
 pub no_file : (file : EntryFields) (key entry : List ℕ) (before after : List (List ℕ)) (part : List ℕ) → IsEntryFile file → ReadsBackOf IsStatus status_bytes part None → ReadsBack test_bytes part None
     → entry_parts file ≡ key ∷ entry ∷ (before ++ part ∷ after) → ⊥
 no_file file key entry before after part right no_status no_test same =
-    let others : parts_of file.directories file.tests ≡ before ++ part ∷ after = cc in
-    elim (one_is IsStatus status_bytes test_bytes statuses_differ tests_differ no_both_bytes file.directories file.tests before after part right others) [
+    let others : parts_of file.statuses file.tests ≡ before ++ part ∷ after = cc in
+    elim (one_is IsStatus status_bytes test_bytes statuses_differ tests_differ no_both_bytes file.statuses file.tests before after part right others) [
       | inl found ↦ no_status found.0 found.1.0 found.1.1
       | inr found ↦ no_test found.0 found.1
     ]
@@ -87,17 +87,17 @@ pub no_order : (file : EntryFields) (key entry : List ℕ) (statuses : List Stat
     → entry_parts file ≡ key ∷ entry ∷ (parts_of statuses tests ++ part ∷ after) → ⊥
 no_order file key entry statuses [] status after part some is same = some refl
 no_order file key entry statuses (test ∷ tests) status after part some is same =
-    let others : parts_of file.directories file.tests ≡ parts_of statuses (test ∷ tests) ++ part ∷ after = cc in
-    none_follows IsStatus status_bytes test_bytes statuses_differ tests_differ no_both_bytes file.directories statuses file.tests tests test status after
+    let others : parts_of file.statuses file.tests ≡ parts_of statuses (test ∷ tests) ++ part ∷ after = cc in
+    none_follows IsStatus status_bytes test_bytes statuses_differ tests_differ no_both_bytes file.statuses statuses file.tests tests test status after
     (others ∙ ap (λ (p : List ℕ). parts_of statuses (test ∷ tests) ++ p ∷ after) (sym is))
 
 -- the parts of one more status, before any test
-pub next_status : (all left rest : List (List ℕ)) (before after : List DirectoryStatus) (tests : List Test) (status : DirectoryStatus) (part : List ℕ) → all ≡ parts_of (statuses_of before) tests ++ left → left ≡ part ∷ rest
+pub next_status : (all left rest : List (List ℕ)) (before after : List PathStatus) (tests : List Test) (status : PathStatus) (part : List ℕ) → all ≡ parts_of (statuses_of before) tests ++ left → left ≡ part ∷ rest
     → after ≡ before ++ status ∷ [] → tests ≡ [] → status_bytes (status_of status) ≡ part → all ≡ parts_of (statuses_of after) tests ++ rest
 next_status all left rest before after tests status part so_far first more none is =
     let known = map status_bytes (statuses_of before) in
     let written : map status_bytes (statuses_of after) ≡ known ++ part ∷ [] =
-    ap (λ (ss : List DirectoryStatus). map status_bytes (statuses_of ss)) more
+    ap (λ (ss : List PathStatus). map status_bytes (statuses_of ss)) more
     ∙ (ap (map status_bytes) (map-append status_of before (status ∷ []))
     ∙ (map-append status_bytes (statuses_of before) (status_of status ∷ []) ∙ ap (λ (b : List ℕ). known ++ b ∷ []) is))
     in
@@ -109,7 +109,7 @@ next_status all left rest before after tests status part so_far first more none 
     old ∙ (ap (λ (l : List (List ℕ)). known ++ l) first ∙ sym new)
 
 -- one more is a status that a program has
-pub more_are : (before after : List DirectoryStatus) (status : DirectoryStatus) → AreStatuses (statuses_of before) → IsStatus (status_of status) → after ≡ before ++ status ∷ [] → AreStatuses (statuses_of after)
+pub more_are : (before after : List PathStatus) (status : PathStatus) → AreStatuses (statuses_of before) → IsStatus (status_of status) → after ≡ before ++ status ∷ [] → AreStatuses (statuses_of after)
 more_are before after status are is more =
     subst AreStatuses (sym (ap statuses_of more ∙ map-append status_of before (status ∷ [])))
     (All-append IsStatus (statuses_of before) (status_of status ∷ []) are (All-cons IsStatus (status_of status) [] is (All-nil IsStatus)))

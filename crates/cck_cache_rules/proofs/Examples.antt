@@ -4,7 +4,7 @@ use Rattle.cck_digest.specs.Frames.{length_bytes}
 use Rattle.cck_include.specs.TimePart.{i64_bytes, u32_bytes}
 use Rattle.cck_cache_rules.specs.Age.{IsAbandoned}
 use Rattle.cck_cache_rules.specs.Checksum.{sums_of, words}
-use Rattle.cck_cache_rules.specs.DirectoryStatus.{status_bytes}
+use Rattle.cck_cache_rules.specs.PathStatus.{status_bytes}
 use Rattle.cck_cache_rules.specs.Refusal.{IsRefusal}
 use Rattle.cck_cache_rules.specs.declared.refusal.Refusal.TheVariants.{DayChanged, NoKey}
 

@@ -4,7 +4,7 @@ pub mod BaseLemmas
 mod ChecksumLemmas
 mod ContentLemmas
 mod DifferenceLemmas
-mod DirectoryStatusLemmas
+mod PathStatusLemmas
 mod EntryFileLemmas
 pub mod EqualityLemmas
 mod Examples

@@ -1,6 +1,6 @@
 -- the bytes of entry files and of object files
 use Rattle.std.specs.Prelude.{ℕ, List, [], ◌∷◌, ◌++◌, codes, map}
-use Rattle.cck_cache_rules.specs.DirectoryStatus.{AreStatuses, Status, status_bytes, statuses_of}
+use Rattle.cck_cache_rules.specs.PathStatus.{AreStatuses, Status, status_bytes, statuses_of}
 use Rattle.cck_cache_rules.specs.PathTest.{Test, test_bytes, tests_of}
 use Rattle.cck_cache_rules.specs.Stored.{stored_file}
 use Rattle.cck_cache_rules.specs.declared.entry_file.EntryFile.{EntryFile}
@@ -10,20 +10,20 @@ use Rattle.cck_cache_rules.specs.declared.object_file.ObjectFile.{ObjectFile}
 pub record EntryFields : Type 0 where
   pub preprocessor_key : List ℕ
   pub entry : List ℕ
-  pub directories : List Status
+  pub statuses : List Status
   pub tests : List Test
 
 abbrev pub entry_fields : EntryFile → EntryFields
 entry_fields file = record {
   preprocessor_key = file.preprocessor_key.items;
   entry = file.entry.items;
-  directories = statuses_of file.directories.items;
+  statuses = statuses_of file.statuses.items;
   tests = tests_of file.tests.items;
 }
 
 -- an entry file that a program has
 abbrev pub IsEntryFile : EntryFields → Type 0
-IsEntryFile file = AreStatuses file.directories
+IsEntryFile file = AreStatuses file.statuses
 
 -- what an object file of the store holds
 pub record ObjectFields : Type 0 where
@@ -42,7 +42,7 @@ object_fields file = record {
 
 -- the parts of an entry file: the preprocessor key, the entry, each status and each test
 abbrev pub entry_parts : EntryFields → List (List ℕ)
-entry_parts file = file.preprocessor_key ∷ file.entry ∷ (map status_bytes file.directories ++ map test_bytes file.tests)
+entry_parts file = file.preprocessor_key ∷ file.entry ∷ (map status_bytes file.statuses ++ map test_bytes file.tests)
 
 -- the parts of an object file: the key, the object, the messages and the contents of the dependency file
 abbrev pub object_parts : ObjectFields → List (List ℕ)

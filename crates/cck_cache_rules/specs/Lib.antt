@@ -3,7 +3,7 @@ pub mod Argument
 pub mod Base
 pub mod Checksum
 pub mod Contents
-pub mod DirectoryStatus
+pub mod PathStatus
 pub mod Files
 pub mod Frames
 pub mod ObjectName

@@ -1,12 +1,12 @@
 //! The file that keeps an entry.
 ghost use Rattle.std.specs.Prelude.{◌≡◌, ◌++◌, IfOk, map};
 ghost use Rattle.std.specs.Option.{option_map};
-ghost use Rattle.cck_cache_rules.specs.DirectoryStatus.{status_bytes, statuses_of};
+ghost use Rattle.cck_cache_rules.specs.PathStatus.{status_bytes, statuses_of};
 ghost use Rattle.cck_cache_rules.specs.Files.{IsEntryFile, entry_fields, entry_file, entry_parts};
 ghost use Rattle.cck_cache_rules.specs.PathTest.{test_bytes, tests_of};
 ghost use Rattle.cck_cache_rules.specs.Reading.{ReadsBackOf, byte_lists};
 
-use crate::directory_status::DirectoryStatus;
+use crate::path_status::PathStatus;
 use crate::path_test::PathTest;
 use crate::stored::{read_stored, write_stored};
 use std::alloc::{AllocError, Global};
@@ -21,8 +21,9 @@ pub struct EntryFile {
     pub preprocessor_key: Vec<u8>,
     /// The bytes of the entry.
     pub entry: Vec<u8>,
-    /// What the system said of directories when the entry was recorded.
-    pub directories: Vec<DirectoryStatus>,
+    /// What the system said of included files, and of directories in which there was nothing at a path, when
+    /// the entry was recorded.
+    pub statuses: Vec<PathStatus>,
     /// What held of paths when the entry was recorded, and must hold before it is used.
     pub tests: Vec<PathTest>,
 }
@@ -36,14 +37,14 @@ fn file_of(alloc: Global, parts: Vec<Vec<u8>>) -> Result<Option<EntryFile>, Allo
     let (Some(preprocessor_key), Some(entry)) = (parts.next(), parts.next()) else {
         return Ok(None);
     };
-    let mut directories = Vec::new(alloc);
+    let mut statuses = Vec::new(alloc);
     let mut tests = Vec::new(alloc);
     for part in parts {
-        if let Some(status) = DirectoryStatus::read(alloc, &part)? {
+        if let Some(status) = PathStatus::read(alloc, &part)? {
             if !tests.is_empty() {
                 return Ok(None);
             }
-            directories.push(status)?;
+            statuses.push(status)?;
             continue;
         }
         let Some(test) = PathTest::read(alloc, &part)? else {
@@ -54,7 +55,7 @@ fn file_of(alloc: Global, parts: Vec<Vec<u8>>) -> Result<Option<EntryFile>, Allo
     Ok(Some(EntryFile {
         preprocessor_key,
         entry,
-        directories,
+        statuses,
         tests,
     }))
 }
@@ -62,14 +63,14 @@ fn file_of(alloc: Global, parts: Vec<Vec<u8>>) -> Result<Option<EntryFile>, Allo
 // The bytes of each status, and of each test.
 fn parts_of(
     alloc: Global,
-    directories: &[DirectoryStatus],
+    statuses: &[PathStatus],
     tests: &[PathTest],
 ) -> Result<Vec<Vec<u8>>, AllocError>
     ensures { IfOk result (λ parts. byte_lists parts
-        ≡ map status_bytes (statuses_of directories.now) ++ map test_bytes (tests_of tests.now)) }
+        ≡ map status_bytes (statuses_of statuses.now) ++ map test_bytes (tests_of tests.now)) }
 {
     let mut parts = Vec::new(alloc);
-    for status in directories {
+    for status in statuses {
         parts.push(status.write(alloc)?)?;
     }
     for test in tests {
@@ -85,7 +86,7 @@ impl EntryFile {
     pub fn write(&self, alloc: Global) -> Result<Vec<u8>, AllocError>
         ensures { IfOk result (λ bytes. bytes.items ≡ entry_file (entry_fields self.now)) }
     {
-        let others = parts_of(alloc, &self.directories, &self.tests)?;
+        let others = parts_of(alloc, &self.statuses, &self.tests)?;
         let mut parts: Vec<&[u8]> = Vec::new(alloc);
         parts.push(&self.preprocessor_key)?;
         parts.push(&self.entry)?;

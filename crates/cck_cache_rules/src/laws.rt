@@ -1,12 +1,12 @@
 //! Laws about the definitions. Each is the contract of a function with an empty body.
 ghost use Rattle.std.specs.Prelude.{◌≡◌, ◌↔◌, IsTrue};
 ghost use Rattle.cck_cache_rules.specs.Checksum.{ChecksumTellsOneWord, ChecksumTellsTwoWords};
-ghost use Rattle.cck_cache_rules.specs.DirectoryStatus.{status_of};
+ghost use Rattle.cck_cache_rules.specs.PathStatus.{status_of};
 ghost use Rattle.cck_cache_rules.specs.Files.{entry_fields, object_fields};
 ghost use Rattle.cck_cache_rules.specs.ObjectName.{MaterialTellsObject};
 ghost use Rattle.cck_cache_rules.specs.PathTest.{test_of};
 
-use crate::{DirectoryStatus, EntryFile, ObjectFile, PathTest, Refusal};
+use crate::{PathStatus, EntryFile, ObjectFile, PathTest, Refusal};
 
 /// Bytes that differ in one of their words, of 4 bytes each, have different checksums.
 pub fn checksum_tells_one_word()
@@ -42,10 +42,10 @@ pub fn object_file_equality_is_exact()
         IsTrue (⟦<ObjectFile as PartialEq>⟧.eq a b) ↔ (object_fields a ≡ object_fields b) }
 {}
 
-/// Two [`DirectoryStatus`]es are equal exactly if all their fields are.
-pub fn directory_status_equality_is_exact()
-    ensures { (a b : DirectoryStatus) →
-        IsTrue (⟦<DirectoryStatus as PartialEq>⟧.eq a b) ↔ (status_of a ≡ status_of b) }
+/// Two [`PathStatus`]es are equal exactly if all their fields are.
+pub fn path_status_equality_is_exact()
+    ensures { (a b : PathStatus) →
+        IsTrue (⟦<PathStatus as PartialEq>⟧.eq a b) ↔ (status_of a ≡ status_of b) }
 {}
 
 /// Two [`PathTest`]s are equal exactly if they are of one kind, and their paths and places are equal.

@@ -6,7 +6,7 @@
 //! - [`EntryFile`] and [`ObjectFile`] are the two kinds of file of a store. Their bytes end in
 //!   frames, after a checksum of these, so that a file that was damaged is not read.
 //!   [`entry_in`] and [`object_in`] return what the bytes of a file hold for a key.
-//! - [`PathTest`] is what must hold of a path before an entry is used, and [`DirectoryStatus`] is what
+//! - [`PathTest`] is what must hold of a path before an entry is used, and [`PathStatus`] is what
 //!   the system said of a directory when the entry was recorded.
 //! - [`object_name`] returns the name under which an object is kept.
 //! - [`refusal_of`] says why a compilation is not recorded, by what is known before the files of its
@@ -31,7 +31,7 @@ mod argument;
 mod base;
 mod checksum;
 mod contents;
-mod directory_status;
+mod path_status;
 mod entry_file;
 mod frames;
 pub mod laws;
@@ -46,7 +46,7 @@ mod text;
 pub use age::is_abandoned;
 pub use base::{Words, base_of};
 pub use contents::{entry_in, object_in};
-pub use directory_status::DirectoryStatus;
+pub use path_status::PathStatus;
 pub use entry_file::EntryFile;
 pub use object_file::ObjectFile;
 pub use object_names::object_name;

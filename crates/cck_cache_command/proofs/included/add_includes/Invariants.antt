@@ -1,4 +1,4 @@
-use Rattle.std.proofs.Common.{◌≡◌, ◌++◌, List, true}
+use Rattle.std.proofs.Common.{◌≡◌, ◌++◌, List}
 use Rattle.cck_cache_command.specs.Included.{IsIncludeOf}
 use Rattle.cck_cache_files.specs.Snapshot.{SnapshotGrows}
 use Rattle.cck_entry.specs.Lent.{result_lent}
@@ -13,5 +13,4 @@ invariant-loop-include g l =
       finite : (goal.iterator-loop-include g).is_finite l.include-iterator;
       seen : (done : List Include) × (done ++ l.include-iterator ≡ all);
       grown : SnapshotGrows (IsIncludeOf all) l.fn.files l.files;
-      read : l.reads_all ≡ true → l.statuses ≡ l.fn.statuses;
     }

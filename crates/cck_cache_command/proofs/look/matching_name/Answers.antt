@@ -21,9 +21,9 @@ returns g c calm is_request own =
     let input = c.args.files.now in
     let entry = c.in-Some.entry in
     let before = c.add_entry_files.new.files in
-    let statuses = c.in_ok-statuses.statuses in
+    let statuses = c.in_ok-known.known in
     let object = c.in-Some-found.object.now in
-    let grown = c.in_ok-statuses.ensures.grown in
+    let grown = c.in_ok-add_entry_files.ensures in
     let is_entry : EntryText entry bytes = subst (λ (b : Bytes). EntryText entry b) c.deref-2.ensures.value (rw c.in-Some.is at c.in_ok-entry.ensures) in
     let looked = without_fault (λ (m n : ℕ). IsLookedUp sha256 before.files asked (Rose m n) statuses entry (option_map (λ k. k.now) c.in_ok-found.found)) before c.look_up.new.snapshot c.in_ok-found.ensures.keeps
     (calm_stays input before grown.calm calm) c.in_ok-found.ensures.found in
@@ -37,7 +37,7 @@ returns g c calm is_request own =
         grown = grown.put;
         kept = grown.kept calm.quiet;
         statuses = statuses;
-        read = c.in_ok-statuses.ensures.read;
+        read = λ reads. c.in_ok-known.ensures.none (c.statuses_of.ensures reads);
         found = found (string_bytes key.text) bytes (key_of_part environment request environment.now [] asked input.files before.files key is_request own (grown.kept calm.quiet)) is_entry;
       };
       is_name = subst (λ (i : Bytes). IsName request i entry object (string_bytes c.in_ok-name.name)) c.as_str.ensures.value c.in_ok-name.ensures;

@@ -1,11 +1,10 @@
-use Rattle.std.proofs.Common.{◌≡◌, ◌∙◌, ◌⊎◌, ℕ, List, [], IsTrue, get_or, length, map, refl, sym, ap, subst}
-use Rattle.std.specs.BTreeSet.{BTreeSet}
+use Rattle.std.proofs.Common.{◌≡◌, ◌∙◌, ℕ, [], get_or, length, map, sym, ap, subst}
 use Rattle.std.specs.Global.{Vec}
 use Rattle.std.specs.Map.Iter.{deref}
 use Rattle.std.proofs.lemmas.List.{length_push}
 use Rattle.std.proofs.lemmas.Map.Iter.{iter_end}
 use Rattle.cck_cache_text.specs.Sets.{Adds}
-use Rattle.cck_cache_text.proofs.SetLemmas.{adds_as, adds_more, adds_none_below, adds_one, set_turn}
+use Rattle.cck_cache_text.proofs.SetLemmas.{adds_more, adds_none_below, adds_one, set_turn}
 use Rattle.cck_path.specs.Bytes.{Bytes}
 use Rattle.cck_path.specs.Path.{Path, components, normal}
 use Rattle.cck_path.specs.Text.{path_text}

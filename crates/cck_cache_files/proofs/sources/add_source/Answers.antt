@@ -1,5 +1,4 @@
-use Rattle.std.proofs.Common.{◌≡◌, ◌∙◌, true, false, List, Option, Some, None, map, sym, ap, subst}
-use Rattle.std.specs.Option.{option_map}
+use Rattle.std.proofs.Common.{◌≡◌, ◌∙◌, false, List, Some, None, sym, ap, subst}
 use Rattle.cck_cache_text.specs.HeaderTests.{AreTests, TestFields, has_dependency, test_fields}
 use Rattle.cck_cache_text.specs.SearchList.{search_fields}
 use Rattle.cck_cache_text.specs.Sets.{Adds}

@@ -1,4 +1,4 @@
-use Rattle.std.proofs.Common.{◌∙◌, IsTrue, map, sym, subst}
+use Rattle.std.proofs.Common.{◌∙◌, IsTrue, sym}
 use Rattle.cck_cache_text.specs.Names.{is_named}
 use Rattle.cck_cache_text.specs.SearchList.{search_fields}
 use Rattle.cck_cache_text.specs.Sets.{has_key}

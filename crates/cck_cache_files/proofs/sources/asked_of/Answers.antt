@@ -1,11 +1,11 @@
-use Rattle.std.proofs.Common.{◌≡◌, ◌∙◌, ◌+◌, ℕ, true, List, [], Some, None, IsTrue, get_or, length, map, sym, ap, subst, arith}
+use Rattle.std.proofs.Common.{◌≡◌, ◌∙◌, ℕ, true, [], Some, None, get_or, length, map, sym, ap, subst, arith}
 use Rattle.std.specs.Global.{Vec}
 use Rattle.std.specs.Map.Iter.{deref}
 use Rattle.std.proofs.lemmas.List.{length_push}
 use Rattle.std.proofs.lemmas.Map.Iter.{iter_end}
 use Rattle.cck_cache_text.specs.HeaderTests.{AreTests, has_dependency}
 use Rattle.cck_cache_text.specs.SearchList.{search_fields}
-use Rattle.cck_cache_text.specs.Sets.{Adds, has_key}
+use Rattle.cck_cache_text.specs.Sets.{Adds}
 use Rattle.cck_cache_text.specs.Splices.{unspliced}
 use Rattle.cck_cache_text.proofs.SetLemmas.{adds_none_below, has_key_at, set_turn}
 use Rattle.cck_files.proofs.CallsLemmas.{keeps_all, keeps_itself}

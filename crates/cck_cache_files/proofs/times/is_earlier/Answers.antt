@@ -1,4 +1,4 @@
-use Rattle.std.proofs.Common.{◌≡◌, ◌↔◌, ◌<ℤ◌, ◌∙◌, ℤ, IsTrue, arith, int_cmp, nat_cmp, rules, subst, sym}
+use Rattle.std.proofs.Common.{◌≡◌, ◌∙◌, arith, int_cmp, nat_cmp, rules, sym}
 use Rattle.std.specs.Ordering.{is_lt, ordering_then}
 use Rattle.cck_cache_files.proofs.TimeLemmas.{earlier_by_parts, earlier_by_seconds}
 use Rattle.cck_cache_files.proofs.times.is_earlier.Goals as goal

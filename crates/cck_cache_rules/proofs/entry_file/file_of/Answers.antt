@@ -2,7 +2,7 @@ use Rattle.std.proofs.Common.{◌≡◌, ◌==◌, ℕ, List, [], ◌∷◌, ◌
 use Rattle.std.specs.Global.{Vec}
 use Rattle.std.specs.Vec.Iter.{into_iter_items}
 use Rattle.std.proofs.lemmas.List.{append-nil, length-map, nil_from_length}
-use Rattle.cck_cache_rules.specs.DirectoryStatus.{status_bytes, status_of, statuses_of}
+use Rattle.cck_cache_rules.specs.PathStatus.{status_bytes, status_of, statuses_of}
 use Rattle.cck_cache_rules.specs.PathTest.{test_bytes, test_of, tests_of}
 use Rattle.cck_cache_rules.proofs.EntryFileLemmas.{fields_differ, more_are, next_status, no_file, no_order}
 use Rattle.cck_cache_rules.proofs.ReadingLemmas.{empty, not_empty}
@@ -27,7 +27,7 @@ pub returns-then-not-is_empty : goal.returns-then-not-is_empty
 returns-then-not-is_empty c x right same =
     let key = c.in-Some-Some.preprocessor_key in
     let entry = c.in-Some-Some.entry in
-    let statuses = statuses_of c.loop-part.directories.items in
+    let statuses = statuses_of c.loop-part.statuses.items in
     let tests = tests_of c.loop-part.tests.items in
     let part = c.in-Some.part in
     let after = into_iter_items c.next-in-loop-part.new.self in
@@ -47,16 +47,16 @@ loop-part-preserved-in-Some-2 c =
     let read = rw c.in-Some-2.is at c.in_ok-status.ensures in
     let none : c.loop-part.tests.items ≡ [] = empty c.loop-part.tests.items (ap (λ n. n == 0) (sym (c.loop-part.tests).ok.0) ∙ (sym c.is_empty.ensures ∙ c.if-not-is_empty.false)) in
     record {
-      parts = next_status (lists (into_iter_items c.into_iter-part-iterator.result)) (lists (into_iter_items c.loop-part.part-iterator)) after c.loop-part.directories.items c.push.new.self.items (tests_of c.loop-part.tests.items) c.in-Some-2.status part.items
+      parts = next_status (lists (into_iter_items c.into_iter-part-iterator.result)) (lists (into_iter_items c.loop-part.part-iterator)) after c.loop-part.statuses.items c.push.new.self.items (tests_of c.loop-part.tests.items) c.in-Some-2.status part.items
           c.loop-part.invariant.parts left c.in_ok-push.ensures.items (ap tests_of none) (read.1 ∙ c.deref.ensures.value);
-      are = more_are c.loop-part.directories.items c.push.new.self.items c.in-Some-2.status c.loop-part.invariant.are read.0 c.in_ok-push.ensures.items;
+      are = more_are c.loop-part.statuses.items c.push.new.self.items c.in-Some-2.status c.loop-part.invariant.are read.0 c.in_ok-push.ensures.items;
     }
 
 pub returns-in_default-3 : goal.returns-in_default-3
 returns-in_default-3 c x right same =
     let key = c.in-Some-Some.preprocessor_key in
     let entry = c.in-Some-Some.entry in
-    let written = map status_bytes (statuses_of c.loop-part.directories.items) ++ map test_bytes (tests_of c.loop-part.tests.items) in
+    let written = map status_bytes (statuses_of c.loop-part.statuses.items) ++ map test_bytes (tests_of c.loop-part.tests.items) in
     let part = c.in-Some.part in
     let after = into_iter_items c.next-in-loop-part.new.self in
     let all = all_from key entry c.args.parts.items (into_iter_items c.next.new.self) (into_iter_items c.next-2.new.self) (into_iter_items c.loop-part.part-iterator) after part
@@ -70,7 +70,7 @@ pub returns : goal.returns
 returns c =
     let key = c.in-Some-Some.preprocessor_key in
     let entry = c.in-Some-Some.entry in
-    let written = map status_bytes (statuses_of c.loop-part.directories.items) ++ map test_bytes (tests_of c.loop-part.tests.items) in
+    let written = map status_bytes (statuses_of c.loop-part.statuses.items) ++ map test_bytes (tests_of c.loop-part.tests.items) in
     let none : into_iter_items c.loop-part.part-iterator ≡ [] = nil_from_length _ (sym (c.loop-part.part-iterator).rest.ok.0 ∙ c.in-None.ensures.steps.0) in
     let others : lists (into_iter_items c.next-2.new.self) ≡ written =
     ap (λ it. lists (into_iter_items it)) (sym c.into_iter-part-iterator.ensures.into_iter_gives) ∙ (c.loop-part.invariant.parts ∙ (ap (λ l. written ++ lists l) none ∙ append-nil written))

@@ -1,8 +1,8 @@
 use Rattle.std.proofs.Common.{ℕ, List, ◌<◌, ◌++◌, length, ◌∙◌, ap, arith, length-append}
 use Rattle.cck_digest.specs.Frames.{length_bytes}
-use Rattle.cck_cache_rules.proofs.DirectoryStatusLemmas.{word_read}
+use Rattle.cck_cache_rules.proofs.PathStatusLemmas.{word_read}
 use Rattle.cck_cache_rules.proofs.ReadingLemmas.{length-length_bytes, rest_fits}
-use Rattle.cck_cache_rules.proofs.directory_status.read_time.Goals as goal
+use Rattle.cck_cache_rules.proofs.path_status.read_time.Goals as goal
 
 pub returns-in_err-nanoseconds : goal.returns-in_err-nanoseconds
 returns-in_err-nanoseconds c =

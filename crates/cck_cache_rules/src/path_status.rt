@@ -1,10 +1,10 @@
-//! What the system said of a directory when an entry was recorded.
+//! What the system said of a file or a directory when an entry was recorded.
 ghost use Rattle.std.specs.Prelude.{◌≡◌, ◌++◌, ◌<◌, IfOk, MatchOption, OnOk, length};
 ghost use Rattle.std.specs.Int.{cast_signed, w64};
 ghost use Rattle.std.specs.Option.{option_map};
 ghost use Rattle.cck_digest.specs.Frames.{length_bytes};
 ghost use Rattle.cck_include.specs.TimePart.{i64_bytes, u32_bytes};
-ghost use Rattle.cck_cache_rules.specs.DirectoryStatus.{IsStatus, status_bytes, status_lent, status_of, time_bytes};
+ghost use Rattle.cck_cache_rules.specs.PathStatus.{IsStatus, status_bytes, status_lent, status_of, time_bytes};
 ghost use Rattle.cck_cache_rules.specs.Reading.{ReadsBackOf};
 
 use crate::frames::{number_bytes, read_number};
@@ -17,10 +17,10 @@ const STATUS: &[u8] = b"status ";
 
 const NANOS_IN_A_SECOND: u32 = 1_000_000_000;
 
-/// What the system said of a directory: which one it is, and when it was last changed.
+/// What the system said of a file or a directory: which one it is, and when it was last changed.
 #[derive(Debug, Drop, PartialEq, Eq)]
-pub struct DirectoryStatus {
-    /// The path of the directory.
+pub struct PathStatus {
+    /// The path.
     pub path: Vec<u8>,
     /// The device that it is on.
     pub device: u64,
@@ -109,7 +109,7 @@ fn read_status(bytes: &[u8]) -> Option<StatusRef<'_>>
     })
 }
 
-impl DirectoryStatus {
+impl PathStatus {
     /// The bytes of the status in an entry file.
     ///
     /// The only error is lack of memory.
@@ -128,13 +128,13 @@ impl DirectoryStatus {
     /// The status that has these bytes. `None` where no status has.
     ///
     /// The only error is lack of memory.
-    pub fn read(alloc: Global, bytes: &[u8]) -> Result<Option<DirectoryStatus>, AllocError>
+    pub fn read(alloc: Global, bytes: &[u8]) -> Result<Option<PathStatus>, AllocError>
         ensures { IfOk result (λ found. ReadsBackOf IsStatus status_bytes bytes.now (option_map status_of found)) }
     {
         let Some(status) = read_status(bytes) else {
             return Ok(None);
         };
-        Ok(Some(DirectoryStatus {
+        Ok(Some(PathStatus {
             path: status.path.to_vec(alloc)?,
             device: status.device,
             inode: status.inode,

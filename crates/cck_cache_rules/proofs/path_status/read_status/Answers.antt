@@ -1,7 +1,7 @@
 use Rattle.std.proofs.Common.{rules}
-use Rattle.cck_cache_rules.proofs.DirectoryStatusLemmas.{changed_late, modified_late, no_changed, no_device, no_inode, no_modified, status_found}
-use Rattle.cck_cache_rules.proofs.directory_status.read_status.Goals as goal
-use Rattle.cck_cache_rules.proofs.directory_status.read_status.Goals.{then-modified-ge-NANOS_IN_A_SECOND-via-then-modified-ge-NANOS_IN_A_SECOND, then-modified-ge-NANOS_IN_A_SECOND-via-else-modified-ge-NANOS_IN_A_SECOND+then-changed-ge-NANOS_IN_A_SECOND}
+use Rattle.cck_cache_rules.proofs.PathStatusLemmas.{changed_late, modified_late, no_changed, no_device, no_inode, no_modified, status_found}
+use Rattle.cck_cache_rules.proofs.path_status.read_status.Goals as goal
+use Rattle.cck_cache_rules.proofs.path_status.read_status.Goals.{then-modified-ge-NANOS_IN_A_SECOND-via-then-modified-ge-NANOS_IN_A_SECOND, then-modified-ge-NANOS_IN_A_SECOND-via-else-modified-ge-NANOS_IN_A_SECOND+then-changed-ge-NANOS_IN_A_SECOND}
 
 pub returns-in_err-device : goal.returns-in_err-device
 returns-in_err-device c = rw c.from_residual-in_err-device.ensures (no_device c.args.bytes.now c.in_ok-after.field-0.now c.in_ok-after.ensures.0 c.in_err-device.ensures)

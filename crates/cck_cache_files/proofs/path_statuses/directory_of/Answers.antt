@@ -1,6 +1,6 @@
 use Rattle.std.proofs.Common.{rules, ◌≡◌, ◌<◌, ◌∙◌, length, sym}
 use Rattle.cck_cache_files.proofs.ProgramLemmas.{parts_last}
-use Rattle.cck_cache_files.proofs.directories.directory_of.Goals as goal
+use Rattle.cck_cache_files.proofs.path_statuses.directory_of.Goals as goal
 
 pub returns-clause-directory : goal.returns-clause-directory
 returns-clause-directory c =

@@ -1,11 +1,11 @@
--- what the system said of a directory, and its bytes in an entry file
+-- what the system said of a file or a directory, and its bytes in an entry file
 use Rattle.std.specs.Prelude.{ℕ, List, All, map, ◌++◌, codes, FitsSigned}
 use Rattle.std.specs.Int.{w64}
 use Rattle.cck_digest.specs.Frames.{length_bytes}
 use Rattle.cck_include.specs.TimePart.{i64_bytes, u32_bytes}
 use Rattle.cck_path.specs.Timestamp.{IsMoment, Moment}
-use Rattle.cck_cache_rules.specs.declared.directory_status.DirectoryStatus.{DirectoryStatus}
-use Rattle.cck_cache_rules.specs.declared.directory_status.StatusRef.{StatusRef}
+use Rattle.cck_cache_rules.specs.declared.path_status.PathStatus.{PathStatus}
+use Rattle.cck_cache_rules.specs.declared.path_status.StatusRef.{StatusRef}
 
 pub record Status : Type 0 where
   pub path : List ℕ
@@ -14,13 +14,13 @@ pub record Status : Type 0 where
   pub modified : Moment
   pub changed : Moment
 
-abbrev pub status_of : DirectoryStatus → Status
+abbrev pub status_of : PathStatus → Status
 status_of s = record { path = s.path.items; device = s.device; inode = s.inode; modified = s.modified; changed = s.changed }
 
 abbrev pub status_lent : StatusRef → Status
 status_lent s = record { path = s.path.now; device = s.device; inode = s.inode; modified = s.modified; changed = s.changed }
 
-abbrev pub statuses_of : List DirectoryStatus → List Status
+abbrev pub statuses_of : List PathStatus → List Status
 statuses_of statuses = map status_of statuses
 
 -- a time that a program has: 64 bits of seconds, and nanoseconds below a second

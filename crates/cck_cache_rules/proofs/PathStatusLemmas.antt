@@ -1,4 +1,4 @@
--- Statuses of directories are read in one way.
+-- Statuses of paths are read in one way.
 use Rattle.std.proofs.Common.{◌≡◌, ℕ, List, ◌++◌, ◌<◌, ◌^◌, length, get_or, take, drop, Some, None, ◌≤◌, codes, refl, sym, ap, ◌∙◌, subst, append_assoc, arith, ℤ, FitsSigned}
 use Rattle.std.specs.Int.{cast_signed, from_le_bytes, to_le_bytes, w32, w64}
 use Rattle.std.proofs.Math.Facts.{sfits_to_z}
@@ -12,7 +12,7 @@ use Rattle.cck_digest.proofs.ReadsBack.{bytes_read_back}
 use Rattle.cck_include.specs.TimePart.{i64_bytes, u32_bytes}
 use Rattle.cck_include.proofs.NumberLemmas.{i64_back}
 use Rattle.cck_path.specs.Timestamp.{Moment}
-use Rattle.cck_cache_rules.specs.DirectoryStatus.{IsStatus, IsTime, Status, status_bytes, time_bytes}
+use Rattle.cck_cache_rules.specs.PathStatus.{IsStatus, IsTime, Status, status_bytes, time_bytes}
 use Rattle.cck_cache_rules.specs.Reading.{ReadsBackOf}
 use Rattle.cck_cache_rules.proofs.ReadingLemmas.{front_fits, no_number}
 

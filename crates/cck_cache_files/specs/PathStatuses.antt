@@ -1,0 +1,35 @@
+-- statuses of paths: the directories of absent paths, and included files
+use Rattle.std.specs.Prelude.{◌≡◌, ◌<◌, ◌⊎◌, List, ℕ, ◌∷◌, ◌++◌, Some, true, false, length, Contains}
+use Rattle.std.specs.FinMap.{get}
+use Rattle.cck_cache_rules.specs.PathStatus.{Status}
+use Rattle.cck_entry.specs.Statuses.{Statuses, known_accepts}
+use Rattle.cck_files.specs.FileState.{FileState}
+use Rattle.cck_include.specs.Include.{Include}
+use Rattle.cck_path.specs.Path.{Path, components}
+use Rattle.cck_path.specs.declared.metadata.Metadata.{Metadata}
+use Rattle.cck_cache_files.specs.Programs.{Lacks}
+use Rattle.cck_cache_files.specs.Snapshot.{IsNodePut}
+
+-- a path is that of a name in a directory, which is not the root
+pub record IsInDirectory (path directory : List ℕ) : Type 0 where
+  pub name : List ℕ
+  pub is_name : Lacks 47 name
+  pub whole : path ≡ directory ++ 47 ∷ name
+  pub is_some : 0 < length directory
+
+-- what is known of a path has the times of one of these statuses, which is of the path
+pub record IsAsRecorded (recorded : List Status) (p : Path) (m : Metadata) : Type 0 where
+  pub status : Status
+  pub is_one : Contains recorded status
+  pub path : components status.path ≡ p
+  pub modified : m.modified ≡ Some status.modified
+  pub changed : m.changed ≡ Some status.changed
+
+abbrev pub AreAsRecorded : List Status → Statuses → Type 0
+AreAsRecorded recorded known = (p : Path) (m : Metadata) → get known p ≡ Some m → IsAsRecorded recorded p m
+
+-- An include is accepted by what is known of its path, and the snapshot is as it was; or what is at its path was put into the snapshot.
+abbrev pub IsIncludeAdded : Include → Statuses → FileState → FileState → Type 0
+IsIncludeAdded i known before after =
+    ((known_accepts i (get known (components i.path)) ≡ true) × (after ≡ before))
+    ⊎ ((known_accepts i (get known (components i.path)) ≡ false) × IsNodePut before.files i.path after.files)
