@@ -380,6 +380,27 @@ class Project:
             self.do({"do": "touch", "path": place, "seconds": 1000000000})
         self.rewrite("work/x.c", step["snippets"] + [f'#include "{os.path.relpath(place, "work")}"' for place in (path, to)])
 
+    def alike(self):
+        """A header of one directory, and another one of its name, size and times in another directory, to which the search
+        list or a link may turn later."""
+        headers = [path for path in self.headers() if self.tree[path]["do"] == "write" and path.startswith(("work/a/", "work/b/"))]
+        path = self.pick(headers or [""])
+        if not path:
+            return
+        to = path.replace("work/a/", "work/b/") if path.startswith("work/a/") else path.replace("work/b/", "work/a/")
+        self.number += 1
+        for place, digit in ((path, 1), (to, 2)):
+            snippets = self.tree[path]["snippets"]
+            self.do({**self.tree[path], "path": place, "keeps": False, "snippets": snippets[:len(snippets) - (place == to)] + [
+                f"__attribute__((used)) static int alike{self.number} = {digit};"]})
+        self.do({"do": "alike", "path": path, "to": to})
+        self.call["options"] = [["-Ilinked"]] * self.is_rare(0.5) + list(self.call["options"])
+
+    def turn(self):
+        """The link to a directory leads to the other one."""
+        is_first = self.tree.get("work/linked", {}).get("to") == "a"
+        self.do({"do": "link", "path": "work/linked", "to": "b" if is_first else "a"})
+
     def remove(self):
         self.undone = 0.5
         others = ["work/a", "work/b", "work/linked", "work/missing"]
@@ -479,6 +500,8 @@ class Project:
         12 appear
         2 copied
         3 twin
+        4 alike
+        4 turn
         4 remove
         2 rename
         4 link
