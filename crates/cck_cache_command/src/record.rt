@@ -151,7 +151,7 @@ fn see<R: Files + AllocGlobal>(
             Ok(Seen::Files(Gathered {
                 files,
                 statuses: found.statuses,
-                is_doubtful: is_doubtful || found.is_doubtful,
+                is_doubtful: is_doubtful | found.is_doubtful,
                 tests,
                 asked_tests,
                 unnamed_tests,

@@ -45,8 +45,8 @@ returns-in-Refused-others g c =
       refused = rw c.in-Refused-others.is at c.in_ok-others.ensures.unnamed;
     })))
 
-pub returns-in-Tests-others : goal.returns-in-Tests-others
-returns-in-Tests-others g c =
+pub returns-in_ok-found-in-Tests-others : goal.returns-in_ok-found-in-Tests-others
+returns-in_ok-found-in-Tests-others g c =
     let request = c.args.request.now in
     let since = c.args.compilation.now.since in
     let text = c.args.text.now in
