@@ -3,6 +3,7 @@ import dataclasses
 
 from .digests import digest_text, frame, framed_list, framed_option
 from .errors import Refused
+from .formats import names_after
 from .strip import stripped_arguments, stripped_text
 
 CACHE_VERSION = b"14"
@@ -27,25 +28,9 @@ LANGUAGES = [
     ("Hip", b"hip", True),
 ]
 
-# `object_variable_names`.
-OBJECT_VARIABLES = {
-    b"SCCACHE_C_CUSTOM_CACHE_BUSTER",
-    b"MACOSX_DEPLOYMENT_TARGET",
-    b"IPHONEOS_DEPLOYMENT_TARGET",
-    b"TVOS_DEPLOYMENT_TARGET",
-    b"WATCHOS_DEPLOYMENT_TARGET",
-    b"SDKROOT",
-    b"CCC_OVERRIDE_OPTIONS",
-}
-
-# `include_path_names`.
-INCLUDE_PATHS = {
-    b"CPATH",
-    b"C_INCLUDE_PATH",
-    b"CPLUS_INCLUDE_PATH",
-    b"OBJC_INCLUDE_PATH",
-    b"OBJCPLUS_INCLUDE_PATH",
-}
+# `object_variable_names` and `include_path_names`, in any order.
+OBJECT_VARIABLES = names_after("The object variables are, by exactly these names")
+INCLUDE_PATHS = names_after("and by exactly these names")
 
 
 @dataclasses.dataclass

@@ -9,31 +9,17 @@ use Rattle.cck_util.specs.Key.{KeyParts, cache_version, flag_byte, material}
 use Rattle.cck_util.specs.Language.{language_name}
 use Rattle.cck_util.specs.Variables.{variable_frames}
 use Rattle.cck_util.specs.declared.language.Language.{Language}
-use Rattle.cck_util.specs.declared.language.Language.TheVariants.{Assembler, AssemblerToPreprocess, C, CHeader, CPreprocessed, Cxx, CxxHeader, CxxPreprocessed, GenericHeader, ObjectiveC, ObjectiveCPreprocessed, ObjectiveCxx, ObjectiveCxxPreprocessed, Cuda, Hip}
+use Rattle.cck_util.specs.declared.language.Language.TheVariants.{Assembler}
+use Rattle.cck_util.specs.declared.language.TheConstants.Language.{ALL}
 
 -- the language of a name
 abbrev named : List ℕ → Option Language
-named name =
-    find (λ language. bytes_eq (language_name language) name)
-    (Assembler ∷ AssemblerToPreprocess ∷ C ∷ CHeader ∷ CPreprocessed ∷ Cxx ∷ CxxHeader ∷ CxxPreprocessed ∷ GenericHeader ∷ ObjectiveC
-    ∷ ObjectiveCPreprocessed ∷ ObjectiveCxx ∷ ObjectiveCxxPreprocessed ∷ Cuda ∷ Hip ∷ [])
+named name = find (λ language. bytes_eq (language_name language) name) ALL
 
+-- one proof for each language: the second line stands for all but the first
 named_by_its_name : (language : Language) → named (language_name language) ≡ Some language
 named_by_its_name Assembler = refl
-named_by_its_name AssemblerToPreprocess = refl
-named_by_its_name C = refl
-named_by_its_name CHeader = refl
-named_by_its_name CPreprocessed = refl
-named_by_its_name Cxx = refl
-named_by_its_name CxxHeader = refl
-named_by_its_name CxxPreprocessed = refl
-named_by_its_name GenericHeader = refl
-named_by_its_name ObjectiveC = refl
-named_by_its_name ObjectiveCPreprocessed = refl
-named_by_its_name ObjectiveCxx = refl
-named_by_its_name ObjectiveCxxPreprocessed = refl
-named_by_its_name Cuda = refl
-named_by_its_name Hip = refl
+named_by_its_name _ = refl
 
 pub language_from_name : (a b : Language) → language_name a ≡ language_name b → a ≡ b
 language_from_name a b e =
