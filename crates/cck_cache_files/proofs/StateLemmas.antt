@@ -1,18 +1,14 @@
 -- The states that are kept of paths.
-use Rattle.std.proofs.Common.{◌≡◌, ◌≢◌, ◌<◌, ◌≤◌, ◌+◌, ◌⊎◌, ℕ, List, length, take, get_or, Bool, true, false, not, Option, Some, None, IsTrue, IsUtf8, refl, sym, ap, ◌∙◌, subst, ⊎_elim, arith, rules}
+use Rattle.std.proofs.Common.{◌≡◌, ◌≢◌, ◌<◌, ◌≤◌, ◌+◌, ◌⊎◌, ℕ, List, length, take, get_or, Bool, true, false, not, Option, Some, None, IsTrue, IsUtf8, refl, sym, ap, ◌∙◌, subst, ⊎_elim, arith, rules, BuildHasherDefault, FoldHasher}
 use Rattle.std.proofs.lemmas.Bool.{cases_Bool}
 use Rattle.std.proofs.lemmas.Option.{get_or_from_slice_get}
 use Rattle.std.proofs.lemmas.Str.{IsUtf8-from_is_utf8, is_utf8-from_IsUtf8}
-use Rattle.std.proofs.lemmas.Map.Text.{is_eq-slice_cmp}
-use Rattle.std.proofs.lemmas.Cmp.{eq_by_cmp_equiv, nat_list_cmp_total}
+use Rattle.std.proofs.lemmas.Cmp.{nat_list_eq_equiv}
 use Rattle.std.proofs.lemmas.Slice.Eq.{bytes_eq-Decides}
-use Rattle.std.specs.BTreeMap.{BTreeMap, UpdatesBy, get_by, is_at}
-use Rattle.std.specs.Cmp.Lexicographic.{slice_cmp}
+use Rattle.std.specs.HashMap.{HashMap, UpdatesBy, get_by}
 use Rattle.std.specs.Global.{Vec}
 use Rattle.std.specs.Map.{KeepsOthers}
-use Rattle.std.specs.Ordering.{is_eq, nat_cmp}
 use Rattle.std.specs.Str.{bytes_eq, is_utf8}
-use Rattle.std.specs.declared.cmp.Ordering.{Ordering}
 use denote.Enum.Bare.{differs_false, sameb}
 use Rattle.cck_cache_files.specs.PathStates.{AreOnTheWay, EndsAt, IsFirstOther, IsStateOf, KeepsStates, LeadsOn, state_at}
 use Rattle.cck_cache_files.specs.declared.path_states.PathState.{PathState}
@@ -22,31 +18,34 @@ use Rattle.cck_cache_files.specs.contracts.path_states.PathState.{the_type}
 
 -- ---- one more state
 
-abbrev name_cmp : Vec ℕ → Vec ℕ → Ordering
-name_cmp a b = slice_cmp nat_cmp a.items b.items
+abbrev Known : Type 0
+Known = HashMap (Vec ℕ) PathState (BuildHasherDefault FoldHasher)
+
+abbrev same_name : Vec ℕ → Vec ℕ → Bool
+same_name a b = bytes_eq a.items b.items
 
 -- bytes that are not those of a path are at no key of the path
-apart : (path other key : List ℕ) → other ≢ path → is_eq (slice_cmp nat_cmp path key) ≡ true → is_eq (slice_cmp nat_cmp other key) ≡ false
+apart : (path other key : List ℕ) → other ≢ path → bytes_eq path key ≡ true → bytes_eq other key ≡ false
 apart path other key ne e =
-    let same : path ≡ key = (bytes_eq-Decides path key).0 (sym (is_eq-slice_cmp path key) ∙ e) in
+    let same : path ≡ key = (bytes_eq-Decides path key).0 e in
     ⊎_elim
-    (λ y. absurd (ne ((bytes_eq-Decides other key).0 (sym (is_eq-slice_cmp other key) ∙ y) ∙ sym same)))
+    (λ y. absurd (ne ((bytes_eq-Decides other key).0 y ∙ sym same)))
     (λ n. n)
-    (cases_Bool (is_eq (slice_cmp nat_cmp other key)))
+    (cases_Bool (bytes_eq other key))
 
 -- other paths keep what they have
-others_kept : (path : List ℕ) (old new : BTreeMap (Vec ℕ) PathState) (w : Option PathState) → UpdatesBy name_cmp (λ k. slice_cmp nat_cmp path k.items) old new w
-    → (other : List ℕ) → other ≢ path → get_by (λ k. slice_cmp nat_cmp other k.items) new ≡ get_by (λ k. slice_cmp nat_cmp other k.items) old
+others_kept : (path : List ℕ) (old new : Known) (w : Option PathState) → UpdatesBy same_name (λ k. bytes_eq path k.items) old new w
+    → (other : List ℕ) → other ≢ path → get_by (λ k. bytes_eq other k.items) new ≡ get_by (λ k. bytes_eq other k.items) old
 unfolding KeepsOthers
 others_kept path old new w h other ne =
-    h.3 (is_at (λ k. slice_cmp nat_cmp other k.items)) (λ x y. (eq_by_cmp_equiv nat_list_cmp_total).congr other x.items y.items) (λ k. apart path other k.items ne)
+    h.3 (λ k. bytes_eq other k.items) (λ x y. nat_list_eq_equiv.congr other x.items y.items) (λ k. apart path other k.items ne)
 
 -- a state was added
-pub state_added : (old : PathStates) (new : BTreeMap (Vec ℕ) PathState) (key : Vec ℕ) (path : List ℕ) (state : PathState) → key.items ≡ path → state_at old path ≡ None
-    → UpdatesBy name_cmp (λ k. slice_cmp nat_cmp key.items k.items) old.states new (Some state) → (¬ (IsUtf8 path) → state ≡ Doubtful)
+pub state_added : (old : PathStates) (new : Known) (key : Vec ℕ) (path : List ℕ) (state : PathState) → key.items ≡ path → state_at old path ≡ None
+    → UpdatesBy same_name (λ k. bytes_eq key.items k.items) old.states new (Some state) → (¬ (IsUtf8 path) → state ≡ Doubtful)
     → IsStateOf old (record { since = old.since; states = new }) path state
 state_added old new key path state e none updates text =
-    let P : List ℕ → Type 0 = λ p. UpdatesBy name_cmp (λ k. slice_cmp nat_cmp p k.items) old.states new (Some state) in
+    let P : List ℕ → Type 0 = λ p. UpdatesBy same_name (λ k. bytes_eq p k.items) old.states new (Some state) in
     let at = subst P e updates in
     record {
       since = refl;

@@ -1,10 +1,9 @@
 -- what is known of paths, and of the way to them
 use Rattle.std.specs.Prelude.{◌≡◌, ◌≢◌, ℕ, ◌<◌, ◌⊎◌, Bool, true, false, List, Option, Some, None, length, take, slice_get, IsUtf8}
 use Rattle.std.specs.Fs.{IsDir, IsFile, IsSymlink}
-use Rattle.std.specs.Ordering.{nat_cmp}
 use Rattle.std.specs.declared.fs.attrs.FileType.{FileType}
-use Rattle.std.specs.BTreeMap.{get_by}
-use Rattle.std.specs.Cmp.Lexicographic.{slice_cmp}
+use Rattle.std.specs.HashMap.{get_by}
+use Rattle.std.specs.Str.{bytes_eq}
 use Rattle.cck_cache_files.specs.declared.path_states.PathState.{PathState}
 use Rattle.cck_cache_files.specs.declared.path_states.PathState.TheVariants.{Directory, Doubtful, File, Link}
 use Rattle.cck_cache_files.specs.declared.path_states.PathStates.{PathStates}
@@ -19,7 +18,7 @@ pub record IsStateFound (type : FileType) (is_old : Bool) (state : PathState) : 
 
 -- the state that is kept of a path
 abbrev pub state_at : PathStates → List ℕ → Option PathState
-state_at states path = get_by (λ known. slice_cmp nat_cmp path known.items) states.states
+state_at states path = get_by (λ known. bytes_eq path known.items) states.states
 
 -- the same states are kept
 pub record IsUnchanged (old new : PathStates) : Type 0 where

@@ -6,7 +6,7 @@ ghost use Rattle.cck_cache_files.specs.PathStates.{AreOnTheWay, HasOther, IsFirs
 use crate::times::{changed, is_settled, modified};
 use cck_path::Timestamp;
 use std::alloc::AllocError;
-use std::collections::BTreeMap;
+use std::collections::HashMap;
 use std::fs;
 use std::fs::Metadata;
 use std::io::ErrorKind;
@@ -54,7 +54,8 @@ impl PathState {
 #[derive(Drop)]
 pub struct PathStates {
     since: Timestamp,
-    states: BTreeMap<Vec<u8>, PathState>,
+    // By a hash of the path: many paths begin alike, which makes comparing them long.
+    states: HashMap<Vec<u8>, PathState>,
 }
 
 // The state of what was found at a path, by whether it last changed before the given time.
@@ -127,7 +128,7 @@ impl PathStates {
     {
         PathStates {
             since,
-            states: BTreeMap::new(rt.alloc()),
+            states: HashMap::new(rt.alloc()),
         }
     }
 

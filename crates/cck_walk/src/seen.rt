@@ -2,14 +2,10 @@
 ghost use Rattle.std.specs.Prelude.{◌≡◌, ◌⊎◌, ◌<◌, ℕ, List, Bool, Contains, Some, true};
 ghost use Rattle.cck_walk.specs.Seen.{names_in};
 
+use std::hash::{FoldHasher, Hasher};
+
 // The greatest number of names that are remembered.
 const SLOTS: usize = 2048;
-
-// The prime by which FNV-1 multiplies.
-const FNV_PRIME: usize = 0x0100_0193;
-
-// The number of a name's last bytes that are hashed for its slot.
-const HASHED_BYTES: usize = 8;
 
 /// A name, and whether a system header has it.
 #[derive(Clone, Copy)]
@@ -54,17 +50,13 @@ impl<'t> SeenNames<'t> {
     }
 }
 
-// The slot of a name: the hash function FNV-1 over its last bytes, started with its length and its
-// flag. The last bytes are taken since names of one directory begin alike.
+// The slot of a name, by a hash of all its bytes. Names that begin or end alike are common: those of one
+// directory, and those of one file in each of many directories.
 fn slot_of(name: &[u8], is_system: bool) -> usize
     ensures { result < SLOTS }
 {
-    let mut hash = name.len().wrapping_mul(2);
-    if is_system {
-        hash = hash.wrapping_add(1);
-    }
-    for byte in &name[name.len().saturating_sub(HASHED_BYTES)..] {
-        hash = hash.wrapping_mul(FNV_PRIME) ^ (*byte as usize);
-    }
-    hash % SLOTS
+    let mut hasher = FoldHasher::default();
+    hasher.write(name);
+    let hash = hasher.finish().wrapping_add(u64::from(is_system));
+    hash as usize % SLOTS
 }
