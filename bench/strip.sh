@@ -3,9 +3,11 @@
 # translation unit as users have it, beside one copy of the text and one search of it, and prints a
 # table for each. One of the base directories is /usr/include/linux/ (sparse) or /usr/include/
 # (dense), or none is in the text (absent). They share a beginning of some bytes, or only their
-# first byte (others). Beside it texts of `/` alone with a base directory of 32768 times `/`, and
-# strip_basedirs_from_arg on 100 arguments with 1000 base directories. Where valgrind is there, the
-# instructions of each on 4 MB of the text are counted in runs of their own.
+# first byte (others). Beside it texts of `/` alone with a base directory of 32768 times `/`, texts of
+# `a ` again and again with 1 and 30 base directories of `a ` again and again and then `b` (spaced), of which
+# the instructions a byte may not depend on the size, and strip_basedirs_from_arg on 100 arguments with 1000
+# base directories. Where valgrind is there, the instructions of each on 4 MB of the text are counted in runs
+# of their own.
 #
 #     bench/strip.sh [DIRECTORY]
 #

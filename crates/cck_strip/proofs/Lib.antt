@@ -4,6 +4,7 @@ pub mod ChainLemmas
 pub mod CommonLemmas
 pub mod CutLemmas
 pub mod CutListLemmas
+pub mod EndingLemmas
 pub mod Examples
 pub mod InsertLemmas
 pub mod LinkLemmas

@@ -6,6 +6,7 @@ ghost use Rattle.cck_strip.specs.Text.{text_site};
 
 use crate::argument::ArgumentSites;
 use crate::cuts::Sites;
+use crate::endings::listed_lengths;
 use crate::text::TextSites;
 use crate::trie::BasedirTrie;
 use std::alloc::{AllocError, Global};
@@ -50,10 +51,12 @@ pub fn text_cuts(alloc: Global, text: &[u8], basedirs: &[Vec<u8>]) -> Result<Vec
     let Ok(trie) = BasedirTrie::new(alloc, basedirs) else {
         return Err(AllocError);
     };
+    let listed = listed_lengths(alloc, text, basedirs)?;
     let sites = TextSites {
         text,
         basedirs,
         trie: &trie,
+        listed: &listed,
     };
     cuts_in(alloc, text, &sites)
 }

@@ -7,6 +7,7 @@ ghost use Rattle.cck_strip.specs.Text.{stripped_text};
 
 use crate::argument::{ArgumentSites, PositionSearch};
 use crate::cuts::{Progress, Search, Sites, next_piece};
+use crate::endings::listed_lengths;
 use crate::search::{TextSearch, text_search};
 use crate::text::TextSites;
 use crate::trie::BasedirTrie;
@@ -72,10 +73,12 @@ pub fn strip_basedirs_into(
     let Ok(trie) = BasedirTrie::new(alloc, basedirs) else {
         return Err(AllocError);
     };
+    let listed = listed_lengths(alloc, text, basedirs)?;
     let sites = TextSites {
         text,
         basedirs,
         trie: &trie,
+        listed: &listed,
     };
     let written = match &search {
         TextSearch::FirstBytes(search) => cut_into(text, &sites, search, buffer),

@@ -26,8 +26,10 @@
 
 mod argument;
 mod beginnings;
+mod boundary;
 mod cut_list;
 mod cuts;
+mod endings;
 mod hashing;
 mod into;
 mod lanes;

@@ -1,12 +1,16 @@
 //! Base directories in preprocessed text.
-ghost use Rattle.std.specs.Prelude.{◌≡◌, ◌≤◌, ◌<◌, ◌∷◌, [], IfOk, IsOkUnless, map, length};
+ghost use Rattle.std.specs.Prelude.{◌≡◌, ◌≤◌, ◌<◌, ◌∷◌, [], IfOk, IfSome, IsOkUnless, map, length, nat_eq};
+ghost use Rattle.std.specs.HashMap.{get};
 ghost use Rattle.std.specs.Cow.{cow_slice_items, IsOwnedSlice};
 ghost use Rattle.cck_strip.specs.Beginnings.{AllBegin, FirstsMarked};
 ghost use Rattle.cck_strip.specs.Cuts.{Remains};
-ghost use Rattle.cck_strip.specs.Text.{is_boundary, is_separator, longest_prefix, stripped_text, text_site};
+ghost use Rattle.cck_strip.specs.Endings.{ListsLengths};
+ghost use Rattle.cck_strip.specs.Text.{longest_prefix, stripped_text, text_site};
 ghost use Rattle.cck_strip.specs.Trie.{IsTrie};
 
+use crate::boundary::is_boundary;
 use crate::cuts::{Search, Sites, cut_out};
+use crate::endings::{listed_length, listed_lengths};
 use crate::lanes::{lowest, word_marks};
 use crate::search::{TextSearch, text_search};
 use crate::trie::BasedirTrie;
@@ -14,27 +18,7 @@ use cck_digest::UtilError;
 use memchr::memchr_iter;
 use std::alloc::Global;
 use std::borrow::CowSlice;
-
-// Returns whether a base directory may follow this byte.
-fn is_separator(byte: u8) -> bool
-    ensures { result ≡ is_separator byte }
-{
-    byte == b' '
-        || byte == b'\t'
-        || byte == b'\n'
-        || byte == b'\x0c'
-        || byte == b'\r'
-        || byte == b'"'
-        || byte == b'<'
-}
-
-// Returns whether the place is the start of the text, or directly after a separator.
-fn is_boundary(text: &[u8], at: usize) -> bool
-    requires { at ≤ length text.now }
-    ensures { result ≡ is_boundary text.now at }
-{
-    at == 0 || is_separator(text[at - 1])
-}
+use std::collections::HashMap;
 
 // The sites of a text: base directories at its start or after a separator.
 #[derive(Drop)]
@@ -43,7 +27,10 @@ pub(crate) struct TextSites<'a> {
     // What the trie is of. Only contracts read it.
     pub(crate) basedirs: &'a [Vec<u8>],
     pub(crate) trie: &'a BasedirTrie,
+    // The lengths at boundaries, where the trie is not searched for them.
+    pub(crate) listed: &'a Option<HashMap<usize, usize>>,
     ghost is_trie: { ∥ IsTrie trie.now (map (λ b. b.items) basedirs.now) ∥₁ },
+    ghost is_listed: { ∥ IfSome listed.now (λ lengths. ListsLengths (λ k. get nat_eq lengths k) (map (λ b. b.items) basedirs.now) text.now) ∥₁ },
 }
 
 impl<'a> Sites for TextSites<'a> {
@@ -55,7 +42,10 @@ impl<'a> Sites for TextSites<'a> {
         if !is_boundary(self.text, at) {
             return 0;
         }
-        self.trie.longest_at(self.text, at)
+        match self.listed {
+            Some(lengths) => listed_length(lengths, at),
+            None => self.trie.longest_at(self.text, at),
+        }
     }
 
     ghost use Rattle.cck_strip.specs.SiteLemmas.{text_site-within};
@@ -164,10 +154,12 @@ pub fn strip_basedirs<'a>(
         None => return Ok(CowSlice::Borrowed(text)),
     };
     let trie = BasedirTrie::new(alloc, basedirs)?;
+    let listed = listed_lengths(alloc, text, basedirs)?;
     let sites = TextSites {
         text,
         basedirs,
         trie: &trie,
+        listed: &listed,
     };
     let kept = match &search {
         TextSearch::FirstBytes(search) => cut_out(alloc, text, &sites, search)?,

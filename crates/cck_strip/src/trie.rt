@@ -6,7 +6,6 @@ ghost use Rattle.cck_strip.specs.Text.{longest_prefix};
 ghost use Rattle.cck_strip.specs.Trie.{At, Found, Grows, HasRun, IsForward, IsRun, IsStraight, IsTrie, IsWord, leaf_of};
 ghost use Rattle.cck_strip.specs.declared.node.TrieNode.{TrieNode};
 
-use crate::beginnings::common_beginning;
 use crate::node::{NodeId, TrieNode};
 use cck_digest::UtilError;
 use std::alloc::{AllocError, Global};
@@ -92,6 +91,34 @@ fn insert(nodes: &mut Vec<TrieNode>, word: &[u8]) -> Result<(), AllocError>
     let node = nodes[at.0];
     nodes[at.0] = TrieNode { ends: true, ..node };
     Ok(())
+}
+
+// The byte for the first node. A word begins with it, mostly all of them, so the nodes of a single
+// one are a run and its end.
+fn byte_of_first(words: &[Vec<u8>]) -> u8 {
+    for first in words {
+        if !first.is_empty() {
+            return first[0];
+        }
+    }
+    0
+}
+
+/// Returns the nodes of a trie of these words, but for empty ones.
+///
+/// The only error is lack of memory.
+pub fn word_nodes(alloc: Global, words: &[Vec<u8>]) -> Result<Vec<TrieNode>, AllocError>
+    ensures forward { IfOk result (λ nodes. IsForward nodes.items) }
+    ensures trie { IfOk result (λ nodes. IsTrie nodes.items (map (λ b. b.items) words.now)) }
+{
+    let mut nodes = Vec::new(alloc);
+    push_leaf(&mut nodes, byte_of_first(words))?;
+    for word in words {
+        if !word.is_empty() {
+            insert(&mut nodes, word)?;
+        }
+    }
+    Ok(nodes)
 }
 
 // Whether this node ends nothing, has no node beside it, and has the node at this place below it.
@@ -200,16 +227,7 @@ impl BasedirTrie {
         ensures trie { IfOk result (λ trie. IsTrie trie (map (λ b. b.items) basedirs.now)) }
         ensures errors { IsOkUnless result UtilError.Memory }
     {
-        let mut nodes = Vec::new(alloc);
-        // The first node is for the byte with which base directories begin, mostly all of them. So the
-        // nodes of a single one are a run and its end.
-        let beginning = common_beginning(basedirs).unwrap_or(&[]);
-        push_leaf(&mut nodes, *beginning.first().unwrap_or(&b'/'))?;
-        for basedir in basedirs {
-            if !basedir.is_empty() {
-                insert(&mut nodes, basedir)?;
-            }
-        }
+        let nodes = word_nodes(alloc, basedirs)?;
         let bytes = node_bytes(alloc, &nodes)?;
         let runs = run_lengths(alloc, &nodes)?;
         let is_word = is_word(&nodes, runs[0]);
