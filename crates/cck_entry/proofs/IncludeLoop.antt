@@ -4,6 +4,7 @@ use Rattle.std.specs.Option.{option_map}
 use Rattle.cck_digest.specs.declared.entry_error.Error.{Error}
 use Rattle.cck_digest.specs.declared.entry_error.Error.TheVariants.{Io, Deserialization, UnknownFormat, Memory}
 use Rattle.cck_include.specs.Include.{Include}
+use Rattle.cck_entry.proofs.Utf8Lemmas.{begins}
 use Rattle.cck_entry.specs.Lent.{includes_read, includes_begun}
 use Rattle.cck_entry.specs.Reading.{◌>>=◌, Fails, include_at, includes_at}
 
@@ -58,6 +59,19 @@ pub is_after : (count i : ℕ) (bytes : List ℕ) (total : Option (List ℕ)) �
 is_after count i bytes total le so_far = sym so_far ∙ ap following (done_at count i bytes le)
 
 -- ---- includes that are known to be readable
+
+-- if there is one, it is readable
+pub begun_one : (count i : ℕ) (bytes : List ℕ) → i < count → IsSome (includes_at (count - i) bytes) → IsSome (include_at bytes)
+unfolding includes_at
+begun_one count i bytes lt h =
+    let k : count - i ≡ suc (count - (i + 1)) = omega arith in
+    begins (include_at bytes) (λ first. includes_at (count - (i + 1)) first.1 >>= λ others. Some (first.0 ∷ others.0, others.1))
+    (subst (λ (n : ℕ). IsSome (includes_at n bytes)) k h)
+
+pub first_is_readable : (count : ℕ) (bytes : List ℕ) → 0 < count → IsSome (includes_at count bytes) → IsSome (include_at bytes)
+first_is_readable count bytes some h =
+    let all : count - 0 ≡ count = omega arith in
+    begun_one count 0 bytes some (subst (λ (n : ℕ). IsSome (includes_at n bytes)) (sym all) h)
 
 from_one : (n : Include) (read : Read) → IsSome (with_one n read) → (includes_read (with_one n read) ≡ n ∷ includes_read read) × IsSome read
 from_one n (Some x) h = (refl, refl)

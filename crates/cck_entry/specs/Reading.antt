@@ -55,14 +55,19 @@ time_at (suc zero ∷ rest) = do
   Some (Some moment.0, moment.1)
 time_at (suc (suc b) ∷ rest) = None
 
+-- the include of a path and a digest, and of what bytes after them say
+abbrev pub fields_at : List ℕ → List ℕ → List ℕ → Option (Include × List ℕ)
+fields_at path digest bytes = do
+  size ← number_at w64 bytes
+  modified ← time_at size.1
+  changed ← time_at modified.1
+  Some (record { path = path; digest = digest; size = size.0; modified = modified.0; changed = changed.0 }, changed.1)
+
 unfoldable pub include_at : List ℕ → Option (Include × List ℕ)
 include_at bytes = do
   path ← length_prefixed_at bytes
   digest ← text_at path.1
-  size ← number_at w64 digest.1
-  modified ← time_at size.1
-  changed ← time_at modified.1
-  Some (record { path = path.0; digest = digest.0; size = size.0; modified = modified.0; changed = changed.0 }, changed.1)
+  fields_at path.0 digest.0 digest.1
 
 unfoldable pub includes_at : ℕ → List ℕ → Option (List Include × List ℕ)
 includes_at zero bytes = Some ([], bytes)

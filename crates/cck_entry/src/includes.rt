@@ -5,7 +5,7 @@ ghost use Rattle.cck_include.specs.Include.{include_lent};
 ghost use Rattle.cck_entry.specs.Lent.{includes_begun};
 ghost use Rattle.cck_entry.specs.Reading.{includes_at};
 
-use crate::reading::read_include;
+use crate::reading::read_include_again;
 use cck_include::IncludeRef;
 use std::marker::Model;
 
@@ -53,7 +53,7 @@ impl<'a> Iterator for Includes<'a> {
         if self.count == 0 {
             return None;
         }
-        match read_include(self.rest) {
+        match read_include_again(self.rest) {
             Ok((include, rest)) => {
                 self.count -= 1;
                 self.rest = rest;

@@ -10,7 +10,7 @@ ghost use Rattle.cck_entry.specs.Lent.{IsWhole, counts, includes_begun, result_l
 ghost use Rattle.cck_entry.specs.Reading.{comes_after, includes_at};
 ghost use Rattle.cck_entry.specs.Results.{result_in};
 
-use crate::reading::read_include;
+use crate::reading::read_include_again;
 use crate::result_ref::ResultRef;
 use crate::results::{Results, put_last};
 use cck_digest::Error;
@@ -50,7 +50,7 @@ fn copy_includes(alloc: Global, count: u64, bytes: &[u8]) -> Result<Vec<IncludeE
     let mut copies = Vec::new(alloc);
     let mut rest = bytes;
     for _ in 0..count {
-        let (include, after) = match read_include(rest) {
+        let (include, after) = match read_include_again(rest) {
             Ok(read) => read,
             Err(error) => return Err(error)
         };

@@ -1,13 +1,13 @@
 //! Reads entries from bytes, from the left: each call reads a value at their beginning, and returns
 //! it and the bytes after it. Keys, paths and digests are borrowed. All lengths and counts are
 //! checked before memory is taken for them.
-ghost use Rattle.std.specs.Prelude.{◌≡◌, ◌≤◌, ◌/◌, [], Err, IfErr, IfOk, length, map, vec_capacity};
+ghost use Rattle.std.specs.Prelude.{◌≡◌, ◌≤◌, ◌/◌, [], Err, IfErr, IfOk, IsSome, length, map, vec_capacity};
 ghost use Rattle.std.specs.Int.{w32, w64};
 ghost use Rattle.std.specs.List.{AllByRecursion};
 ghost use Rattle.std.specs.Option.{option_map};
 ghost use Rattle.cck_include.specs.Include.{include_lent};
 ghost use Rattle.cck_entry.specs.Lent.{IsWhole, result_lent};
-ghost use Rattle.cck_entry.specs.Reading.{IsReadResult, IsOvercounted, entry_at, include_at, includes_at, length_prefixed_at, moment_at, number_at, result_at, results_from, text_at, time_at};
+ghost use Rattle.cck_entry.specs.Reading.{IsReadResult, IsOvercounted, entry_at, fields_at, include_at, includes_at, length_prefixed_at, moment_at, number_at, result_at, results_from, text_at, time_at};
 
 use crate::lent::comes_last;
 use crate::result_ref::ResultRef;
@@ -112,16 +112,17 @@ fn read_time(bytes: &[u8]) -> Result<(Option<Timestamp>, &[u8]), Error>
     }
 }
 
-/// An include, with its path and its digest borrowed.
-// Inlined with its parts, since what skips includes uses none of the fields.
+/// The fields of an include after its digest.
 #[inline(always)]
-#[tactic(auto, unfolding(crate::specs::Reading::include_at))]
-pub(crate) fn read_include(bytes: &[u8]) -> Result<(IncludeRef<'_>, &[u8]), Error>
-    ensures read { IsReadResult (λ x. (include_lent x.0, x.1.now)) result (include_at bytes.now) }
+fn read_fields<'a>(
+    path: &'a [u8],
+    digest: &'a str,
+    rest: &'a [u8],
+) -> Result<(IncludeRef<'a>, &'a [u8]), Error>
+    ensures read { IsReadResult (λ x. (include_lent x.0, x.1.now)) result
+        (fields_at path.now digest.now rest.now) }
     ensures err { IfErr result (λ e. e ≡ Error.Deserialization) }
 {
-    let (path, rest) = read_length_prefixed(bytes)?;
-    let (digest, rest) = read_text(rest)?;
     let (file_size, rest) = read_u64(rest)?;
     let (mtime, rest) = match read_time(rest) {
         Ok(read) => read,
@@ -141,6 +142,50 @@ pub(crate) fn read_include(bytes: &[u8]) -> Result<(IncludeRef<'_>, &[u8]), Erro
         },
         rest,
     ))
+}
+
+/// An include, with its path and its digest borrowed.
+// Inlined with its parts, since what skips includes uses none of the fields.
+#[inline(always)]
+#[tactic(auto, unfolding(crate::specs::Reading::include_at))]
+fn read_include(bytes: &[u8]) -> Result<(IncludeRef<'_>, &[u8]), Error>
+    ensures read { IsReadResult (λ x. (include_lent x.0, x.1.now)) result (include_at bytes.now) }
+    ensures err { IfErr result (λ e. e ≡ Error.Deserialization) }
+{
+    let (path, rest) = read_length_prefixed(bytes)?;
+    let (digest, rest) = read_text(rest)?;
+    match read_fields(path, digest, rest) {
+        Ok(read) => Ok(read),
+        Err(error) => Err(error),
+    }
+}
+
+/// A text after its length, where the bytes were read as one before: it is not tested again.
+#[tactic(auto, unfolding(crate::specs::Reading::text_at))]
+fn read_text_again(bytes: &[u8]) -> Result<(&str, &[u8]), Error>
+    requires { IsSome (text_at bytes.now) }
+    ensures read { IsReadResult (λ x. (x.0.now, x.1.now)) result (text_at bytes.now) }
+    ensures err { IfErr result (λ e. e ≡ Error.Deserialization) }
+{
+    let (text, rest) = read_length_prefixed(bytes)?;
+    // SAFETY: the text is UTF-8, since the bytes begin with one.
+    Ok((unsafe { std::str::from_utf8_unchecked(text) }, rest))
+}
+
+/// An include, where the bytes were read as one before: its digest is not tested again.
+#[inline(always)]
+#[tactic(auto, using(crate::proofs::Utf8Lemmas::digest_is_text), unfolding(crate::specs::Reading::include_at))]
+pub(crate) fn read_include_again(bytes: &[u8]) -> Result<(IncludeRef<'_>, &[u8]), Error>
+    requires { IsSome (include_at bytes.now) }
+    ensures read { IsReadResult (λ x. (include_lent x.0, x.1.now)) result (include_at bytes.now) }
+    ensures err { IfErr result (λ e. e ≡ Error.Deserialization) }
+{
+    let (path, rest) = read_length_prefixed(bytes)?;
+    let (digest, rest) = read_text_again(rest)?;
+    match read_fields(path, digest, rest) {
+        Ok(read) => Ok(read),
+        Err(error) => Err(error),
+    }
 }
 
 /// Returns the bytes after `count` includes.

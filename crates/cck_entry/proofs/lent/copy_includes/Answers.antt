@@ -2,8 +2,11 @@ use Rattle.std.proofs.Common.{◌≡◌, ◌-◌, ◌+◌, ◌++◌, ◌∷◌, 
 use Rattle.std.proofs.lemmas.List.{append-nil, map_push}
 use Rattle.cck_include.specs.Include.{Include, include_in, include_lent, includes_in}
 use Rattle.cck_entry.specs.Lent.{includes_begun}
-use Rattle.cck_entry.proofs.IncludeLoop.{begun_done, begun_ends, begun_next}
+use Rattle.cck_entry.proofs.IncludeLoop.{begun_done, begun_ends, begun_next, begun_one}
 use Rattle.cck_entry.proofs.lent.copy_includes.Goals as goal
+
+pub read_include_again-requires : goal.read_include_again-requires
+read_include_again-requires c = begun_one c.args.count c.loop.counter c.loop.rest.now c.loop-test.true c.loop.invariant.whole
 
 pub returns-in-Err-clause-err : goal.returns-in-Err-clause-err
 returns-in-Err-clause-err c = begun_ends c.in-Err.error c.args.count c.loop.counter c.loop.rest.now c.loop-test.true c.in-Err.ensures.read c.loop.invariant.whole

@@ -1,12 +1,17 @@
 use Rattle.std.proofs.Common.{◌<◌, ◌∙◌, length, sym, ap, arith}
 use Rattle.cck_include.specs.Include.{include_lent}
-use Rattle.cck_entry.proofs.IncludeLoop.{begun_first, begun_none, begun_reads}
+use Rattle.cck_entry.proofs.IncludeLoop.{begun_first, begun_none, begun_reads, first_is_readable}
 use Rattle.cck_entry.proofs.includes.IncludesIterator.next.Goals as goal
 
 pub returns-then-self-eq0-clause-steps : goal.returns-then-self-eq0-clause-steps
 returns-then-self-eq0-clause-steps c =
     let empty = sym c.self.view_is ∙ begun_none c.self.inside.count c.self.inside.rest.now c.if-self-eq0.true in
     (empty, empty)
+
+pub read_include_again-requires : goal.read_include_again-requires
+read_include_again-requires c =
+    let some : 0 < c.self.inside.count = omega arith in
+    first_is_readable c.self.inside.count c.self.inside.rest.now some c.self.invariant
 
 pub invariant_of-self : goal.invariant_of-self
 invariant_of-self c =
