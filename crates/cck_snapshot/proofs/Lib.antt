@@ -1,11 +1,16 @@
+pub mod AddedLemmas
+pub mod Finds
 mod GivenLemmas
 pub mod Hits
+pub mod KeepingLemmas
 pub mod Lookups
 pub mod Names
+pub mod Outcomes
 pub mod Pairs
 pub mod Parts
 pub mod RecordingLemmas
 pub mod StatusLaws
 pub mod StatusLemmas
+pub mod StaysLemmas
 pub mod Stores
 pub mod Texts

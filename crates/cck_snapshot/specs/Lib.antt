@@ -1,5 +1,7 @@
 pub mod External
 pub mod HoldsNothing
+pub mod Keeping
+pub mod KeepingLaws
 pub mod LastPut
 pub mod Laws
 pub mod Recordings

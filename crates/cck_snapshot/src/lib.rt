@@ -13,6 +13,7 @@
 #![tactic(auto)]
 
 mod compiler;
+pub mod keeping_laws;
 mod key;
 mod last_put;
 pub mod laws;
