@@ -1,4 +1,5 @@
 pub mod AddedLemmas
+pub mod AdditionLemmas
 pub mod Finds
 mod GivenLemmas
 pub mod Hits
@@ -8,6 +9,7 @@ pub mod Names
 pub mod Outcomes
 pub mod Pairs
 pub mod Parts
+pub mod PartsEach
 pub mod RecordingLemmas
 pub mod StatusLaws
 pub mod StatusLemmas

@@ -1,3 +1,5 @@
+pub mod AdditionLaws
+pub mod Additions
 pub mod External
 pub mod HoldsNothing
 pub mod Keeping
