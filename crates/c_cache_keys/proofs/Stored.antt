@@ -16,7 +16,7 @@ use Rattle.cck_path.specs.Bytes.{Bytes}
 use Rattle.cck_path.specs.Path.{components}
 use Rattle.cck_store.specs.MapLemmas.{map_store_laws}
 use Rattle.cck_store.specs.MapStore.{State, call_begun, map_store}
-use Rattle.cck_store.specs.Store.{Returned, HoldsOnly, StoreFailure, Store, StoreLaws}
+use Rattle.cck_store.specs.Store.{Returned, HoldsOnly, StoreFailure, Store, StoreLaws, Stored}
 use Rattle.cck_store.specs.declared.store.StoreError.{StoreError}
 use Rattle.c_cache_keys.proofs.Elements.{all_pass, none_in}
 use Rattle.c_cache_keys.proofs.HitPlain.{components-named}
@@ -161,6 +161,20 @@ module _ {V S : Type 0} (w : World V) (st : Store S) where
   run_returns_stored s t (d ∷ done) [] run = absurd run
   run_returns_stored s t (d ∷ done) (r ∷ call_results) run = (run.0, (run.1, stored_key_is_returned d s run.0 r run.1), run_returns_stored run.0 t done call_results run.2)
 
+  -- a computed key that can be stored is put
+  pub stores_own : (d : Done V) (s t : S) (k text key : Bytes) → CanStore w d k text → Stores w st d.call (Fault d) key s t
+      → (bytes : Bytes) × OwnPair w d.call key k bytes × (stored : Stored) × st.put s k bytes stored t
+  stores_own d s t k text key can (puts k' bytes own stored put) =
+      let same : k' ≡ k = same_Some k' k (sym own.is_key ∙ can.key) in
+      (bytes, subst (λ v. OwnPair w d.call key v bytes) same own, stored, subst (λ v. st.put s v bytes stored t) same put)
+  stores_own d s t k text key can (no_key none same) = absurd (none_some none can.key)
+  stores_own d s t k text key can (refused other prints walk same) = absurd (refused_accepted (verdict_on w d.call other text NotAccepted Accepted prints can.is_text walk can.accepted))
+  stores_own d s t k text key can (none_recorded other prints walk none same) =
+      let named = subst (λ v. IsNamed w d.call v can.path) (same_Some text other (sym can.is_text ∙ prints)) can.named in
+      let (i, at, written) = none.all can.path can.node named can.file in
+      absurd (none_in i at)
+  stores_own d s t k text key can (faulted fault same) = absurd (can.no_fault fault)
+
 module _ {V S : Type 0} (w : World V) (st : Store S) (laws : StoreLaws st) where
   abbrev Calm : S → S → Type 0
   Calm s t = StoreFailure st s t → ⊥
@@ -199,16 +213,9 @@ module _ {V S : Type 0} (w : World V) (st : Store S) (laws : StoreLaws st) where
   HeldSo c t k key = (bytes : Bytes) × OwnPair w c key k bytes × HoldsOnly st t k bytes
 
   stores_held : (d : Done V) (s t : S) (k text key : Bytes) → CanStore w d k text → Calm s t → Stores w st d.call (Fault d) key s t → HeldSo d.call t k key
-  stores_held d s t k text key can calm (puts k' bytes own stored put) =
-      let same : k' ≡ k = same_Some k' k (sym own.is_key ∙ can.key) in
-      (bytes, subst (λ v. OwnPair w d.call key v bytes) same own, subst (λ v. HoldsOnly st t v bytes) same (laws.put_new s t k' bytes stored put calm))
-  stores_held d s t k text key can calm (no_key none same) = absurd (none_some none can.key)
-  stores_held d s t k text key can calm (refused other prints walk same) = absurd (refused_accepted (verdict_on w d.call other text NotAccepted Accepted prints can.is_text walk can.accepted))
-  stores_held d s t k text key can calm (none_recorded other prints walk none same) =
-      let named = subst (λ v. IsNamed w d.call v can.path) (same_Some text other (sym can.is_text ∙ prints)) can.named in
-      let (i, at, written) = none.all can.path can.node named can.file in
-      absurd (none_in i at)
-  stores_held d s t k text key can calm (faulted fault same) = absurd (can.no_fault fault)
+  stores_held d s t k text key can calm stores =
+      let (bytes, own, stored, put) = stores_own w st d s t k text key can stores in
+      (bytes, own, laws.put_new s t k bytes stored put calm)
 
   makes_held : (d : Done V) (s t : S) (k text key : Bytes) → CanStore w d k text → Calm s t → Makes w st d.call (Fault d) s (Keyed key true) t → HeldSo d.call t k key
   makes_held d s t k text key can calm (stops why cause is same) = absurd (not_failed is)
@@ -299,7 +306,7 @@ module _ {V S : Type 0} (w : World V) (st : Store S) (laws : StoreLaws st) where
   -- ---- the law of hits
 
   -- what was recorded of the earlier call matches in the later one
-  record_matches : (c d : Call V) (text : Bytes) (includes : List Include) → AreRecorded w c text includes → SameRecords w c d text → (i : Include) → Contains includes i → matching w d i ≡ true
+  pub record_matches : (c d : Call V) (text : Bytes) (includes : List Include) → AreRecorded w c text includes → SameRecords w c d text → (i : Include) → Contains includes i → matching w d i ≡ true
   record_matches c d text includes are same i at =
       let r = are.each i at in
       let (o, file, size, digests) = same r.path r.node r.named r.file in

@@ -1,12 +1,14 @@
 //! Results added to an entry.
-ghost use Rattle.std.specs.Prelude.{◌≡◌, List, MatchResult, None, Some};
+ghost use Rattle.std.specs.Prelude.{◌≡◌, IfErr, List, MatchResult, None, OnErr, OnOk, Some};
 ghost use Rattle.cck_files.specs.Calls.{Keeps, Rose};
 ghost use Rattle.cck_include.specs.Gathered.{digested_in, gathered};
 ghost use Rattle.cck_include.specs.Include.{Include};
 ghost use Rattle.cck_include.specs.Errors.{IsMissing};
 ghost use Rattle.cck_entry.specs.Entry.{added};
+ghost use Rattle.cck_entry.specs.Lent.{result_lent};
 
-use crate::PreprocessorCacheEntry;
+use crate::lent::copy_includes;
+use crate::{PreprocessorCacheEntry, ResultRef};
 use cck_digest::Error;
 use cck_files::Files;
 use cck_include::gather;
@@ -42,6 +44,23 @@ impl PreprocessorCacheEntry {
         let alloc = self.allocator();
         let includes = gather(alloc, files, moment, included)?;
         let key = String::from_str(alloc, key)?;
+        self.insert_result(key, includes)
+    }
+
+    /// Adds a result that is borrowed from the bytes of another entry, with what was recorded there.
+    /// It replaces the one that the key had, within the limits of
+    /// [`add_result`](PreprocessorCacheEntry::add_result).
+    ///
+    /// The only error is [`Error::Memory`], which leaves the entry unchanged.
+    pub fn add_lent(&mut self, lent: &ResultRef<'_>) -> Result<(), Error>
+        ensures ok { OnOk result (self.new
+            ≡ added self.old (result_lent lent.now).0 (result_lent lent.now).1) }
+        ensures err { OnErr result (self.new ≡ self.old) }
+        ensures memory { IfErr result (λ e. e ≡ Error.Memory) }
+    {
+        let alloc = self.allocator();
+        let includes = copy_includes(alloc, lent.count, lent.includes)?;
+        let key = String::from_str(alloc, lent.key)?;
         self.insert_result(key, includes)
     }
 }

@@ -42,7 +42,11 @@ pub(crate) fn comes_last(results: &[ResultRef<'_>], key: &str) -> bool
 }
 
 /// Returns copies of the first `count` includes of the bytes.
-fn copy_includes(alloc: Global, count: u64, bytes: &[u8]) -> Result<Vec<IncludeEntry>, Error>
+pub(crate) fn copy_includes(
+    alloc: Global,
+    count: u64,
+    bytes: &[u8],
+) -> Result<Vec<IncludeEntry>, Error>
     requires { IsSome (includes_at count bytes.now) }
     ensures value { IfOk result (λ copy. includes_in copy.items ≡ includes_begun count bytes.now) }
     ensures err { IfErr result (λ e. e ≡ Error.Memory) }

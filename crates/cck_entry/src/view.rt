@@ -19,7 +19,7 @@ use std::marker::Model;
 
 /// An entry borrowed from the bytes of its text. It holds the place of each result, and copies no
 /// key, path or digest. It is for a look-up in bytes that a store returns; results are added to a
-/// [`PreprocessorCacheEntry`](crate::PreprocessorCacheEntry).
+/// [`PreprocessorCacheEntry`](crate::PreprocessorCacheEntry), also those of a view.
 #[derive(Drop)]
 pub struct EntryView<'a> {
     /// How many includes all results have together.

@@ -1,5 +1,5 @@
 -- A key that is found in an entry is one of a call that asks a store.
-use Rattle.std.proofs.Common.{◌≡◌, ◌≢◌, Option, Some, None, Ok, Result, Err, IfOk, refl, sym, ap, ◌∙◌, true, false}
+use Rattle.std.proofs.Common.{◌≡◌, ◌≢◌, Option, Some, None, Ok, Result, Err, IfOk, refl, sym, ap, ◌∙◌, false}
 use Rattle.std.proofs.lemmas.Option.{none-some}
 use Rattle.std.specs.FinMap.{entries}
 use Rattle.std.specs.Result.{result_ok}
@@ -21,7 +21,7 @@ use Rattle.cck_snapshot.proofs.Pairs.{find_own}
 use Rattle.cck_snapshot.proofs.Parts.{key_here}
 use Rattle.cck_snapshot.specs.External.{External, Prints, no_text}
 use Rattle.cck_snapshot.specs.Requests.{call_for, world_for}
-use Rattle.cck_snapshot.specs.Snapshot.{IsKeyOfPart, IsLookedUp, one_pair}
+use Rattle.cck_snapshot.specs.Snapshot.{IsLookedUp, one_pair}
 use Rattle.cck_snapshot.specs.Statuses.{AsksWith, matching_with}
 use Rattle.cck_snapshot.specs.declared.requests.SnapshotRequest.{SnapshotRequest}
 

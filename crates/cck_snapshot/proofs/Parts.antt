@@ -145,7 +145,7 @@ module _ {V : Type 0} (w : World V) (c : Call V) (whole : FileMap) (snapshot : I
   -- ---- hits
 
   module _ (statuses : Statuses) where
-    list_here : (list : List Include) → list_all (matching_with w statuses c) list ≡ true → list_all (matching_with w statuses d) list ≡ true
+    pub list_here : (list : List Include) → list_all (matching_with w statuses c) list ≡ true → list_all (matching_with w statuses d) list ≡ true
     list_here list all =
         all_pass (matching_with w statuses d) list (λ i at. with_here statuses (setting w c) c.files whole snapshot.part i (each_passes (matching_with w statuses c) list i all at))
 

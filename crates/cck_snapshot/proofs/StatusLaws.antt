@@ -1,33 +1,35 @@
 -- The laws of calls that ask with statuses.
-use Rattle.std.proofs.Common.{◌≡◌, inl, inr, Bool, true, false, cond, ◌&&◌, ◌||◌, List, [], ◌∷◌, ◌++◌, refl, sym, ap, subst, ◌∙◌, append_assoc, Option, Some, None, Ok}
+use Rattle.std.proofs.Common.{◌≡◌, inl, inr, Bool, true, false, ◌&&◌, ◌||◌, List, [], ◌∷◌, ◌++◌, refl, sym, ap, subst, ◌∙◌, append_assoc, Option, Some, None, Ok}
 use Rattle.std.specs.Prelude.{Contains}
-use Rattle.std.specs.FinMap.{empty, entries, get, insert}
+use Rattle.std.specs.FinMap.{entries, get}
 use Rattle.std.specs.List.{list_all}
-use Rattle.cck_entry.proofs.LawLemmas.{one_text_one_entry}
 use Rattle.cck_entry.proofs.StatusLemmas.{without_statuses}
 use Rattle.cck_entry.specs.Entry.{Entry, EntryText}
 use Rattle.cck_entry.specs.Find.{found_in}
 use Rattle.cck_entry.specs.Results.{KeyResult}
 use Rattle.cck_entry.specs.Statuses.{Statuses, known_accepts, matches_with}
-use Rattle.cck_files.specs.FileMap.{FileNode, file_at, metadata_at}
+use Rattle.cck_files.specs.FileMap.{FileNode, file_at}
 use Rattle.cck_include.specs.Include.{Include}
 use Rattle.cck_path.specs.Bytes.{Bytes}
 use Rattle.cck_path.specs.Path.{components}
 use Rattle.cck_path.specs.declared.metadata.Metadata.{Metadata}
-use Rattle.cck_store.specs.Store.{Returned, Store, StoreLaws}
+use Rattle.cck_store.specs.Store.{Returned, Store, StoreLaws, Stored}
 use Rattle.std.proofs.lemmas.List.Elements.{Contains-append_left, Contains-append_right}
 use Rattle.c_cache_keys.proofs.Elements.{first_in, later_in, one_of, only_one}
-use Rattle.c_cache_keys.proofs.HitPlain.{only_result}
-use Rattle.c_cache_keys.proofs.Includes.{entries-alone, same_ok}
+use Rattle.c_cache_keys.proofs.Includes.{same_ok}
 use Rattle.c_cache_keys.proofs.Runs.{headline, stays_sound}
 use Rattle.c_cache_keys.specs.Call.{Call, CallResult, Done, Fault, calls_of}
-use Rattle.c_cache_keys.specs.Premises.{IsBefore}
 use Rattle.c_cache_keys.specs.Step.{Gives, OwnPair, Run, Sound, Step, asked, damaged, lacked, matched, matching, no_bytes, nothing, store_failed, store_lacked, unmatched}
 use Rattle.c_cache_keys.specs.Witness.{first_call, second_call, witness_files, witness_run}
 use Rattle.c_cache_keys.specs.World.{HasSize, World, setting}
+use Rattle.cck_snapshot.proofs.Finds.{found_same}
+use Rattle.cck_snapshot.proofs.KeepingLemmas.{each_same, headline_keeping, headline_on_earlier, same_result, sound_is_each, stays_sound_each, stays_sound_onto}
 use Rattle.cck_snapshot.proofs.StatusLemmas.{accepted_matches}
+use Rattle.cck_snapshot.specs.AdditionLaws.{HeadlineByStatusesKeeping, HeadlineByStatusesOnEarlier, RunByStatusesKeeping, RunByStatusesOnEarlier}
+use Rattle.cck_snapshot.specs.Keeping.{AddsTo, EachOwn, IsHeldOrEmpty, RunKeeping, SoundEach}
+use Rattle.cck_snapshot.specs.KeepingLaws.{RunOnEarlier}
 use Rattle.cck_snapshot.specs.Laws.{HeadlineByStatuses, HonestTimesCanHold, NoStatusesIsStep, StatusesAreMatches, StepIsStep}
-use Rattle.cck_snapshot.specs.Statuses.{AreStatuses, AsksWith, HonestTimes, RunByStatuses, StepByStatuses, TimesTell, by_statuses, matching_with, plain}
+use Rattle.cck_snapshot.specs.Statuses.{AreStatuses, HonestTimes, RunByStatuses, StepByStatuses, TimesTell, by_statuses, matching_with, plain}
 
 or_absorbs : (a b : Bool) → (a ≡ true → b ≡ true) → (a || b) ≡ b
 or_absorbs true b h = sym (h refl)
@@ -49,9 +51,17 @@ module _ {V : Type 0} (w : World V) (size : HasSize w.hash) where
       by None is e = absurd cc
       by (Some m) is e = accepted_matches w size c d key k bytes own i at tell m (right (components i.path) m is) e
 
-  -- the bytes are those of a call whose times tell
-  abbrev IsTold : Call V → Bytes → Type 0
-  IsTold d bytes = (c : Call V) × TimesTell c d × (key : Bytes) × (k : Bytes) × OwnPair w c key k bytes
+  -- each result of the entry is the own one of a call whose times tell
+  abbrev IsTold : Call V → Entry → Type 0
+  IsTold d e =
+      (key : Bytes) (list : List Include) → Contains (entries e) (key, list)
+      → (c : Call V) × TimesTell c d × (k : Bytes) × (one : Bytes) × (own : OwnPair w c key k one) × (own.includes ≡ list)
+
+  -- so are the results of earlier calls, where times are honest
+  pub told_each : (earlier later : List (Call V)) (d : Call V) → HonestTimes w (earlier ++ d ∷ later) → (k : Bytes) (e : Entry) → EachOwn w earlier k e → IsTold d e
+  told_each earlier later d honest k e each key list at =
+      let (one, alone, c, earlier_has, own) = each key list at in
+      (c, honest c d (earlier, d ∷ later, refl, earlier_has, first_in d later), k, one, own, (same_result key key own.includes list one own.is_entry alone).1)
 
   module _ (d : Call V) (F : Type 0) (statuses : Statuses) (right : AreStatuses d.files statuses) where
     abbrev m : Include → Bool
@@ -60,35 +70,25 @@ module _ {V : Type 0} (w : World V) (size : HasSize w.hash) where
     abbrev with : Include → Bool
     with = matching_with w statuses d
 
-    -- of such bytes an entry has one result, on which the tests agree
-    told_alone : (bytes : Bytes) (e : Entry) → IsTold d bytes → EntryText e bytes → (r : KeyResult) × (entries e ≡ r ∷ []) × (list_all m (r.1) ≡ list_all with (r.1))
-    told_alone bytes e (c, tell, key, k, own) text =
-        let same : e ≡ insert empty key own.includes = (one_text_one_entry e (insert empty key own.includes) bytes bytes text own.is_entry).0 refl in (
-          (key, own.includes),
-          ap entries same ∙ entries-alone key own.includes,
-          sym (all_same with m own.includes (λ i at. statuses_are_matches c d statuses key k bytes own i at right tell)),
-        )
+    -- the tests agree on the results of such an entry
+    pub same_test : (e : Entry) → IsTold d e → (r : KeyResult) → Contains (entries e) r → list_all with (r.1) ≡ list_all m (r.1)
+    same_test e told (key, list) at =
+        let (c, tell, k, one, own, is) = told key list at in
+        subst (λ l. list_all with l ≡ list_all m l) is (all_same with m own.includes (λ i has. statuses_are_matches c d statuses key k one own i has right tell))
 
-    same_found : (bytes : Bytes) (e : Entry) → IsTold d bytes → EntryText e bytes → found_in m (entries e) ≡ found_in with (entries e)
-    same_found bytes e told text =
-        let (r, one, same) = told_alone bytes e told text in
-        ap (found_in m) one ∙ ap (λ b. cond b (Some r) None) same ∙ sym (ap (found_in with) one)
+    same_found : (e : Entry) → IsTold d e → found_in m (entries e) ≡ found_in with (entries e)
+    same_found e told = found_same m with (entries e) (λ r at. sym (same_test e told r at))
 
-    same_list : (bytes key : Bytes) (e : Entry) (list : List Include) → IsTold d bytes → EntryText e bytes → Contains (entries e) (key, list) → list_all with list ≡ true → list_all m list ≡ true
-    same_list bytes key e list (c, tell, own-key, k, own) text at all =
-        let (same_key, same) = only_result e own-key key own.includes list bytes text own.is_entry at in
-        ap (list_all m) same ∙ sym (all_same with m own.includes (λ i at. statuses_are_matches c d statuses own-key k bytes own i at right tell)) ∙ ap (list_all with) (sym same) ∙ all
-
-    gives_told : (returned : Returned) (o : Option CallResult) → ((bytes : Bytes) → returned ≡ Ok (Some bytes) → IsTold d bytes) → Gives with F returned o → Gives m F returned o
+    gives_told : (returned : Returned) (o : Option CallResult) → ((bytes : Bytes) (e : Entry) → returned ≡ Ok (Some bytes) → EntryText e bytes → IsTold d e) → Gives with F returned o → Gives m F returned o
     gives_told returned o told (store_failed is) = store_failed is
     gives_told returned o told (store_lacked is) = store_lacked is
     gives_told returned o told (nothing is) = nothing is
     gives_told returned o told (no_bytes is) = no_bytes is
     gives_told returned o told (matched bytes key e list is text at all which) =
-        matched bytes key e list is text at (same_list bytes key e list (told bytes is) text at all)
-        (elim which [ inl found ↦ inl (same_found bytes e (told bytes is) text ∙ found) | inr fault ↦ inr fault ])
+        matched bytes key e list is text at (sym (same_test e (told bytes e is text) (key, list) at) ∙ all)
+        (elim which [ inl found ↦ inl (same_found e (told bytes e is text) ∙ found) | inr fault ↦ inr fault ])
     gives_told returned o told (unmatched bytes e is text which) =
-        unmatched bytes e is text (elim which [ inl found ↦ inl (same_found bytes e (told bytes is) text ∙ found) | inr fault ↦ inr fault ])
+        unmatched bytes e is text (elim which [ inl found ↦ inl (same_found e (told bytes e is text) ∙ found) | inr fault ↦ inr fault ])
     gives_told returned o told (damaged bytes is some none) = damaged bytes is some none
     gives_told returned o told (lacked bytes is) = lacked bytes is
 
@@ -99,20 +99,21 @@ module _ {V S : Type 0} (w : World V) (st : Store S) where
       (subst (λ test. Gives test (Fault d) asks.returned asks.outcome) (without_statuses _ (setting w d.call) d.call.files refl) asks.gives) asks.ends
 
 module _ {V S : Type 0} (w : World V) (st : Store S) (size : HasSize w.hash) (laws : StoreLaws st) where
-  step_any : (earlier later : List (Call V)) (d : Call V) (F : Type 0) (s t : S) (r : CallResult) → HonestTimes w (earlier ++ d ∷ later) → Sound w st s earlier
-      → StepByStatuses w st d F s r t → Step w st d F s r t
-  step_any earlier later d F s t r honest sound (plain step) = step
-  step_any earlier later d F s t r honest sound (by_statuses statuses right asks) =
+  -- what such a call does where each returned entry has results of earlier calls; its puts may be any
+  step_any : (put : S → Bytes → Bytes → Stored → S → Type 0) (earlier later : List (Call V)) (d : Call V) (F : Type 0) (s t : S) (r : CallResult) → HonestTimes w (earlier ++ d ∷ later)
+      → SoundEach w st s earlier → StepByStatuses w (record st { put = put }) d F s r t → Step w (record st { put = put }) d F s r t
+  step_any put earlier later d F s t r honest sound (plain step) = step
+  step_any put earlier later d F s t r honest sound (by_statuses statuses right asks) =
       asked asks.opened asks.key asks.is_key asks.control asks.returned asks.mid asks.got asks.outcome
       (gives_told w size d F statuses right asks.returned asks.outcome told asks.gives) asks.ends
     where
-      told : (bytes : Bytes) → asks.returned ≡ Ok (Some bytes) → IsTold w size d bytes
-      told bytes is =
-          let (c, at, key, own) = sound asks.key bytes (laws.got_some s asks.mid asks.key bytes (subst (λ v. st.got s asks.key v asks.mid) is asks.got)) in
-          (c, honest c d (earlier, d ∷ later, refl, at, first_in d later), key, asks.key, own)
+      told : (bytes : Bytes) (e : Entry) → asks.returned ≡ Ok (Some bytes) → EntryText e bytes → IsTold w size d e
+      told bytes e is text =
+          let (f, other, each) = sound asks.key bytes (laws.got_some s asks.mid asks.key bytes (subst (λ v. st.got s asks.key v asks.mid) is asks.got)) in
+          told_each w size earlier later d honest asks.key e (each_same w earlier asks.key bytes f e other text each)
 
   pub step_is_step : StepIsStep w st
-  step_is_step earlier later d s t r honest sound step = step_any earlier later d.call (Fault d) s t r honest sound step
+  step_is_step earlier later d s t r honest sound step = step_any st.put earlier later d.call (Fault d) s t r honest (sound_is_each w st size laws s earlier sound) step
 
   from_sound : (earlier : List (Call V)) (s t : S) (done : List (Done V)) (call_results : List CallResult) → HonestTimes w (earlier ++ calls_of done) → Sound w st s earlier
       → RunByStatuses w st s done call_results t → Run w st s done call_results t
@@ -120,7 +121,7 @@ module _ {V S : Type 0} (w : World V) (st : Store S) (size : HasSize w.hash) (la
   from_sound earlier s t [] (r ∷ rs) honest sound run = absurd run
   from_sound earlier s t (d ∷ ds) [] honest sound run = absurd run
   from_sound earlier s t (d ∷ ds) (r ∷ rs) honest sound (mid, step, rest) =
-      let plain_step = step_any earlier (calls_of ds) d.call (Fault d) s mid r honest sound step in (
+      let plain_step = step_is_step earlier (calls_of ds) d s mid r honest sound step in (
         mid,
         plain_step,
         from_sound (earlier ++ d.call ∷ []) mid t ds rs (subst (HonestTimes w) (sym (append_assoc earlier (d.call ∷ []) (calls_of ds))) honest)
@@ -131,6 +132,39 @@ module _ {V S : Type 0} (w : World V) (st : Store S) (size : HasSize w.hash) (la
   pub headline_by_statuses : HeadlineByStatuses w st
   headline_by_statuses s t done call_results run none honest premises =
       (headline w st size laws s t done call_results (from_sound [] s t done call_results honest (λ k b h. absurd (none k b h)) run)).0 none premises
+
+-- ---- calls that add their results
+
+module _ {V S : Type 0} (w : World V) (st : Store S) (size : HasSize w.hash) (laws : StoreLaws st) where
+  -- times are honest for the rest of a run
+  honest_rest : (earlier : List (Call V)) (d : Done V) (done : List (Done V)) → HonestTimes w (earlier ++ calls_of (d ∷ done)) → HonestTimes w ((earlier ++ d.call ∷ []) ++ calls_of done)
+  honest_rest earlier d done honest = subst (HonestTimes w) (sym (append_assoc earlier (d.call ∷ []) (calls_of done))) honest
+
+  onto_run : (earlier : List (Call V)) (s t : S) (done : List (Done V)) (call_results : List CallResult) → HonestTimes w (earlier ++ calls_of done) → SoundEach w st s earlier
+      → RunByStatusesOnEarlier w st earlier s done call_results t → RunOnEarlier w st earlier s done call_results t
+  onto_run earlier s t [] [] honest sound run = run
+  onto_run earlier s t [] (r ∷ rs) honest sound run = absurd run
+  onto_run earlier s t (d ∷ ds) [] honest sound run = absurd run
+  onto_run earlier s t (d ∷ ds) (r ∷ rs) honest sound (mid, step, rest) =
+      let plain_step = step_any w st size laws (AddsTo (EachOwn w earlier) st) earlier (calls_of ds) d.call (Fault d) s mid r honest sound step in
+      (mid, plain_step, onto_run (earlier ++ d.call ∷ []) mid t ds rs (honest_rest earlier d ds honest) (stays_sound_onto w st size laws earlier d s mid r sound plain_step) rest)
+
+  pub headline_by_statuses_on_earlier : HeadlineByStatusesOnEarlier w st
+  headline_by_statuses_on_earlier earlier s t done call_results run sound honest premises =
+      headline_on_earlier w st size laws earlier s t done call_results sound (onto_run earlier s t done call_results honest sound run) premises
+
+  keeping_run : (earlier : List (Call V)) (s t : S) (done : List (Done V)) (call_results : List CallResult) → HonestTimes w (earlier ++ calls_of done) → SoundEach w st s earlier
+      → RunByStatusesKeeping w st s done call_results t → RunKeeping w st s done call_results t
+  keeping_run earlier s t [] [] honest sound run = run
+  keeping_run earlier s t [] (r ∷ rs) honest sound run = absurd run
+  keeping_run earlier s t (d ∷ ds) [] honest sound run = absurd run
+  keeping_run earlier s t (d ∷ ds) (r ∷ rs) honest sound (mid, step, rest) =
+      let plain_step = step_any w st size laws (AddsTo (IsHeldOrEmpty st s) st) earlier (calls_of ds) d.call (Fault d) s mid r honest sound step in
+      (mid, plain_step, keeping_run (earlier ++ d.call ∷ []) mid t ds rs (honest_rest earlier d ds honest) (stays_sound_each w st size laws earlier d s mid r sound plain_step) rest)
+
+  pub headline_by_statuses_keeping : HeadlineByStatusesKeeping w st
+  headline_by_statuses_keeping s t done call_results run none honest premises =
+      (headline_keeping w st size laws s t done call_results (keeping_run [] s t done call_results honest (λ k b held. absurd (none k b held)) run)).0 none premises
 
 -- ---- the witness
 

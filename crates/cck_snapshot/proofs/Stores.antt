@@ -14,7 +14,7 @@ use Rattle.cck_path.specs.TextOrder.{text_cmp}
 use Rattle.cck_store.specs.MapStore.{IsGot, IsMapPut, State, call_begun, map_store, empty_state, count_failure}
 use Rattle.cck_store.specs.Store.{Returned, Store, Stored}
 use Rattle.cck_store.specs.declared.store.StoreError.TheVariants as store
-use Rattle.c_cache_keys.proofs.Stored.{not_both, not_failed}
+use Rattle.c_cache_keys.proofs.Stored.{not_both, not_failed, same_key}
 use Rattle.c_cache_keys.specs.Call.{Call, CallResult, Fault, Keyed, ReturnsError, Why}
 use Rattle.c_cache_keys.specs.Keys.{preprocessor_key_of}
 use Rattle.c_cache_keys.specs.Step.{Ends, Gives, OwnPair, Step, Stores, asked, damaged, faulted, gives, lacked, made, matched, no_bytes, no_key, none_recorded, nothing, puts, refused, stopped, stops, store_failed, store_lacked, unmatched}
@@ -27,7 +27,7 @@ use Rattle.cck_snapshot.specs.Snapshot.{one_pair}
 use Rattle.cck_snapshot.specs.Statuses.{AsksWith, matching_with}
 
 -- a key that something is found under is that of the pair
-find_key : (k other bytes x : Bytes) → find text_cmp other ((k, bytes) ∷ []) ≡ Some x → other ≡ k
+pub find_key : (k other bytes x : Bytes) → find text_cmp other ((k, bytes) ∷ []) ≡ Some x → other ≡ k
 find_key k other bytes x h = by (is_eq (text_cmp other k)) refl (sym (find-put text_cmp nat_list_cmp_total other k bytes []) ∙ h)
   where
     by : (tied : Bool) → is_eq (text_cmp other k) ≡ tied → cond tied (Some bytes) (find text_cmp other []) ≡ Some x → other ≡ k
@@ -100,6 +100,13 @@ module _ {V S : Type 0} (w : World V) (st : Store S) (c : Call V) (F : Type 0) w
   own_of key k bytes (refused text prints walk same) = absurd (not_one_pair k bytes same)
   own_of key k bytes (none_recorded text prints walk none same) = absurd (not_one_pair k bytes same)
   own_of key k bytes (faulted fault same) = absurd (not_one_pair k bytes same)
+
+  -- the pair of a recording is the call's own
+  pub recorded_own : (k bytes key : Bytes) → c.control ≡ ForceRecache → Step w map_store c F empty_state (Keyed key true) (one_pair k bytes) → OwnPair w c key k bytes
+  recorded_own k bytes key control (stopped why cause is same) = absurd (not_failed is)
+  recorded_own k bytes key control (made o not (stops why cause is same)) = absurd (not_failed is)
+  recorded_own k bytes key control (made o not (gives other plain is stores)) = subst (λ v. OwnPair w c v k bytes) (sym (same_key is)) (own_of other k bytes stores)
+  recorded_own k bytes key control (asked o other is default a mid got b given ends) = absurd (not_both (sym default ∙ control))
 
   nothing_of : (key : Bytes) (s : S) → Stores w map_store c F key empty_state empty_state → Stores w st c F key s s
   nothing_of key s (puts p q own stored put) = absurd (nothing_put p q stored put)

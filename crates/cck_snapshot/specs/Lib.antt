@@ -1,5 +1,9 @@
+pub mod AdditionLaws
+pub mod Additions
 pub mod External
 pub mod HoldsNothing
+pub mod Keeping
+pub mod KeepingLaws
 pub mod LastPut
 pub mod Laws
 pub mod Recordings

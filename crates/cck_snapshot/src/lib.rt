@@ -12,7 +12,9 @@
 //!   all files. A hit by statuses is a hit by contents, if times are honest.
 #![tactic(auto)]
 
+pub mod addition_laws;
 mod compiler;
+pub mod keeping_laws;
 mod key;
 mod last_put;
 pub mod laws;
