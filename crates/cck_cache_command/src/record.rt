@@ -17,6 +17,7 @@ use crate::copies::may_have_copies;
 use crate::environment::Environment;
 use crate::input::input_snapshot;
 use crate::naming::name_in;
+use crate::preprocessed::Preprocessed;
 use crate::request::{base_words, hasher_of, snapshot_request};
 use crate::tested::{Tested, tested_by};
 use crate::unnamed::{Unnamed, unnamed_by};
@@ -106,34 +107,30 @@ fn see<R: Files + AllocGlobal>(
     ensures { IfOk result (IsSeen request.now compilation.now.since text.now) }
 {
     let mut files = input_snapshot(rt, request)?;
-    let directory = request.directory;
     let mut states = PathStates::new(rt, compilation.since);
     let printed = fs::read(rt, compilation.search)?;
-    let tests = match absence_of(rt, &mut states, directory, text, &printed)? {
+    let preprocessed = Preprocessed {
+        request,
+        since: compilation.since,
+        text,
+        printed: &printed,
+    };
+    let tests = match absence_of(rt, &mut states, &preprocessed)? {
         Absence::Refused(refusal) => return Ok(Seen::Refused(refusal)),
         Absence::Tests(tests) => tests,
     };
-    let is_doubtful = add_named_files(rt, &mut files, &mut states, directory.as_bytes(), text)?;
+    let cwd = request.directory.as_bytes();
+    let is_doubtful = add_named_files(rt, &mut files, &mut states, cwd, text)?;
     let mut asked = PathStates::new(rt, compilation.since);
-    let tested = tested_by(rt, &mut files, &mut asked, directory, text, &printed)?;
+    let tested = tested_by(rt, &mut files, &mut asked, &preprocessed)?;
     let asked_tests = match tested {
         Tested::Refused(cause) => return Ok(Seen::Refused(cause)),
         Tested::Tests(asked_tests) => asked_tests,
     };
-    if may_have_copies(rt.alloc(), &mut files, request, text)? {
+    if may_have_copies(rt.alloc(), &mut files, &preprocessed)? {
         return Ok(Seen::Refused(Refusal::OtherFile));
     }
-    let since = compilation.since;
-    let others = unnamed_by(
-        rt,
-        &mut files,
-        &mut states,
-        request,
-        since,
-        text,
-        &printed,
-        &asked_tests,
-    )?;
+    let others = unnamed_by(rt, &mut files, &mut states, &preprocessed, &asked_tests)?;
     match others {
         Unnamed::Refused(cause) => Ok(Seen::Refused(cause)),
         Unnamed::Tests(unnamed_tests) => Ok(Seen::Files(Gathered {
