@@ -8,6 +8,7 @@ ghost use Rattle.cck_cache_files.specs.PathStates.{IsFirstOther, KeepsStates};
 ghost use Rattle.cck_cache_files.specs.declared.path_states.PathStates.{PathStates};
 ghost use Rattle.cck_path.specs.Bytes.{lists_of};
 
+use crate::preprocessed::Preprocessed;
 use crate::searched::searched_tests;
 use cck_cache_files::{PathState, PathStates};
 use cck_cache_rules::{PathTest, Refusal};
@@ -144,22 +145,22 @@ pub fn add_directories(
 
 /// Judges the paths that decide where the headers of a text were found: the directories that the
 /// compiler searches, the paths at which a header would have been found earlier, and the directories
-/// that a name leaves by `..`. `printed` is what the compiler printed of its directories.
+/// that a name leaves by `..`.
 ///
 /// The only error is [`UtilError::Memory`]. The states that were kept are kept, after it too.
 pub fn absence_of<R: Files + AllocGlobal>(
     rt: &R,
     states: &mut PathStates,
-    directory: &str,
-    text: &[u8],
-    printed: &[u8],
+    preprocessed: &Preprocessed<'_>,
 ) -> Result<Absence, UtilError>
-    ensures absence { IfOk result (IsAbsence states.new directory.now text.now printed.now) }
+    ensures absence { IfOk result (IsAbsence states.new preprocessed.now.request.now.directory.now
+        preprocessed.now.text.now preprocessed.now.printed.now) }
     ensures kept { KeepsStates states.old states.new }
     ensures errors { IsOkUnless result UtilError.Memory }
 {
     let alloc = rt.alloc();
-    let Some(search) = SearchList::read(alloc, printed)? else {
+    let (directory, text) = (preprocessed.request.directory, preprocessed.text);
+    let Some(search) = SearchList::read(alloc, preprocessed.printed)? else {
         return Ok(Absence::Refused(Refusal::NoSearchList));
     };
     let Some(names) = absent_names(alloc, text, &search)? else {

@@ -4,7 +4,7 @@ ghost use Rattle.cck_cache_command.specs.Copies.{IsCopiesVerdict, MayImport, beg
 ghost use Rattle.cck_files.specs.Calls.{Keeps};
 ghost use Rattle.cck_files.specs.FileState.{IsQuiet, fault_count};
 
-use cck_cache_arguments::Request;
+use crate::preprocessed::Preprocessed;
 use cck_cache_files::{compared_paths, has_copies};
 use cck_digest::UtilError;
 use cck_files::MapFiles;
@@ -36,12 +36,13 @@ pub fn may_import(text: &[u8]) -> bool
 pub fn may_have_copies(
     alloc: Global,
     files: &mut MapFiles,
-    request: &Request<'_>,
-    text: &[u8],
+    preprocessed: &Preprocessed<'_>,
 ) -> Result<bool, UtilError>
     ensures keeps { IfOk result (λ _. Keeps (λ files. files.files) fault_count IsQuiet files.old files.new) }
-    ensures found { IfOk result (IsCopiesVerdict files.old.files request.now text.now) }
+    ensures found { IfOk result (IsCopiesVerdict files.old.files
+        preprocessed.now.request.now preprocessed.now.text.now) }
 {
+    let (request, text) = (preprocessed.request, preprocessed.text);
     let directory = request.directory.as_bytes();
     let paths = compared_paths(alloc, directory, request.input.as_bytes(), text)?;
     let found = has_copies(alloc, files, &paths, may_import(text))?;

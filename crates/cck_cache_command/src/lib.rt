@@ -16,6 +16,7 @@ mod look;
 mod naming;
 mod outputs;
 mod places;
+mod preprocessed;
 mod program;
 mod programs;
 mod prune;

@@ -17,6 +17,7 @@ use crate::copies::may_have_copies;
 use crate::environment::Environment;
 use crate::input::input_snapshot;
 use crate::naming::name_in;
+use crate::preprocessed::Preprocessed;
 use crate::request::{base_words, hasher_of, snapshot_request};
 use crate::tested::{Tested, tested_by};
 use crate::unnamed::{Unnamed, unnamed_by};
@@ -24,13 +25,14 @@ use anyhow::Result;
 use c_cache_keys::PreprocessorKey;
 use cck_cache_arguments::{Compilation, Made, Request};
 use cck_cache_files::{
-    Kind, PathStates, StoreDirectory, add_directory_statuses, add_named_files, compared_paths,
-    text_statuses,
+    Kind, PathStates, StoreDirectory, TextStatuses, add_directory_statuses, add_named_files,
+    compared_paths, text_statuses,
 };
 use cck_cache_rules::{
     EntryFile, Known, ObjectFile, PathStatus, PathTest, Refusal, bases_of, refusal_of, shows_base,
 };
 use cck_cache_text::{assembles_alone, opens_named_alone};
+use cck_digest::UtilError;
 use cck_files::MapFiles;
 use cck_path::Timestamp;
 use cck_snapshot::{RecordedEntry, Recording, SnapshotRequest, preprocessor_key, record_text};
@@ -99,6 +101,18 @@ enum Seen {
     Refused(Refusal),
 }
 
+// What the system says of the input and of the files that a text names.
+fn statuses_by<R: Files + AllocGlobal>(
+    rt: &R,
+    preprocessed: &Preprocessed<'_>,
+) -> Result<TextStatuses, UtilError> {
+    let (request, text) = (preprocessed.request, preprocessed.text);
+    let directory = request.directory.as_bytes();
+    let paths = compared_paths(rt.alloc(), directory, request.input.as_bytes(), text)?;
+    let found = text_statuses(rt, preprocessed.since, &paths)?;
+    Ok(found)
+}
+
 // Reads the input and the files that a text names, and lists the tests of paths that must hold, by what the
 // compiler printed of its directories; or finds why the compilation is not recorded.
 fn see<R: Files + AllocGlobal>(
@@ -110,44 +124,34 @@ fn see<R: Files + AllocGlobal>(
     ensures { IfOk result (IsSeen request.now compilation.now.since text.now) }
 {
     let mut files = input_snapshot(rt, request)?;
-    let directory = request.directory;
     let mut states = PathStates::new(rt, compilation.since);
     let printed = fs::read(rt, compilation.search)?;
-    let tests = match absence_of(rt, &mut states, directory, text, &printed)? {
+    let preprocessed = Preprocessed {
+        request,
+        since: compilation.since,
+        text,
+        printed: &printed,
+    };
+    let tests = match absence_of(rt, &mut states, &preprocessed)? {
         Absence::Refused(refusal) => return Ok(Seen::Refused(refusal)),
         Absence::Tests(tests) => tests,
     };
-    let is_doubtful = add_named_files(rt, &mut files, &mut states, directory.as_bytes(), text)?;
+    let cwd = request.directory.as_bytes();
+    let is_doubtful = add_named_files(rt, &mut files, &mut states, cwd, text)?;
     let mut asked = PathStates::new(rt, compilation.since);
-    let tested = tested_by(rt, &mut files, &mut asked, directory, text, &printed)?;
+    let tested = tested_by(rt, &mut files, &mut asked, &preprocessed)?;
     let asked_tests = match tested {
         Tested::Refused(cause) => return Ok(Seen::Refused(cause)),
         Tested::Tests(asked_tests) => asked_tests,
     };
-    let paths = compared_paths(
-        rt.alloc(),
-        directory.as_bytes(),
-        request.input.as_bytes(),
-        text,
-    )?;
-    if may_have_copies(rt.alloc(), &mut files, request, text)? {
+    if may_have_copies(rt.alloc(), &mut files, &preprocessed)? {
         return Ok(Seen::Refused(Refusal::OtherFile));
     }
-    let since = compilation.since;
-    let others = unnamed_by(
-        rt,
-        &mut files,
-        &mut states,
-        request,
-        since,
-        text,
-        &printed,
-        &asked_tests,
-    )?;
+    let others = unnamed_by(rt, &mut files, &mut states, &preprocessed, &asked_tests)?;
     match others {
         Unnamed::Refused(cause) => Ok(Seen::Refused(cause)),
         Unnamed::Tests(unnamed_tests) => {
-            let found = text_statuses(rt, since, &paths)?;
+            let found = statuses_by(rt, &preprocessed)?;
             Ok(Seen::Files(Gathered {
                 files,
                 statuses: found.statuses,

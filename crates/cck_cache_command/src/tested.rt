@@ -9,6 +9,7 @@ ghost use Rattle.cck_files.specs.Calls.{Keeps};
 ghost use Rattle.cck_files.specs.FileState.{IsQuiet, fault_count};
 
 use crate::absence::{PathVerdict, path_verdict};
+use crate::preprocessed::Preprocessed;
 use cck_cache_files::{Asked, PathStates, asked_by};
 use cck_cache_rules::{PathTest, Refusal};
 use cck_cache_text::SearchList;
@@ -77,17 +78,17 @@ pub fn tested_by<R: Files + AllocGlobal>(
     rt: &R,
     files: &mut MapFiles,
     states: &mut PathStates,
-    directory: &str,
-    text: &[u8],
-    printed: &[u8],
+    preprocessed: &Preprocessed<'_>,
 ) -> Result<Tested, UtilError>
     ensures keeps { IfOk result (λ _. Keeps (λ files. files.files) fault_count IsQuiet files.old files.new) }
     ensures tested { IfOk result
-        (IsTested states.new files.old.files directory.now text.now printed.now) }
+        (IsTested states.new files.old.files preprocessed.now.request.now.directory.now
+        preprocessed.now.text.now preprocessed.now.printed.now) }
     ensures kept { KeepsStates states.old states.new }
 {
     let alloc = rt.alloc();
-    let Some(search) = SearchList::read(alloc, printed)? else {
+    let (directory, text) = (preprocessed.request.directory, preprocessed.text);
+    let Some(search) = SearchList::read(alloc, preprocessed.printed)? else {
         return Ok(Tested::Refused(Refusal::NoSearchList));
     };
     let paths = match asked_by(alloc, files, directory.as_bytes(), text, &search)? {

@@ -10,7 +10,7 @@ ghost use Rattle.cck_path.specs.Bytes.{lists_of};
 
 use crate::absence::add_directories;
 use crate::copies::may_import;
-use cck_cache_arguments::Request;
+use crate::preprocessed::Preprocessed;
 use cck_cache_files::{
     ComparedFiles, KnownFile, PathState, PathStates, add_known, compared_paths, is_in_snapshot,
     is_one_file, known_files, may_be_copy, may_be_passed_over,
@@ -19,7 +19,7 @@ use cck_cache_rules::{PathTest, Refusal};
 use cck_cache_text::{SearchList, add_left, looked_at_paths};
 use cck_digest::UtilError;
 use cck_files::MapFiles;
-use cck_path::{Timestamp, join_path, normalize_path};
+use cck_path::{join_path, normalize_path};
 use std::alloc::{AllocError, Global};
 use std::collections::BTreeSet;
 use std::rt::Files;
@@ -232,14 +232,14 @@ fn with_asked<R: Files>(
 fn compared_files<R: Files + AllocGlobal>(
     rt: &R,
     files: &mut MapFiles,
-    request: &Request<'_>,
-    text: &[u8],
+    preprocessed: &Preprocessed<'_>,
     asked: &[PathTest],
 ) -> Result<Option<Vec<KnownFile>>, UtilError>
     ensures keeps { IfOk result (λ _. Keeps (λ files. files.files) fault_count IsQuiet files.old files.new) }
-    ensures compared { IfOk result (λ known.
-        AreCompared files.old.files request.now text.now (option_map (λ all. all.items) known)) }
+    ensures compared { IfOk result (λ known. AreCompared files.old.files preprocessed.now.request.now
+        preprocessed.now.text.now (option_map (λ all. all.items) known)) }
 {
+    let (request, text) = (preprocessed.request, preprocessed.text);
     let directory = request.directory.as_bytes();
     let known = known_files(rt.alloc(), files, directory, request.input.as_bytes(), text)?;
     if may_import(text) {
@@ -253,11 +253,11 @@ fn compared_files<R: Files + AllocGlobal>(
 // file, which gcc compares with others too.
 fn paths_to_compare(
     alloc: Global,
-    request: &Request<'_>,
-    text: &[u8],
+    preprocessed: &Preprocessed<'_>,
 ) -> Result<Option<BTreeSet<Vec<u8>>>, UtilError>
     ensures { IsOkUnless result UtilError.Memory }
 {
+    let (request, text) = (preprocessed.request, preprocessed.text);
     if may_import(text) {
         return Ok(None);
     }
@@ -268,39 +268,38 @@ fn paths_to_compare(
 
 /// Judges the paths at which gcc looks for the headers that a text and the arguments of a request
 /// include, and which the text does not name. gcc passes over a copy of a file with `#pragma once`,
-/// so that the text does not name it. `printed` is what the compiler printed of its directories, and
-/// `asked` are the tests of the paths for which sources test. The states have to be those of this time.
+/// so that the text does not name it. `asked` are the tests of the paths for which sources test. The
+/// states have to be those of this time.
 ///
 /// The error is of a file of the snapshot that can't be read, or lack of memory.
 pub fn unnamed_by<R: Files + AllocGlobal>(
     rt: &R,
     files: &mut MapFiles,
     states: &mut PathStates,
-    request: &Request<'_>,
-    since: Timestamp,
-    text: &[u8],
-    printed: &[u8],
+    preprocessed: &Preprocessed<'_>,
     asked: &[PathTest],
 ) -> Result<Unnamed, UtilError>
     ensures keeps { IfOk result (λ _. Keeps (λ files. files.files) fault_count IsQuiet files.old files.new) }
-    ensures unnamed { IfOk result (IsUnnamed states.new files.old.files request.now.directory.now text.now
-        (lists_of request.now.arguments.items) printed.now) }
+    ensures unnamed { IfOk result (IsUnnamed states.new files.old.files
+        preprocessed.now.request.now.directory.now preprocessed.now.text.now
+        (lists_of preprocessed.now.request.now.arguments.items) preprocessed.now.printed.now) }
     ensures kept { KeepsStates states.old states.new }
 {
     let alloc = rt.alloc();
-    let Some(search) = SearchList::read(alloc, printed)? else {
+    let (request, text) = (preprocessed.request, preprocessed.text);
+    let Some(search) = SearchList::read(alloc, preprocessed.printed)? else {
         return Ok(Unnamed::Refused(Refusal::NoSearchList));
     };
-    let Some(known) = compared_files(rt, files, request, text, asked)? else {
+    let Some(known) = compared_files(rt, files, preprocessed, asked)? else {
         return Ok(Unnamed::Refused(Refusal::OtherFile));
     };
     let directory = request.directory.as_bytes();
     let names = looked_at_paths(alloc, text, &request.arguments, &search)?;
-    let paths = paths_to_compare(alloc, request, text)?;
+    let paths = paths_to_compare(alloc, preprocessed)?;
     let compared = ComparedFiles {
         known,
         paths,
-        since,
+        since: preprocessed.since,
     };
     let Some(left) = left_by_spellings(rt, files, states, &compared, directory, &names)? else {
         return Ok(Unnamed::Refused(Refusal::OtherFile));

@@ -1,7 +1,5 @@
 -- files that gcc reads once
-use Rattle.std.specs.Prelude.{◌≡◌, ◌⊎◌, ◌<◌, ℕ, Bool, true, [], ◌∷◌, Option, Some, None, Ok, codes, drop, get_or, length, map, nat_eq, if◌then◌else◌}
-use Rattle.std.specs.BTreeSet.{BTreeSet}
-use Rattle.std.specs.Global.{Vec}
+use Rattle.std.specs.Prelude.{◌≡◌, ◌≢◌, ◌⊎◌, [], ◌∷◌, Option, Some, None, Ok, codes, drop, nat_eq, if◌then◌else◌}
 use Rattle.std.specs.List.{starts_with}
 use Rattle.cck_digest.specs.TimeMacros.{Has}
 use Rattle.cck_files.specs.FileMap.{FileMap, contents_at}
@@ -21,16 +19,15 @@ abbrev pub HasOnce : Bytes → Type 0
 HasOnce contents = Has contents (codes "once")
 
 -- gcc may read a file of these contents once: any file may be imported, or the contents have the word
-abbrev pub MayBeOnce : Bool → Bytes → Type 0
-MayBeOnce is_any contents = (is_any ≡ true) ⊎ HasOnce contents
+abbrev pub MayBeOnce : Type 0 → Bytes → Type 0
+MayBeOnce IsAny contents = IsAny ⊎ HasOnce contents
 
 -- what gcc compares of the regular file at a path, if it may read it once
-abbrev pub IsReadOnce : FileMap → Bool → Bytes → Option Bytes → Type 0
-IsReadOnce files is_any path None = (contents : Bytes) → contents_at files (components path) ≡ Ok contents → MayBeOnce is_any contents → ⊥
-IsReadOnce files is_any path (Some compared) = (contents : Bytes) × (contents_at files (components path) ≡ Ok contents) × MayBeOnce is_any contents × (compared ≡ unmarked contents)
+abbrev pub IsReadOnce : FileMap → Type 0 → Bytes → Option Bytes → Type 0
+IsReadOnce files IsAny path None = (contents : Bytes) → contents_at files (components path) ≡ Ok contents → MayBeOnce IsAny contents → ⊥
+IsReadOnce files IsAny path (Some compared) = (contents : Bytes) × (contents_at files (components path) ≡ Ok contents) × MayBeOnce IsAny contents × (compared ≡ unmarked contents)
 
--- of two of these paths gcc compares the same
-abbrev pub HasCopies : FileMap → Bool → BTreeSet (Vec ℕ) → Type 0
-HasCopies files is_any paths =
-    let names = map (λ (k : Vec ℕ). k.items) paths.keys in
-    (i j : ℕ) × (i < j) × (j < length paths.keys) × ((compared : Bytes) × IsReadOnce files is_any (get_or names i []) (Some compared) × IsReadOnce files is_any (get_or names j []) (Some compared))
+-- two different paths among these are of files of which gcc compares the same
+abbrev pub HasCopies : FileMap → Type 0 → (Bytes → Type 0) → Type 0
+HasCopies files IsAny IsPath =
+    (a b compared : Bytes) × (a ≢ b) × IsPath a × IsPath b × IsReadOnce files IsAny a (Some compared) × IsReadOnce files IsAny b (Some compared)

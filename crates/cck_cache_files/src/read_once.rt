@@ -1,6 +1,7 @@
 //! Files that gcc reads once: those with `#pragma once`, and those that are imported.
 ghost use Rattle.std.specs.Prelude.{◌≡◌, ◌↔◌, ◌⊎◌, IfOk, IsTrue, MatchBool, true};
 ghost use Rattle.std.specs.Option.{option_map};
+ghost use Rattle.cck_cache_text.specs.Sets.{has_key};
 ghost use Rattle.cck_cache_files.specs.ReadOnce.{HasCopies, HasOnce, IsReadOnce, unmarked};
 ghost use Rattle.cck_files.specs.Calls.{Keeps};
 ghost use Rattle.cck_files.specs.FileState.{IsQuiet, fault_count};
@@ -37,7 +38,7 @@ fn compared_contents(
     is_any: bool,
 ) -> Result<Option<Vec<u8>>, UtilError>
     ensures keeps { IfOk result (λ _. Keeps (λ files. files.files) fault_count IsQuiet files.old files.new) }
-    ensures contents { IfOk result (λ contents. IsReadOnce files.old.files is_any path.now (option_map (λ c. c.items) contents)) }
+    ensures contents { IfOk result (λ contents. IsReadOnce files.old.files (IsTrue is_any) path.now (option_map (λ c. c.items) contents)) }
 {
     let contents = match read_contents(alloc, files, path) {
         Ok(contents) => contents,
@@ -62,8 +63,9 @@ pub fn has_copies(
     is_any: bool,
 ) -> Result<bool, UtilError>
     ensures keeps { IfOk result (λ _. Keeps (λ files. files.files) fault_count IsQuiet files.old files.new) }
-    ensures found { IfOk result (λ found. MatchBool found (HasCopies files.old.files is_any paths.now)
-        (¬ (HasCopies files.old.files is_any paths.now))) }
+    ensures found { IfOk result (λ found. MatchBool found
+        (HasCopies files.old.files (IsTrue is_any) (λ path. IsTrue (has_key paths.now path)))
+        (¬ (HasCopies files.old.files (IsTrue is_any) (λ path. IsTrue (has_key paths.now path))))) }
 {
     let mut seen = BTreeSet::new(alloc);
     for path in paths {

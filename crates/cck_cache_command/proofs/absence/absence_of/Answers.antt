@@ -25,7 +25,7 @@ returns-in_default-3-clause-absence g c =
     let search = search_fields c.in-Some.search in
     let names = c.in-Some-2.names in
     let states = c.absent_paths.new.states in
-    let found : AreAbsentPaths states c.args.directory.now (λ name. IsTrue (has_key names name)) None =
+    let found : AreAbsentPaths states c.args.preprocessed.now.request.now.directory.now (λ name. IsTrue (has_key names name)) None =
     subst (λ (d : Bytes). AreAbsentPaths states d (λ name. IsTrue (has_key names name)) None) c.as_bytes.ensures.value (rw c.in_default-3.is at c.in_ok-paths.ensures.paths) in
     inl (record {
       search = search;
@@ -38,13 +38,13 @@ returns-in_default-3-clause-absence g c =
 pub returns-in_default-4-clause-absence : goal.returns-in_default-4-clause-absence
 returns-in_default-4-clause-absence g c =
     let search = search_fields c.in-Some.search in
-    let found : HasDoubtfulDirectory c.args.directory.now search =
+    let found : HasDoubtfulDirectory c.args.preprocessed.now.request.now.directory.now search =
     subst (λ (d : Bytes). HasDoubtfulDirectory d search) c.as_bytes-2.ensures.value (rw c.in_default-4.is at c.in_ok-tests.ensures.tests) in
     inr (record { search = search; is_search = rw c.in-Some.is at c.in_ok-search.ensures; doubtful = found })
 
 pub returns-clause-absence : goal.returns-clause-absence
 returns-clause-absence g c =
-    let directory = c.args.directory.now in
+    let directory = c.args.preprocessed.now.request.now.directory.now in
     let search = search_fields c.in-Some.search in
     let names = c.in-Some-2.names in
     let states = c.absent_paths.new.states in
@@ -52,7 +52,7 @@ returns-clause-absence g c =
     let searched = tests_of c.in-Some-4.tests.items in
     let left = c.in_ok-left.left in
     let IsName : Bytes → Type 0 = λ name. IsTrue (has_key names name) in
-    let named : (marks : List Mark) → Marks true c.args.text.now marks → AreAbsentNames marks search (Some names) =
+    let named : (marks : List Mark) → Marks true c.args.preprocessed.now.text.now marks → AreAbsentNames marks search (Some names) =
     λ marks are. subst (λ (o : Option (BTreeSet (Vec ℕ))). AreAbsentNames marks search o) c.in-Some-2.is (c.in_ok-names.ensures marks are) in
     let found : ArePathsFor states directory IsName paths = subst (λ (d : Bytes). ArePathsFor states d IsName paths) c.as_bytes.ensures.value (rw c.in-Some-3.is at c.in_ok-paths.ensures.paths) in
     record {

@@ -9,18 +9,18 @@ use Rattle.cck_cache_command.proofs.unnamed.compared_files.Goals as goal
 pub returns-then-may_import-clause-compared : goal.returns-then-may_import-clause-compared
 returns-then-may_import-clause-compared g c =
     let files = c.args.files.now.files in
-    let request = c.args.request.now in
+    let request = c.args.preprocessed.now.request.now in
     let known = c.in_ok-known.known.items in
-    let are : (marks : List Mark) → Marks true c.args.text.now marks → AreKnown files request.directory.now (λ name. (name ≡ request.input.now) ⊎ IsTrue (is_named marks name)) known =
+    let are : (marks : List Mark) → Marks true c.args.preprocessed.now.text.now marks → AreKnown files request.directory.now (λ name. (name ≡ request.input.now) ⊎ IsTrue (is_named marks name)) known =
     λ marks read. subst (λ (i : Bytes). AreKnown files request.directory.now (λ name. (name ≡ i) ⊎ IsTrue (is_named marks name)) known) c.as_bytes.ensures.value
     (subst (λ (d : Bytes). AreKnown files d (λ name. (name ≡ c.as_bytes.result.now) ⊎ IsTrue (is_named marks name)) known) c.as_bytes-directory.ensures.value (c.in_ok-known.ensures.known marks read))
     in
-    compared_by files request c.args.text.now known c.in_ok-all.all (c.if-may_import.ensures.0 refl) c.in_ok-all.ensures are
+    compared_by files request c.args.preprocessed.now.text.now known c.in_ok-all.all (c.if-may_import.ensures.0 refl) c.in_ok-all.ensures are
 
 pub returns-clause-compared : goal.returns-clause-compared
 returns-clause-compared g c =
     let files = c.args.files.now.files in
-    let request = c.args.request.now in
+    let request = c.args.preprocessed.now.request.now in
     let known = c.in_ok-known.known.items in (
       known,
       λ file at. at,

@@ -18,13 +18,13 @@ use Rattle.cck_cache_command.proofs.unnamed.unnamed_by.Goals as goal
 
 pub returns-in_default-2-clause-unnamed : goal.returns-in_default-2-clause-unnamed
 returns-in_default-2-clause-unnamed g c =
-    inr (subst (λ (o : Option (Vec KnownFile)). AreCompared c.args.files.now.files c.args.request.now c.args.text.now (option_map (λ all. all.items) o)) c.in_default-2.is c.in_ok-known.ensures.compared)
+    inr (subst (λ (o : Option (Vec KnownFile)). AreCompared c.args.files.now.files c.args.preprocessed.now.request.now c.args.preprocessed.now.text.now (option_map (λ all. all.items) o)) c.in_default-2.is c.in_ok-known.ensures.compared)
 
 pub returns-in_default-3-clause-unnamed : goal.returns-in_default-3-clause-unnamed
 returns-in_default-3-clause-unnamed g c =
-    let directory = c.args.request.now.directory.now in
-    let text = c.args.text.now in
-    let arguments = lists_of c.args.request.now.arguments.items in
+    let directory = c.args.preprocessed.now.request.now.directory.now in
+    let text = c.args.preprocessed.now.text.now in
+    let arguments = lists_of c.args.preprocessed.now.request.now.arguments.items in
     let search = search_fields c.in-Some.search in
     let names = c.in_ok-names.names in
     let states = c.left_by_spellings.new.states in
@@ -40,9 +40,9 @@ returns-in_default-3-clause-unnamed g c =
 
 pub returns-clause-unnamed : goal.returns-clause-unnamed
 returns-clause-unnamed g c =
-    let directory = c.args.request.now.directory.now in
-    let text = c.args.text.now in
-    let arguments = lists_of c.args.request.now.arguments.items in
+    let directory = c.args.preprocessed.now.request.now.directory.now in
+    let text = c.args.preprocessed.now.text.now in
+    let arguments = lists_of c.args.preprocessed.now.request.now.arguments.items in
     let search = search_fields c.in-Some.search in
     let names = c.in_ok-names.names in
     let states = c.left_by_spellings.new.states in
