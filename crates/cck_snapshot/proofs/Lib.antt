@@ -1,5 +1,6 @@
 pub mod AddedLemmas
 pub mod AdditionLemmas
+pub mod AdditionTexts
 pub mod Finds
 mod GivenLemmas
 pub mod Hits

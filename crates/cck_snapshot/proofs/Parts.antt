@@ -39,6 +39,7 @@ use Rattle.c_cache_keys.specs.World.{World, setting}
 use Rattle.c_cache_keys.specs.declared.call.CacheControl.TheVariants.{ForceRecache}
 use Rattle.cck_snapshot.proofs.Hits.{made_fresh}
 use Rattle.cck_snapshot.proofs.Names.{SameNames, all_recorded, is_good, walk_accepts}
+use Rattle.cck_snapshot.proofs.Outcomes.{given_hit}
 use Rattle.cck_snapshot.proofs.Pairs.{find_one, not_one_pair}
 use Rattle.cck_snapshot.specs.Laws.{HasOneResult, HitOverAll, RecordingOverAll}
 use Rattle.cck_snapshot.specs.Snapshot.{IsPart, IsSnapshot, one_pair, over}
@@ -151,18 +152,13 @@ module _ {V : Type 0} (w : World V) (c : Call V) (whole : FileMap) (snapshot : I
 
     gives_here : (F : Type 0) (k other bytes key : Bytes) (from_store : Returned) (mid : State) (o : Option CallResult) → o ≡ Some (Keyed key false) → HasOneResult bytes → IsGot (one_pair k bytes) other from_store mid
         → Gives (matching_with w statuses c) F from_store o → Gives (matching_with w statuses d) F from_store o
-    gives_here F k other bytes key from_store mid o same one got (store_failed is) = store_failed is
-    gives_here F k other bytes key from_store mid o same one got (store_lacked is) = store_lacked is
-    gives_here F k other bytes key from_store mid o same one got (nothing is) = nothing is
-    gives_here F k other bytes key from_store mid o same one got (no_bytes is) = no_bytes is
-    gives_here F k other bytes key from_store mid o same one got (matched found own e list is text present all which) =
-        let held = find_one k other bytes found (sym (subst (λ v. IsGot (one_pair k bytes) other v mid) is got).1) in
-        let all' = list_here list all in
-        matched found own e list is text present all'
-        (inl (ap (found_in (matching_with w statuses d)) (one_entry e found own list (subst HasOneResult (sym held) one) text present) ∙ found_one (matching_with w statuses d) (own, list) all'))
-    gives_here F k other bytes key from_store mid o same one got (unmatched bytes' e is text which) = absurd (none-some _ same)
-    gives_here F k other bytes key from_store mid o same one got (damaged bytes' is some none) = damaged bytes' is some none
-    gives_here F k other bytes key from_store mid o same one got (lacked bytes' is) = lacked bytes' is
+    gives_here F k other bytes key from_store mid o same one got given =
+        let hit = given_hit (matching_with w statuses c) F from_store key o same given in
+        let held = find_one k other bytes hit.bytes (sym (subst (λ v. IsGot (one_pair k bytes) other v mid) hit.is got).1) in
+        let all = list_here hit.list hit.all in
+        let found = ap (found_in (matching_with w statuses d)) (one_entry hit.e hit.bytes key hit.list (subst HasOneResult (sym held) one) hit.text hit.has)
+        ∙ found_one (matching_with w statuses d) (key, hit.list) all in
+        subst (λ v. Gives (matching_with w statuses d) F from_store v) (sym same) (matched hit.bytes key hit.e hit.list hit.is hit.text hit.has all (inl found))
 
     pub hit_here : (F : Type 0) (k bytes key : Bytes) (t : State) → HasOneResult bytes → AsksWith w map_store statuses c F (one_pair k bytes) (Keyed key false) t
         → AsksWith w map_store statuses d F (one_pair k bytes) (Keyed key false) t

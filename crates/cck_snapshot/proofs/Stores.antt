@@ -7,6 +7,7 @@ use Rattle.std.specs.FinMap.Entries.{find, find-put}
 use Rattle.std.specs.Ordering.{is_eq}
 use Rattle.std.proofs.lemmas.Bool.{false≢true}
 use Rattle.std.proofs.lemmas.Option.{none-some}
+use Rattle.cck_entry.specs.Entry.{EntryText}
 use Rattle.cck_entry.specs.Statuses.{Statuses}
 use Rattle.cck_include.specs.Include.{Include}
 use Rattle.cck_path.specs.Bytes.{Bytes}
@@ -21,6 +22,7 @@ use Rattle.c_cache_keys.specs.Step.{Ends, Gives, OwnPair, Step, Stores, asked, d
 use Rattle.c_cache_keys.specs.World.{World}
 use Rattle.c_cache_keys.specs.declared.call.CacheControl.TheVariants.{ForceRecache}
 use Rattle.cck_snapshot.proofs.Hits.{made_fresh}
+use Rattle.cck_snapshot.proofs.Outcomes.{given_hit}
 use Rattle.cck_snapshot.proofs.Pairs.{find_one, holds_one, not_one_pair, put_one}
 use Rattle.cck_snapshot.specs.Laws.{HitOnAnyStore, NothingOnAnyStore, RecordingOnAnyStore}
 use Rattle.cck_snapshot.specs.Snapshot.{one_pair}
@@ -34,12 +36,6 @@ find_key k other bytes x h = by (is_eq (text_cmp other k)) refl (sym (find-put t
     by true tied e = slice_cmp-IsAntisymmetric nat_cmp-IsAntisymmetric other k ((Equal-is (text_cmp other k)).0 tied)
     by false tied e = absurd (none-some _ e)
 
-error_key : {why : Why} {key : Bytes} → Some (ReturnsError why) ≡ Some (Keyed key false) → ⊥
-error_key e = cc
-
-none_key : {key : Bytes} → None ≡ Some (Keyed key false) → ⊥
-none_key e = cc
-
 same_head : (x y : Bytes × Bytes) (xs ys : List (Bytes × Bytes)) → x ∷ xs ≡ y ∷ ys → x ≡ y
 same_head x y xs ys e = cc
 
@@ -51,19 +47,12 @@ module _ {V S : Type 0} (w : World V) (st : Store S) (c : Call V) (F : Type 0) w
   -- what a get of one pair returned for a hit is the pair's bytes, under its key
   got_hit : (test : Include → Bool) (k other bytes key : Bytes) (from_store : Returned) (mid : State) (o : Option CallResult) → o ≡ Some (Keyed key false) → IsGot (one_pair k bytes) other from_store mid → Gives test F from_store o
       → (other ≡ k) × Gives test F (Ok (Some bytes)) (Some (Keyed key false))
-  got_hit test k other bytes key from_store mid o same got (store_failed is) = absurd (error_key same)
-  got_hit test k other bytes key from_store mid o same got (store_lacked is) = absurd (error_key same)
-  got_hit test k other bytes key from_store mid o same got (nothing is) = absurd (none_key same)
-  got_hit test k other bytes key from_store mid o same got (no_bytes is) = absurd (none_key same)
-  got_hit test k other bytes key from_store mid o same got (matched found own e list is text present all which) =
-      let held = sym (subst (λ v. IsGot (one_pair k bytes) other v mid) is got).1 in (
-        find_key k other bytes found held,
-        subst (λ v. Gives test F (Ok (Some bytes)) v) same
-            (subst (λ b. Gives test F (Ok (Some b)) (Some (Keyed own false))) (find_one k other bytes found held) (matched found own e list refl text present all which)),
+  got_hit test k other bytes key from_store mid o same got given =
+      let hit = given_hit test F from_store key o same given in
+      let held = sym (subst (λ v. IsGot (one_pair k bytes) other v mid) hit.is got).1 in (
+        find_key k other bytes hit.bytes held,
+        matched bytes key hit.e hit.list refl (subst (EntryText hit.e) (find_one k other bytes hit.bytes held) hit.text) hit.has hit.all hit.which,
       )
-  got_hit test k other bytes key from_store mid o same got (unmatched bytes' e is text which) = absurd (none_key same)
-  got_hit test k other bytes key from_store mid o same got (damaged bytes' is some none) = absurd (error_key same)
-  got_hit test k other bytes key from_store mid o same got (lacked bytes' is) = absurd (error_key same)
 
   hit_there : (statuses : Statuses) (k bytes key : Bytes) (t : State) (s u : S) → AsksWith w map_store statuses c F (one_pair k bytes) (Keyed key false) t → st.got s k (Ok (Some bytes)) u
       → AsksWith w st statuses c F s (Keyed key false) u

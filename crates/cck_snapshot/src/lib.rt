@@ -8,11 +8,14 @@
 //! - [`look_up`] returns the key of a hit. It can't preprocess. It reads no file of which a status is given
 //!   that shows that the file is unchanged, by its size and times.
 //! - [`record_text`] returns the key of a text that a preprocessor printed, and the entry to be put.
+//! - [`add_to_entry`] adds the result of a recording to the entry that a store held.
 //! - [`laws`] carries a hit, and a recording, from one pair to a whole store, and from a snapshot to
-//!   all files. A hit by statuses is a hit by contents, if times are honest.
+//!   all files. A hit by statuses is a hit by contents, if times are honest. [`addition_laws`] and
+//!   [`keeping_laws`] say what holds of entries that keep several results.
 #![tactic(auto)]
 
 pub mod addition_laws;
+mod additions;
 mod compiler;
 pub mod keeping_laws;
 mod key;
@@ -23,6 +26,7 @@ mod recordings;
 mod requests;
 mod text_compiler;
 
+pub use additions::add_to_entry;
 pub use compiler::ExternalCompiler;
 pub use key::preprocessor_key;
 pub use looking::look_up;
