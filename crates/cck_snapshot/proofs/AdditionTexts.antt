@@ -1,5 +1,5 @@
 -- Entries of one result, and the text of an entry to which one was added.
-use Rattle.std.proofs.Common.{◌≡◌, ◌⊎◌, ◌≤◌, ◌<◌, arith, get_or, inl, inr, List, [], ◌∷◌, ◌≢◌, length, map, refl, sym, ap, ◌∙◌, subst, Option, None, Some}
+use Rattle.std.proofs.Common.{◌≡◌, ◌⊎◌, ◌≤◌, ◌<◌, arith, get_or, inl, inr, List, [], ◌∷◌, ◌≢◌, length, map, sym, ap, ◌∙◌, subst, Option, None, Some}
 use Rattle.std.specs.Prelude.{MatchOption}
 use Rattle.std.specs.FinMap.{empty, entries, insert, same_entries_map}
 use Rattle.std.proofs.lemmas.List.{length-map}

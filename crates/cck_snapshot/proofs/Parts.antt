@@ -33,7 +33,7 @@ use Rattle.c_cache_keys.proofs.Stored.{not_both, not_failed}
 use Rattle.c_cache_keys.specs.Call.{Call, CallResult, Fault, Keyed}
 use Rattle.cck_util.specs.Language.{is_preprocessed_first}
 use Rattle.c_cache_keys.specs.Keys.{extra_texts, input_file, input_recorded, key_material, plain_key, plain_parts, preprocessor_key_of, printed, request_parts, text_of, uses_cache}
-use Rattle.c_cache_keys.specs.Step.{Ends, Gives, Opened, OwnPair, Step, asked, damaged, faulted, gives, lacked, made, matched, no_bytes, no_key, none_recorded, nothing, puts, refused, stopped, stops, store_failed, store_lacked, unmatched}
+use Rattle.c_cache_keys.specs.Step.{Ends, Gives, Opened, OwnPair, Step, asked, faulted, gives, made, matched, no_key, none_recorded, puts, refused, stopped, stops}
 use Rattle.c_cache_keys.specs.Walk.{Accepted, IsGood, IsNamed, Walk, input_path}
 use Rattle.c_cache_keys.specs.World.{World, setting}
 use Rattle.c_cache_keys.specs.declared.call.CacheControl.TheVariants.{ForceRecache}

@@ -16,9 +16,9 @@ use Rattle.cck_store.specs.MapStore.{IsGot, IsMapPut, State, call_begun, map_sto
 use Rattle.cck_store.specs.Store.{Returned, Store, Stored}
 use Rattle.cck_store.specs.declared.store.StoreError.TheVariants as store
 use Rattle.c_cache_keys.proofs.Stored.{not_both, not_failed, same_key}
-use Rattle.c_cache_keys.specs.Call.{Call, CallResult, Fault, Keyed, ReturnsError, Why}
+use Rattle.c_cache_keys.specs.Call.{Call, CallResult, Fault, Keyed}
 use Rattle.c_cache_keys.specs.Keys.{preprocessor_key_of}
-use Rattle.c_cache_keys.specs.Step.{Ends, Gives, OwnPair, Step, Stores, asked, damaged, faulted, gives, lacked, made, matched, no_bytes, no_key, none_recorded, nothing, puts, refused, stopped, stops, store_failed, store_lacked, unmatched}
+use Rattle.c_cache_keys.specs.Step.{Ends, Gives, OwnPair, Step, Stores, asked, faulted, gives, made, matched, no_key, none_recorded, puts, refused, stopped, stops}
 use Rattle.c_cache_keys.specs.World.{World}
 use Rattle.c_cache_keys.specs.declared.call.CacheControl.TheVariants.{ForceRecache}
 use Rattle.cck_snapshot.proofs.Hits.{made_fresh}

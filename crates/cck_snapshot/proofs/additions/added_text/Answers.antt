@@ -1,7 +1,7 @@
-use Rattle.std.proofs.Common.{◌≡◌, Some, sym, subst}
+use Rattle.std.proofs.Common.{subst}
 use Rattle.std.specs.Prelude.{MatchOption}
 use Rattle.std.specs.FinMap.{empty, insert}
-use Rattle.cck_entry.specs.Entry.{Entry, EntryText}
+use Rattle.cck_entry.specs.Entry.{EntryText}
 use Rattle.cck_entry.specs.Lent.{result_lent}
 use Rattle.cck_snapshot.proofs.AdditionTexts.{added_by}
 use Rattle.cck_snapshot.specs.Additions.{IsNoEntry}
