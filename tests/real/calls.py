@@ -3,6 +3,7 @@ differs in their outputs: the status, what is printed, and the files that a call
 import collections
 import os
 import re
+import resource
 import shutil
 import stat
 import subprocess
@@ -118,6 +119,12 @@ def difference(one, other):
                     if one.files.get(path) != other.files.get(path)]
 
 
+def limit():
+    """Limits a process: headers that include each other again and again would take all memory."""
+    resource.setrlimit(resource.RLIMIT_CPU, (20, 20))
+    resource.setrlimit(resource.RLIMIT_AS, (3 << 30, 3 << 30))
+
+
 class Room:
     """A directory with a tree of files, a store and a log. A call is (words, directory, variables, umask): the words
     of the plain compiler, to which the wrapper is put in front."""
@@ -143,7 +150,7 @@ class Room:
             return self.known[call][1]
         place = os.path.join(self.root, directory)
         done = subprocess.run(words, cwd=place, env={**self.variables, "PWD": place, **variables}, umask=umask,
-                              capture_output=True, stdin=subprocess.DEVNULL, check=False)
+                              capture_output=True, stdin=subprocess.DEVNULL, check=False, preexec_fn=limit)
         after = self.tree.read()
         self.tree.forget(put_back(self.root, before, after))
         outcome = Outcome(done.returncode, TEMPORARY.sub(b"/ccTEMP", done.stdout),
