@@ -1,7 +1,7 @@
 # What bin/cckcc does with a call that is no hit of a directory: a compilation that is recorded, a call that is not
 # cached, the first call of a compiler, and each call with a Redis server. bin/cckcc sources this script, and has set
-# `compiler`, `program`, `store`, `color`, an option of the compiler or nothing, and `found`, what the program printed of
-# the call, if it was called. The words are the compiler's arguments.
+# `cck_compiler`, `cck_program`, `cck_store`, `cck_color`, which is an option of the compiler or nothing, and
+# `cck_found`, what the program printed of the call, if it was called. The words are the compiler's arguments.
 
 # Appends a line to the log.
 log() { [ -z "$CCK_LOG" ] || { echo "cckcc: $*" >> "$CCK_LOG"; } 2>/dev/null; }
@@ -14,76 +14,76 @@ note() {
 
 # Counts an event of the name $1, as cck_cache does.
 count() {
-    { [ -d "$store/counts" ] || mkdir -p "$store/counts"; printf . >> "$store/counts/$1"; } 2>/dev/null
+    { [ -d "$cck_store/counts" ] || mkdir -p "$cck_store/counts"; printf . >> "$cck_store/counts/$1"; } 2>/dev/null
 }
 
-# Sets `located` to the absolute path of a program, as the shell finds it, or to nothing. It starts no process.
+# Sets `cck_located` to the absolute path of a program, as the shell finds it, or to nothing. It starts no process.
 # The program does the same (crates/cck_cache_files/src/programs.rt).
 locate() {
-    directories=$PATH:
-    while [ -n "$directories" ]; do
-        directory=${directories%%:*}
+    cck_directories=$PATH:
+    while [ -n "$cck_directories" ]; do
+        cck_directory=${cck_directories%%:*}
         case $1 in
-        */*) located=$1 directories= ;;
-        *) located=${directory:-.}/$1 directories=${directories#*:} ;;
+        */*) cck_located=$1 cck_directories= ;;
+        *) cck_located=${cck_directory:-.}/$1 cck_directories=${cck_directories#*:} ;;
         esac
-        case $located in
+        case $cck_located in
         /*) ;;
-        *) located=$PWD/$located ;;
+        *) cck_located=$PWD/$cck_located ;;
         esac
-        if [ -f "$located" ] && [ -x "$located" ]; then return; fi
+        if [ -f "$cck_located" ] && [ -x "$cck_located" ]; then return; fi
     done
-    located=
+    cck_located=
 }
 
 # The server. Where it is one, the directory has counts and digests of compilers, and objects only if
 # CCK_DIR names it.
-server= address= user= host= port= database= keeps=1
-case $store in
+cck_server= cck_address= cck_user= cck_host= cck_port= cck_database= cck_keeps=1
+case $cck_store in
 redis://*)
-    server=$store
-    address=${server#redis://}
-    store=${CCK_DIR:-$HOME/.cache/cck}
-    keeps=$CCK_DIR
-    case $address in
-    *@*) user=${address%@*} address=${address##*@} ;;
+    cck_server=$cck_store
+    cck_address=${cck_server#redis://}
+    cck_store=${CCK_DIR:-$HOME/.cache/cck}
+    cck_keeps=$CCK_DIR
+    case $cck_address in
+    *@*) cck_user=${cck_address%@*} cck_address=${cck_address##*@} ;;
     esac
-    case $user in
-    *:*) REDISCLI_AUTH=${user#*:} user=${user%%:*}; export REDISCLI_AUTH ;;
+    case $cck_user in
+    *:*) REDISCLI_AUTH=${cck_user#*:} cck_user=${cck_user%%:*}; export REDISCLI_AUTH ;;
     esac
-    case $address in
-    */*) database=${address#*/} address=${address%%/*} ;;
+    case $cck_address in
+    */*) cck_database=${cck_address#*/} cck_address=${cck_address%%/*} ;;
     esac
-    host=${address%%:*}
-    case $address in
-    *:*) port=${address##*:} ;;
+    cck_host=${cck_address%%:*}
+    case $cck_address in
+    *:*) cck_port=${cck_address##*:} ;;
     esac
     ;;
 esac
 
-newline='
+cck_newline='
 '
 # Why the call is not cached, whatever the program says of it. A reason is a word under which it is counted.
-reason=
+cck_reason=
 # A stream that is closed stays closed for the compiler, whose files may take its number.
-{ { true 3>&1; } 2>/dev/null && true 3>&2; } || reason=stream
-command -v "$program" > /dev/null || reason=no-program
+{ { true 3>&1; } 2>/dev/null && true 3>&2; } || cck_reason=stream
+command -v "$cck_program" > /dev/null || cck_reason=no-program
 locate as
-assembler=$located
-locate "$compiler"
-[ -n "$located" ] || reason=no-compiler
-if [ -n "$server" ]; then
-    case $host in
-    ''|-*) reason=address ;;
+cck_assembler=$cck_located
+locate "$cck_compiler"
+[ -n "$cck_located" ] || cck_reason=no-compiler
+if [ -n "$cck_server" ]; then
+    case $cck_host in
+    ''|-*) cck_reason=address ;;
     esac
-    case $port$database in
-    *[!0-9]*) reason=address ;;
+    case $cck_port$cck_database in
+    *[!0-9]*) cck_reason=address ;;
     esac
 fi
-if [ -n "$reason" ]; then
-    log "passed on ($reason): $*"
-    count "passed-$reason"
-    exec "$compiler" "$@"
+if [ -n "$cck_reason" ]; then
+    log "passed on ($cck_reason): $*"
+    count "passed-$cck_reason"
+    exec "$cck_compiler" "$@"
 fi
 
 # Calls the compiler for a call that is not cached, as it came, and ends. After an error the programs are asked
@@ -91,17 +91,17 @@ fi
 pass_on() {
     while [ "$1" != -- ]; do shift; done
     shift
-    [ -z "$color" ] || shift
-    found=${found%%"$newline"*}
-    log "passed on (${found#passed }): $*"
-    case $found in
+    [ -z "$cck_color" ] || shift
+    cck_found=${cck_found%%"$cck_newline"*}
+    log "passed on (${cck_found#passed }): $*"
+    case $cck_found in
     none*) ;;
-    passed*) count "passed-${found#passed }" ;;
+    passed*) count "passed-${cck_found#passed }" ;;
     no\ scratch) count passed-no-scratch ;;
-    *) count passed-error; name_list; rm -f "$list" ;;
+    *) count passed-error; name_list; rm -f "$cck_list" 2>/dev/null ;;
     esac
-    [ -z "$scratch" ] || rm -rf "$scratch"
-    exec "$compiler" "$@"
+    [ -z "$cck_scratch" ] || rm -rf "$cck_scratch"
+    exec "$cck_compiler" "$@"
 }
 
 # A new directory for files, whose path has no space: a compiler takes what is after one for a target
@@ -115,11 +115,18 @@ make_directory() {
 
 # A directory for the files of this call.
 make_scratch() {
-    [ -z "$scratch" ] || return 0
-    scratch=$(make_directory) || return 1
-    # What still writes there ends first.
-    trap 'wait; rm -rf "$scratch"' EXIT
-    trap 'exit 130' INT TERM HUP
+    [ -z "$cck_scratch" ] || return 0
+    cck_scratch=$(make_directory) || return 1
+    trap 'rm -rf "$cck_scratch"' EXIT
+    for cck_signal in HUP INT TERM; do trap "end_by $cck_signal" $cck_signal; done
+}
+
+# Ends by a signal, as the compiler does. A preprocessor in the background ignores that of the terminal.
+end_by() {
+    trap - EXIT "$1"
+    [ -z "$cck_text" ] || kill "$cck_text" 2>/dev/null
+    rm -rf "$cck_scratch"
+    kill -"$1" $$
 }
 
 # Whether an assembler says what it read, tried in a directory.
@@ -130,79 +137,102 @@ says_what_it_read() {
 # Whether the table of options is the compiler's: it is gcc 12 for C. A script, or a program of another name that links
 # lead to, as ccache, may call a compiler with more options, or keep objects itself.
 is_known() {
-    case ${compiler##*/}:${driver##*/} in
+    case ${cck_compiler##*/}:${cck_driver##*/} in
     *++*) return 1 ;;
     *:*gcc*) ;;
     *) return 1 ;;
     esac
-    case $("$compiler" -dumpversion 2>/dev/null) in
+    case $("$cck_compiler" -dumpversion 2>/dev/null) in
     12|12.*) ;;
     *) return 1 ;;
     esac
-    case $proper in
-    /*) head -c 4 "$driver" | grep -q ELF ;;
+    case $cck_proper in
+    /*) head -c 4 "$cck_driver" | grep -q ELF ;;
     *) return 1 ;;
     esac
 }
 
 # Adds the libraries that the programs load, and a file of specs, to the programs.
 add_loaded() {
-    for library in $(ldd "$driver" "$proper" "$assembler" 2>/dev/null |
+    for cck_library in $(ldd "$cck_driver" "$cck_proper" "$cck_assembler" 2>/dev/null |
         sed -n 's/^[[:space:]]\(.* => \)\{0,1\}\(\/[^ :]*\) (.*/\2/p' | sort -u); do
-        programs=$programs:$library
+        cck_programs=$cck_programs:$cck_library
     done
-    specs=$("$compiler" -print-file-name=specs 2>/dev/null)
-    case $specs in
-    /*) [ ! -f "$specs" ] || programs=$programs:$specs ;;
+    cck_specs=$("$cck_compiler" -print-file-name=specs 2>/dev/null)
+    case $cck_specs in
+    /*) [ ! -f "$cck_specs" ] || cck_programs=$cck_programs:$cck_specs ;;
     esac
 }
 
 # The programs that a compilation runs, and what they load, are kept in a list in the store, for each compiler, PATH and
 # what is found in it, and variables of libraries. The program reads it, and tests whether it counts
 # (crates/cck_cache_files/src/programs.rt). It has the lines of the context, the file that the compiler is, which a link
-# leads to, the directory of cc1, and the programs, or `-` if the compiler is not known.
-context=$located$newline$assembler$newline$PATH$newline$LD_LIBRARY_PATH$newline$LD_PRELOAD$newline
+# leads to, the directories in which it looks for programs, and the programs, or `-` if the compiler is not known.
+cck_context=$cck_located$cck_newline$cck_assembler$cck_newline$PATH$cck_newline
+cck_context=$cck_context$LD_LIBRARY_PATH$cck_newline$LD_PRELOAD$cck_newline
 
-# Sets `list` to the path of the list, whose name has the length of the context in bytes.
-name_list() { list=$store/compilers/${compiler##*/}-$(LC_ALL=C; echo ${#context}); }
+# Sets `cck_list` to the path of the list, whose name has the length of the context in bytes.
+name_list() { cck_list=$cck_store/compilers/${cck_compiler##*/}-$(LC_ALL=C; echo ${#cck_context}); }
+
+# Sets `cck_searched` to the directories in which the compiler looks for programs, with colons between them. One that is
+# not there is named by the one above it, which changes when it comes.
+find_searched() {
+    cck_searched=${cck_proper%/*}
+    cck_directories=$("$cck_compiler" -print-search-dirs 2>/dev/null | sed -n 's/^programs: =//p'):
+    while [ -n "$cck_directories" ]; do
+        cck_directory=${cck_directories%%:*} cck_directories=${cck_directories#*:}
+        while [ -n "$cck_directory" ] && ! [ -d "$cck_directory/." ]; do
+            case $cck_directory in
+            */) cck_directory=${cck_directory%/} ;;
+            */*) cck_directory=${cck_directory%/*} ;;
+            *) cck_directory= ;;
+            esac
+        done
+        case :$cck_searched: in
+        *:"${cck_directory:-/}":*) ;;
+        *) cck_searched=$cck_searched:${cck_directory:-/} ;;
+        esac
+    done
+}
 
 # Asks the compiler for the programs, and keeps them. It fails where there is no temporary directory.
 find_programs() {
-    driver=$(readlink -f "$located")
-    proper=$("$compiler" -print-prog-name=cc1 2>/dev/null)
-    assembler=$(command -v "$("$compiler" -print-prog-name=as 2>/dev/null)")
-    programs=-
-    tried=$(make_directory) || return 1
-    if is_known && says_what_it_read "$assembler" "$tried"; then
-        programs=$located:$proper:$assembler
+    cck_driver=$(readlink -f "$cck_located")
+    cck_proper=$("$cck_compiler" -print-prog-name=cc1 2>/dev/null)
+    cck_assembler=$(command -v "$("$cck_compiler" -print-prog-name=as 2>/dev/null)")
+    cck_programs=-
+    cck_tried=$(make_directory) || return 1
+    if is_known && says_what_it_read "$cck_assembler" "$cck_tried"; then
+        cck_programs=$cck_located:$cck_proper:$cck_assembler
         add_loaded
     fi
-    rm -rf "$tried"
+    rm -rf "$cck_tried"
     name_list
+    find_searched
     {
-        mkdir -p "$store/compilers" &&
-            printf '%s%s\n%s\n%s\n' "$context" "$driver" "${proper%/*}" "$programs" > "$list.new$$" &&
-            mv "$list.new$$" "$list"
-        [ -e "$store/empty.h" ] || : > "$store/empty.h"
+        mkdir -p "$cck_store/compilers" &&
+            printf '%s%s\n%s\n%s\n' "$cck_context" "$cck_driver" "$cck_searched" "$cck_programs" > "$cck_list.new$$" &&
+            mv "$cck_list.new$$" "$cck_list"
+        [ -e "$cck_store/empty.h" ] || : > "$cck_store/empty.h"
     } 2>/dev/null
     return 0
 }
 
 # Sets the fields of the line `miss PKEY STAMP [object NAME]` that `look` printed.
 fields() {
-    key=$2 since=$3 object=
-    [ "$4" != object ] || object=$5
+    cck_key=$2 cck_since=$3 cck_object=
+    [ "$4" != object ] || cck_object=$5
 }
 
 # Sets the paths of a call, and the programs that it runs.
-paths() { input=$1 out=$2 dependencies=$3 programs=$4; }
+paths() { cck_input=$1 cck_out=$2 cck_dependencies=$3 cck_programs=$4; }
 
 # Divides what `look` or `preprocessor-key` printed: a line with the answer, one with the paths and programs of the call,
 # and one with the arguments of the preprocessor. The last two are quoted for a shell.
 divide() {
-    preprocessed=${found#*"$newline"} found=${found%%"$newline"*}
-    eval "paths ${preprocessed%%"$newline"*}"
-    preprocessed=${preprocessed#*"$newline"}
+    cck_preprocessed=${cck_found#*"$cck_newline"} cck_found=${cck_found%%"$cck_newline"*}
+    eval "paths ${cck_preprocessed%%"$cck_newline"*}"
+    cck_preprocessed=${cck_preprocessed#*"$cck_newline"}
 }
 
 # Runs the compiler on the compiler's words of a call, and has the assembler say what it reads, and the compiler
@@ -210,44 +240,44 @@ divide() {
 compile() {
     while [ "$1" != -- ]; do shift; done
     shift
-    set -- "$@" -Xassembler --MD -Xassembler "$scratch/assembled"
-    if [ -n "$dependencies" ]; then
-        "$compiler" "$@"
+    set -- "$@" -Xassembler --MD -Xassembler "$cck_scratch/assembled"
+    if [ -n "$cck_dependencies" ]; then
+        "$cck_compiler" "$@"
     else
-        SUNPRO_DEPENDENCIES="$scratch/opened" "$compiler" "$@"
+        SUNPRO_DEPENDENCIES="$cck_scratch/opened" "$cck_compiler" "$@"
     fi
 }
 
 # Whether the server may be asked: not after a failure in this call, nor for some seconds after a
 # request of another call took too long.
 is_up() {
-    [ -z "$failed" ] || return 1
-    [ -e "$store/down-$host-$port" ] || return 0
-    [ -z "$(find "$store/down-$host-$port" -newermt '-10 seconds' 2>/dev/null)" ] && return 0
-    failed=1
+    [ -z "$cck_failed" ] || return 1
+    [ -e "$cck_store/down-$cck_host-$cck_port" ] || return 0
+    [ -z "$(find "$cck_store/down-$cck_host-$cck_port" -newermt '-10 seconds' 2>/dev/null)" ] && return 0
+    cck_failed=1
     note "server: not asked, it was slow some seconds ago"
     return 1
 }
 
 # Sends a command to the server, with what is to be read on standard input.
 ask() {
-    timeout "${CCK_TIMEOUT:-2}" redis-cli -h "$host" -p "${port:-6379}" -n "${database:-0}" \
-        ${user:+--user "$user"} --no-auth-warning -e -D '' "$@" 2> "$scratch/said"
-    status=$?
+    timeout "${CCK_TIMEOUT:-2}" redis-cli -h "$cck_host" -p "${cck_port:-6379}" -n "${cck_database:-0}" \
+        ${cck_user:+--user "$cck_user"} --no-auth-warning -e -D '' "$@" 2> "$cck_scratch/said"
+    cck_status=$?
     # Where the server rejects a user or a database redis-cli continues as the default user, in database 0.
-    [ $status -ne 0 ] || [ -s "$scratch/said" ] || return 0
-    said=
-    read -r said < "$scratch/said"
-    if [ $status -eq 124 ]; then
-        said='no reply in time'
-        : > "$store/down-$host-$port"
+    [ $cck_status -ne 0 ] || [ -s "$cck_scratch/said" ] || return 0
+    cck_said=
+    read -r cck_said < "$cck_scratch/said"
+    if [ $cck_status -eq 124 ]; then
+        cck_said='no reply in time'
+        : > "$cck_store/down-$cck_host-$cck_port"
     fi 2>/dev/null
-    case $said in
+    case $cck_said in
     NOPERM*) ;;
-    *) failed=1 ;;
+    *) cck_failed=1 ;;
     esac
     [ "$1" != -x ] || shift
-    note "server: $1 failed: $said"
+    note "server: $1 failed: $cck_said"
     count server-failed
     return 1
 }
@@ -264,144 +294,144 @@ get() {
 # Puts the file $3 of the kind $1 and the key $2 to the server.
 put() {
     is_up || return 1
-    ask -x SETEX "cck:4:$1:$2" "${CCK_TTL:-2592000}" < "$3" > "$scratch/reply" || return 1
+    ask -x SETEX "cck:4:$1:$2" "${CCK_TTL:-2592000}" < "$3" > "$cck_scratch/reply" || return 1
     count "server-put-$1"
 }
 
 # Keeps the file $3 in the directory, under the kind $1 and the key $2.
 keep() {
-    [ -n "$keeps" ] || return 0
-    place=$store/$1/${2%"${2#??}"}
-    { mkdir -p "$place" && cp "$3" "$place/$2.new$$" && mv "$place/$2.new$$" "$place/$2"; } 2>/dev/null
+    [ -n "$cck_keeps" ] || return 0
+    cck_place=$cck_store/$1/${2%"${2#??}"}
+    { mkdir -p "$cck_place" && cp "$3" "$cck_place/$2.new$$" && mv "$cck_place/$2.new$$" "$cck_place/$2"; } 2>/dev/null
 }
 
 # Takes the object of the name $1 from the server, and prints the compiler's messages. What is damaged, or
 # of another name, is not taken.
 take_object() {
-    get object "$1" "$scratch/object" || return 1
-    case $("$program" unpack "$store" --name="$1" --packed="$scratch/object" --out="$out" \
-        ${dependencies:+--dependencies="$dependencies"}) in
+    get object "$1" "$cck_scratch/object" || return 1
+    case $("$cck_program" unpack "$cck_store" --name="$1" --packed="$cck_scratch/object" --out="$cck_out" \
+        ${cck_dependencies:+--dependencies="$cck_dependencies"}) in
     unpacked*) ;;
     *) note "server: the object $1 is damaged"; return 1 ;;
     esac
-    keep objects "$1" "$scratch/object"
+    keep objects "$1" "$cck_scratch/object"
 }
 
 # Looks for the object of the request at the server, and ends if it is there.
 look_at_server() {
-    if [ -z "$object" ]; then
-        get entry "$key" "$scratch/entry"
-        found=$("$program" look "$store" --entry="$scratch/entry" "$@")
-        case $found in
+    if [ -z "$cck_object" ]; then
+        get entry "$cck_key" "$cck_scratch/entry"
+        cck_found=$("$cck_program" look "$cck_store" --entry="$cck_scratch/entry" "$@")
+        case $cck_found in
         hit*)
-            keep entries "$key" "$scratch/entry"
-            log "$found"
+            keep entries "$cck_key" "$cck_scratch/entry"
+            log "$cck_found"
             exit 0
             ;;
-        miss*"$newline"*"$newline"*) divide; fields $found ;;
+        miss*"$cck_newline"*"$cck_newline"*) divide; fields $cck_found ;;
         *) pass_on "$@" ;;
         esac
-        case $found in
-        *' damaged '*) note "server: the entry $key is damaged" ;;
+        case $cck_found in
+        *' damaged '*) note "server: the entry $cck_key is damaged" ;;
         esac
     fi
-    if [ -n "$object" ] && take_object "$object"; then
-        [ ! -s "$scratch/entry" ] || keep entries "$key" "$scratch/entry"
+    if [ -n "$cck_object" ] && take_object "$cck_object"; then
+        [ ! -s "$cck_scratch/entry" ] || keep entries "$cck_key" "$cck_scratch/entry"
         count server-hit
-        log "hit $object $input"
+        log "hit $cck_object $cck_input"
         exit 0
     fi
 }
 
 # Records what was made of the text. The words are options of `record`, and those of the request.
 record() {
-    "$program" record "$store" --since="$since" --preprocessor-key="$key" --search="$scratch/search" "$@" \
-        < "$scratch/text" 2>/dev/null
+    "$cck_program" record "$cck_store" --since="$cck_since" --preprocessor-key="$cck_key" \
+        --search="$cck_scratch/search" "$@" < "$cck_scratch/text" 2>/dev/null
 }
 
 # Puts what was recorded to the server: the entry only once the object is there.
 send() {
-    if [ -n "$keeps" ]; then
-        entry=$store/entries/${key%"${key#??}"}/$key
-        packed=$store/objects/${object%"${object#??}"}/$object
+    if [ -n "$cck_keeps" ]; then
+        cck_entry=$cck_store/entries/${cck_key%"${cck_key#??}"}/$cck_key
+        cck_packed=$cck_store/objects/${cck_object%"${cck_object#??}"}/$cck_object
     else
-        entry=$scratch/entry
-        packed=$scratch/packed
+        cck_entry=$cck_scratch/entry
+        cck_packed=$cck_scratch/packed
     fi
-    put object "$object" "$packed" && put entry "$key" "$entry"
+    put object "$cck_object" "$cck_packed" && put entry "$cck_key" "$cck_entry"
 }
 
 # Looks for the object of the text at the server, and ends if it is there. The object's name depends on the entry, so
 # this is made first, and kept only where the object is there.
 look_for_text() {
-    found=$(record --entry-out="$scratch/entry" "$@")
-    case $found in
-    recorded*) object=${found#recorded } ;;
+    cck_found=$(record --entry-out="$cck_scratch/entry" "$@")
+    case $cck_found in
+    recorded*) cck_object=${cck_found#recorded } ;;
     *) return 1 ;;
     esac
-    take_object "$object" || return 1
-    keep entries "$key" "$scratch/entry"
-    put entry "$key" "$scratch/entry"
+    take_object "$cck_object" || return 1
+    keep entries "$cck_key" "$cck_scratch/entry"
+    put entry "$cck_key" "$cck_scratch/entry"
     count server-hit-text
-    log "hit $object $input, by its text"
+    log "hit $cck_object $cck_input, by its text"
     exit 0
 }
 
 # Has the program look for the call's object, or where no directory keeps objects make its key.
 look_up() {
-    if [ -n "$keeps" ]; then
-        found=$("$program" look "$store" "$@")
+    if [ -n "$cck_keeps" ]; then
+        cck_found=$("$cck_program" look "$cck_store" "$@")
     else
-        found=$("$program" preprocessor-key "$@")
+        cck_found=$("$cck_program" preprocessor-key "$@")
     fi
 }
 
 # From here on the words are those of a call for cck_cache. The first one says which programs the compiler runs.
-set -- --directory="$PWD" -- $color "$@"
-[ -z "$CCK_BASEDIR" ] || [ -z "$server" ] || set -- --base="$CCK_BASEDIR" "$@"
-[ -z "$server" ] || set -- --digests="$store" "$@"
-set -- --driver="$compiler" "$@"
-scratch= failed=
-if [ -n "$server" ]; then
-    make_scratch || keeps=
+set -- --directory="$PWD" -- $cck_color "$@"
+[ -z "$CCK_BASEDIR" ] || [ -z "$cck_server" ] || set -- --base="$CCK_BASEDIR" "$@"
+[ -z "$cck_server" ] || set -- --digests="$cck_store" "$@"
+set -- --driver="$cck_compiler" "$@"
+cck_scratch= cck_failed= cck_text=
+if [ -n "$cck_server" ]; then
+    make_scratch || cck_keeps=
     look_up "$@"
 fi
-case $found in
+case $cck_found in
 'passed programs-unknown')
-    find_programs || { found='passed no-scratch'; pass_on "$@"; }
-    [ "$programs" != - ] || { found='passed compiler'; pass_on "$@"; }
+    find_programs || { cck_found='passed no-scratch'; pass_on "$@"; }
+    [ "$cck_programs" != - ] || { cck_found='passed compiler'; pass_on "$@"; }
     shift
-    set -- --compiler="$programs" "$@"
+    set -- --compiler="$cck_programs" "$@"
     look_up "$@"
     ;;
 'passed variable'|'passed compiler') pass_on "$@" ;;
 esac
-if [ -n "$server" ] && [ -z "$scratch" ]; then found='no scratch'; pass_on "$@"; fi
-if [ -n "$keeps" ]; then
-    case $found in
-    hit*) log "$found"; exit 0 ;;
-    miss*"$newline"*"$newline"*) divide; fields $found ;;
+if [ -n "$cck_server" ] && [ -z "$cck_scratch" ]; then cck_found='no scratch'; pass_on "$@"; fi
+if [ -n "$cck_keeps" ]; then
+    case $cck_found in
+    hit*) log "$cck_found"; exit 0 ;;
+    miss*"$cck_newline"*"$cck_newline"*) divide; fields $cck_found ;;
     *) pass_on "$@" ;;
     esac
 else
-    case $found in
+    case $cck_found in
     none*) count no-key; pass_on "$@" ;;
     passed*|error*|'') pass_on "$@" ;;
     esac
     divide
-    key=$found object=
+    cck_key=$cck_found cck_object=
 fi
 # A call has the programs of its look-up, also if the store has another list by now.
 shift
-set -- --compiler="$programs" "$@"
-[ -z "$server" ] || look_at_server "$@"
-log "look: $found $input"
+set -- --compiler="$cck_programs" "$@"
+[ -z "$cck_server" ] || look_at_server "$@"
+log "look: $cck_found $cck_input"
 # With a log, what keeps an entry of the directory from matching.
-if [ -n "$CCK_LOG" ] && [ -n "$keeps" ]; then
-    "$program" why "$store" "$@" | while IFS= read -r line; do
-        case $line in
+if [ -n "$CCK_LOG" ] && [ -n "$cck_keeps" ]; then
+    "$cck_program" why "$cck_store" "$@" | while IFS= read -r cck_line; do
+        case $cck_line in
         preprocessor-key*|result*) ;;
-        *) log "why $input: $line" ;;
+        *) log "why $cck_input: $cck_line" ;;
         esac
     done
 fi
@@ -412,60 +442,80 @@ fi
 # lead to: a header that the compiler names so is not recorded. It also writes each directive that includes a header
 # (-dI), since it may pass over a copy of a header that was read.
 preprocess() {
-    eval "LC_ALL=C \"\$compiler\" $preprocessed -Wdate-time -Wsystem-headers -Wno-error -fno-canonical-system-headers" \
-        "$1" '-dI -E -v -o "$scratch/text"' 2> "$scratch/search" || : > "$scratch/failed"
+    eval "LC_ALL=C \"\$cck_compiler\" $cck_preprocessed" \
+        '-Wdate-time -Wsystem-headers -Wno-error -fno-canonical-system-headers' "$1" \
+        '-dI -E -v -o "$cck_scratch/text"' 2> "$cck_scratch/search" || : > "$cck_scratch/failed"
 }
 
 # Writes the text of the call. No entry is made of a text that names no file beside the input. Such a text names an empty
 # one.
 write_text() {
     preprocess ''
-    if [ ! -e "$scratch/failed" ] && ! grep -q '^# [0-9]* ".*" 1' "$scratch/text"; then
-        preprocess '-imacros "$store/empty.h"'
+    if [ ! -e "$cck_scratch/failed" ] && ! grep -q '^# [0-9]* ".*" 1' "$cck_scratch/text"; then
+        preprocess '-imacros "$cck_store/empty.h"'
     fi
-    ! grep -q 'might prevent reproducible builds' "$scratch/search" || : > "$scratch/shows-time"
+    ! grep -q 'might prevent reproducible builds' "$cck_scratch/search" || : > "$cck_scratch/shows-time"
 }
 
-make_scratch || { found='no scratch'; pass_on "$@"; }
-entry_out=
-[ -n "$keeps" ] || entry_out=$scratch/entry
+# Whether what the arguments include are regular files: a pipe can't be read by two.
+includes_files() {
+    while [ $# -gt 0 ]; do
+        cck_included=
+        case $1 in
+        -include|-imacros) cck_included=$2 ;;
+        -include?*) cck_included=${1#-include} ;;
+        -imacros?*) cck_included=${1#-imacros} ;;
+        esac
+        if [ -e "$cck_included" ] && ! [ -f "$cck_included" ]; then return 1; fi
+        shift
+    done
+}
+
+eval "includes_files $cck_preprocessed" || { cck_found='passed pipe'; pass_on "$@"; }
+make_scratch || { cck_found='no scratch'; pass_on "$@"; }
+cck_entry_out=
+[ -n "$cck_keeps" ] || cck_entry_out=$cck_scratch/entry
 # The preprocessor runs beside the compiler, unless a server may have the object of its text.
-if [ -n "$server" ]; then
+if [ -n "$cck_server" ]; then
     write_text
-    if [ ! -e "$scratch/failed" ] && [ ! -e "$scratch/shows-time" ]; then look_for_text "$@"; fi
+    if [ ! -e "$cck_scratch/failed" ] && [ ! -e "$cck_scratch/shows-time" ]; then look_for_text "$@"; fi
 else
-    write_text &
+    { write_text; } 2>/dev/null &
+    cck_text=$!
 fi
-compile "$@" > "$scratch/output" 2> "$scratch/messages"
-status=$?
-[ ! -s "$scratch/output" ] || cat "$scratch/output"
-[ ! -s "$scratch/messages" ] || cat "$scratch/messages" >&2
+compile "$@" > "$cck_scratch/output" 2> "$cck_scratch/messages"
+cck_status=$?
+[ ! -s "$cck_scratch/output" ] || cat "$cck_scratch/output"
+[ ! -s "$cck_scratch/messages" ] || cat "$cck_scratch/messages" >&2
 wait
-refused=
-[ ! -e "$scratch/shows-time" ] || refused=time-macro
+cck_text=
+cck_refused=
+[ ! -e "$cck_scratch/shows-time" ] || cck_refused=time-macro
 # What an assembler prints there is not kept, nor a message that names a temporary file.
-[ ! -s "$scratch/output" ] || refused=output
-if [ -s "$scratch/messages" ] && grep -q '/cc[A-Za-z0-9]\{6\}\.s' "$scratch/messages"; then refused=temporary-name; fi
-if [ $status -ne 0 ] || [ -e "$scratch/failed" ]; then
-    log "not recorded (status $status): $input"
-    count not-recorded-status
-    exit $status
+[ ! -s "$cck_scratch/output" ] || cck_refused=output
+if [ -s "$cck_scratch/messages" ] && grep -q '/cc[A-Za-z0-9]\{6\}\.s' "$cck_scratch/messages"; then
+    cck_refused=temporary-name
 fi
-if [ -n "$refused" ]; then
-    log "refused-$refused $input"
-    count "refused-$refused"
+if [ $cck_status -ne 0 ] || [ -e "$cck_scratch/failed" ]; then
+    log "not recorded (status $cck_status): $cck_input"
+    count not-recorded-status
+    exit $cck_status
+fi
+if [ -n "$cck_refused" ]; then
+    log "refused-$cck_refused $cck_input"
+    count "refused-$cck_refused"
     exit 0
 fi
-opened=$scratch/opened
-[ -z "$dependencies" ] || opened=
-found=$(record --compiled="$out" --messages="$scratch/messages" --assembled="$scratch/assembled" \
-    ${dependencies:+--dependencies="$dependencies"} ${opened:+--opened="$opened"} \
-    ${entry_out:+--entry-out="$entry_out" --packed-out="$scratch/packed"} "$@")
-log "$found $input"
-case $found in
+cck_opened=$cck_scratch/opened
+[ -z "$cck_dependencies" ] || cck_opened=
+cck_found=$(record --compiled="$cck_out" --messages="$cck_scratch/messages" --assembled="$cck_scratch/assembled" \
+    ${cck_dependencies:+--dependencies="$cck_dependencies"} ${cck_opened:+--opened="$cck_opened"} \
+    ${cck_entry_out:+--entry-out="$cck_entry_out" --packed-out="$cck_scratch/packed"} "$@")
+log "$cck_found $cck_input"
+case $cck_found in
 recorded*)
-    object=${found#recorded }
-    [ -z "$server" ] || send
+    cck_object=${cck_found#recorded }
+    [ -z "$cck_server" ] || send
     ;;
 refused*) ;;
 *) count record-error ;;

@@ -85,11 +85,11 @@ pub record HasLines (first text : List ℕ) (lines : List (List ℕ)) : Type 0 w
   pub lines_are : AreLines lines
   pub text_is : text ≡ first ++ lines_text lines
 
--- A list with these first lines has three more: the file that the compiler is, the directory of the compiler proper, and the programs. No other text is
+-- A list with these first lines has three more: the file that the compiler is, the directories in which it looks for programs, and the programs. No other text is
 -- one.
 abbrev pub IsListRead : List ℕ → List ℕ → Option Listed → Type 0
-IsListRead first text None = (file directory programs : List ℕ) → HasLines first text (file ∷ directory ∷ programs ∷ []) → ⊥
-IsListRead first text (Some listed) = HasLines first text (listed.file.now ∷ listed.directory.now ∷ listed.programs.now ∷ [])
+IsListRead first text None = (file directories programs : List ℕ) → HasLines first text (file ∷ directories ∷ programs ∷ []) → ⊥
+IsListRead first text (Some listed) = HasLines first text (listed.file.now ∷ listed.directories.now ∷ listed.programs.now ∷ [])
 
 -- in one store two lists have one path only if their names and lengths are the same
 abbrev pub ListPathsDiffer : Type 0

@@ -22,6 +22,9 @@ use std::fs;
 use std::os::unix::fs::MetadataExt;
 use std::rt::Files;
 
+// The bits of a file's mode with which its owner, its group and others may read it.
+const ALL_READ: u32 = 0o444;
+
 /// What the system says of the files of a text.
 #[derive(Drop)]
 pub struct TextStatuses {
@@ -162,30 +165,59 @@ fn kind_of(found: &fs::Metadata) -> FileKind {
     }
 }
 
+// Whether the process may search the directory, or read the file, that was found at a path. A mode by which
+// all may read a file says so.
+fn may_use<R: Files + AllocGlobal>(
+    rt: &R,
+    path: &str,
+    found: &fs::Metadata,
+) -> Result<bool, AllocError> {
+    if found.is_dir() {
+        let inside = format!(in rt.alloc(); "{path}/.")?;
+        return Ok(fs::metadata(rt, inside.as_str()).is_ok());
+    }
+    if !found.is_file() || found.mode() & ALL_READ == ALL_READ {
+        return Ok(true);
+    }
+    Ok(fs::open(rt, path).is_ok())
+}
+
 // What is known of the path of a status, if the system says the same of it now: the same file or directory
-// is there, and did not change since.
-fn unchanged<R: Files>(rt: &R, status: &PathStatus) -> Option<Metadata>
-    ensures { IfSome result (λ m. (m.modified ≡ Some status.now.modified) × (m.changed ≡ Some status.now.changed)) }
+// is there, and did not change since; and if the process may use it.
+fn unchanged<R: Files + AllocGlobal>(
+    rt: &R,
+    status: &PathStatus,
+) -> Result<Option<Metadata>, AllocError>
+    ensures { IfOk result (λ found. IfSome found (λ m.
+        (m.modified ≡ Some status.now.modified) × (m.changed ≡ Some status.now.changed))) }
 {
-    let found = found_at(rt, &status.path)?;
+    let Ok(path) = std::str::from_utf8(&status.path) else {
+        return Ok(None);
+    };
+    let Ok(found) = fs::metadata(rt, path) else {
+        return Ok(None);
+    };
     if found.dev() != status.device || found.ino() != status.inode {
-        return None;
+        return Ok(None);
     }
     let (modified, changed) = (modified(&found), changed(&found));
     if modified != Some(status.modified) || changed != Some(status.changed) {
-        return None;
+        return Ok(None);
     }
-    Some(Metadata {
+    if !may_use(rt, path, &found)? {
+        return Ok(None);
+    }
+    Ok(Some(Metadata {
         kind: kind_of(&found),
         len: found.len(),
         modified: Some(status.modified),
         changed: Some(status.changed),
-    })
+    }))
 }
 
-/// What is known of the paths of these statuses of which the system says the same now. It says the same
-/// only of the same file, by device and inode: a link may lead to another one of the same size and the same
-/// times.
+/// What is known of the paths of these statuses of which the system says the same now, if the process may
+/// use what is there. It says the same only of the same file, by device and inode: a link may lead to another
+/// one of the same size and the same times.
 ///
 /// The only error is [`UtilError::Memory`].
 pub fn unchanged_statuses<R: Files + AllocGlobal>(
@@ -198,7 +230,8 @@ pub fn unchanged_statuses<R: Files + AllocGlobal>(
 {
     let mut known = PathMap::new(rt.alloc());
     for status in statuses {
-        if let Some(metadata) = unchanged(rt, status) {
+        let found = unchanged(rt, status)?;
+        if let Some(metadata) = found {
             known.insert(&status.path, metadata)?;
         }
     }

@@ -3,7 +3,8 @@
 //! Which programs a compiler runs and what they load is asked of the compiler once, by the wrapper, and
 //! kept in a list. Its lines are the path of the compiler, that of the assembler, `PATH`,
 //! `LD_LIBRARY_PATH` and `LD_PRELOAD`, which say for which calls it counts; the file that the compiler is,
-//! to which links lead; the directory of the second program, the compiler proper; and the programs.
+//! to which links lead; the directories in which it looks for programs and a file of specs, with colons between
+//! them; and the programs.
 ghost use Rattle.std.specs.Prelude.{◌≡◌, ◌↔◌, IfOk, IsTrue, List, MatchOption, map, string_bytes, ℕ};
 ghost use Rattle.std.specs.Option.{option_map};
 ghost use Rattle.cck_cache_files.specs.Programs.{ArePlaces, IsContext, IsLastPart, IsLine, IsListPath, IsListRead, StartsLine, absolute, may_execute, place_in};
@@ -73,8 +74,8 @@ enum Located {
 struct Listed<'a> {
     // The file that the compiler is.
     file: &'a str,
-    // The directory of the compiler proper.
-    directory: &'a str,
+    // The directories in which it looks for programs and a file of specs, with colons between them.
+    directories: &'a str,
     // The programs.
     programs: &'a str,
 }
@@ -205,14 +206,14 @@ fn read_list<'a>(context: &str, text: &'a str) -> Option<Listed<'a>>
 {
     let rest = text.strip_prefix(context)?;
     let (file, rest) = first_line(rest)?;
-    let (directory, rest) = first_line(rest)?;
+    let (directories, rest) = first_line(rest)?;
     let (programs, rest) = first_line(rest)?;
     if !rest.is_empty() {
         return None;
     }
     Some(Listed {
         file,
-        directory,
+        directories,
         programs,
     })
 }
@@ -260,6 +261,16 @@ fn is_older<R: Files>(rt: &R, path: &str, since: Timestamp) -> bool {
     }
 }
 
+// Whether none of these directories, with colons between them, was modified at this time or later.
+fn are_older<R: Files>(rt: &R, directories: &str, since: Timestamp) -> bool {
+    for directory in directories.split(':') {
+        if !is_older(rt, directory, since) {
+            return false;
+        }
+    }
+    true
+}
+
 // Whether the system's list of libraries was not changed at this time or later. A system may have none.
 fn has_old_libraries<R: Files>(rt: &R, since: Timestamp) -> bool {
     match fs::metadata(rt, LIBRARIES) {
@@ -277,12 +288,12 @@ fn leads_to<R: Files>(rt: &R, path: &str, status: &Metadata) -> bool {
 }
 
 // Whether what a list says of a compiler with this status still holds: the compiler is the same file, and
-// neither it, nor the directory of the compiler proper, in which a file of specs may come, nor the
-// system's list of libraries changed since the list was written.
+// neither it, nor a directory in which it looks for programs, nor the system's list of libraries changed
+// since the list was written.
 fn is_current<R: Files>(rt: &R, listed: &Listed<'_>, status: &Metadata, since: Timestamp) -> bool {
     leads_to(rt, listed.file, status)
         && is_before(modified(status), since)
-        && (listed.programs == UNKNOWN || is_older(rt, listed.directory, since))
+        && (listed.programs == UNKNOWN || are_older(rt, listed.directories, since))
         && has_old_libraries(rt, since)
 }
 
@@ -319,7 +330,7 @@ fn kept_in<R: Files + AllocGlobal>(
 /// What a store keeps of the programs of a compiler, which is called by this name in this working
 /// directory and with these variables. What is kept counts only if it was kept for the same compiler, the
 /// same assembler and the same variables, and the compiler is still the same file; and only if since then
-/// neither the compiler, nor the directory of the compiler proper, nor the system's list of libraries
+/// neither the compiler, nor a directory in which it looks for programs, nor the system's list of libraries
 /// was modified.
 ///
 /// The only error is lack of memory.

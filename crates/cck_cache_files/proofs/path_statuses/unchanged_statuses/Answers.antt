@@ -19,10 +19,11 @@ pub loop-status-preserved : goal.loop-status-preserved
 loop-status-preserved g c =
     let statuses = c.args.statuses.now in
     record {
-      recorded = elim c.match-unchanged.branch [
+      recorded = elim c.match-found.branch [
         | in-Some+in_ok-insert w ↦
           let status = c.status-item.result in
-          let more = one_more_known statuses c.loop-status.status-index status c.loop-status.known w.in-Some.metadata c.loop-status-test.true c.status-item.is w.in-Some.ensures.0 w.in-Some.ensures.1 c.loop-status.invariant.recorded in
+          let there-is = rw w.in-Some.is at c.in_ok-found.ensures in
+          let more = one_more_known statuses c.loop-status.status-index status c.loop-status.known w.in-Some.metadata c.loop-status-test.true c.status-item.is there-is.0 there-is.1 c.loop-status.invariant.recorded in
           let there = w.known-is ∙ (w.in_ok-insert.ensures.set ∙ ap (λ (path : List ℕ). insert c.loop-status.known (components path) w.in-Some.metadata) w.deref.ensures.value) in
           subst (λ (known : Statuses). AreAsRecorded (statuses_of statuses) known) (sym there) more
         | in_default w ↦ subst (λ (known : Statuses). AreAsRecorded (statuses_of statuses) known) (sym w.known-is) c.loop-status.invariant.recorded
