@@ -405,11 +405,7 @@ fn all_tests(tests: Vec<PathTest>, others: Vec<PathTest>) -> Result<Vec<PathTest
 }
 
 // The entry file of what was recorded.
-fn entry_file_of(
-    entry: RecordedEntry,
-    statuses: Vec<PathStatus>,
-    tests: Vec<PathTest>,
-) -> EntryFile
+fn entry_file_of(entry: RecordedEntry, statuses: Vec<PathStatus>, tests: Vec<PathTest>) -> EntryFile
     ensures { entry_fields result ≡ recorded_fields entry (statuses_of statuses.items) (tests_of tests.items) }
 {
     EntryFile {
@@ -480,7 +476,15 @@ fn record_over<R: Files + AllocGlobal>(
     };
     let input = own.input_digest.as_str();
     let name = name_in(rt.alloc(), request, input, object.as_str(), &entry.bytes)?;
-    let file = entry_file_with(rt, since, entry, statuses, tests, asked_tests, unnamed_tests)?;
+    let file = entry_file_with(
+        rt,
+        since,
+        entry,
+        statuses,
+        tests,
+        asked_tests,
+        unnamed_tests,
+    )?;
     match keep(rt, store, compilation, &bases, name.as_str(), &file)? {
         Some(refusal) => Ok(Outcome::Refused(refusal)),
         None => Ok(Outcome::Recorded(name)),

@@ -5,8 +5,8 @@ ghost use Rattle.cck_cache_rules.specs.PathTest.{test_of, tests_of};
 ghost use Rattle.cck_cache_rules.specs.PathTest as spec;
 ghost use Rattle.cck_cache_files.specs.PathTests.{Fails, Holds, IsFirstFailing};
 
-use crate::path_statuses::stays_absent;
 use crate::path_states::{is_absent, is_directory, is_file};
+use crate::path_statuses::stays_absent;
 use crate::searched::SearchedDirectories;
 use cck_cache_rules::PathTest;
 use cck_path::{Metadata, PathMap};

@@ -6,7 +6,7 @@ ghost use Rattle.cck_cache_rules.specs.Files.{entry_fields, object_fields};
 ghost use Rattle.cck_cache_rules.specs.ObjectName.{MaterialTellsObject};
 ghost use Rattle.cck_cache_rules.specs.PathTest.{test_of};
 
-use crate::{PathStatus, EntryFile, ObjectFile, PathTest, Refusal};
+use crate::{EntryFile, ObjectFile, PathStatus, PathTest, Refusal};
 
 /// Bytes that differ in one of their words, of 4 bytes each, have different checksums.
 pub fn checksum_tells_one_word()

@@ -21,11 +21,11 @@ loop-status-preserved g c =
     record {
       recorded = elim c.match-found.branch [
         | in-Some+in_ok-insert w ↦
-          let status = c.status-item.result in
-          let there-is = rw w.in-Some.is at c.in_ok-found.ensures in
-          let more = one_more_known statuses c.loop-status.status-index status c.loop-status.known w.in-Some.metadata c.loop-status-test.true c.status-item.is there-is.0 there-is.1 c.loop-status.invariant.recorded in
-          let there = w.known-is ∙ (w.in_ok-insert.ensures.set ∙ ap (λ (path : List ℕ). insert c.loop-status.known (components path) w.in-Some.metadata) w.deref.ensures.value) in
-          subst (λ (known : Statuses). AreAsRecorded (statuses_of statuses) known) (sym there) more
+            let status = c.status-item.result in
+            let there-is = rw w.in-Some.is at c.in_ok-found.ensures in
+            let more = one_more_known statuses c.loop-status.status-index status c.loop-status.known w.in-Some.metadata c.loop-status-test.true c.status-item.is there-is.0 there-is.1 c.loop-status.invariant.recorded in
+            let there = w.known-is ∙ (w.in_ok-insert.ensures.set ∙ ap (λ (path : List ℕ). insert c.loop-status.known (components path) w.in-Some.metadata) w.deref.ensures.value) in
+            subst (λ (known : Statuses). AreAsRecorded (statuses_of statuses) known) (sym there) more
         | in_default w ↦ subst (λ (known : Statuses). AreAsRecorded (statuses_of statuses) known) (sym w.known-is) c.loop-status.invariant.recorded
       ];
       none = λ nothing. let low = c.loop-status-test.true in absurd (omega (arith, ap (λ (l : List PathStatus). length l) nothing));
