@@ -119,7 +119,7 @@ shared no 'the same by its absolute path' -g -DC -IUP/common -c x.c
 shared no 'a sanitizer' -fsanitize=undefined -g $map -c x.c
 shared no 'compressed debug information' -g -gz $map -c x.c
 shared yes 'a dependency file' -g $map -DH -I../include -c x.c -MD -MP -MT x.o -MF x.d
-shared no 'a dependency file by its absolute path' -g $map -c x.c -MD -MT x.o -MF BASE/src/x.d
+shared yes 'a dependency file by its absolute path' -g $map -c x.c -MD -MT x.o -MF BASE/src/x.d
 shared no 'a target by its absolute path' -g $map -c x.c -MD -MQ BASE/src/x.o -MF x.d
 shared no 'another directory of the checkout' -g $map -DD=1 -c x.c second=other
 
