@@ -181,6 +181,10 @@ find_searched() {
     cck_directories=$("$cck_compiler" -print-search-dirs 2>/dev/null | sed -n 's/^programs: =//p'):
     while [ -n "$cck_directories" ]; do
         cck_directory=${cck_directories%%:*} cck_directories=${cck_directories#*:}
+        case $cck_directory in
+        /*) ;;
+        *) cck_directory=$PWD/$cck_directory ;;
+        esac
         while [ -n "$cck_directory" ] && ! [ -d "$cck_directory/." ]; do
             case $cck_directory in
             */) cck_directory=${cck_directory%/} ;;

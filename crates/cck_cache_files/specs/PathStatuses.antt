@@ -6,6 +6,7 @@ use Rattle.cck_entry.specs.Statuses.{Statuses, known_accepts}
 use Rattle.cck_files.specs.FileState.{FileState}
 use Rattle.cck_include.specs.Include.{Include}
 use Rattle.cck_path.specs.Path.{Path, components}
+use Rattle.cck_path.specs.declared.metadata.FileKind.TheVariants.{Folder}
 use Rattle.cck_path.specs.declared.metadata.Metadata.{Metadata}
 use Rattle.cck_cache_files.specs.Programs.{Lacks}
 use Rattle.cck_cache_files.specs.Snapshot.{IsNodePut}
@@ -16,6 +17,14 @@ pub record IsInDirectory (path directory : List ℕ) : Type 0 where
   pub is_name : Lacks 47 name
   pub whole : path ≡ directory ++ 47 ∷ name
   pub is_some : 0 < length directory
+
+-- a path is that of a name in a directory of which something is known
+pub record IsInKnownDirectory (known : Statuses) (path : List ℕ) : Type 0 where
+  pub directory : List ℕ
+  pub is_in : IsInDirectory path directory
+  pub metadata : Metadata
+  pub is_known : get known (components directory) ≡ Some metadata
+  pub is_directory : metadata.kind ≡ Folder
 
 -- what is known of a path has the times of one of these statuses, which is of the path
 pub record IsAsRecorded (recorded : List Status) (p : Path) (m : Metadata) : Type 0 where

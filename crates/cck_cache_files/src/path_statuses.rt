@@ -2,7 +2,7 @@
 ghost use Rattle.std.specs.Prelude.{◌≡◌, [], IfOk, IfSome, IsTrue, IsUtf8};
 ghost use Rattle.std.specs.FinMap.{empty};
 ghost use Rattle.std.specs.Prelude.{IsOkUnless, OnOk};
-ghost use Rattle.cck_cache_files.specs.PathStatuses.{AreAsRecorded, IsInDirectory, IsIncludeAdded};
+ghost use Rattle.cck_cache_files.specs.PathStatuses.{AreAsRecorded, IsInDirectory, IsInKnownDirectory, IsIncludeAdded};
 ghost use Rattle.cck_cache_files.specs.Snapshot.{IsPart, StaysCalm};
 ghost use Rattle.cck_cache_rules.specs.PathStatus.{statuses_of};
 ghost use Rattle.cck_files.specs.FileState.{IsQuiet};
@@ -176,10 +176,10 @@ fn may_use<R: Files + AllocGlobal>(
         let inside = format!(in rt.alloc(); "{path}/.")?;
         return Ok(fs::metadata(rt, inside.as_str()).is_ok());
     }
-    if !found.is_file() || found.mode() & ALL_READ == ALL_READ {
-        return Ok(true);
+    if !found.is_file() {
+        return Ok(false);
     }
-    Ok(fs::open(rt, path).is_ok())
+    Ok(found.mode() & ALL_READ == ALL_READ || fs::open(rt, path).is_ok())
 }
 
 // What is known of the path of a status, if the system says the same of it now: the same file or directory
@@ -241,7 +241,8 @@ pub fn unchanged_statuses<R: Files + AllocGlobal>(
 /// Whether there is still nothing at a path, since it is that of a name in a directory that is known to be
 /// unchanged: no name came there.
 pub fn stays_absent(known: &PathMap<Metadata>, path: &[u8]) -> bool
-    ensures { IsTrue result → IsUtf8 path.now }
+    ensures utf8 { IsTrue result → IsUtf8 path.now }
+    ensures known { IsTrue result → IsInKnownDirectory known.now path.now }
 {
     let Some(directory) = directory_of(path) else {
         return false;

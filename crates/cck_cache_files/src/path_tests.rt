@@ -51,8 +51,8 @@ fn holds<R: Files + AllocGlobal>(
 }
 
 /// The first of these tests that does not hold now. One of an absent path is not made where the path is that
-/// of a name in a directory that is known to be unchanged. One of a directory that is searched holds only if a directory is at its path, and the first that is the same,
-/// by device and inode, has its place.
+/// of a name in a directory that is known to be unchanged. One of a directory that is searched holds only if a
+/// directory is at its path, and the first that is the same, by device and inode, has its place.
 ///
 /// The only error is lack of memory.
 pub fn first_failing<'a, R: Files + AllocGlobal>(
