@@ -353,16 +353,11 @@ record() {
         --search="$cck_scratch/search" "$@" < "$cck_scratch/text" 2>/dev/null
 }
 
-# Puts what was recorded to the server: the entry only once the object is there.
+# Keeps what was recorded with a server, and puts it there: the entry only once the object is there.
 send() {
-    if [ -n "$cck_keeps" ]; then
-        cck_entry=$cck_store/entries/${cck_key%"${cck_key#??}"}/$cck_key
-        cck_packed=$cck_store/objects/${cck_object%"${cck_object#??}"}/$cck_object
-    else
-        cck_entry=$cck_scratch/entry
-        cck_packed=$cck_scratch/packed
-    fi
-    put object "$cck_object" "$cck_packed" && put entry "$cck_key" "$cck_entry"
+    keep objects "$cck_object" "$cck_scratch/packed"
+    keep entries "$cck_key" "$cck_scratch/entry"
+    put object "$cck_object" "$cck_scratch/packed" && put entry "$cck_key" "$cck_scratch/entry"
 }
 
 # Looks for the object of the text at the server, and ends if it is there. The object's name depends on the entry, so
@@ -477,8 +472,9 @@ includes_files() {
 
 eval "includes_files $cck_preprocessed" || { cck_found='passed pipe'; pass_on "$@"; }
 make_scratch || { cck_found='no scratch'; pass_on "$@"; }
+# With a server, what is recorded is first in the scratch directory.
 cck_entry_out=
-[ -n "$cck_keeps" ] || cck_entry_out=$cck_scratch/entry
+[ -z "$cck_server" ] || cck_entry_out=$cck_scratch/entry
 # The preprocessor runs beside the compiler, unless a server may have the object of its text.
 if [ -n "$cck_server" ]; then
     write_text

@@ -20,6 +20,7 @@ sources = sorted(glob.glob("*.c"))
 headers = sorted(glob.glob("*.h"))
 original = {name: open(name, "rb").read() for name in sources + headers}
 flags = list(FLAGS)
+states = []
 edits = collections.Counter()
 made = dependencies = 0
 
@@ -128,6 +129,17 @@ def unlink():
             write(name, contents)
 
 
+def switch():
+    """One of up to five states that the files had, as `git switch` leaves them: what differs is a new file."""
+    now = {name: read(name) for name in original}
+    if len(states) < 5:
+        states.append(now)
+    for name, contents in chance.choice(states).items():
+        if contents != now[name]:
+            os.unlink(name)
+            write(name, contents)
+
+
 def change_flags():
     """Another macro or optimization on the command line, or dependency files."""
     flags[:] = FLAGS + chance.choice([[], [], ["-DCCK_FLAG=%d" % chance.randrange(3)], ["-O0"]])
@@ -135,7 +147,7 @@ def change_flags():
 
 
 EDITS = [append, append, define, replace, restore, restore, touch, keep_times, put_earlier,
-         remove_earlier, rename, link, unlink, change_flags, restore_all]
+         remove_earlier, rename, link, unlink, change_flags, restore_all, switch, switch, switch]
 
 
 def make(compiler):

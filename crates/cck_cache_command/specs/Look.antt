@@ -1,15 +1,18 @@
 -- what a look-up finds
-use Rattle.std.specs.Prelude.{◌≡◌, Bool, true, false, Option, Some, None, IfSome, String, string_bytes}
+use Rattle.std.specs.Prelude.{◌≡◌, ◌<◌, ℕ, [], Bool, true, false, Option, Some, None, IfSome, String, string_bytes}
 use Rattle.std.specs.FinMap.{empty}
 use Rattle.std.specs.declared.alloc.Global.{Global}
 use Rattle.cck_cache_command.specs.Included.{IsIncluded}
-use Rattle.cck_cache_command.specs.Input.{NoFault}
+use Rattle.cck_cache_command.specs.Input.{IsCalm, NoFault}
 use Rattle.cck_cache_command.specs.Naming.{IsName}
 use Rattle.cck_cache_command.specs.Outputs.{has_outputs}
-use Rattle.cck_cache_command.specs.Request.{HasPreprocessorKey, IsKeyOver}
+use Rattle.cck_cache_command.specs.Request.{HasPreprocessorKey, IsKeyOver, IsRequest}
 use Rattle.cck_cache_command.specs.declared.environment.Environment.{Environment}
 use Rattle.cck_cache_command.specs.declared.look.Found.{Found}
 use Rattle.cck_cache_command.specs.declared.look.Found.TheVariants.{Hit, Miss, NoKey}
+use Rattle.cck_cache_command.specs.declared.look.Search.{Search}
+use Rattle.cck_cache_command.specs.declared.look.Looked.{Looked}
+use Rattle.cck_cache_command.specs.declared.look.Looked.TheVariants.{Object, Missed}
 use Rattle.cck_cache_command.specs.declared.look.Kept.{Kept}
 use Rattle.cck_cache_command.specs.declared.look.Kept.TheVariants.{Nothing, Damaged, Entry as KeptEntry}
 use Rattle.cck_cache_rules.specs.Files.{EntryFields}
@@ -64,32 +67,47 @@ IsKeyEntry key Nothing = Unit {0}
 IsKeyEntry key Damaged = Unit {0}
 IsKeyEntry key (KeptEntry file) = file.preprocessor_key.items ≡ key
 
--- a miss
-abbrev pub IsLookMiss : String Global → Option (String Global) → Found → Type 0
-IsLookMiss key name (Hit k n file) = ⊥
-IsLookMiss key name (Miss k since n damaged) = (k ≡ key) × (n ≡ name)
-IsLookMiss key name NoKey = ⊥
+-- a look-up by an entry file begins with the preprocessor key of its request over the snapshot of the input
+pub record IsSearch (search : Search) : Type 0 where
+  pub calm : IsCalm search.files.now
+  pub is_request : IsRequest search.environment.entry.now search.wanted.now.request search.environment.entry.now.now [] search.asked.now
+  pub is_key : IsKeyOver search.asked.now search.files.now.files search.key.now
 
--- what was found in a store under the name of an object of a preprocessor key
-abbrev pub IsKeptObject : Outputs → String Global → String Global → Found → Type 0
-IsKeptObject outputs preprocessor_key name (Hit k n object) =
-    (k ≡ preprocessor_key) × (n ≡ name) × (object.key.items ≡ string_bytes name) × (has_outputs outputs object ≡ true)
-IsKeptObject outputs preprocessor_key name (Miss k since n damaged) = (k ≡ preprocessor_key) × (n ≡ Some name)
-IsKeptObject outputs preprocessor_key name NoKey = ⊥
+-- a name of an object of the preprocessor key of a look-up
+abbrev pub IsNameOf : Search → String Global → Type 0
+IsNameOf search =
+    IsNameOfKey search.environment.entry.now.reads_all search.wanted.now.request search.asked.now search.files.now.files search.key.now.text
+
+-- nothing was found but this name
+abbrev pub IsMissed : Option (String Global) → Looked → Type 0
+IsMissed name (Object place n object) = ⊥
+IsMissed name (Missed missed) = missed.object_name ≡ name
+
+-- what was found in a store under the name of an object of the entry file at a place
+abbrev pub IsKeptObject : Outputs → ℕ → String Global → Looked → Type 0
+IsKeptObject outputs place name (Object p n object) =
+    (p ≡ place) × (n ≡ name) × (object.key.items ≡ string_bytes name) × (has_outputs outputs object ≡ true)
+IsKeptObject outputs place name (Missed missed) = missed.object_name ≡ Some name
+
+-- what was found by one entry file or by some
+abbrev pub IsLooked : Search → Looked → Type 0
+IsLooked search (Object place name object) =
+    (place < 16) × IsNameOf search name × (object.key.items ≡ string_bytes name) × (has_outputs search.wanted.now.outputs object ≡ true)
+IsLooked search (Missed missed) = IfSome missed.object_name (IsNameOf search)
 
 -- what was found for a preprocessor key over a snapshot of the input
 abbrev pub IsFoundFor : Bool → Look → SnapshotRequest → FileMap → String Global → Found → Type 0
-IsFoundFor reads_all wanted asked input key (Hit k n object) =
-    (k ≡ key) × IsNameOfKey reads_all wanted.request asked input key n × (object.key.items ≡ string_bytes n) × (has_outputs wanted.outputs object ≡ true)
-IsFoundFor reads_all wanted asked input key (Miss k since n damaged) = (k ≡ key) × IfSome n (IsNameOfKey reads_all wanted.request asked input key)
+IsFoundFor reads_all wanted asked input key (Hit k place n object) =
+    (k ≡ key) × (place < 16) × IsNameOfKey reads_all wanted.request asked input key n × (object.key.items ≡ string_bytes n) × (has_outputs wanted.outputs object ≡ true)
+IsFoundFor reads_all wanted asked input key (Miss k since missed) = (k ≡ key) × IfSome missed.object_name (IsNameOfKey reads_all wanted.request asked input key)
 IsFoundFor reads_all wanted asked input key NoKey = ⊥
 
 -- The result of a look-up. A hit has an object file of the name of an object whose key is looked up in an entry file of the request's preprocessor
 -- key.
 abbrev pub IsLookResult : Environment → Look → Found → Type 0
-IsLookResult environment wanted (Hit k n object) =
-    (has : HasPreprocessorKey environment wanted.request (Some (string_bytes k))) × IsNameOfKey environment.reads_all wanted.request has.asked has.input k n
-    × (object.key.items ≡ string_bytes n) × (has_outputs wanted.outputs object ≡ true)
-IsLookResult environment wanted (Miss k since n damaged) =
-    (has : HasPreprocessorKey environment wanted.request (Some (string_bytes k))) × IfSome n (IsNameOfKey environment.reads_all wanted.request has.asked has.input k)
+IsLookResult environment wanted (Hit k place n object) =
+    (has : HasPreprocessorKey environment wanted.request (Some (string_bytes k))) × (place < 16)
+    × IsNameOfKey environment.reads_all wanted.request has.asked has.input k n × (object.key.items ≡ string_bytes n) × (has_outputs wanted.outputs object ≡ true)
+IsLookResult environment wanted (Miss k since missed) =
+    (has : HasPreprocessorKey environment wanted.request (Some (string_bytes k))) × IfSome missed.object_name (IsNameOfKey environment.reads_all wanted.request has.asked has.input k)
 IsLookResult environment wanted NoKey = HasPreprocessorKey environment wanted.request None

@@ -8,6 +8,7 @@
 mod absence;
 mod call;
 mod copies;
+mod entry_place;
 mod environment;
 mod included;
 mod input;

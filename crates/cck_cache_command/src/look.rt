@@ -1,7 +1,7 @@
 //! Looks for an object in the store.
-ghost use Rattle.std.specs.Prelude.{◌≡◌, [], IfOk, IfSome, true};
+ghost use Rattle.std.specs.Prelude.{◌≡◌, ◌<◌, [], IfOk, IfSome, true};
 ghost use Rattle.cck_cache_command.specs.Input.{IsCalm};
-ghost use Rattle.cck_cache_command.specs.Look.{IsFoundFor, IsKeptObject, IsKeyEntry, IsLookMiss, IsLookResult, IsNamedMatch};
+ghost use Rattle.cck_cache_command.specs.Look.{IsFoundFor, IsKeptObject, IsKeyEntry, IsLookResult, IsLooked, IsMissed, IsNamedMatch, IsSearch};
 ghost use Rattle.cck_cache_command.specs.Request.{IsKeyOver, IsRequest};
 
 use crate::environment::Environment;
@@ -13,7 +13,9 @@ use crate::request::{hasher_of, snapshot_request};
 use anyhow::{Context, Result};
 use c_cache_keys::PreprocessorKey;
 use cck_cache_arguments::{Look, Outputs, Request};
-use cck_cache_files::{Kind, StoreDirectory, first_failing, unchanged_statuses};
+use cck_cache_files::{
+    ENTRY_FILES, Kind, StoreDirectory, entry_name, first_failing, unchanged_statuses,
+};
 use cck_cache_rules::{EntryFile, ObjectFile, PathStatus, entry_in, object_in};
 use cck_files::MapFiles;
 use cck_path::Timestamp;
@@ -33,6 +35,8 @@ pub enum Found {
     Hit {
         /// The preprocessor key.
         preprocessor_key: String,
+        /// The place of the entry file among those of the preprocessor key.
+        place: usize,
         /// The name of the object.
         object_name: String,
         /// What the compiler made.
@@ -44,16 +48,23 @@ pub enum Found {
         preprocessor_key: String,
         /// When the look-up ended, by the clock of the store's file system.
         since: Timestamp,
-        /// The name of the object of a result of the entry, which the store does not have.
-        object_name: Option<String>,
-        /// The path of a file that is damaged.
-        damaged: Option<String>,
+        /// What was found in its place.
+        missed: Missed,
     },
     /// The request has no preprocessor key.
     NoKey,
 }
 
-/// What the store has of a preprocessor key.
+/// What a look-up found where there is no object.
+#[derive(Drop)]
+pub struct Missed {
+    /// The name of the object of a result of an entry that matches, which the store does not have.
+    pub object_name: Option<String>,
+    /// The path of a file that is damaged.
+    pub damaged: Option<String>,
+}
+
+/// What the store has of a preprocessor key at a place.
 #[derive(Drop)]
 pub enum Kept {
     /// Nothing.
@@ -64,23 +75,50 @@ pub enum Kept {
     Entry(EntryFile),
 }
 
-// The bytes of the file at this path, if one is given, and else of the store's entry file. `None`
-// where there are none.
+// What a look-up is for, with the preprocessor key of its request over a snapshot of the input.
+#[derive(Clone, Copy)]
+struct Search<'a> {
+    environment: &'a Environment<'a>,
+    store: &'a StoreDirectory,
+    wanted: &'a Look<'a>,
+    asked: &'a SnapshotRequest<'a>,
+    // The snapshot.
+    files: &'a MapFiles,
+    key: &'a PreprocessorKey,
+}
+
+// What was found by one entry file, or by all.
+enum Looked {
+    // An object.
+    Object {
+        // The place of the entry file.
+        place: usize,
+        // The name of the object.
+        name: String,
+        // What the compiler made.
+        object: ObjectFile,
+    },
+    // None.
+    Missed(Missed),
+}
+
+// The bytes of the file at this path, if one is given, and else of the store's entry file of this name.
+// `None` where there are none.
 fn entry_bytes<R: Files + AllocGlobal>(
     rt: &R,
     store: &StoreDirectory,
     path: Option<&str>,
-    key: &str,
+    name: &str,
 ) -> io::Result<Option<Vec<u8>>> {
     let Some(path) = path else {
-        return store.read(rt, Kind::Entry, key);
+        return store.read(rt, Kind::Entry, name);
     };
     let bytes = fs::read(rt, path)?;
     Ok(if bytes.is_empty() { None } else { Some(bytes) })
 }
 
-/// Reads the entry file of a preprocessor key: that at this path, if one is given, and else the
-/// store's. A file at a path that is empty is no entry file.
+/// Reads an entry file of a preprocessor key: that at this path, if one is given, and else the
+/// store's of this name. A file at a path that is empty is no entry file.
 ///
 /// The error is of a file that can't be read, which at a path includes one that is not there, or lack
 /// of memory.
@@ -89,10 +127,11 @@ pub fn read_entry<R: Files + AllocGlobal>(
     store: &StoreDirectory,
     path: Option<&str>,
     key: &str,
+    name: &str,
 ) -> Result<Kept>
     ensures { IfOk result (IsKeyEntry key.now) }
 {
-    let Some(bytes) = entry_bytes(rt, store, path, key).context("the entry file")? else {
+    let Some(bytes) = entry_bytes(rt, store, path, name).context("the entry file")? else {
         return Ok(Kept::Nothing);
     };
     Ok(match entry_in(rt.alloc(), key, &bytes)? {
@@ -139,64 +178,115 @@ fn matching_name<R: Files + AllocGlobal>(
     Ok(Some(name))
 }
 
-// A miss.
-fn miss<R: Files + AllocGlobal>(
-    rt: &R,
-    store: &StoreDirectory,
-    preprocessor_key: String,
-    object_name: Option<String>,
-    damaged: Option<String>,
-) -> Result<Found>
-    ensures { IfOk result (IsLookMiss preprocessor_key object_name) }
+// Nothing was found, but for this name of an object or this path of a damaged file.
+fn nothing_found(object_name: Option<String>, damaged: Option<String>) -> Looked
+    ensures { IsMissed object_name result }
 {
-    let since = store.stamp(rt)?;
-    Ok(Found::Miss {
-        preprocessor_key,
-        since,
+    Looked::Missed(Missed {
         object_name,
         damaged,
     })
 }
 
-// What the store has under the name of an object of a preprocessor key. An object file
+// What the store has under the name of an object of the entry file at a place. An object file
 // without what is to be written counts as absent, so that it is recorded again.
 fn kept_object<R: Files + AllocGlobal>(
     rt: &R,
     store: &StoreDirectory,
     outputs: &Outputs<'_>,
-    preprocessor_key: String,
-    object_name: String,
-) -> Result<Found>
-    ensures { IfOk result (IsKeptObject outputs.now preprocessor_key object_name) }
+    place: usize,
+    name: String,
+) -> Result<Looked>
+    ensures { IfOk result (IsKeptObject outputs.now place name) }
 {
-    let Some(bytes) = store.read(rt, Kind::Object, object_name.as_str())? else {
-        return miss(rt, store, preprocessor_key, Some(object_name), None);
+    let Some(bytes) = store.read(rt, Kind::Object, name.as_str())? else {
+        return Ok(nothing_found(Some(name), None));
     };
-    match object_in(rt.alloc(), object_name.as_str(), &bytes)? {
-        Some(object) if has_outputs(&object, outputs) => Ok(Found::Hit {
-            preprocessor_key,
-            object_name,
+    match object_in(rt.alloc(), name.as_str(), &bytes)? {
+        Some(object) if has_outputs(&object, outputs) => Ok(Looked::Object {
+            place,
+            name,
             object,
         }),
-        Some(_) => miss(rt, store, preprocessor_key, Some(object_name), None),
+        Some(_) => Ok(nothing_found(Some(name), None)),
         None => {
-            let path = store.path_of(rt, Kind::Object, object_name.as_str())?;
-            miss(rt, store, preprocessor_key, Some(object_name), Some(path))
+            let path = store.path_of(rt, Kind::Object, name.as_str())?;
+            Ok(nothing_found(Some(name), Some(path)))
         }
     }
 }
 
-// The path of the entry file of a preprocessor key: this one, if one is given, and else the store's.
+// The path of an entry file: this one, if one is given, and else that of the store's of this name.
 fn entry_path<R: AllocGlobal>(
     rt: &R,
     store: &StoreDirectory,
     path: Option<&str>,
-    key: &str,
+    name: &str,
 ) -> Result<String, AllocError> {
     match path {
         Some(path) => String::from_str(rt.alloc(), path),
-        None => store.path_of(rt, Kind::Entry, key),
+        None => store.path_of(rt, Kind::Entry, name),
     }
+}
+
+// Looks for the object by the entry file at a place, or at the path that is wanted.
+fn look_at_place<R: Files + AllocGlobal>(
+    rt: &R,
+    search: &Search<'_>,
+    place: usize,
+) -> Result<Looked>
+    requires { place < ENTRY_FILES }
+    ensures { IfOk result (λ looked. IsSearch search.now → IsLooked search.now looked) }
+{
+    let (alloc, path, key) = (rt.alloc(), search.wanted.entry, search.key.text.as_str());
+    let name = entry_name(alloc, key, place)?;
+    let file = match read_entry(rt, search.store, path, key, name.as_str())? {
+        Kept::Nothing => return Ok(nothing_found(None, None)),
+        Kept::Damaged => {
+            let path = entry_path(rt, search.store, path, name.as_str())?;
+            return Ok(nothing_found(None, Some(path)));
+        }
+        Kept::Entry(file) => file,
+    };
+    let mut files = search.files.copy(alloc)?;
+    let found = matching_name(
+        rt,
+        search.environment,
+        &search.wanted.request,
+        search.asked,
+        &mut files,
+        search.key,
+        &file,
+    )?;
+    match found {
+        Some(name) => kept_object(rt, search.store, &search.wanted.outputs, place, name),
+        None => Ok(nothing_found(None, None)),
+    }
+}
+
+// Looks for the object by each entry file of the preprocessor key, or by the one at the path that is wanted.
+fn look_in_files<R: Files + AllocGlobal>(rt: &R, search: &Search<'_>) -> Result<Looked>
+    ensures { IfOk result (λ looked. IsSearch search.now → IsLooked search.now looked) }
+{
+    if search.wanted.entry.is_some() {
+        return look_at_place(rt, search, 0);
+    }
+    let mut all = Missed {
+        object_name: None,
+        damaged: None,
+    };
+    for place in 0..ENTRY_FILES {
+        match look_at_place(rt, search, place)? {
+            Looked::Missed(one) => {
+                all = Missed {
+                    object_name: all.object_name.or(one.object_name),
+                    damaged: all.damaged.or(one.damaged),
+                };
+            }
+            found => return Ok(found),
+        }
+    }
+    Ok(Looked::Missed(all))
 }
 
 // Looks for the object of a request that has this preprocessor key over a snapshot of the input.
@@ -206,30 +296,48 @@ fn look_for<R: Files + AllocGlobal>(
     store: &StoreDirectory,
     wanted: &Look<'_>,
     asked: &SnapshotRequest<'_>,
-    files: &mut MapFiles,
+    files: &MapFiles,
     key: PreprocessorKey,
 ) -> Result<Found>
-    ensures { IfOk result (λ found. IsCalm files.old → IsRequest environment.entry.now wanted.now.request environment.entry.now.now [] asked.now
-        → IsKeyOver asked.now files.old.files key
-        → IsFoundFor environment.entry.now.reads_all wanted.now asked.now files.old.files key.text found) }
+    ensures { IfOk result (λ found. IsCalm files.now → IsRequest environment.entry.now wanted.now.request environment.entry.now.now [] asked.now
+        → IsKeyOver asked.now files.now.files key
+        → IsFoundFor environment.entry.now.reads_all wanted.now asked.now files.now.files key.text found) }
 {
-    let file = match read_entry(rt, store, wanted.entry, key.text.as_str())? {
-        Kept::Nothing => return miss(rt, store, key.text, None, None),
-        Kept::Damaged => {
-            let path = entry_path(rt, store, wanted.entry, key.text.as_str())?;
-            return miss(rt, store, key.text, None, Some(path));
-        }
-        Kept::Entry(file) => file,
-    };
-    match matching_name(rt, environment, &wanted.request, asked, files, &key, &file)? {
-        Some(name) => kept_object(rt, store, &wanted.outputs, key.text, name),
-        None => miss(rt, store, key.text, None, None),
-    }
+    let looked = look_in_files(
+        rt,
+        &Search {
+            environment,
+            store,
+            wanted,
+            asked,
+            files,
+            key: &key,
+        },
+    )?;
+    let preprocessor_key = key.text;
+    Ok(match looked {
+        Looked::Object {
+            place,
+            name,
+            object,
+        } => Found::Hit {
+            preprocessor_key,
+            place,
+            object_name: name,
+            object,
+        },
+        Looked::Missed(missed) => Found::Miss {
+            preprocessor_key,
+            since: store.stamp(rt)?,
+            missed,
+        },
+    })
 }
 
 /// Looks for the object of a request.
 ///
-/// A file that the entry names is not read if its status shows that it is unchanged, and a path is not
+/// Each entry file of the preprocessor key is asked, in the order of their places, until one has an object. A file
+/// that the entry names is not read if its status shows that it is unchanged, and a path is not
 /// tested if its directory's does, unless the environment asks that all are read.
 ///
 /// The error is of an input that is no regular file that can be read, of a program of the compiler, of
@@ -257,7 +365,7 @@ pub fn look<R: Files + AllocGlobal>(
         &[],
     );
     match preprocessor_key::<Sha256State, MapFiles>(rt.alloc(), &mut files, &asked)? {
-        Some(key) => look_for(rt, environment, store, wanted, &asked, &mut files, key),
+        Some(key) => look_for(rt, environment, store, wanted, &asked, &files, key),
         None => Ok(Found::NoKey),
     }
 }

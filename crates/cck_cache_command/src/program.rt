@@ -3,7 +3,7 @@ use crate::call::{CallPaths, print_call, request_of};
 use crate::environment::Environment;
 use crate::input::input_snapshot;
 use crate::judge::{Judged, Passed, judge};
-use crate::look::{Found, NO_KEY, look};
+use crate::look::{Found, Missed, NO_KEY, look};
 use crate::outputs::write_outputs;
 use crate::places::are_free;
 use crate::programs::{Named, programs_of};
@@ -18,7 +18,7 @@ use anyhow::{Result, bail};
 use cck_cache_arguments::{
     Action, Compilation, CompilerCall, Look, Outputs, Packed, Request, Task, task_of,
 };
-use cck_cache_files::{Kind, StoreDirectory};
+use cck_cache_files::{Kind, StoreDirectory, entry_name};
 use cck_cache_options::{Call, GCC, rows_of};
 use cck_path::Timestamp;
 use clap::Error;
@@ -81,32 +81,31 @@ fn print_miss<W: Write>(
     writer: &mut W,
     preprocessor_key: &str,
     since: Timestamp,
-    object_name: Option<&str>,
-    damaged: Option<&str>,
+    missed: &Missed,
 ) -> Result<()> {
     let (seconds, nanoseconds) = (since.seconds(), since.nanoseconds());
     write!(writer, "miss {preprocessor_key} {seconds}.{nanoseconds:09}")?;
-    if let Some(object_name) = object_name {
+    if let Some(object_name) = &missed.object_name {
         write!(writer, " object {object_name}")?;
     }
-    if let Some(path) = damaged {
+    if let Some(path) = &missed.damaged {
         write!(writer, " damaged {path}")?;
     }
     writeln!(writer)?;
     Ok(())
 }
 
-// Notes that the entry file of this key and the object file of this name were used, and counts a hit. An error changes no result: neither
+// Notes that the entry file of this name and the object file of that name were used, and counts a hit. An error changes no result: neither
 // a time nor a count decides whether a look-up hits.
 fn note_hit<R: Files + AllocGlobal>(
     rt: &R,
     environment: &Environment<'_>,
     store: &StoreDirectory,
-    preprocessor_key: &str,
+    entry_name: &str,
     object_name: &str,
 ) {
     let _ = store.touch(rt, Kind::Object, object_name, environment.now);
-    let _ = store.touch(rt, Kind::Entry, preprocessor_key, environment.now);
+    let _ = store.touch(rt, Kind::Entry, entry_name, environment.now);
     let _ = store.count(rt, "hit");
 }
 
@@ -132,23 +131,23 @@ fn run_look<R: Files + AllocGlobal, W: Write, E: Write>(
     match look(rt, environment, &store, &wanted)? {
         Found::Hit {
             preprocessor_key,
+            place,
             object_name,
             object,
         } => {
             write_outputs(rt, &store, &wanted.outputs, &object, errors)?;
-            note_hit(rt, environment, &store, &preprocessor_key, &object_name);
+            let entry_name = entry_name(rt.alloc(), &preprocessor_key, place)?;
+            note_hit(rt, environment, &store, &entry_name, &object_name);
             writeln!(writer, "hit {object_name} {}", wanted.request.input)?;
             Ok(DONE)
         }
         Found::Miss {
             preprocessor_key,
             since,
-            object_name,
-            damaged,
+            missed,
         } => {
             let _ = store.count(rt, "miss");
-            let (object_name, damaged) = (object_name.as_deref(), damaged.as_deref());
-            print_miss(writer, &preprocessor_key, since, object_name, damaged)?;
+            print_miss(writer, &preprocessor_key, since, &missed)?;
             Ok(MISS)
         }
         Found::NoKey => {

@@ -14,6 +14,7 @@ ghost use Rattle.jiff.specs.Words.{plain_zone};
 
 use crate::absence::{Absence, absence_of};
 use crate::copies::may_have_copies;
+use crate::entry_place::place_for;
 use crate::environment::Environment;
 use crate::input::input_snapshot;
 use crate::naming::name_in;
@@ -26,7 +27,7 @@ use c_cache_keys::PreprocessorKey;
 use cck_cache_arguments::{Compilation, Made, Request};
 use cck_cache_files::{
     Kind, PathStates, StoreDirectory, TextStatuses, add_directory_statuses, add_named_files,
-    compared_paths, text_statuses,
+    compared_paths, entry_name, text_statuses,
 };
 use cck_cache_rules::{
     EntryFile, Known, ObjectFile, PathStatus, PathTest, Refusal, bases_of, refusal_of, shows_base,
@@ -275,19 +276,36 @@ fn judge_input<R: AllocGlobal>(
     }
 }
 
-// Writes a file of the store, to this path, if one is given, in place of the store's.
-fn write_file<R: Files + AllocGlobal>(
+// Writes the object file of this name, to the path that is given, or else to the store.
+fn write_object<R: Files + AllocGlobal>(
     rt: &R,
     store: &StoreDirectory,
-    kind: Kind,
-    key: &str,
-    path: Option<&str>,
-    bytes: &[u8],
+    compilation: &Compilation<'_>,
+    object: &ObjectFile,
+    name: &str,
 ) -> io::Result<()> {
-    match path {
-        Some(path) => store.replace(rt, path, bytes),
-        None => store.write(rt, kind, key, bytes),
+    let bytes = object.write(rt.alloc())?;
+    match compilation.object_out {
+        Some(path) => store.replace(rt, path, &bytes),
+        None => store.write(rt, Kind::Object, name, &bytes),
     }
+}
+
+// Writes the entry file, to the path that is given, or else to the store.
+fn write_entry<R: Files + AllocGlobal>(
+    rt: &R,
+    store: &StoreDirectory,
+    compilation: &Compilation<'_>,
+    file: &EntryFile,
+) -> io::Result<()> {
+    let (alloc, key) = (rt.alloc(), compilation.key);
+    let bytes = file.write(alloc)?;
+    if let Some(path) = compilation.entry_out {
+        return store.replace(rt, path, &bytes);
+    }
+    let place = place_for(rt, store, key, file)?;
+    let name = entry_name(alloc, key, place)?;
+    store.write(rt, Kind::Entry, name.as_str(), &bytes)
 }
 
 // Writes the object file, if the compiler made an object, and then the entry file.
@@ -298,29 +316,11 @@ fn write_files<R: Files + AllocGlobal>(
     object: Option<&ObjectFile>,
     name: &str,
     file: &EntryFile,
-) -> Result<()> {
-    let alloc = rt.alloc();
+) -> io::Result<()> {
     if let Some(object) = object {
-        let bytes = object.write(alloc)?;
-        write_file(
-            rt,
-            store,
-            Kind::Object,
-            name,
-            compilation.object_out,
-            &bytes,
-        )?;
+        write_object(rt, store, compilation, object, name)?;
     }
-    let bytes = file.write(alloc)?;
-    write_file(
-        rt,
-        store,
-        Kind::Entry,
-        compilation.key,
-        compilation.entry_out,
-        &bytes,
-    )?;
-    Ok(())
+    write_entry(rt, store, compilation, file)
 }
 
 // The contents of the file at this path, if one is given, and else nothing.

@@ -6,7 +6,7 @@ use crate::look::{Kept, NO_KEY, read_entry};
 use crate::request::request_key;
 use anyhow::{Result, bail};
 use cck_cache_arguments::Request;
-use cck_cache_files::{Kind, StoreDirectory, first_failing};
+use cck_cache_files::{ENTRY_FILES, Kind, StoreDirectory, entry_name, first_failing};
 use cck_cache_rules::{EntryFile, PathTest};
 use cck_entry::{PathMap, ResultRef};
 use cck_files::MapFiles;
@@ -88,6 +88,28 @@ fn print_entry<R: Files + AllocGlobal, W: Write>(
     Ok(())
 }
 
+// Prints what the store has of a preprocessor key at a place. Returns whether there is a file.
+fn print_place<R: Files + AllocGlobal, W: Write>(
+    rt: &R,
+    environment: &Environment<'_>,
+    store: &StoreDirectory,
+    files: &mut MapFiles,
+    key: &str,
+    place: usize,
+    writer: &mut W,
+) -> Result<bool> {
+    let name = entry_name(rt.alloc(), key, place)?;
+    match read_entry(rt, store, None, key, name.as_str())? {
+        Kept::Nothing => return Ok(false),
+        Kept::Damaged => {
+            let path = store.path_of(rt, Kind::Entry, name.as_str())?;
+            writeln!(writer, "damaged {path}")?;
+        }
+        Kept::Entry(file) => print_entry(rt, environment, files, &file, writer)?,
+    }
+    Ok(true)
+}
+
 // Prints what the store has of a preprocessor key.
 fn print_kept<R: Files + AllocGlobal, W: Write>(
     rt: &R,
@@ -97,19 +119,18 @@ fn print_kept<R: Files + AllocGlobal, W: Write>(
     key: &str,
     writer: &mut W,
 ) -> Result<()> {
-    match read_entry(rt, store, None, key)? {
-        Kept::Nothing => writeln!(writer, "no entry")?,
-        Kept::Damaged => {
-            let path = store.path_of(rt, Kind::Entry, key)?;
-            writeln!(writer, "damaged {path}")?;
-        }
-        Kept::Entry(file) => print_entry(rt, environment, files, &file, writer)?,
+    let mut has_file = false;
+    for place in 0..ENTRY_FILES {
+        has_file |= print_place(rt, environment, store, files, key, place, writer)?;
+    }
+    if !has_file {
+        writeln!(writer, "no entry")?;
     }
     Ok(())
 }
 
 /// Prints what the store has of a request and which paths keep it from matching, a line each:
-/// `preprocessor-key KEY`; `no entry` or `damaged PATH`; for the first test of a path that does not hold
+/// `preprocessor-key KEY`; `no entry`, or for each entry file `damaged PATH` or, for the first test of a path that does not hold
 /// now `present PATH`, if the path was absent when the entry was recorded, `absent PATH`, if a file was
 /// there, or `changed PATH`, if a directory was; `result KEY`, and after it `changed PATH` for each
 /// included file that does not match. `false` where the request has no preprocessor key: then a line

@@ -1,5 +1,5 @@
 -- The paths of a store.
-use Rattle.std.proofs.Common.{◌≡◌, ◌≢◌, ◌≤◌, ◌<◌, ◌+◌, ℕ, List, ◌++◌, length, take, slice_index, true, ◌&&◌, ◌||◌, nat_eq, nat_lt, nat_le, Option, None, Some, unwrap_or, codes, IsUtf8, refl, sym, ap, ◌∙◌, ⊎_elim, subst, arith, append_assoc, length-append}
+use Rattle.std.proofs.Common.{◌^◌, zero, suc, false, ◌≡◌, ◌≢◌, ◌≤◌, ◌<◌, ◌+◌, ℕ, List, ◌++◌, length, take, slice_index, true, ◌&&◌, ◌||◌, nat_eq, nat_lt, nat_le, Option, None, Some, unwrap_or, codes, IsUtf8, refl, sym, ap, ◌∙◌, ⊎_elim, subst, arith, append_assoc, length-append}
 use mathlib.Core.Bool.{false≢true}
 use Rattle.std.proofs.lemmas.Bool.{cases_Bool, cond-true, cond-false}
 use Rattle.std.proofs.lemmas.Bool.Decides.{nat_tests}
@@ -8,7 +8,10 @@ use Rattle.std.proofs.lemmas.Str.{IsCharBoundary-from_take, IsCharBoundary-start
 use Rattle.std.specs.Str.{IsCharBoundary}
 use Rattle.std.specs.Str.Pattern.{GetsRange}
 use denote.Ref.{Bor}
+use Rattle.std.specs.Fmt.{decimal}
+use Rattle.std.proofs.lemmas.Fmt.{decimal_injective}
 use Rattle.cck_digest.proofs.ReadsBack.{bytes_read_back}
+use Rattle.cck_cache_files.specs.EntryNames.{entry_name}
 use Rattle.cck_cache_files.specs.Paths.{digest_path, first_digits, is_char_boundary, key_directory, key_path, kind_name}
 use Rattle.cck_cache_files.specs.declared.store_directory.Kind.{Kind}
 use Rattle.cck_cache_files.specs.declared.store_directory.Kind.TheVariants.{Entry, Object}
@@ -98,3 +101,25 @@ digest_of_path directory m n = (
   λ kind e. other_name kind m n (append_cancel_left directory (codes "/digests/" ++ m) (below_directory kind n)
       (sym (append_assoc directory (codes "/digests/") m) ∙ e ∙ key_path_is directory kind n)),
 )
+
+-- the name of a file at a later place is longer than the key
+not_first : (n : ℕ) → nat_eq (suc n) 0 ≡ false
+not_first n = grind (arith, nat_tests)
+
+later_name : (key : List ℕ) (n : ℕ) → entry_name key (suc n) ≡ (key ++ codes ".") ++ decimal (suc n)
+later_name key n = cond-false (nat_eq (suc n) 0) key ((key ++ codes ".") ++ decimal (suc n)) (not_first n)
+
+longer_name : (key : List ℕ) (n : ℕ) → length key < length (entry_name key (suc n))
+longer_name key n = rw (later_name key n) (simp length-append (omega arith))
+
+not_longer : (m n : ℕ) → m ≡ n → m < n → ⊥
+not_longer m n e l = omega (arith, e, l)
+
+pub place_of_name : (k l : List ℕ) (m n : ℕ) → length k ≡ length l → m < 2 ^ 64 → n < 2 ^ 64 → entry_name k m ≡ entry_name l n → (k ≡ l) × (m ≡ n)
+place_of_name k l zero zero same small less e = (e, refl)
+place_of_name k l zero (suc n) same small less e = absurd (not_longer (length l) _ (sym same ∙ ap length e) (longer_name l n))
+place_of_name k l (suc m) zero same small less e = absurd (not_longer (length k) _ (same ∙ ap length (sym e)) (longer_name k m))
+place_of_name k l (suc m) (suc n) same small less e =
+    let joined : length (k ++ codes ".") ≡ length (l ++ codes ".") = simp length-append (omega (arith, same)) in
+    let both = bytes_read_back (k ++ codes ".") (l ++ codes ".") (decimal (suc m)) (decimal (suc n)) joined (sym (later_name k m) ∙ e ∙ later_name l n) in
+    ((bytes_read_back k l (codes ".") (codes ".") same both.0).0, decimal_injective (suc m) (suc n) small less both.1)

@@ -1,5 +1,6 @@
 pub mod Compiler
 pub mod Copies
+pub mod EntryNames
 pub mod PathStatuses
 pub mod Listing
 pub mod PathStates

@@ -1,5 +1,6 @@
 //! Laws about the definitions. Each is the contract of a function with an empty body.
 ghost use Rattle.std.specs.Prelude.{◌≡◌, ◌↔◌, IsTrue};
+ghost use Rattle.cck_cache_files.specs.EntryNames.{EntryNamesDiffer};
 ghost use Rattle.cck_cache_files.specs.Paths.{DigestPathsDiffer, KeyPathsDiffer};
 ghost use Rattle.cck_cache_files.specs.Programs.{ListPathsDiffer};
 
@@ -10,6 +11,12 @@ use crate::{Kind, PathState};
 pub fn key_paths_differ()
     ensures keys { KeyPathsDiffer }
     ensures digests { DigestPathsDiffer }
+{}
+
+/// Two entry files have one name only if they are at one place and of one preprocessor key, where all keys have
+/// one length.
+pub fn entry_names_differ()
+    ensures { EntryNamesDiffer }
 {}
 
 /// In a store the lists of two compilers have one path only if the last parts of the names by which they are called are

@@ -13,7 +13,8 @@
 //! - [`may_be_copy`] says of a file whether gcc may have taken it for a copy of one of the files of a
 //!   text, which [`known_files`] returns by their lengths and times, and [`is_one_file`] whether two
 //!   paths lead to one file. [`has_copies`] says whether two files of a text are copies.
-//! - [`StoreDirectory`] is the directory of a store.
+//! - [`StoreDirectory`] is the directory of a store. It has up to [`ENTRY_FILES`] entry files of one
+//!   preprocessor key, each with the name that [`entry_name`] returns.
 //! - [`list_files`] and [`list_counts`] list the files of a store.
 //! - [`compiler_digest`] is the digest of a compiler's programs on this machine, and
 //!   [`shared_compiler_digest`] that of their contents. [`kept_programs`] says which these are, as a
@@ -28,6 +29,7 @@
 
 mod compiler;
 mod copies;
+mod entry_names;
 pub mod laws;
 mod listing;
 mod path_states;
@@ -46,6 +48,7 @@ pub use copies::{
     ComparedFiles, KnownFile, add_known, compared_paths, is_in_snapshot, known_files, may_be_copy,
     may_be_passed_over,
 };
+pub use entry_names::{ENTRY_FILES, entry_name};
 pub use listing::{StoredFile, list_counts, list_files};
 pub use path_states::{PathState, PathStates};
 pub use path_statuses::{
