@@ -14,7 +14,7 @@
 //!   text, which [`known_files`] returns by their lengths and times, and [`is_one_file`] whether two
 //!   paths lead to one file. [`has_copies`] says whether two files of a text are copies.
 //! - [`StoreDirectory`] is the directory of a store.
-//! - [`list_files`] and [`list_counts`] list the files of a store.
+//! - [`list_files`], [`list_share`] and [`list_counts`] list the files of a store.
 //! - [`compiler_digest`] is the digest of a compiler's programs on this machine, and
 //!   [`shared_compiler_digest`] that of their contents. [`kept_programs`] says which these are, as a
 //!   store keeps it.
@@ -46,7 +46,7 @@ pub use copies::{
     ComparedFiles, KnownFile, add_known, compared_paths, is_in_snapshot, known_files, may_be_copy,
     may_be_passed_over,
 };
-pub use listing::{StoredFile, list_counts, list_files};
+pub use listing::{StoredFile, list_counts, list_files, list_share};
 pub use path_states::{PathState, PathStates};
 pub use path_statuses::{
     TextStatuses, add_directory_statuses, add_included, text_statuses, unchanged_statuses,
