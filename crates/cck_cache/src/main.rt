@@ -8,7 +8,7 @@
 
 use anyhow::{Result, bail};
 use cck_cache_command::{
-    Environment, is_passed_on, locale, reads_all, run, search_variables, variables,
+    Environment, is_passed_on, locale, max_size, reads_all, run, search_variables, variables,
 };
 use cck_path::Timestamp;
 use jiff::tz::{SystemTimeZone, TimeZoneDatabase};
@@ -44,6 +44,7 @@ fn start(rt: &HostRuntime) -> Result<u8> {
         variables: variables(rt)?,
         locale: locale(rt)?,
         reads_all: reads_all(rt)?,
+        max_size: max_size(rt)?,
         is_passed_on: is_passed_on(rt)?,
         search: search_variables(rt)?,
         id: process::id(rt.process()),

@@ -235,6 +235,12 @@ fn prune_command<'a>(alloc: Global) -> Result<Command<'a>, AllocError> {
     with_store(alloc, command.arg(size)?)
 }
 
+// The command `clear`.
+fn clear_command<'a>(alloc: Global) -> Result<Command<'a>, AllocError> {
+    let command = Command::new(alloc, "clear").about("Removes all entries and objects");
+    with_store(alloc, command)
+}
+
 // The command `why`.
 fn why_command<'a>(alloc: Global) -> Result<Command<'a>, AllocError> {
     let command = Command::new(alloc, "why").about(
@@ -257,7 +263,8 @@ fn with_store_commands<'a>(alloc: Global, program: Command<'a>) -> Result<Comman
     program
         .subcommand(unpack_command(alloc)?)?
         .subcommand(stats_command(alloc)?)?
-        .subcommand(prune_command(alloc)?)
+        .subcommand(prune_command(alloc)?)?
+        .subcommand(clear_command(alloc)?)
 }
 
 /// The whole command line.

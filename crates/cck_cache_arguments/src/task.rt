@@ -134,7 +134,7 @@ pub enum Task<'a> {
         /// The path of the store.
         store: &'a str,
     },
-    /// The removal of files.
+    /// The removal of files: with 0 of all.
     Prune {
         /// The path of the store.
         store: &'a str,
@@ -273,6 +273,7 @@ fn store_task<'a>(name: &str, matches: &ArgMatches<'a>) -> Option<Task<'a>> {
             store,
             max_size: max_size_of(matches)?,
         }),
+        "clear" => Some(Task::Prune { store, max_size: 0 }),
         "unpack" => Some(Task::Unpack {
             store,
             packed: packed_of(matches)?,
@@ -287,7 +288,7 @@ fn task_in<'a>(alloc: Global, matches: &ArgMatches<'a>) -> Result<Option<Task<'a
         return Ok(None);
     };
     match name {
-        "stats" | "prune" | "unpack" => Ok(store_task(name, command)),
+        "stats" | "prune" | "clear" | "unpack" => Ok(store_task(name, command)),
         _ => call_task(alloc, name, command),
     }
 }

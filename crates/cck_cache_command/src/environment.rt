@@ -5,6 +5,7 @@ ghost use Rattle.cck_include.specs.Config.{activated};
 
 use anyhow::{Result, bail};
 use cck_cache_files::SearchVariables;
+use cck_cache_rules::limit_of;
 use cck_include::PreprocessorCacheModeConfig;
 use cck_path::Timestamp;
 use cck_util::request_variable_names;
@@ -64,6 +65,8 @@ pub struct Environment<'a> {
     pub locale: Vec<u8>,
     /// Whether a look-up reads each file that an entry names, whatever its status is.
     pub reads_all: bool,
+    /// The most bytes that the entries and objects of a store may have together. `None` where there is no limit.
+    pub max_size: Option<u64>,
     /// Whether a variable is set with which each call is passed on.
     pub is_passed_on: bool,
     /// The variables by which programs are found. `None` where one of them is not UTF-8.
@@ -191,4 +194,16 @@ pub fn search_variables<R: Env + AllocGlobal>(rt: &R) -> Result<Option<SearchVar
 /// The only error is lack of memory.
 pub fn reads_all<R: Env + AllocGlobal>(rt: &R) -> Result<bool> {
     is_set(rt, "CCK_READ")
+}
+
+/// The limit of a store, in bytes, which the variable `CCK_MAXSIZE` says. `None` where there is no limit. It is
+/// 5000000000 where the variable is not set, or is no size.
+///
+/// The only error is lack of memory.
+pub fn max_size<R: Env + AllocGlobal>(rt: &R) -> Result<Option<u64>> {
+    // One that is not UTF-8 is no size, and neither is an empty one.
+    Ok(match text_of(rt, "CCK_MAXSIZE")? {
+        Some(text) => limit_of(text.as_str()),
+        None => limit_of(""),
+    })
 }

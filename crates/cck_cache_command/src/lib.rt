@@ -13,6 +13,7 @@ mod environment;
 mod included;
 mod input;
 mod judge;
+mod limit;
 mod look;
 mod naming;
 mod outputs;
@@ -32,5 +33,7 @@ mod unnamed;
 mod unpack;
 mod why;
 
-pub use environment::{Environment, is_passed_on, locale, reads_all, search_variables, variables};
+pub use environment::{
+    Environment, is_passed_on, locale, max_size, reads_all, search_variables, variables,
+};
 pub use program::run;

@@ -3,6 +3,7 @@ use crate::call::{CallPaths, print_call, request_of};
 use crate::environment::Environment;
 use crate::input::input_snapshot;
 use crate::judge::{Judged, Passed, judge};
+use crate::limit::limit_shares;
 use crate::look::{Found, Missed, NO_KEY, look};
 use crate::outputs::write_outputs;
 use crate::places::are_free;
@@ -200,8 +201,22 @@ fn count_outcome<R: Files + AllocGlobal>(
     }
 }
 
+// Keeps the store within its limit after a recording. An error changes no result: the next recording there tries
+// again.
+fn limit_store<R: Files + AllocGlobal + Clone + Drop>(
+    rt: &R,
+    environment: &Environment<'_>,
+    store: &StoreDirectory,
+    compilation: &Compilation<'_>,
+    object_name: &str,
+) {
+    if compilation.entry_out.is_none() && compilation.object_out.is_none() {
+        let _ = limit_shares(rt, environment, store, object_name, compilation.key);
+    }
+}
+
 // Records a compilation, whose preprocessed text is read.
-fn run_record<R: Files + AllocGlobal, I: Read, W: Write>(
+fn run_record<R: Files + AllocGlobal + Clone + Drop, I: Read, W: Write>(
     rt: &R,
     environment: &Environment<'_>,
     store: &str,
@@ -215,6 +230,7 @@ fn run_record<R: Files + AllocGlobal, I: Read, W: Write>(
     match record(rt, environment, &store, request, compilation, &text)? {
         Outcome::Recorded(object_name) => {
             count_outcome(rt, &store, compilation, "recorded");
+            limit_store(rt, environment, &store, compilation, &object_name);
             writeln!(writer, "recorded {object_name}")?;
             Ok(DONE)
         }
@@ -235,7 +251,7 @@ fn run_stats<R: Files + AllocGlobal + Clone + Drop, W: Write>(
     writer: &mut W,
 ) -> Result<u8> {
     let store = store_in(rt, environment, store)?;
-    print_stats(rt, &store, writer)?;
+    print_stats(rt, environment, &store, writer)?;
     Ok(DONE)
 }
 
@@ -296,7 +312,7 @@ fn run_look_for_call<R: Files + AllocGlobal, W: Write, E: Write>(
 }
 
 // Does what was asked for with a call that is cached.
-fn run_action<R: Files + AllocGlobal, I: Read, W: Write, E: Write>(
+fn run_action<R: Files + AllocGlobal + Clone + Drop, I: Read, W: Write, E: Write>(
     rt: &R,
     environment: &Environment<'_>,
     action: &Action<'_>,
@@ -329,7 +345,7 @@ fn run_action<R: Files + AllocGlobal, I: Read, W: Write, E: Write>(
 }
 
 // Does what was asked for with a call of a compiler, or prints why the call is not cached.
-fn run_call<R: Files + AllocGlobal, I: Read, W: Write, E: Write>(
+fn run_call<R: Files + AllocGlobal + Clone + Drop, I: Read, W: Write, E: Write>(
     rt: &R,
     environment: &Environment<'_>,
     call: &CompilerCall<'_>,

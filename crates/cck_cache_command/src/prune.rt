@@ -1,14 +1,13 @@
 //! Removes files from a store.
 use crate::environment::Environment;
+use crate::limit::{Removal, remove_to_fit};
 use anyhow::Result;
 use cck_cache_files::{Kind, StoreDirectory, StoredFile, list_files};
-use cck_cache_rules::is_abandoned;
-use std::fs;
-use std::io::{ErrorKind, Write};
+use std::io::Write;
 use std::rt::Files;
 
-// All files of a store, the one that was used longest ago first.
-fn by_use<R: Files + AllocGlobal + Clone + Drop>(
+// The files of the entries and of the objects of a store, in no order.
+fn all_files<R: Files + AllocGlobal + Clone + Drop>(
     rt: &R,
     store: &StoreDirectory,
 ) -> Result<Vec<StoredFile>> {
@@ -16,7 +15,6 @@ fn by_use<R: Files + AllocGlobal + Clone + Drop>(
     for file in list_files(rt, store, Kind::Object)? {
         files.push(file)?;
     }
-    files.sort_by(|a, b| a.used.cmp(&b.used))?;
     Ok(files)
 }
 
@@ -33,25 +31,8 @@ pub fn prune<R: Files + AllocGlobal + Clone + Drop, W: Write>(
     max_size: u64,
     writer: &mut W,
 ) -> Result<()> {
-    let files = by_use(rt, store)?;
-    let mut size = 0u64;
-    for file in &files {
-        size = size.saturating_add(file.size);
-    }
-    let mut removed = 0u64;
-    for file in &files {
-        let is_removed = size > max_size || is_abandoned(file.is_new, file.used, environment.now);
-        if !is_removed {
-            continue;
-        }
-        match fs::remove_file(rt, file.path.as_str()) {
-            Ok(()) => removed = removed.saturating_add(1),
-            // Another process removed it after it was listed: its bytes are not left.
-            Err(error) if error.kind() == ErrorKind::NotFound => {}
-            Err(_) => continue,
-        }
-        size = size.saturating_sub(file.size);
-    }
-    writeln!(writer, "removed {removed} files, {size} bytes left")?;
+    let files = all_files(rt, store)?;
+    let Removal { removed, left } = remove_to_fit(rt, environment, files, max_size)?;
+    writeln!(writer, "removed {removed} files, {left} bytes left")?;
     Ok(())
 }

@@ -8,7 +8,9 @@ use Rattle.std.proofs.lemmas.List.Elements.{All-append, All-push}
 use Rattle.std.proofs.lemmas.Bool.{cond_both}
 use Rattle.std.specs.Option.{MatchOption, option_map, unwrap_or}
 use Rattle.std.specs.Path.{has_no_slash, rfind_below, rsplit_once, slash}
-use Rattle.cck_cache_files.specs.Listing.{AddsFilesIn, AreFileNames, IsFileBelow, IsFileIn, path_in}
+use Rattle.cck_cache_files.specs.Listing.{AddsFilesIn, AreFileNames, IsFileBelow, IsFileIn, IsInShare, path_in}
+use Rattle.cck_cache_files.specs.Paths.{key_directory}
+use Rattle.cck_cache_files.specs.declared.store_directory.Kind.TheVariants.{Entry, Object}
 use Rattle.cck_cache_files.specs.declared.listing.StoredFile.{StoredFile}
 
 -- ---- names
@@ -75,3 +77,12 @@ added_below directory path name old new e all h named =
     let P : List StoredFile → Type 0 = λ files. All (IsFileBelow directory) files in
     subst P (sym h.1) (All-append (IsFileBelow directory) old h.0 all
     (λ k d l. let Q : List ℕ → Type 0 = λ p. IsFileIn p (get_or h.0 k d) in (name, named, subst Q e (h.2 k d l))))
+
+-- the files of the two directories of a share were added to none
+pub share_added : (directory key : List ℕ) (entries all : List StoredFile) → AddsFilesIn (key_directory directory Entry key) [] entries
+    → AddsFilesIn (key_directory directory Object key) entries all → All (IsInShare directory key) all
+share_added directory key entries all first second =
+    let P : List StoredFile → Type 0 = λ files. All (IsInShare directory key) files in
+    let of_entries : All (IsInShare directory key) entries = λ k d l. (Entry, all_added (key_directory directory Entry key) entries first k d l) in
+    let of_objects : All (IsInShare directory key) second.0 = λ k d l. (Object, second.2 k d l) in
+    subst P (sym second.1) (All-append (IsInShare directory key) entries second.0 of_entries of_objects)

@@ -3,6 +3,8 @@ use Rattle.std.specs.Prelude.{◌≡◌, ℕ, List, All, ◌++◌, ◌↔◌, co
 use Rattle.std.specs.Path.{has_no_slash}
 use Rattle.std.specs.Str.Iter.{HasSubslice}
 use Rattle.std.specs.declared.alloc.Global.{Global}
+use Rattle.cck_cache_files.specs.Paths.{key_directory}
+use Rattle.cck_cache_files.specs.declared.store_directory.Kind.{Kind}
 use Rattle.cck_cache_files.specs.declared.listing.StoredFile.{StoredFile}
 
 -- names of what is in a directory
@@ -25,6 +27,10 @@ IsFileIn directory file = (name : List ℕ) × IsTrue (has_no_slash name) × IsF
 -- a file in a directory of this one
 abbrev pub IsFileBelow : List ℕ → StoredFile → Type 0
 IsFileBelow directory file = (name : List ℕ) × IsTrue (has_no_slash name) × IsFileIn (path_in directory name) file
+
+-- a file beside those of this key, in the directory of one of the kinds
+abbrev pub IsInShare : List ℕ → List ℕ → StoredFile → Type 0
+IsInShare directory key file = (kind : Kind) × IsFileIn (key_directory directory kind key) file
 
 -- files of a directory were added after those that were there
 abbrev pub AddsFilesIn : List ℕ → List StoredFile → List StoredFile → Type 0

@@ -15,7 +15,7 @@
 //!   paths lead to one file. [`has_copies`] says whether two files of a text are copies.
 //! - [`StoreDirectory`] is the directory of a store. It has up to [`ENTRY_FILES`] entry files of one
 //!   preprocessor key, each with the name that [`entry_name`] returns.
-//! - [`list_files`] and [`list_counts`] list the files of a store.
+//! - [`list_files`], [`list_share`] and [`list_counts`] list the files of a store.
 //! - [`compiler_digest`] is the digest of a compiler's programs on this machine, and
 //!   [`shared_compiler_digest`] that of their contents. [`kept_programs`] says which these are, as a
 //!   store keeps it.
@@ -49,7 +49,7 @@ pub use copies::{
     may_be_passed_over,
 };
 pub use entry_names::{ENTRY_FILES, entry_name};
-pub use listing::{StoredFile, list_counts, list_files};
+pub use listing::{StoredFile, list_counts, list_files, list_share};
 pub use path_states::{PathState, PathStates};
 pub use path_statuses::{
     TextStatuses, add_directory_statuses, add_included, text_statuses, unchanged_statuses,

@@ -1,7 +1,7 @@
 //! The files of a store.
 ghost use Rattle.std.specs.Prelude.{All, IfOk, IfSome, codes};
 ghost use Rattle.cck_cache_files.specs.Paths.{directory_bytes, kind_name};
-ghost use Rattle.cck_cache_files.specs.Listing.{AddsFilesIn, AreFileNames, IsFileBelow, IsFileIn, IsFileNamed, path_in};
+ghost use Rattle.cck_cache_files.specs.Listing.{AddsFilesIn, AreFileNames, IsFileBelow, IsFileIn, IsFileNamed, IsInShare, path_in};
 
 use crate::store_directory::{Kind, StoreDirectory};
 use crate::times::modified;
@@ -112,6 +112,25 @@ pub fn list_files<R: Files + AllocGlobal + Clone + Drop>(
         let path = format!(in alloc; "{directory}/{name}")?;
         add_files(rt, &mut files, path.as_str())?;
     }
+    Ok(files)
+}
+
+/// The files of the entries and of the objects whose keys begin with the first two digits of this key, in no
+/// order. A file that can't be looked at is left out.
+///
+/// The error is of a directory that is there and can't be read, or lack of memory.
+pub fn list_share<R: Files + AllocGlobal + Clone + Drop>(
+    rt: &R,
+    store: &StoreDirectory,
+    key: &str,
+) -> io::Result<Vec<StoredFile>>
+    ensures { IfOk result (λ files. All (IsInShare (directory_bytes store.now) key.now) files.items) }
+{
+    let entries = store.directory_of(rt, Kind::Entry, key)?;
+    let objects = store.directory_of(rt, Kind::Object, key)?;
+    let mut files = Vec::new(rt.alloc());
+    add_files(rt, &mut files, entries.as_str())?;
+    add_files(rt, &mut files, objects.as_str())?;
     Ok(files)
 }
 

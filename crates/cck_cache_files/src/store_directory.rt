@@ -3,6 +3,7 @@ ghost use Rattle.std.specs.Prelude.{◌≡◌, ◌<ℤ◌, pos, IfOk, IsErr, str
 ghost use Rattle.cck_cache_files.specs.Paths.{IsStoreIn, digest_path, directory_bytes, first_digits, key_directory, key_path, kind_name};
 
 use crate::times::{modified, system_time};
+use cck_cache_rules::is_day_old;
 use cck_path::Timestamp;
 use std::alloc::AllocError;
 use std::fs::{FileTimes, Metadata, OpenFile, OpenOptions};
@@ -101,8 +102,10 @@ impl StoreDirectory {
         self.directory.as_str()
     }
 
-    // The directory of the file of a key.
-    fn directory_of<R: AllocGlobal>(
+    /// The directory of the file of a key.
+    ///
+    /// The only error is lack of memory.
+    pub(crate) fn directory_of<R: AllocGlobal>(
         &self,
         rt: &R,
         kind: Kind,
@@ -245,7 +248,8 @@ impl StoreDirectory {
         }
     }
 
-    /// Sets the time at which the file of a key was used.
+    /// Sets the time at which the file of a key was used, unless the file has one that is no more than a day
+    /// before `now`, or after it.
     ///
     /// The error is of a file that is not there or can't be opened, of a time that can't be set, or
     /// lack of memory; [`ErrorKind::InvalidData`] is of a time that the system does not have, such as
@@ -259,14 +263,18 @@ impl StoreDirectory {
     ) -> io::Result<()>
         ensures { now.seconds <ℤ pos 0 → IsErr result }
     {
+        let Some(time) = system_time(now) else {
+            return Err(io::Error::from(ErrorKind::InvalidData));
+        };
         let path = self.path_of(rt, kind, key)?;
+        let used = modified(&fs::metadata(rt, path.as_str())?);
+        if used.is_some_and(|used| !is_day_old(used, now)) {
+            return Ok(());
+        }
         let mut options = OpenOptions::new();
         options.write(true);
         let file = options.open(rt, path.as_str())?;
-        match system_time(now) {
-            Some(time) => file.set_times(FileTimes::new().set_modified(time)),
-            None => Err(io::Error::from(ErrorKind::InvalidData)),
-        }
+        file.set_times(FileTimes::new().set_modified(time))
     }
 
     /// Counts an event of this name: a byte is appended to the file `counts/NAME`.

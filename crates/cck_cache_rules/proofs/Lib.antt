@@ -11,6 +11,8 @@ mod Examples
 pub mod ListLemmas
 mod ObjectNameLemmas
 pub mod ReadingLemmas
+mod RemovalLemmas
+mod SizeLemmas
 pub mod StoredLemmas
 pub mod TestLemmas
 pub mod TextLemmas

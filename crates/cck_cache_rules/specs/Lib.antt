@@ -10,6 +10,8 @@ pub mod ObjectName
 pub mod PathTest
 pub mod Reading
 pub mod Refusal
+pub mod Removal
 pub mod Shown
+pub mod Size
 pub mod Stored
 pub mod Text

@@ -1,5 +1,5 @@
 //! The rules of a cache over real files: what a store keeps and under which names, which compilations
-//! are portable, what is not recorded, and what a killed recording left.
+//! are portable, what is not recorded, what a killed recording left, and what goes where a store is full.
 //!
 //! All calls are on values: none reads a file.
 //!
@@ -11,7 +11,10 @@
 //! - [`object_name`] returns the name under which an object is kept.
 //! - [`refusal_of`] says why a compilation is not recorded, by what is known before the files of its
 //!   text are judged.
-//! - [`is_abandoned`] says whether a file was left by a recording that was killed.
+//! - [`is_abandoned`] says whether a file was left by a recording that was killed, and [`is_day_old`] whether
+//!   one was last used more than a day ago.
+//! - [`limit_of`] reads the limit of a store, and [`removed_count`] says which files go where there are too many
+//!   bytes.
 //! - [`laws`] states what equal names have in common, which damage a checksum finds in any case, and
 //!   what `==` means for the types.
 //!
@@ -39,11 +42,13 @@ mod object_names;
 mod path_status;
 mod path_test;
 mod refusal;
+mod removal;
 mod shown;
+mod size;
 mod stored;
 mod text;
 
-pub use age::is_abandoned;
+pub use age::{is_abandoned, is_day_old};
 pub use base::{Words, base_of};
 pub use contents::{entry_in, object_in};
 pub use entry_file::EntryFile;
@@ -52,5 +57,7 @@ pub use object_names::object_name;
 pub use path_status::PathStatus;
 pub use path_test::PathTest;
 pub use refusal::{Known, Refusal, refusal_of};
+pub use removal::removed_count;
 pub use shown::shows_base;
+pub use size::{limit_of, size_of};
 pub use text::bases_of;

@@ -1,0 +1,186 @@
+#!/usr/bin/env python3
+"""The limit of a store: CCK_MAXSIZE, the commands `clear` and `stats`, and the time of last use. Many calls are made at
+once at a small limit, with `prune` beside them: each object has to be the plain compiler's, and no share of the store may
+have more than its part, but for what was recorded last. Run by hand; needs gcc and the program (CCK_PROGRAM, by default
+the one that was proved and built here). The last line is `real_limit: N passed, M failed`."""
+import concurrent.futures
+import os
+import subprocess
+import sys
+import tempfile
+import threading
+import time
+
+TOP = os.path.dirname(os.path.dirname(os.path.abspath(__file__)))
+PROGRAM = os.environ.get("CCK_PROGRAM", TOP + "/crates/cck_cache/out/cck_cache")
+WRAPPER = TOP + "/bin/cckcc"
+DEFAULT = 5000000000
+SHARES = 256
+FILES, JOBS, ROUNDS, LIMIT = 200, 8, 2, 200 * 1000
+DAY = 24 * 3600
+# Values of CCK_MAXSIZE, None if it is not set, and the limit that `stats` prints.
+LIMITS = [
+    (None, DEFAULT), ("", DEFAULT), ("0", "none"), ("0k", "none"), ("00", "none"), ("7", 7), ("007", 7),
+    ("2k", 2 * 10 ** 3), ("3M", 3 * 10 ** 6), ("4G", 4 * 10 ** 9), ("5T", 5 * 10 ** 12),
+    ("2Ki", 2 << 10), ("3Mi", 3 << 20), ("4Gi", 4 << 30), ("5Ti", 5 << 40),
+    ("18446744073709551615", 2 ** 64 - 1), ("18446744073709551616", DEFAULT), ("16777216Ti", DEFAULT),
+    ("G", DEFAULT), ("5K", DEFAULT), ("5 G", DEFAULT), ("5GB", DEFAULT), ("5ki", DEFAULT), ("5i", DEFAULT),
+    ("+5", DEFAULT), ("-5", DEFAULT), ("1.5G", DEFAULT), (" 5", DEFAULT), ("5\u00e9", DEFAULT), (b"5\xff", DEFAULT),
+]
+outcomes = []
+
+
+def check(label, is_right, said=""):
+    """Notes whether a case is as it has to be."""
+    outcomes.append(is_right)
+    if not is_right:
+        print(f"FAILED: {label} {said}")
+
+
+def run(words, **variables):
+    """What a command does, with these variables in addition to those of the test; None stands for one that is not set."""
+    known = {name: value for name, value in {**os.environ, "CCK_PROGRAM": PROGRAM, **variables}.items()
+             if value is not None}
+    return subprocess.run(words, capture_output=True, check=False, env=known)
+
+
+def compile_(source, out, store, limit, *words):
+    """A call of the wrapper."""
+    return run([WRAPPER, "gcc", *words, "-c", source, "-o", out], CCK_STORE=store, CCK_MAXSIZE=limit, CCK_LOG=store + ".log")
+
+
+def contents(path):
+    with open(path, "rb") as file:
+        return file.read()
+
+
+def stored(store):
+    """The paths and the sizes of the entry files and object files of a store, in a list for each share."""
+    shares = {}
+    for kind in ("entries", "objects"):
+        for directory, _, names in os.walk(f"{store}/{kind}"):
+            for name in names:
+                path = os.path.join(directory, name)
+                shares.setdefault(os.path.basename(directory), []).append((path, os.path.getsize(path)))
+    return shares
+
+
+def size_of(shares):
+    return sum(size for files in shares.values() for _, size in files)
+
+
+def stats(store, limit=None):
+    """The lines that `stats` prints, as words."""
+    return [line.split() for line in run([PROGRAM, "stats", store], CCK_MAXSIZE=limit).stdout.decode().splitlines()]
+
+
+def prune_beside(store, done):
+    """Prunes a store again and again until a build is done."""
+    while not done.wait(0.05):
+        said = run([PROGRAM, "prune", store, "--max-size", str(LIMIT)])
+        if said.returncode != 0 or not said.stdout.startswith(b"removed "):
+            check("prune beside a build", False, said.stdout)
+
+
+def build(store, limit, is_pruned):
+    """Compiles all files at once, some times with other arguments. All outputs have to be the plain compiler's."""
+    done = threading.Event()
+    beside = threading.Thread(target=prune_beside, args=(store, done))
+    if is_pruned:
+        beside.start()
+    with concurrent.futures.ThreadPoolExecutor(JOBS) as pool:
+        for number in range(ROUNDS):
+            made = list(pool.map(lambda i, n=number: compile_(f"s{i}.c", f"s{i}.o", store, limit, f"-DR={n}"), range(FILES)))
+            wrong = [i for i, call in enumerate(made)
+                     if call.returncode != 0 or call.stdout or call.stderr
+                     or contents(f"s{i}.o") != contents(f"plain{number}/s{i}.o")]
+            check(f"objects at the limit {limit}", not wrong, wrong)
+    done.set()
+    if is_pruned:
+        beside.join()
+
+
+def limited(store):
+    """A build at a small limit, and one without a limit beside which it is seen."""
+    for i in range(FILES):
+        with open(f"s{i}.c", "w", encoding="ascii") as file:
+            file.write(f"#include \"s.h\"\nint f{i}(void) {{ return {i} + R + s; }}\n")
+    with open("s.h", "w", encoding="ascii") as file:
+        file.write("static int s = 1;\n")
+    with concurrent.futures.ThreadPoolExecutor(JOBS) as pool:
+        for number in range(ROUNDS):
+            os.mkdir(f"plain{number}")
+            list(pool.map(lambda i, n=number: run(["gcc", f"-DR={n}", "-c", f"s{i}.c", "-o", f"plain{n}/s{i}.o"]), range(FILES)))
+    time.sleep(0.05)
+    compile_("s0.c", "s0.o", store, "0", "-DR=0")  # The compiler is known from here on.
+    build(store, "0", False)
+    whole = size_of(stored(store))
+    run([PROGRAM, "clear", store])
+    build(store, f"{LIMIT // 1000}k", True)
+    shares = stored(store)
+    part = LIMIT // SHARES
+    over = {share: files for share, files in shares.items() if sum(size for _, size in files) > part}
+    # A share with more than its part has what was recorded last alone: a file, or an object and its entry.
+    check("shares with more than their part", all(
+        len(files) == 1 or [path.split("/")[-3] for path, _ in files] == ["entries", "objects"] for files in over.values()), over)
+    newest = sum(size for files in over.values() for _, size in files)
+    left = size_of(shares)
+    check("size of the store", left <= 1.1 * LIMIT + newest and left < whole, f"{left} of {whole}")
+    print(f"without a limit {whole} bytes; at the limit {LIMIT} {left} bytes, {newest} of them in {len(over)} shares")
+
+
+def shown(store):
+    """The lines `size` and `limit` of `stats`."""
+    said = dict(words for words in stats(store) if len(words) == 2)
+    check("stats: size", said.get("size") == str(size_of(stored(store))), said)
+    for value, limit in LIMITS:
+        said = dict(words for words in stats(store, value) if len(words) == 2)
+        check(f"CCK_MAXSIZE={value!r}", said.get("limit") == str(limit), said)
+
+
+def cleared(store):
+    """What `clear` removes."""
+    before = [words for words in stats(store) if words[0] == "count"]
+    number = sum(len(files) for files in stored(store).values())
+    said = run([PROGRAM, "clear", store]).stdout.decode()
+    check("clear", said == f"removed {number} files, 0 bytes left\n" and not stored(store), said)
+    after = [words for words in stats(store) if words[0] == "count"]
+    check("clear leaves the counts", before and before == after, after)
+    check("clear leaves the compilers", os.listdir(store + "/compilers") and os.path.exists(store + "/VERSION"))
+
+
+def touched(store):
+    """When a hit sets the times of its two files."""
+    compile_("s1.c", "s1.o", store, None, "-DR=0")
+    paths = [path for files in stored(store).values() for path, _ in files]
+    check("one recording", len(paths) == 2, paths)
+    now = time.time()
+    for label, age, is_set in (("two days", 2 * DAY, True), ("an hour", 3600, False), ("23 hours", DAY - 3600, False),
+                               ("25 hours", DAY + 3600, True), ("an hour ahead", -3600, False)):
+        for path in paths:
+            os.utime(path, (now - age, now - age))
+        before = [os.stat(path).st_mtime for path in paths]
+        compile_("s1.c", "s1.o", store, None, "-DR=0")
+        after = [os.stat(path).st_mtime for path in paths]
+        check(f"time after {label}", all(now - 1 <= time_ <= time.time() + 1 for time_ in after) if is_set else before == after,
+              after)
+    check("hits", contents(store + ".log").count(b"cckcc: hit") >= 5)
+
+
+def main():
+    if not os.path.exists(PROGRAM):
+        sys.exit(f"{PROGRAM}: not there")
+    with tempfile.TemporaryDirectory() as room:
+        os.chdir(room)
+        store = room + "/store"
+        limited(store)
+        shown(store)
+        cleared(store)
+        touched(store)
+        os.chdir("/")
+    print(f"real_limit: {outcomes.count(True)} passed, {outcomes.count(False)} failed")
+    sys.exit(0 if all(outcomes) else 1)
+
+
+if __name__ == "__main__":
+    main()
