@@ -151,7 +151,7 @@ def removed(project):
         if not project.build():
             return f"state {state}: another output"
     words = project.logged()
-    changed = SOURCES // 2 + 1
+    changed = SOURCES // 2  # those that include the header, once in each of the two states
     return None if words["hit"] == 4 * SOURCES - 2 * changed else f"the others: {dict(words)}"
 
 
