@@ -132,6 +132,9 @@ def shown(store):
 def cleared(store):
     """What `clear` removes."""
     before = [words for words in stats(store) if words[0] == "count"]
+    for kind in ("entries", "objects"):  # as after a loss of power
+        os.makedirs(f"{store}/{kind}/ab", exist_ok=True)
+        open(f"{store}/{kind}/ab/ab", "wb").close()
     number = sum(len(files) for files in stored(store).values())
     said = run([PROGRAM, "clear", store]).stdout.decode()
     check("clear", said == f"removed {number} files, 0 bytes left\n" and not stored(store), said)
