@@ -1,8 +1,9 @@
 #!/usr/bin/env python3
 """The limit of a store: CCK_MAXSIZE, the commands `clear` and `stats`, and the time of last use. Many calls are made at
-once at a small limit, with `prune` beside them: each object has to be the plain compiler's, and no share of the store may
-have more than its part, but for what was recorded last. Run by hand; needs gcc and the program (CCK_PROGRAM, by default
-the one that was proved and built here). The last line is `real_limit: N passed, M failed`."""
+once at a small limit, with `prune` beside them: each object has to be the plain compiler's, and no share of the store
+may have more than its part, but for what was recorded last. Run by hand; needs gcc and the program (CCK_PROGRAM, by
+default the one that was proved and built here). FILES is the number of these calls. The last line is
+`real_limit: N passed, M failed`."""
 import concurrent.futures
 import os
 import subprocess
@@ -16,7 +17,8 @@ PROGRAM = os.environ.get("CCK_PROGRAM", TOP + "/crates/cck_cache/out/cck_cache")
 WRAPPER = TOP + "/bin/cckcc"
 DEFAULT = 5000000000
 SHARES = 256
-FILES, JOBS, ROUNDS, LIMIT = 200, 8, 2, 200 * 1000
+FILES, JOBS = int(os.environ.get("FILES", "200")), 8
+LIMIT = FILES * 3000
 DAY = 24 * 3600
 # Values of CCK_MAXSIZE, None if it is not set, and the limit that `stats` prints.
 LIMITS = [
@@ -38,15 +40,15 @@ def check(label, is_right, said=""):
 
 
 def run(words, **variables):
-    """What a command does, with these variables in addition to those of the test; None stands for one that is not set."""
+    """What a command does, with these variables beside those of the test. None stands for one that is not set."""
     known = {name: value for name, value in {**os.environ, "CCK_PROGRAM": PROGRAM, **variables}.items()
              if value is not None}
     return subprocess.run(words, capture_output=True, check=False, env=known)
 
 
-def compile_(source, out, store, limit, *words):
+def compile_(source, out, store, limit):
     """A call of the wrapper."""
-    return run([WRAPPER, "gcc", *words, "-c", source, "-o", out], CCK_STORE=store, CCK_MAXSIZE=limit, CCK_LOG=store + ".log")
+    return run([WRAPPER, "gcc", "-c", source, "-o", out], CCK_STORE=store, CCK_MAXSIZE=limit, CCK_LOG=store + ".log")
 
 
 def contents(path):
@@ -82,51 +84,40 @@ def prune_beside(store, done):
             check("prune beside a build", False, said.stdout)
 
 
-def build(store, limit, is_pruned):
-    """Compiles all files at once, some times with other arguments. All outputs have to be the plain compiler's."""
-    done = threading.Event()
-    beside = threading.Thread(target=prune_beside, args=(store, done))
-    if is_pruned:
-        beside.start()
-    with concurrent.futures.ThreadPoolExecutor(JOBS) as pool:
-        for number in range(ROUNDS):
-            made = list(pool.map(lambda i, n=number: compile_(f"s{i}.c", f"s{i}.o", store, limit, f"-DR={n}"), range(FILES)))
-            wrong = [i for i, call in enumerate(made)
-                     if call.returncode != 0 or call.stdout or call.stderr
-                     or contents(f"s{i}.o") != contents(f"plain{number}/s{i}.o")]
-            check(f"objects at the limit {limit}", not wrong, wrong)
-    done.set()
-    if is_pruned:
-        beside.join()
-
-
 def limited(store):
-    """A build at a small limit, and one without a limit beside which it is seen."""
-    for i in range(FILES):
-        with open(f"s{i}.c", "w", encoding="ascii") as file:
-            file.write(f"#include \"s.h\"\nint f{i}(void) {{ return {i} + R + s; }}\n")
+    """A build at a small limit. All outputs have to be the plain compiler's."""
     with open("s.h", "w", encoding="ascii") as file:
         file.write("static int s = 1;\n")
-    with concurrent.futures.ThreadPoolExecutor(JOBS) as pool:
-        for number in range(ROUNDS):
-            os.mkdir(f"plain{number}")
-            list(pool.map(lambda i, n=number: run(["gcc", f"-DR={n}", "-c", f"s{i}.c", "-o", f"plain{n}/s{i}.o"]), range(FILES)))
+    for i in range(FILES):
+        with open(f"s{i}.c", "w", encoding="ascii") as file:
+            file.write(f"#include \"s.h\"\nint f{i}(void) {{ return {i} + s; }}\n")
     time.sleep(0.05)
-    compile_("s0.c", "s0.o", store, "0", "-DR=0")  # The compiler is known from here on.
-    build(store, "0", False)
-    whole = size_of(stored(store))
-    run([PROGRAM, "clear", store])
-    build(store, f"{LIMIT // 1000}k", True)
+    compile_("s0.c", "s0.o", store, "0")  # The compiler is known from here on.
+    done = threading.Event()
+    beside = threading.Thread(target=prune_beside, args=(store, done))
+    beside.start()
+    with concurrent.futures.ThreadPoolExecutor(JOBS) as pool:
+        made = list(pool.map(lambda i: compile_(f"s{i}.c", f"s{i}.o", store, f"{LIMIT // 1000}k"), range(FILES)))
+        done.set()
+        list(pool.map(lambda i: run(["gcc", "-c", f"s{i}.c", "-o", f"p{i}.o"]), range(FILES)))
+    beside.join()
+    wrong = [i for i, call in enumerate(made) if call.returncode != 0 or call.stdout or call.stderr
+             or contents(f"s{i}.o") != contents(f"p{i}.o")]
+    check("objects of a build at a small limit", not wrong, wrong)
     shares = stored(store)
     part = LIMIT // SHARES
     over = {share: files for share, files in shares.items() if sum(size for _, size in files) > part}
-    # A share with more than its part has what was recorded last alone: a file, or an object and its entry.
-    check("shares with more than their part", all(
-        len(files) == 1 or [path.split("/")[-3] for path, _ in files] == ["entries", "objects"] for files in over.values()), over)
-    newest = sum(size for files in over.values() for _, size in files)
-    left = size_of(shares)
-    check("size of the store", left <= 1.1 * LIMIT + newest and left < whole, f"{left} of {whole}")
-    print(f"without a limit {whole} bytes; at the limit {LIMIT} {left} bytes, {newest} of them in {len(over)} shares")
+    # A share with more than its part has what was recorded last alone: a file, or an entry and its object.
+    right = [len(files) == 1 or [path.split("/")[-3] for path, _ in files] == ["entries", "objects"]
+             for files in over.values()]
+    check("shares with more than their part", all(right), over)
+    last = sum(size for files in over.values() for _, size in files)
+    left, number = size_of(shares), sum(len(files) for files in shares.values())
+    recorded = contents(store + ".log").count(b"cckcc: recorded")
+    check("size of the store", left <= 1.1 * LIMIT + last, f"{left} of {LIMIT}")
+    check("some files were removed", recorded == FILES and number < 2 * FILES, f"{recorded} {number}")
+    print(f"{recorded} recordings at the limit {LIMIT}: {number} files of {left} bytes are left, {last} of them in"
+          f" {len(over)} shares with more than their part")
 
 
 def shown(store):
@@ -141,6 +132,9 @@ def shown(store):
 def cleared(store):
     """What `clear` removes."""
     before = [words for words in stats(store) if words[0] == "count"]
+    for kind in ("entries", "objects"):  # as after a loss of power
+        os.makedirs(f"{store}/{kind}/ab", exist_ok=True)
+        open(f"{store}/{kind}/ab/ab", "wb").close()
     number = sum(len(files) for files in stored(store).values())
     said = run([PROGRAM, "clear", store]).stdout.decode()
     check("clear", said == f"removed {number} files, 0 bytes left\n" and not stored(store), said)
@@ -151,20 +145,22 @@ def cleared(store):
 
 def touched(store):
     """When a hit sets the times of its two files."""
-    compile_("s1.c", "s1.o", store, None, "-DR=0")
+    compile_("s1.c", "s1.o", store, None)
     paths = [path for files in stored(store).values() for path, _ in files]
     check("one recording", len(paths) == 2, paths)
+    before_hits = contents(store + ".log").count(b"cckcc: hit")
     now = time.time()
     for label, age, is_set in (("two days", 2 * DAY, True), ("an hour", 3600, False), ("23 hours", DAY - 3600, False),
                                ("25 hours", DAY + 3600, True), ("an hour ahead", -3600, False)):
         for path in paths:
             os.utime(path, (now - age, now - age))
         before = [os.stat(path).st_mtime for path in paths]
-        compile_("s1.c", "s1.o", store, None, "-DR=0")
+        compile_("s1.c", "s1.o", store, None)
         after = [os.stat(path).st_mtime for path in paths]
-        check(f"time after {label}", all(now - 1 <= time_ <= time.time() + 1 for time_ in after) if is_set else before == after,
-              after)
-    check("hits", contents(store + ".log").count(b"cckcc: hit") >= 5)
+        is_now = all(now - 1 <= moment <= time.time() + 1 for moment in after)
+        check(f"time after {label}", is_now if is_set else before == after, after)
+    hits = contents(store + ".log").count(b"cckcc: hit") - before_hits
+    check("hits", hits == 5, hits)
 
 
 def main():

@@ -134,12 +134,17 @@ pub enum Task<'a> {
         /// The path of the store.
         store: &'a str,
     },
-    /// The removal of files: with 0 of all.
+    /// The removal of files.
     Prune {
         /// The path of the store.
         store: &'a str,
         /// The most bytes that its files may have together.
         max_size: u64,
+    },
+    /// The removal of all entries and objects.
+    Clear {
+        /// The path of the store.
+        store: &'a str,
     },
 }
 
@@ -273,7 +278,7 @@ fn store_task<'a>(name: &str, matches: &ArgMatches<'a>) -> Option<Task<'a>> {
             store,
             max_size: max_size_of(matches)?,
         }),
-        "clear" => Some(Task::Prune { store, max_size: 0 }),
+        "clear" => Some(Task::Clear { store }),
         "unpack" => Some(Task::Unpack {
             store,
             packed: packed_of(matches)?,

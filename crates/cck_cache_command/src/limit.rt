@@ -57,6 +57,18 @@ fn remove<R: Files + AllocGlobal>(rt: &R, file: &StoredFile, so_far: Removal) ->
     }
 }
 
+/// Removes all these files. A file that can't be removed counts as left.
+pub fn remove_all<R: Files + AllocGlobal>(rt: &R, files: &[StoredFile]) -> Removal {
+    let mut removal = Removal {
+        removed: 0,
+        left: total_size(files),
+    };
+    for file in files {
+        removal = remove(rt, file, removal);
+    }
+    removal
+}
+
 /// Removes those of these files that were used longest ago, until the others have no more than `most` bytes
 /// together, and those that killed recordings left. A file that can't be removed counts as left.
 ///

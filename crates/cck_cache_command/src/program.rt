@@ -8,7 +8,7 @@ use crate::look::{Found, Missed, NO_KEY, look};
 use crate::outputs::write_outputs;
 use crate::places::are_free;
 use crate::programs::{Named, programs_of};
-use crate::prune::prune;
+use crate::prune::{clear, prune};
 use crate::record::{Outcome, record};
 use crate::request::request_key;
 use crate::stats::print_stats;
@@ -268,6 +268,18 @@ fn run_prune<R: Files + AllocGlobal + Clone + Drop, W: Write>(
     Ok(DONE)
 }
 
+// Removes all entries and objects from a store.
+fn run_clear<R: Files + AllocGlobal + Clone + Drop, W: Write>(
+    rt: &R,
+    environment: &Environment<'_>,
+    store: &str,
+    writer: &mut W,
+) -> Result<u8> {
+    let store = store_in(rt, environment, store)?;
+    clear(rt, &store, writer)?;
+    Ok(DONE)
+}
+
 // Prints why a look-up misses, or that the request has no preprocessor key.
 fn run_why<R: Files + AllocGlobal, W: Write>(
     rt: &R,
@@ -405,6 +417,7 @@ fn run_task<R: Files + AllocGlobal + Clone + Drop, I: Read, W: Write, E: Write>(
         ),
         Task::Stats { store } => run_stats(rt, environment, store, writer),
         Task::Prune { store, max_size } => run_prune(rt, environment, store, *max_size, writer),
+        Task::Clear { store } => run_clear(rt, environment, store, writer),
     }
 }
 

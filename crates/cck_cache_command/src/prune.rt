@@ -1,6 +1,6 @@
 //! Removes files from a store.
 use crate::environment::Environment;
-use crate::limit::{Removal, remove_to_fit};
+use crate::limit::{Removal, remove_all, remove_to_fit};
 use anyhow::Result;
 use cck_cache_files::{Kind, StoreDirectory, StoredFile, list_files};
 use std::io::Write;
@@ -18,6 +18,13 @@ fn all_files<R: Files + AllocGlobal + Clone + Drop>(
     Ok(files)
 }
 
+// Prints what a removal did.
+fn print_removal<W: Write>(removal: Removal, writer: &mut W) -> Result<()> {
+    let Removal { removed, left } = removal;
+    writeln!(writer, "removed {removed} files, {left} bytes left")?;
+    Ok(())
+}
+
 /// Removes the files of `entries` and `objects` that were used longest ago, until those that are left
 /// have no more than this many bytes, and the files there that killed recordings left. Prints how many
 /// were removed and how many bytes are left. A file that can't be removed counts as left.
@@ -32,7 +39,20 @@ pub fn prune<R: Files + AllocGlobal + Clone + Drop, W: Write>(
     writer: &mut W,
 ) -> Result<()> {
     let files = all_files(rt, store)?;
-    let Removal { removed, left } = remove_to_fit(rt, environment, files, max_size)?;
-    writeln!(writer, "removed {removed} files, {left} bytes left")?;
-    Ok(())
+    let removal = remove_to_fit(rt, environment, files, max_size)?;
+    print_removal(removal, writer)
+}
+
+/// Removes all files of `entries` and `objects`, also those that a recording is writing. Prints what [`prune`]
+/// prints.
+///
+/// The error is of a directory that can't be read, a failed write, or lack of memory. After a failed
+/// write the files are removed.
+pub fn clear<R: Files + AllocGlobal + Clone + Drop, W: Write>(
+    rt: &R,
+    store: &StoreDirectory,
+    writer: &mut W,
+) -> Result<()> {
+    let files = all_files(rt, store)?;
+    print_removal(remove_all(rt, &files), writer)
 }
