@@ -1,10 +1,10 @@
 -- the paths at which headers are looked for and which a text does not name
-use Rattle.std.specs.Prelude.{◌≡◌, ◌≢◌, ◌<◌, ◌⊎◌, ℕ, true, List, Contains, IsTrue, Option, Some, None, length, map}
-use Rattle.std.specs.BTreeSet.{BTreeSet}
-use Rattle.std.specs.Global.{Vec}
+use Rattle.std.specs.Prelude.{◌≡◌, ◌≢◌, ◌⊎◌, ◌++◌, Bool, true, false, List, [], Contains, IsTrue, MatchBool, Option, Some, None, length, map}
+use Rattle.cck_cache_command.specs.Absence.{IsAbsentAt}
 use Rattle.cck_cache_command.specs.Copies.{MayImport}
 use Rattle.cck_cache_command.specs.declared.unnamed.Presence.{Presence}
-use Rattle.cck_cache_command.specs.declared.unnamed.Presence.TheVariants.{Unread, There, Unknown}
+use Rattle.cck_cache_command.specs.declared.unnamed.Presence.TheVariants as presence
+use Rattle.cck_cache_command.specs.declared.unnamed.Spellings.{Spellings}
 use Rattle.cck_cache_command.specs.declared.unnamed.Unnamed.{Unnamed}
 use Rattle.cck_cache_command.specs.declared.unnamed.Unnamed.TheVariants.{Tests, Refused}
 use Rattle.cck_cache_command.specs.declared.unnamed.UnnamedVerdict.{UnnamedVerdict}
@@ -12,7 +12,7 @@ use Rattle.cck_cache_command.specs.declared.unnamed.UnnamedVerdict.TheVariants.{
 use Rattle.cck_cache_text.specs.Left.{IsLeftOn}
 use Rattle.cck_cache_text.specs.LookedAt.{IsLookedAt}
 use Rattle.cck_cache_text.specs.Names.{is_named}
-use Rattle.cck_cache_rules.specs.PathTest.{Test, Directory, tests_of}
+use Rattle.cck_cache_rules.specs.PathTest.{Test, Absent, Directory, File, Searched, tests_of}
 use Rattle.cck_cache_text.specs.SearchList.{IsSearchList, SearchFields}
 use Rattle.cck_cache_text.specs.Sets.{has_key}
 use Rattle.cck_cache_files.specs.Copies.{AreKnown, IsInSnapshot}
@@ -29,10 +29,16 @@ use Rattle.cck_path.specs.Bytes.{Bytes}
 use Rattle.cck_path.specs.Path.{components, normal}
 use Rattle.cck_path.specs.Text.{join_path, path_text}
 
+-- a test that holds of a path as long as gcc reads nothing there: nothing is there, by the first part of the path at which there is nothing, or a directory
+abbrev pub IsUnreadTest : PathStates → Bytes → Test → Type 0
+IsUnreadTest states path (Absent absent) = IsAbsentAt states path absent
+IsUnreadTest states path (Directory directory) = (directory ≡ path) × IsFirstOther states path path state.Directory
+IsUnreadTest states path (File file) = ⊥
+IsUnreadTest states path (Searched file place) = ⊥
+
 -- gcc reads nothing at a path: nothing is there, a file is on the way to it, or a directory is there
 abbrev pub IsUnread : PathStates → Bytes → Type 0
-IsUnread states path =
-    (front : Bytes) × (IsFirstOther states path front state.Absent ⊎ (((length front < length path) × IsFirstOther states path front state.File) ⊎ IsFirstOther states path front state.Directory))
+IsUnread states path = (test : Test) × IsUnreadTest states path test
 
 -- a regular file or a link is at a path
 abbrev pub IsThere : PathStates → Bytes → Type 0
@@ -64,9 +70,10 @@ IsUnclear states path = IsThere states path ⊎ ((front : Bytes) × IsFirstOther
 
 -- what is at a path by the states
 abbrev pub IsPresence : PathStates → Bytes → Presence → Type 0
-IsPresence states path Unread = IsUnread states path
-IsPresence states path There = IsThere states path
-IsPresence states path Unknown = (front : Bytes) × IsFirstOther states path front state.Doubtful
+IsPresence states path (presence.Absent absent) = IsAbsentAt states path absent.now
+IsPresence states path presence.Directory = IsFirstOther states path path state.Directory
+IsPresence states path presence.There = IsThere states path
+IsPresence states path presence.Unknown = (front : Bytes) × IsFirstOther states path front state.Doubtful
 
 -- what is to be made of a path
 abbrev pub IsUnnamedVerdict : PathStates → FileMap → Bytes → UnnamedVerdict → Type 0
@@ -85,19 +92,67 @@ pub record AreFronts (states : PathStates) (files : FileMap) (directory : Bytes)
 abbrev pub HasUnclear : PathStates → Bytes → (Bytes → Type 0) → Type 0
 HasUnclear states directory IsName = (name : Bytes) × IsName name × IsUnclear states (join_path directory name)
 
--- exactly the directories that the names leave which are other spellings; or one of the names is unclear
-abbrev pub AreSpellings : PathStates → FileMap → Bytes → (Bytes → Type 0) → Option (BTreeSet (Vec ℕ)) → Type 0
+-- one of the names is another spelling, or each is passed
+abbrev pub HasSpelling : PathStates → FileMap → Bytes → (Bytes → Type 0) → Type 0
+HasSpelling states files directory IsName = (name : Bytes) × IsName name × IsSpelling states files (join_path directory name)
+
+abbrev pub AreAllPassed : PathStates → FileMap → Bytes → (Bytes → Type 0) → Type 0
+AreAllPassed states files directory IsName = (name : Bytes) → IsName name → IsPassed states files (join_path directory name)
+
+-- whether one of the names is another spelling, and exactly the directories that such names leave; or one of the names is unclear
+abbrev pub AreSpellings : PathStates → FileMap → Bytes → (Bytes → Type 0) → Option Spellings → Type 0
 AreSpellings states files directory IsName None = HasUnclear states directory IsName
-AreSpellings states files directory IsName (Some left) = AreFronts states files directory IsName (λ front. IsTrue (has_key left front))
+AreSpellings states files directory IsName (Some found) =
+    MatchBool found.is_any (HasSpelling states files directory IsName) (AreAllPassed states files directory IsName)
+    × AreFronts states files directory IsName (λ front. IsTrue (has_key found.left front))
+
+-- a list has the tests that it had, this one, and no other
+pub record GainsTest (old : List Test) (test : Test) (new : List Test) : Type 0 where
+  pub kept : (t : Test) → Contains old t → Contains new t
+  pub gained : Contains new test
+  pub only : (t : Test) → Contains new t → Contains old t ⊎ (t ≡ test)
+
+-- For each of these names, which are relative to the directory, a file or a link is at its path, or one of the tests holds as long as gcc reads nothing
+-- there; and each test is for a name.
+pub record AreUnreadTests (states : PathStates) (directory : Bytes) (IsName : Bytes → Type 0) (tests : List Test) : Type 0 where
+  pub each : (name : Bytes) → IsName name → IsThere states (join_path directory name) ⊎ ((test : Test) × Contains tests test × IsUnreadTest states (join_path directory name) test)
+  pub only : (test : Test) → Contains tests test → (name : Bytes) × IsName name × IsUnreadTest states (join_path directory name) test
+
+-- such tests, where they are wanted, and else none; or one of the names is unclear
+abbrev pub AreUnreadWhere : Bool → PathStates → Bytes → (Bytes → Type 0) → Option (List Test) → Type 0
+AreUnreadWhere is_wanted states directory IsName None = HasUnclear states directory IsName
+AreUnreadWhere true states directory IsName (Some tests) = AreUnreadTests states directory IsName tests
+AreUnreadWhere false states directory IsName (Some tests) = tests ≡ []
+
+-- Such tests, if one of the names is another spelling: gcc may have passed over a file by it, and came to it as it read nothing before. There are none
+-- if each name is passed.
+abbrev pub AreUnreadBySpelling : PathStates → FileMap → Bytes → (Bytes → Type 0) → List Test → Type 0
+AreUnreadBySpelling states files directory IsName tests =
+    (HasSpelling states files directory IsName × AreUnreadTests states directory IsName tests) ⊎ (AreAllPassed states files directory IsName × (tests ≡ []))
+
+-- the tests of these names: those of the paths at which gcc reads nothing, and at each directory that another spelling leaves there has to be a directory
+pub record AreTestsOfNames (states : PathStates) (files : FileMap) (directory : Bytes) (IsName : Bytes → Type 0) (tests : List Test) : Type 0 where
+  pub unread : List Test
+  pub unread_are : AreUnreadBySpelling states files directory IsName unread
+  pub fronts : List Bytes
+  pub fronts_are : AreFronts states files directory IsName (Contains fronts)
+  pub tests_are : tests ≡ unread ++ map Directory fronts
+
+-- the tests of these names; or one of them is unclear
+abbrev pub AreFound : PathStates → FileMap → Bytes → (Bytes → Type 0) → Option (List Test) → Type 0
+AreFound states files directory IsName None = HasUnclear states directory IsName
+AreFound states files directory IsName (Some tests) = AreTestsOfNames states files directory IsName tests
 
 -- The tests of the paths at which the headers of a text and of these arguments are looked for, by what the compiler printed of its directories: none of
--- the paths is unclear, and at each directory that another spelling leaves there has to be a directory.
+-- the paths is unclear.
 pub record AreUnnamedTests (states : PathStates) (files : FileMap) (directory text : Bytes) (arguments : List Bytes) (printed : Bytes) (tests : List Test) : Type 0 where
   pub search : SearchFields
   pub is_search : IsSearchList printed (Some search)
+  pub unread : List Test
+  pub unread_are : (marks : List Mark) → Marks true text marks → AreUnreadBySpelling states files directory (IsLookedAt marks text arguments search.directories) unread
   pub fronts : List Bytes
   pub fronts_are : (marks : List Mark) → Marks true text marks → AreFronts states files directory (IsLookedAt marks text arguments search.directories) (Contains fronts)
-  pub tests_are : tests ≡ map Directory fronts
+  pub tests_are : tests ≡ unread ++ map Directory fronts
 
 -- a path at which a header is looked for is unclear
 pub record HasUnclearPath (states : PathStates) (directory text : Bytes) (arguments : List Bytes) (printed : Bytes) : Type 0 where

@@ -1,7 +1,8 @@
 //! The paths at which gcc looks for headers, and which the text does not name.
-ghost use Rattle.std.specs.Prelude.{◌≡◌, IfOk, IfSome, IsOkUnless, IsTrue, MatchBool, OnOk};
+ghost use Rattle.std.specs.Prelude.{◌≡◌, Contains, IfOk, IfSome, IsOkUnless, IsTrue, MatchBool, OnOk, true};
 ghost use Rattle.std.specs.Option.{option_map};
-ghost use Rattle.cck_cache_command.specs.Unnamed.{AreCompared, AreSpellings, IsPresence, IsThere, IsUnnamed, IsUnnamedVerdict, KeepsKnown, LeadsNotTo, LeadsTo};
+ghost use Rattle.cck_cache_command.specs.Unnamed.{AreCompared, AreFound, AreSpellings, AreUnreadWhere, GainsTest, IsPresence, IsThere, IsUnnamed, IsUnnamedVerdict, KeepsKnown, LeadsNotTo, LeadsTo};
+ghost use Rattle.cck_cache_rules.specs.PathTest.{Absent, Directory, test_of, tests_of};
 ghost use Rattle.cck_cache_text.specs.Sets.{has_key};
 ghost use Rattle.cck_cache_files.specs.PathStates.{KeepsStates};
 ghost use Rattle.cck_files.specs.Calls.{Keeps};
@@ -12,8 +13,8 @@ use crate::absence::add_directories;
 use crate::copies::may_import;
 use crate::preprocessed::Preprocessed;
 use cck_cache_files::{
-    ComparedFiles, KnownFile, PathState, PathStates, add_known, compared_paths, is_in_snapshot,
-    is_one_file, known_files, may_be_copy, may_be_passed_over,
+    ComparedFiles, KnownFile, PathState, PathStates, add_known, compared_paths,
+    is_doubtful_spelling, is_file, is_in_snapshot, is_one_file, known_files, may_be_copy,
 };
 use cck_cache_rules::{PathTest, Refusal};
 use cck_cache_text::{SearchList, add_left, looked_at_paths};
@@ -27,16 +28,19 @@ use std::rt::Files;
 /// What is found of the paths at which headers are looked for.
 #[derive(Drop)]
 pub enum Unnamed {
-    /// These tests hold. As long as that is so, another spelling of the path of a file leads to it.
+    /// These tests hold. As long as that is so, another spelling of the path of a file leads to it, and
+    /// gcc finds no other file before it comes to one.
     Tests(Vec<PathTest>),
     /// The compilation is not recorded.
     Refused(Refusal),
 }
 
 // What there is at a path.
-enum Presence {
-    // Nothing that is read: nothing, a directory, or a file on the way.
-    Unread,
+enum Presence<'a> {
+    // Nothing: there is nothing at this path, which leads to it.
+    Absent(&'a [u8]),
+    // A directory, which gcc does not read.
+    Directory,
     // A regular file or a link.
     There,
     // It is not known.
@@ -54,20 +58,22 @@ enum UnnamedVerdict {
 }
 
 // What there is at an absolute path.
-fn presence_at<R: Files + AllocGlobal>(
+fn presence_at<'a, R: Files + AllocGlobal>(
     rt: &R,
     states: &mut PathStates,
-    path: &[u8],
-) -> Result<Presence, AllocError>
+    path: &'a [u8],
+) -> Result<Presence<'a>, AllocError>
     ensures presence { IfOk result (IsPresence states.new path.now) }
     ensures kept { KeepsStates states.old states.new }
 {
     let (front, state) = states.first_other(rt, path)?;
     match state {
-        PathState::Absent | PathState::Directory => Ok(Presence::Unread),
+        PathState::Absent => Ok(Presence::Absent(front)),
+        PathState::Directory => Ok(Presence::Directory),
+        // Below a file there is nothing. A directory may come in its place.
         PathState::File => {
             if front.len() < path.len() {
-                Ok(Presence::Unread)
+                Ok(Presence::Absent(path))
             } else {
                 Ok(Presence::There)
             }
@@ -115,7 +121,7 @@ fn verdict_there<R: Files + AllocGlobal>(
 {
     let whole = normalize_path(rt.alloc(), path)?;
     if leads_to(rt, files, states, path, &whole)? {
-        if may_be_passed_over(rt, path, compared) {
+        if is_doubtful_spelling(rt, &whole, compared) {
             return Ok(UnnamedVerdict::Doubtful);
         }
         if is_one_file(rt, path, &whole) {
@@ -143,39 +149,164 @@ fn unnamed_verdict<R: Files + AllocGlobal>(
 {
     let presence = presence_at(rt, states, path)?;
     match presence {
-        Presence::Unread => Ok(UnnamedVerdict::Passed),
+        Presence::Absent(_) | Presence::Directory => Ok(UnnamedVerdict::Passed),
         Presence::There => verdict_there(rt, files, states, compared, path),
         Presence::Unknown => Ok(UnnamedVerdict::Doubtful),
     }
 }
 
-// The directories that those of these names leave by `..` which are other spellings of paths of files
-// of the snapshot. `None` where one of the names is in doubt.
-fn left_by_spellings<R: Files + AllocGlobal>(
+// The names that are other spellings of paths of files of the snapshot.
+#[derive(Drop)]
+struct Spellings {
+    // Whether there is one.
+    is_any: bool,
+    // The directories that they leave by `..`.
+    left: BTreeSet<Vec<u8>>,
+}
+
+// Those of these names that are other spellings. `None` where one of the names is in doubt.
+fn spellings_of<R: Files + AllocGlobal>(
     rt: &R,
     files: &mut MapFiles,
     states: &mut PathStates,
     compared: &ComparedFiles,
     directory: &[u8],
     names: &BTreeSet<Vec<u8>>,
-) -> Result<Option<BTreeSet<Vec<u8>>>, UtilError>
+) -> Result<Option<Spellings>, UtilError>
     ensures keeps { IfOk result (λ _. Keeps (λ files. files.files) fault_count IsQuiet files.old files.new) }
-    ensures left { IfOk result (AreSpellings states.new files.old.files directory.now
+    ensures spellings { IfOk result (AreSpellings states.new files.old.files directory.now
         (λ name. IsTrue (has_key names.now name))) }
     ensures kept { KeepsStates states.old states.new }
 {
     let alloc = rt.alloc();
+    let mut is_any = false;
     let mut left = BTreeSet::new(alloc);
     for name in names {
         let path = join_path(alloc, directory, name)?;
         let verdict = unnamed_verdict(rt, files, states, compared, &path)?;
         match verdict {
             UnnamedVerdict::Passed => {}
-            UnnamedVerdict::Spelling => add_left(alloc, &mut left, &path)?,
+            UnnamedVerdict::Spelling => {
+                is_any = true;
+                add_left(alloc, &mut left, &path)?;
+            }
             UnnamedVerdict::Doubtful => return Ok(None),
         }
     }
-    Ok(Some(left))
+    Ok(Some(Spellings { is_any, left }))
+}
+
+// Whether the last of these tests is that there is nothing at this path.
+fn is_last(tests: &[PathTest], path: &[u8]) -> bool
+    ensures { IsTrue result → Contains (tests_of tests.now) (Absent path.now) }
+{
+    match tests.last() {
+        Some(PathTest::Absent(last)) => last.as_slice() == path,
+        _ => false,
+    }
+}
+
+// Appends a test.
+fn push_test(tests: &mut Vec<PathTest>, test: PathTest) -> Result<(), AllocError>
+    ensures { OnOk result (GainsTest (tests_of tests.old.items) (test_of test) (tests_of tests.new.items)) }
+{
+    tests.push(test)?;
+    Ok(())
+}
+
+// Appends the test that there is nothing at this path, unless it is the last one.
+fn push_absent(alloc: Global, tests: &mut Vec<PathTest>, path: &[u8]) -> Result<(), AllocError>
+    ensures { OnOk result (GainsTest (tests_of tests.old.items) (Absent path.now) (tests_of tests.new.items)) }
+{
+    if is_last(tests, path) {
+        return Ok(());
+    }
+    push_test(tests, PathTest::Absent(path.to_vec(alloc)?))?;
+    Ok(())
+}
+
+// Appends the test that a directory, and no link, is at this path.
+fn push_directory(alloc: Global, tests: &mut Vec<PathTest>, path: &[u8]) -> Result<(), AllocError>
+    ensures { OnOk result (GainsTest (tests_of tests.old.items) (Directory path.now) (tests_of tests.new.items)) }
+{
+    push_test(tests, PathTest::Directory(path.to_vec(alloc)?))?;
+    Ok(())
+}
+
+// The tests that hold as long as gcc reads nothing at those of these names at which it reads nothing.
+// `None` where one of the names is in doubt. A regular file that gcc did not take for a copy, nor the
+// text names, is where gcc did not look. A link to anything else is one that no test covers.
+fn unread_tests<R: Files + AllocGlobal>(
+    rt: &R,
+    states: &mut PathStates,
+    directory: &[u8],
+    names: &BTreeSet<Vec<u8>>,
+) -> Result<Option<Vec<PathTest>>, UtilError>
+    ensures tests { IfOk result (λ tests. AreUnreadWhere true states.new directory.now
+        (λ name. IsTrue (has_key names.now name)) (option_map (λ all. tests_of all.items) tests)) }
+    ensures kept { KeepsStates states.old states.new }
+{
+    let alloc = rt.alloc();
+    let mut tests = Vec::new(alloc);
+    for name in names {
+        let path = join_path(alloc, directory, name)?;
+        let presence = presence_at(rt, states, &path)?;
+        match presence {
+            Presence::Absent(front) => push_absent(alloc, &mut tests, front)?,
+            Presence::Directory => push_directory(alloc, &mut tests, &path)?,
+            Presence::There => {
+                if !is_file(rt, &path) {
+                    return Ok(None);
+                }
+            }
+            Presence::Unknown => return Ok(None),
+        }
+    }
+    Ok(Some(tests))
+}
+
+// The same where one of the names is another spelling, for which gcc may have passed over a file; and
+// else none.
+fn unread_tests_where<R: Files + AllocGlobal>(
+    rt: &R,
+    states: &mut PathStates,
+    directory: &[u8],
+    names: &BTreeSet<Vec<u8>>,
+    is_any: bool,
+) -> Result<Option<Vec<PathTest>>, UtilError>
+    ensures tests { IfOk result (λ tests. AreUnreadWhere is_any states.new directory.now
+        (λ name. IsTrue (has_key names.now name)) (option_map (λ all. tests_of all.items) tests)) }
+    ensures kept { KeepsStates states.old states.new }
+{
+    if is_any {
+        unread_tests(rt, states, directory, names)
+    } else {
+        Ok(Some(Vec::new(rt.alloc())))
+    }
+}
+
+// The tests of these names, at which headers are looked for. `None` where one of the names is in doubt.
+fn tests_of_names<R: Files + AllocGlobal>(
+    rt: &R,
+    files: &mut MapFiles,
+    states: &mut PathStates,
+    compared: &ComparedFiles,
+    directory: &[u8],
+    names: &BTreeSet<Vec<u8>>,
+) -> Result<Option<Vec<PathTest>>, UtilError>
+    ensures keeps { IfOk result (λ _. Keeps (λ files. files.files) fault_count IsQuiet files.old files.new) }
+    ensures tests { IfOk result (λ tests. AreFound states.new files.old.files directory.now
+        (λ name. IsTrue (has_key names.now name)) (option_map (λ all. tests_of all.items) tests)) }
+    ensures kept { KeepsStates states.old states.new }
+{
+    let Some(found) = spellings_of(rt, files, states, compared, directory, names)? else {
+        return Ok(None);
+    };
+    let Some(mut tests) = unread_tests_where(rt, states, directory, names, found.is_any)? else {
+        return Ok(None);
+    };
+    add_directories(rt.alloc(), &mut tests, &found.left)?;
+    Ok(Some(tests))
 }
 
 // Adds the file that a test wants at a path. Returns whether it could be looked at.
@@ -296,15 +427,16 @@ pub fn unnamed_by<R: Files + AllocGlobal>(
     let directory = request.directory.as_bytes();
     let names = looked_at_paths(alloc, text, &request.arguments, &search)?;
     let paths = paths_to_compare(alloc, preprocessed)?;
+    let joined = join_path(alloc, directory, request.input.as_bytes())?;
     let compared = ComparedFiles {
         known,
         paths,
+        input: normalize_path(alloc, &joined)?,
         since: preprocessed.since,
     };
-    let Some(left) = left_by_spellings(rt, files, states, &compared, directory, &names)? else {
-        return Ok(Unnamed::Refused(Refusal::OtherFile));
-    };
-    let mut tests = Vec::new(alloc);
-    add_directories(alloc, &mut tests, &left)?;
-    Ok(Unnamed::Tests(tests))
+    let found = tests_of_names(rt, files, states, &compared, directory, &names)?;
+    match found {
+        Some(tests) => Ok(Unnamed::Tests(tests)),
+        None => Ok(Unnamed::Refused(Refusal::OtherFile)),
+    }
 }

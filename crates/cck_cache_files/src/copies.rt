@@ -2,7 +2,7 @@
 //!
 //! Of a file with `#pragma once`, or one that came by `#import`, gcc reads no second one of the same
 //! length, the same time to the second and the same contents, at whatever path it finds it.
-ghost use Rattle.std.specs.Prelude.{◌≡◌, ◌↔◌, ◌⊎◌, Contains, IfOk, IsOkUnless, IsTrue, IsUtf8, List, MatchBool, OnErr, true};
+ghost use Rattle.std.specs.Prelude.{◌≡◌, ◌↔◌, ◌⊎◌, Contains, IfOk, IsOkUnless, IsTrue, IsUtf8, List, MatchBool, None, OnErr, true};
 ghost use Rattle.std.specs.Fs.{file_type};
 ghost use Rattle.cck_cache_text.specs.Names.{is_named};
 ghost use Rattle.cck_cache_text.specs.Sets.{IsSetOf, has_key};
@@ -39,6 +39,8 @@ pub struct ComparedFiles {
     pub known: Vec<KnownFile>,
     /// The absolute paths of all, whose contents are compared; `None` where some are not known.
     pub paths: Option<BTreeSet<Vec<u8>>>,
+    /// The absolute path of the input, without `.` and `..`.
+    pub input: Vec<u8>,
     /// The time before which they last changed.
     pub since: Timestamp,
 }
@@ -333,21 +335,31 @@ pub fn may_be_copy<R: Files + AllocGlobal>(rt: &R, path: &[u8], compared: &Compa
     may_be_taken(&found, is_old, is_like)
 }
 
-/// Whether gcc may pass over the file at a path, once it was read by another spelling of the path: its
-/// contents have the word `once`, or any file may be imported. `true` where it can't be read.
-pub fn may_be_passed_over<R: Files + AllocGlobal>(
+/// Whether it is in doubt for what gcc passed over another spelling of the path of this file: any file may
+/// be imported; or it is the input, and its contents have the word `once`. `true` where that can't be read.
+pub fn is_doubtful_spelling<R: Files + AllocGlobal>(
     rt: &R,
     path: &[u8],
     compared: &ComparedFiles,
 ) -> bool
-    ensures { ¬ (IsUtf8 path.now) → IsTrue result }
+    ensures doubtful { (compared.now.paths ≡ None)
+        ⊎ ((path.now ≡ compared.now.input.items) × ¬ (IsUtf8 path.now)) → IsTrue result }
+    ensures others { IsTrue result
+        → (compared.now.paths ≡ None) ⊎ (path.now ≡ compared.now.input.items) }
 {
-    let Ok(path) = std::str::from_utf8(path) else {
-        return true;
-    };
+    // gcc passes over what is imported if it equals any file that it opened. No test covers the
+    // contents of one that it opened for a test for a header alone.
     if compared.paths.is_none() {
         return true;
     }
+    // The first header that is included may be another spelling of no file but the input. For it alone
+    // gcc looks for precompiled headers too, and no test covers those.
+    if path != compared.input.as_slice() {
+        return false;
+    }
+    let Ok(path) = std::str::from_utf8(path) else {
+        return true;
+    };
     match fs::read(rt, path) {
         Ok(contents) => may_be_read_once(&contents),
         Err(_) => true,

@@ -45,12 +45,12 @@ mod times;
 
 pub use compiler::{compiler_digest, shared_compiler_digest};
 pub use copies::{
-    ComparedFiles, KnownFile, add_known, compared_paths, is_in_snapshot, known_files, may_be_copy,
-    may_be_passed_over,
+    ComparedFiles, KnownFile, add_known, compared_paths, is_doubtful_spelling, is_in_snapshot,
+    known_files, may_be_copy,
 };
 pub use entry_names::{ENTRY_FILES, entry_name};
 pub use listing::{StoredFile, list_counts, list_files, list_share};
-pub use path_states::{PathState, PathStates};
+pub use path_states::{PathState, PathStates, is_file};
 pub use path_statuses::{
     TextStatuses, add_directory_statuses, add_included, text_statuses, unchanged_statuses,
 };

@@ -1,6 +1,7 @@
-use Rattle.std.proofs.Common.{subst}
+use Rattle.std.proofs.Common.{inl, inr, refl, subst}
 use Rattle.std.proofs.lemmas.Result.{IfOk-weaker}
 use Rattle.cck_cache_files.proofs.StateLemmas.{KeepsStates-trans}
+use Rattle.cck_cache_rules.specs.PathTest.{Absent, Directory}
 use Rattle.cck_cache_command.specs.Unnamed.{IsPresence, IsThere, IsUnnamedVerdict}
 use Rattle.cck_cache_command.specs.declared.unnamed.Presence.{Presence}
 use Rattle.cck_cache_command.specs.declared.unnamed.UnnamedVerdict.{UnnamedVerdict}
@@ -18,3 +19,12 @@ returns-in-There-clause-verdict g c =
 
 pub returns-in-There-clause-kept : goal.returns-in-There-clause-kept
 returns-in-There-clause-kept g c = KeepsStates-trans c.args.states.now c.presence_at.new.states c.verdict_there.new.states c.presence_at.ensures.kept c.verdict_there.ensures.kept
+
+pub returns-in-Absent-clause-verdict : goal.returns-in-Absent-clause-verdict
+returns-in-Absent-clause-verdict g c =
+    let path = c.args.path.now in
+    let states = c.presence_at.new.states in
+    inl (elim c.in-Absent.is [
+      | inl a ↦ (Absent a.0.now, subst (λ (p : Presence). IsPresence states path p) a.1 c.in_ok-presence.ensures.presence)
+      | inr b ↦ (Directory path, (refl, subst (λ (p : Presence). IsPresence states path p) b c.in_ok-presence.ensures.presence))
+    ])

@@ -14,8 +14,8 @@ returns-then-is_one_file-clause-verdict g c there =
     spelling_there states files path whole is (there_kept c.args.states.now states c.leads_to.ensures.kept path there)
     (subst (λ (b : Bool). MatchBool b (LeadsTo states files path whole) (LeadsNotTo states files path whole)) c.if-branch.true c.in_ok-leads_to.ensures.leads)
 
-pub returns-then-may_be_passed_over-clause-verdict : goal.returns-then-may_be_passed_over-clause-verdict
-returns-then-may_be_passed_over-clause-verdict g c there = inl (there_kept c.args.states.now c.leads_to.new.states c.leads_to.ensures.kept c.args.path.now there)
+pub returns-then-is_doubtful_spelling-clause-verdict : goal.returns-then-is_doubtful_spelling-clause-verdict
+returns-then-is_doubtful_spelling-clause-verdict g c there = inl (there_kept c.args.states.now c.leads_to.new.states c.leads_to.ensures.kept c.args.path.now there)
 
 pub returns-then-branch-clause-verdict : goal.returns-then-branch-clause-verdict
 returns-then-branch-clause-verdict g c there = inl (there_kept c.args.states.now c.leads_to.new.states c.leads_to.ensures.kept c.args.path.now there)
