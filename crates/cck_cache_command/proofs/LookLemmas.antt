@@ -8,24 +8,24 @@ use Rattle.cck_cache_command.specs.declared.look.Found.{Found}
 use Rattle.cck_cache_command.specs.declared.look.Found.TheVariants.{Hit, Miss, NoKey}
 use Rattle.cck_cache_command.specs.declared.look.Looked.{Looked}
 use Rattle.cck_cache_command.specs.declared.look.Looked.TheVariants.{Object, Missed}
-use Rattle.cck_cache_command.specs.declared.look.Search.{Search}
+use Rattle.cck_cache_command.specs.declared.look.LookUp.{LookUp}
 use Rattle.cck_cache_arguments.specs.declared.task.Look.{Look}
 
 -- an object file that was found under the name of a match
-pub looked_kept : (search : Search) (place : ℕ) (name : String Global) (looked : Looked) → place < 16 → IsNameOf search name
-    → IsKeptObject search.wanted.now.outputs place name looked → IsLooked search looked
-looked_kept search place name (Object p n object) small is kept = (
+pub looked_kept : (lookup : LookUp) (place : ℕ) (name : String Global) (looked : Looked) → place < 16 → IsNameOf lookup name
+    → IsKeptObject lookup.wanted.now.outputs place name looked → IsLooked lookup looked
+looked_kept lookup place name (Object p n object) small is kept = (
   subst (λ (x : ℕ). x < 16) (sym kept.0) small,
-  subst (λ (x : String Global). IsNameOf search x) (sym kept.1) is,
+  subst (λ (x : String Global). IsNameOf lookup x) (sym kept.1) is,
   kept.2 ∙ sym (ap string_bytes kept.1),
   kept.3,
 )
-looked_kept search place name (Missed missed) small is kept = subst (λ (x : Option (String Global)). IfSome x (IsNameOf search)) (sym kept) is
+looked_kept lookup place name (Missed missed) small is kept = subst (λ (x : Option (String Global)). IfSome x (IsNameOf lookup)) (sym kept) is
 
 -- nothing, without the name of an object
-pub looked_none : (search : Search) (looked : Looked) → IsMissed None looked → IsLooked search looked
-looked_none search (Object place name object) none = absurd none
-looked_none search (Missed missed) none = subst (λ (x : Option (String Global)). IfSome x (IsNameOf search)) (sym none) tt
+pub looked_none : (lookup : LookUp) (looked : Looked) → IsMissed None looked → IsLooked lookup looked
+looked_none lookup (Object place name object) none = absurd none
+looked_none lookup (Missed missed) none = subst (λ (x : Option (String Global)). IfSome x (IsNameOf lookup)) (sym none) tt
 
 -- the result for the preprocessor key of a request is the result for the request
 pub found_all : (environment : Environment) (wanted : Look) (key : String Global) (has : HasPreprocessorKey environment wanted.request (Some (string_bytes key))) (found : Found)

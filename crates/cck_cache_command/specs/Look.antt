@@ -10,7 +10,7 @@ use Rattle.cck_cache_command.specs.Request.{HasPreprocessorKey, IsKeyOver, IsReq
 use Rattle.cck_cache_command.specs.declared.environment.Environment.{Environment}
 use Rattle.cck_cache_command.specs.declared.look.Found.{Found}
 use Rattle.cck_cache_command.specs.declared.look.Found.TheVariants.{Hit, Miss, NoKey}
-use Rattle.cck_cache_command.specs.declared.look.Search.{Search}
+use Rattle.cck_cache_command.specs.declared.look.LookUp.{LookUp}
 use Rattle.cck_cache_command.specs.declared.look.Looked.{Looked}
 use Rattle.cck_cache_command.specs.declared.look.Looked.TheVariants.{Object, Missed}
 use Rattle.cck_cache_command.specs.declared.look.Kept.{Kept}
@@ -68,15 +68,15 @@ IsKeyEntry key Damaged = Unit {0}
 IsKeyEntry key (KeptEntry file) = file.preprocessor_key.items ≡ key
 
 -- a look-up by an entry file begins with the preprocessor key of its request over the snapshot of the input
-pub record IsSearch (search : Search) : Type 0 where
-  pub calm : IsCalm search.files.now
-  pub is_request : IsRequest search.environment.entry.now search.wanted.now.request search.environment.entry.now.now [] search.asked.now
-  pub is_key : IsKeyOver search.asked.now search.files.now.files search.key.now
+pub record IsLookUp (lookup : LookUp) : Type 0 where
+  pub calm : IsCalm lookup.files.now
+  pub is_request : IsRequest lookup.environment.now lookup.wanted.now.request lookup.environment.now.now [] lookup.asked.now
+  pub is_key : IsKeyOver lookup.asked.now lookup.files.now.files lookup.key.now
 
 -- a name of an object of the preprocessor key of a look-up
-abbrev pub IsNameOf : Search → String Global → Type 0
-IsNameOf search =
-    IsNameOfKey search.environment.entry.now.reads_all search.wanted.now.request search.asked.now search.files.now.files search.key.now.text
+abbrev pub IsNameOf : LookUp → String Global → Type 0
+IsNameOf lookup =
+    IsNameOfKey lookup.environment.now.reads_all lookup.wanted.now.request lookup.asked.now lookup.files.now.files lookup.key.now.text
 
 -- nothing was found but this name
 abbrev pub IsMissed : Option (String Global) → Looked → Type 0
@@ -90,10 +90,10 @@ IsKeptObject outputs place name (Object p n object) =
 IsKeptObject outputs place name (Missed missed) = missed.object_name ≡ Some name
 
 -- what was found by one entry file or by some
-abbrev pub IsLooked : Search → Looked → Type 0
-IsLooked search (Object place name object) =
-    (place < 16) × IsNameOf search name × (object.key.items ≡ string_bytes name) × (has_outputs search.wanted.now.outputs object ≡ true)
-IsLooked search (Missed missed) = IfSome missed.object_name (IsNameOf search)
+abbrev pub IsLooked : LookUp → Looked → Type 0
+IsLooked lookup (Object place name object) =
+    (place < 16) × IsNameOf lookup name × (object.key.items ≡ string_bytes name) × (has_outputs lookup.wanted.now.outputs object ≡ true)
+IsLooked lookup (Missed missed) = IfSome missed.object_name (IsNameOf lookup)
 
 -- what was found for a preprocessor key over a snapshot of the input
 abbrev pub IsFoundFor : Bool → Look → SnapshotRequest → FileMap → String Global → Found → Type 0

@@ -1,7 +1,7 @@
 //! Looks for an object in the store.
 ghost use Rattle.std.specs.Prelude.{◌≡◌, ◌<◌, [], IfOk, IfSome, true};
 ghost use Rattle.cck_cache_command.specs.Input.{IsCalm};
-ghost use Rattle.cck_cache_command.specs.Look.{IsFoundFor, IsKeptObject, IsKeyEntry, IsLookResult, IsLooked, IsMissed, IsNamedMatch, IsSearch};
+ghost use Rattle.cck_cache_command.specs.Look.{IsFoundFor, IsKeptObject, IsKeyEntry, IsLookResult, IsLooked, IsMissed, IsNamedMatch, IsLookUp};
 ghost use Rattle.cck_cache_command.specs.Request.{IsKeyOver, IsRequest};
 
 use crate::environment::Environment;
@@ -77,7 +77,7 @@ pub enum Kept {
 
 // What a look-up is for, with the preprocessor key of its request over a snapshot of the input.
 #[derive(Clone, Copy)]
-struct Search<'a> {
+struct LookUp<'a> {
     environment: &'a Environment<'a>,
     store: &'a StoreDirectory,
     wanted: &'a Look<'a>,
@@ -232,51 +232,51 @@ fn entry_path<R: AllocGlobal>(
 // Looks for the object by the entry file at a place, or at the path that is wanted.
 fn look_at_place<R: Files + AllocGlobal>(
     rt: &R,
-    search: &Search<'_>,
+    lookup: &LookUp<'_>,
     place: usize,
 ) -> Result<Looked>
     requires { place < ENTRY_FILES }
-    ensures { IfOk result (λ looked. IsSearch search.now → IsLooked search.now looked) }
+    ensures { IfOk result (λ looked. IsLookUp lookup.now → IsLooked lookup.now looked) }
 {
-    let (alloc, path, key) = (rt.alloc(), search.wanted.entry, search.key.text.as_str());
+    let (alloc, path, key) = (rt.alloc(), lookup.wanted.entry, lookup.key.text.as_str());
     let name = entry_name(alloc, key, place)?;
-    let file = match read_entry(rt, search.store, path, key, name.as_str())? {
+    let file = match read_entry(rt, lookup.store, path, key, name.as_str())? {
         Kept::Nothing => return Ok(nothing_found(None, None)),
         Kept::Damaged => {
-            let path = entry_path(rt, search.store, path, name.as_str())?;
+            let path = entry_path(rt, lookup.store, path, name.as_str())?;
             return Ok(nothing_found(None, Some(path)));
         }
         Kept::Entry(file) => file,
     };
-    let mut files = search.files.copy(alloc)?;
+    let mut files = lookup.files.copy(alloc)?;
     let found = matching_name(
         rt,
-        search.environment,
-        &search.wanted.request,
-        search.asked,
+        lookup.environment,
+        &lookup.wanted.request,
+        lookup.asked,
         &mut files,
-        search.key,
+        lookup.key,
         &file,
     )?;
     match found {
-        Some(name) => kept_object(rt, search.store, &search.wanted.outputs, place, name),
+        Some(name) => kept_object(rt, lookup.store, &lookup.wanted.outputs, place, name),
         None => Ok(nothing_found(None, None)),
     }
 }
 
 // Looks for the object by each entry file of the preprocessor key, or by the one at the path that is wanted.
-fn look_in_files<R: Files + AllocGlobal>(rt: &R, search: &Search<'_>) -> Result<Looked>
-    ensures { IfOk result (λ looked. IsSearch search.now → IsLooked search.now looked) }
+fn look_in_files<R: Files + AllocGlobal>(rt: &R, lookup: &LookUp<'_>) -> Result<Looked>
+    ensures { IfOk result (λ looked. IsLookUp lookup.now → IsLooked lookup.now looked) }
 {
-    if search.wanted.entry.is_some() {
-        return look_at_place(rt, search, 0);
+    if lookup.wanted.entry.is_some() {
+        return look_at_place(rt, lookup, 0);
     }
     let mut all = Missed {
         object_name: None,
         damaged: None,
     };
     for place in 0..ENTRY_FILES {
-        match look_at_place(rt, search, place)? {
+        match look_at_place(rt, lookup, place)? {
             Looked::Missed(one) => {
                 all = Missed {
                     object_name: all.object_name.or(one.object_name),
@@ -305,7 +305,7 @@ fn look_for<R: Files + AllocGlobal>(
 {
     let looked = look_in_files(
         rt,
-        &Search {
+        &LookUp {
             environment,
             store,
             wanted,
@@ -315,23 +315,26 @@ fn look_for<R: Files + AllocGlobal>(
         },
     )?;
     let preprocessor_key = key.text;
-    Ok(match looked {
+    match looked {
         Looked::Object {
             place,
             name,
             object,
-        } => Found::Hit {
+        } => Ok(Found::Hit {
             preprocessor_key,
             place,
             object_name: name,
             object,
-        },
-        Looked::Missed(missed) => Found::Miss {
-            preprocessor_key,
-            since: store.stamp(rt)?,
-            missed,
-        },
-    })
+        }),
+        Looked::Missed(missed) => {
+            let since = store.stamp(rt)?;
+            Ok(Found::Miss {
+                preprocessor_key,
+                since,
+                missed,
+            })
+        }
+    }
 }
 
 /// Looks for the object of a request.
