@@ -57,7 +57,7 @@ def main():
     with tempfile.TemporaryDirectory() as room:
         place = f"{room}/project"
         os.makedirs(place)
-        variables = dict(os.environ, CCK_STORE=f"{room}/store", CCK_LOG=f"{room}/log", LC_ALL="C")
+        variables = dict(os.environ, CCK_PROGRAM=PROGRAM, CCK_STORE=f"{room}/store", CCK_LOG=f"{room}/log", LC_ALL="C")
         for number in range(HEADERS):
             write(place, f"h{number}.h", f"extern int h{number}(int);\n" * 100)
         write(place, "x.c", "".join(f'#include "h{number}.h"\n' for number in range(HEADERS)))

@@ -14,7 +14,7 @@ import tempfile
 import time
 
 sys.path.insert(0, os.path.join(os.path.dirname(os.path.abspath(__file__)), "real"))
-from calls import PAUSE, WRAPPER, need_program  # noqa: E402
+from calls import PAUSE, PROGRAM, WRAPPER, need_program  # noqa: E402
 
 HEADERS, SOURCES = 6, 8
 # The most entry files of a preprocessor key (crates/cck_cache_files/src/entry_names.rt).
@@ -27,7 +27,7 @@ class Project:
     def __init__(self, room):
         self.place, self.log = f"{room}/project", f"{room}/log"
         self.store = f"{room}/store"
-        self.variables = dict(os.environ, CCK_STORE=self.store, CCK_LOG=self.log, LC_ALL="C")
+        self.variables = dict(os.environ, CCK_PROGRAM=PROGRAM, CCK_STORE=self.store, CCK_LOG=self.log, LC_ALL="C")
         os.makedirs(self.place)
 
     def write(self, name, text):

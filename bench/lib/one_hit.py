@@ -1,7 +1,8 @@
 """What one hit takes, for each of the C files that are named: by the wrapper, by ccache if it is there, and by gcc. The
 milliseconds are the least of 100 runs, one after the other in each round; the instructions are those that callgrind counts in
-all processes, and the system calls and processes those that strace counts. bench/real.sh runs it after a build by both caches;
-the variable `flags` has the compiler's options."""
+all processes, but of the wrapper in its program alone: under callgrind it does not find the programs of the compiler, so
+they are given to it. The system calls and processes are those that strace counts. bench/real.sh runs it after a build by both
+caches; the variable `flags` has the compiler's options."""
 import os
 import re
 import shutil
@@ -32,6 +33,15 @@ def instructions(words):
     return sum(map(int, counts)) / 1e6
 
 
+def look(words):
+    """The program's call for a hit of the wrapper."""
+    lists = os.path.join(os.environ["CCK_STORE"], "compilers")
+    with open(os.path.join(lists, os.listdir(lists)[0]), encoding="utf-8") as file:
+        programs = file.read().splitlines()[-1]
+    return [os.environ["CCK_PROGRAM"], "look", os.environ["CCK_STORE"], f"--compiler={programs}", f"--directory={os.getcwd()}",
+            "--", *words[2:]]
+
+
 def system_calls(words):
     """The system calls of a command and of the processes that it starts, and how many processes these are."""
     with tempfile.TemporaryDirectory() as room:
@@ -57,7 +67,7 @@ def main():
             line = f"    {label:20} {least[label]:9.2f} ms"
             if label.endswith(" gcc"):
                 if shutil.which("valgrind"):
-                    line += f" {instructions(command):9.2f} million instructions"
+                    line += f" {instructions(look(command) if command[0] == 'cckcc' else command):9.2f} million instructions"
                 if shutil.which("strace"):
                     line += " {:6} system calls, {} processes".format(*system_calls(command))
             print(line)
