@@ -126,12 +126,12 @@ echo 'int v = 2;' >a/h.h
 settle
 check 'a new header earlier in the search path' 'recorded *' same -c x.c -Ia -Ib
 rm a/h.h
-check 'it is removed' 'recorded *' same -c x.c -Ia -Ib
+check 'it is removed' 'hit *' same -c x.c -Ia -Ib
 echo 'int v = 3;' >h.h
 settle
 check 'a new header beside the input' 'recorded *' same -c x.c -Ia -Ib
 rm h.h
-check 'it is removed' 'recorded *' same -c x.c -Ia -Ib
+check 'it is removed' 'hit *' same -c x.c -Ia -Ib
 mkdir n
 echo 'int w = 1;' >b/w.h
 echo '#include <w.h>' >w.c
@@ -159,6 +159,8 @@ check 'a new header where the second include looks first' 'recorded *' same -c g
 depends="-MD -MP -MT x.o -MF $room/x.d"
 mkdir -p d1 d2
 echo 'int d = 1;' >d2/d.h
+# Of another second than its copy, which gcc might take it for.
+touch -d 2001-01-01 d2/d.h
 echo '#include "d.h"' >depends.c
 settle
 check 'a dependency file' 'recorded *' same -c depends.c -Id1 -Id2 $depends
@@ -168,7 +170,7 @@ settle
 check 'the same header earlier in the search path' 'recorded *' same -c depends.c -Id1 -Id2 $depends
 check 'the same again' 'hit *' same -c depends.c -Id1 -Id2 $depends
 rm d1/d.h
-check 'it is removed, and the other takes its place' 'recorded *' same -c depends.c -Id1 -Id2 $depends
+check 'it is removed, and the other takes its place' 'hit *' same -c depends.c -Id1 -Id2 $depends
 check 'the same again' 'hit *' same -c depends.c -Id1 -Id2 $depends
 echo '#include "more.h"' >>d2/d.h
 : >d2/more.h

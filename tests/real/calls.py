@@ -230,8 +230,8 @@ class Room:
             is_stable = not any(difference(calls[0], other) for other in calls[1:])
             if not is_stable and (verdict != "hit" or not all(difference(other, got) for other in calls)):
                 differing = []
-        # With -pipe a compiler whose assembler fails ends before or after it wrote a file. Such a call is passed on.
-        if differing and verdict == "passed" and wanted.status and "-pipe" in plain[0]:
+        # With -pipe a compiler whose assembler fails ends before or after it wrote a file, with one status or another.
+        if differing and verdict != "hit" and wanted.status and "-pipe" in plain[0]:
             differing, is_stable = [], False
         return Judged(verdict, differing, is_stable, wanted, got)
 
