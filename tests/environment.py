@@ -165,7 +165,7 @@ def in_code(treated):
     context, faults = set(), []
     for path in SCRIPTS:
         script = "\n".join(line for line in lines_of(path) if not line.lstrip().startswith("#"))
-        for line in re.findall(r"^context=.*", script, re.M):
+        for line in re.findall(r"^cck_context=.*", script, re.M):
             context |= set(re.findall(r"\$\{?([A-Z][A-Z0-9_]*)", line))
         if '--directory="$PWD"' not in script:
             faults.append(f"{path} does not give PWD as the directory")
