@@ -350,7 +350,7 @@ look_at_server() {
 # Records what was made of the text. The words are options of `record`, and those of the request.
 record() {
     "$cck_program" record "$cck_store" --since="$cck_since" --preprocessor-key="$cck_key" \
-        --search="$cck_scratch/search" "$@" < "$cck_scratch/text" 2>/dev/null
+        --search="$cck_scratch/search" "$@" 2>/dev/null < "$cck_scratch/text"
 }
 
 # Keeps what was recorded with a server, and puts it there: the entry only once the object is there.

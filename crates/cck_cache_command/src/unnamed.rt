@@ -121,7 +121,7 @@ fn verdict_there<R: Files + AllocGlobal>(
 {
     let whole = normalize_path(rt.alloc(), path)?;
     if leads_to(rt, files, states, path, &whole)? {
-        if is_doubtful_spelling(rt, &whole, compared) {
+        if is_doubtful_spelling(&whole, compared) {
             return Ok(UnnamedVerdict::Doubtful);
         }
         if is_one_file(rt, path, &whole) {

@@ -336,16 +336,10 @@ pub fn may_be_copy<R: Files + AllocGlobal>(rt: &R, path: &[u8], compared: &Compa
 }
 
 /// Whether it is in doubt for what gcc passed over another spelling of the path of this file: any file may
-/// be imported; or it is the input, and its contents have the word `once`. `true` where that can't be read.
-pub fn is_doubtful_spelling<R: Files + AllocGlobal>(
-    rt: &R,
-    path: &[u8],
-    compared: &ComparedFiles,
-) -> bool
-    ensures doubtful { (compared.now.paths ≡ None)
-        ⊎ ((path.now ≡ compared.now.input.items) × ¬ (IsUtf8 path.now)) → IsTrue result }
-    ensures others { IsTrue result
-        → (compared.now.paths ≡ None) ⊎ (path.now ≡ compared.now.input.items) }
+/// be imported; or it is the input.
+pub fn is_doubtful_spelling(path: &[u8], compared: &ComparedFiles) -> bool
+    ensures { IsTrue result
+        ↔ ((compared.now.paths ≡ None) ⊎ (path.now ≡ compared.now.input.items)) }
 {
     // gcc passes over what is imported if it equals any file that it opened. No test covers the
     // contents of one that it opened for a test for a header alone.
@@ -354,14 +348,5 @@ pub fn is_doubtful_spelling<R: Files + AllocGlobal>(
     }
     // The first header that is included may be another spelling of no file but the input. For it alone
     // gcc looks for precompiled headers too, and no test covers those.
-    if path != compared.input.as_slice() {
-        return false;
-    }
-    let Ok(path) = std::str::from_utf8(path) else {
-        return true;
-    };
-    match fs::read(rt, path) {
-        Ok(contents) => may_be_read_once(&contents),
-        Err(_) => true,
-    }
+    path == compared.input.as_slice()
 }

@@ -107,7 +107,7 @@ pub fn is_directory<R: Files>(rt: &R, path: &[u8]) -> bool
     look_at(rt, path, Timestamp::new(i64::MAX, 0)) == PathState::Directory
 }
 
-/// Whether a regular file is at a path, links followed. `false` where that can't be known.
+/// Whether a regular file that the process may read is at a path, links followed. `false` where that can't be known.
 pub fn is_file<R: Files>(rt: &R, path: &[u8]) -> bool
     ensures { IsTrue result → IsUtf8 path.now }
 {
@@ -115,7 +115,7 @@ pub fn is_file<R: Files>(rt: &R, path: &[u8]) -> bool
         return false;
     };
     match fs::metadata(rt, path) {
-        Ok(found) => found.is_file(),
+        Ok(found) => found.is_file() && fs::open(rt, path).is_ok(),
         Err(_) => false,
     }
 }

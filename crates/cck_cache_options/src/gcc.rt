@@ -29,7 +29,7 @@ pub const GCC: &[u8] = b"\
 -MQ either target\n\
 -Wp,-MD, joined preprocessor-dependency-file\n\
 -Wp,-MMD, joined preprocessor-dependency-file\n\
--pipe alone nothing\n\
+-pipe alone code\n\
 -O alone code\n\
 -O0 alone code\n\
 -O1 alone code\n\
@@ -210,8 +210,6 @@ pub const GCC: &[u8] = b"\
 -finput-charset equals passed-preprocessor-option\n\
 -finput-charset=UTF-8 alone text\n\
 -finput-charset=utf-8 alone text\n\
--finput-charset=latin1 alone text\n\
--finput-charset=ISO-8859-1 alone text\n\
 -finstrument-functions-exclude-file-list equals code\n\
 -finstrument-functions-exclude-function-list equals code\n\
 -fira-algorithm equals code\n\

@@ -85,7 +85,7 @@ is_closed text = is_some (stripped 41 (after_blanks text))
 abbrev pub closed_name : List ℕ → ℕ → Option (List ℕ)
 closed_name text close =
     let size = run_length (λ byte. not (byte == close)) text in
-    option_and_then (λ rest. if is_closed rest && nat_lt 0 (length (take size text)) then Some (take size text) else None) (stripped close (drop size text))
+    option_and_then (λ rest. if is_closed rest && nat_lt 0 (length (take size text)) && not (has (take size text) (codes "??")) then Some (take size text) else None) (stripped close (drop size text))
 
 -- the name in quotes or in brackets
 abbrev pub named : List ℕ → Option TestFields

@@ -175,13 +175,14 @@ fn is_closed(text: &[u8]) -> bool
     stripped(after_blanks(text), b')').is_some()
 }
 
-// The name up to this byte, which a closing parenthesis follows.
+// The name up to this byte, which a closing parenthesis follows. `None` for one that may have a trigraph, which
+// can't be judged.
 fn closed_name(text: &[u8], close: u8) -> Option<&[u8]>
     ensures { option_map (λ name. name.now) result ≡ closed_name text.now close }
 {
     let (name, rest) = text.split_at(length_before(text, close).min(text.len()));
     match stripped(rest, close) {
-        Some(rest) if is_closed(rest) && !name.is_empty() => Some(name),
+        Some(rest) if is_closed(rest) && !name.is_empty() && !has(name, b"??") => Some(name),
         _ => None,
     }
 }
