@@ -1,5 +1,5 @@
 -- what a look-up finds
-use Rattle.std.specs.Prelude.{◌≡◌, ◌<◌, ℕ, [], Bool, true, false, Option, Some, None, IfSome, String, string_bytes}
+use Rattle.std.specs.Prelude.{◌≡◌, ◌<◌, ℕ, List, [], Bool, true, false, Option, Some, None, IfSome, String, string_bytes}
 use Rattle.std.specs.FinMap.{empty}
 use Rattle.std.specs.declared.alloc.Global.{Global}
 use Rattle.cck_cache_command.specs.Included.{IsIncluded}
@@ -16,6 +16,7 @@ use Rattle.cck_cache_command.specs.declared.look.Looked.TheVariants.{Object, Mis
 use Rattle.cck_cache_command.specs.declared.look.Kept.{Kept}
 use Rattle.cck_cache_command.specs.declared.look.Kept.TheVariants.{Nothing, Damaged, Entry as KeptEntry}
 use Rattle.cck_cache_rules.specs.Files.{EntryFields}
+use Rattle.cck_cache_rules.specs.PathTest.{Test}
 use Rattle.cck_cache_files.specs.Snapshot.{ArePut, IsPart}
 use Rattle.cck_cache_arguments.specs.declared.request.Request.{Request}
 use Rattle.cck_cache_arguments.specs.declared.task.Look.{Look}
@@ -47,19 +48,19 @@ pub record IsMatch (reads_all : Bool) (asked : SnapshotRequest) (input : FileMap
   pub found : (prints : Prints)
       → (t : State) × AsksWith (world_for sha256 prints asked) map_store statuses (call_for Default files asked) NoFault (one_pair key bytes) (Keyed object false) t
 
--- an entry of these bytes has a key that is returned so, and the object of the key has this name, by the recorded digest of the input
-pub record IsNamedMatch (reads_all : Bool) (request : Request) (asked : SnapshotRequest) (input : FileMap) (key : PreprocessorKey) (bytes : Bytes) (name : String Global) : Type 0 where
+-- an entry of these bytes has a key that is returned so, and the object of the key has this name, by the recorded digest of the input and these tests
+pub record IsNamedMatch (reads_all : Bool) (request : Request) (asked : SnapshotRequest) (input : FileMap) (key : PreprocessorKey) (bytes : Bytes) (tests : List Test) (name : String Global) : Type 0 where
   pub entry : Entry
   pub is_entry : EntryText entry bytes
   pub object : Bytes
   pub matched : IsMatch reads_all asked input (string_bytes key.text) bytes entry object
-  pub is_name : IsName request (string_bytes key.input_digest) entry object (string_bytes name)
+  pub is_name : IsName request (string_bytes key.input_digest) entry tests object (string_bytes name)
 
 -- the same of an entry file of this key
 abbrev pub IsNameOfKey : Bool → Request → SnapshotRequest → FileMap → String Global → String Global → Type 0
 IsNameOfKey reads_all request asked input key name =
     (file : EntryFields) × (file.preprocessor_key ≡ string_bytes key)
-    × ((own : PreprocessorKey) × (own.text ≡ key) × IsKeyOver asked input own × IsNamedMatch reads_all request asked input own file.entry name)
+    × ((own : PreprocessorKey) × (own.text ≡ key) × IsKeyOver asked input own × IsNamedMatch reads_all request asked input own file.entry file.tests name)
 
 -- what a store has of a preprocessor key: an entry is of this key
 abbrev pub IsKeyEntry : Bytes → Kept → Type 0

@@ -1,5 +1,5 @@
 -- what a recording records
-use Rattle.std.specs.Prelude.{◌≡◌, ◌⊎◌, ℤ, pos, ◌*ℤ◌, ◌+ℤ◌, List, Bool, true, false, Option, Some, None, String, string_bytes}
+use Rattle.std.specs.Prelude.{◌≡◌, ◌++◌, ◌⊎◌, ℤ, pos, ◌*ℤ◌, ◌+ℤ◌, List, Bool, true, false, Option, Some, None, String, string_bytes}
 use Rattle.std.specs.declared.alloc.Global.{Global}
 use Rattle.cck_cache_rules.specs.Shown.{ShowsBase}
 use Rattle.cck_cache_rules.specs.Text.{AreBases}
@@ -199,8 +199,8 @@ pub record IsAsked (environment : Environment) (request : Request) (compilation 
   pub is_request : IsRequest environment request compilation.since bases asked
 
 -- The recording over these files has an entry, and neither the input nor the time keeps it from being recorded. The name is that of the object of the
--- recording's key, by this entry and the recorded digest of the input.
-pub record IsRecordedOver (environment : Environment) (request : Request) (compilation : Compilation) (text : Bytes) (files : FileMap) (name : String Global) : Type 0 where
+-- recording's key, by this entry, the recorded digest of the input and these tests.
+pub record IsRecordedOver (environment : Environment) (request : Request) (compilation : Compilation) (text : Bytes) (files : FileMap) (tests : List Test) (name : String Global) : Type 0 where
   pub asked : SnapshotRequest
   pub is_asked : IsAsked environment request compilation text asked
   pub judged : IsJudgedByInput environment asked files compilation.key.now None
@@ -209,7 +209,7 @@ pub record IsRecordedOver (environment : Environment) (request : Request) (compi
   pub key : String Global
   pub entry : RecordedEntry
   pub recorded : IsRecording sha256 files asked NoFault text (record { key = key; put = Some entry })
-  pub is_name : IsNameIn request (string_bytes own.input_digest) entry.bytes.items (string_bytes key) (string_bytes name)
+  pub is_name : IsNameIn request (string_bytes own.input_digest) entry.bytes.items tests (string_bytes key) (string_bytes name)
 
 -- the input or the time keeps it from being recorded
 pub record IsRefusedByInput (environment : Environment) (request : Request) (compilation : Compilation) (text : Bytes) (files : FileMap) (refusal : Refusal) : Type 0 where
@@ -234,9 +234,13 @@ IsRefusedOver environment request compilation text doubtful files refusal =
     IsRefusedByInput environment request compilation text files refusal
     ⊎ (((refusal ≡ NamedFile) × ((doubtful ≡ true) ⊎ RecordsNoEntry environment request compilation text files)) ⊎ ShowsBaseOf request text refusal)
 
+-- the tests of an entry, of what was gathered
+abbrev pub gathered_tests : Gathered → List Test
+gathered_tests gathered = (tests_of gathered.tests.items ++ tests_of gathered.asked_tests.items) ++ tests_of gathered.unnamed_tests.items
+
 abbrev pub IsOutcomeOver : Environment → Request → Compilation → Bytes → Gathered → Outcome → Type 0
 IsOutcomeOver environment request compilation text gathered (Recorded name) =
-    IsRecordedOver environment request compilation text gathered.files.files name
+    IsRecordedOver environment request compilation text gathered.files.files (gathered_tests gathered) name
 IsOutcomeOver environment request compilation text gathered (Refused refusal) =
     IsRefusedOver environment request compilation text gathered.is_doubtful gathered.files.files refusal
 
@@ -244,7 +248,7 @@ IsOutcomeOver environment request compilation text gathered (Refused refusal) =
 abbrev pub IsOutcome : Environment → Request → Compilation → Bytes → Outcome → Type 0
 IsOutcome environment request compilation text (Recorded name) =
     ReadsAlone request text compilation.made
-    × ((files : FileMap) × (made asked others : List Test) × AreGathered request compilation.since text files made asked others × IsRecordedOver environment request compilation text files name)
+    × ((files : FileMap) × (made asked others : List Test) × AreGathered request compilation.since text files made asked others × IsRecordedOver environment request compilation text files ((made ++ asked) ++ others) name)
 IsOutcome environment request compilation text (Refused refusal) =
     IsRefusedByReading request text refusal
     ⊎ (IsRefusedByText request compilation.since text refusal

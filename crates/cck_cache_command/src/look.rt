@@ -3,6 +3,7 @@ ghost use Rattle.std.specs.Prelude.{◌≡◌, ◌<◌, [], IfOk, IfSome, true};
 ghost use Rattle.cck_cache_command.specs.Input.{IsCalm};
 ghost use Rattle.cck_cache_command.specs.Look.{IsFoundFor, IsKeptObject, IsKeyEntry, IsLookResult, IsLooked, IsMissed, IsNamedMatch, IsLookUp};
 ghost use Rattle.cck_cache_command.specs.Request.{IsKeyOver, IsRequest};
+ghost use Rattle.cck_cache_rules.specs.PathTest.{tests_of};
 
 use crate::environment::Environment;
 use crate::included::{add_entry_files, entry_view};
@@ -159,7 +160,7 @@ fn matching_name<R: Files + AllocGlobal>(
 ) -> Result<Option<String>>
     ensures { IfOk result (λ found. IsCalm files.old → IsRequest environment.entry.now request.now environment.entry.now.now [] asked.now
         → IsKeyOver asked.now files.old.files key.now
-        → IfSome found (IsNamedMatch environment.entry.now.reads_all request.now asked.now files.old.files key.now file.now.entry.items)) }
+        → IfSome found (IsNamedMatch environment.entry.now.reads_all request.now asked.now files.old.files key.now file.now.entry.items (tests_of file.now.tests.items))) }
 {
     let known = unchanged_statuses(rt, statuses_of(file, environment.reads_all))?;
     if first_failing(rt, &known, &file.tests)?.is_some() {
@@ -174,7 +175,8 @@ fn matching_name<R: Files + AllocGlobal>(
     let Some(object) = found else {
         return Ok(None);
     };
-    let name = name_of(alloc, request, key.input_digest.as_str(), object, &entry)?;
+    let input = key.input_digest.as_str();
+    let name = name_of(alloc, request, input, object, &entry, &file.tests)?;
     Ok(Some(name))
 }
 

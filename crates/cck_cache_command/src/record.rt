@@ -474,8 +474,6 @@ fn record_over<R: Files + AllocGlobal>(
     let Some(entry) = put else {
         return Ok(Outcome::Refused(Refusal::NamedFile));
     };
-    let input = own.input_digest.as_str();
-    let name = name_in(rt.alloc(), request, input, object.as_str(), &entry.bytes)?;
     let file = entry_file_with(
         rt,
         since,
@@ -485,6 +483,9 @@ fn record_over<R: Files + AllocGlobal>(
         asked_tests,
         unnamed_tests,
     )?;
+    let input = own.input_digest.as_str();
+    let key = object.as_str();
+    let name = name_in(rt.alloc(), request, input, key, &file.entry, &file.tests)?;
     match keep(rt, store, compilation, &bases, name.as_str(), &file)? {
         Some(refusal) => Ok(Outcome::Refused(refusal)),
         None => Ok(Outcome::Recorded(name)),

@@ -2,6 +2,7 @@ use Rattle.std.proofs.Common.{◌∙◌, Option, IfSome, String, refl, subst}
 use Rattle.std.proofs.lemmas.Result.{IfOk-weaker}
 use Rattle.std.specs.declared.alloc.Global.{Global}
 use Rattle.cck_cache_rules.specs.Files.{entry_fields}
+use Rattle.cck_cache_rules.specs.PathTest.{tests_of}
 use Rattle.cck_cache_command.specs.Look.{IsKeptObject, IsLooked, IsNameOf, IsNamedMatch, IsLookUp}
 use Rattle.cck_cache_command.specs.declared.look.Looked.{Looked}
 use Rattle.cck_cache_command.proofs.LookLemmas.{looked_kept}
@@ -16,6 +17,7 @@ returns-in-Some g c =
     let key = lookup.key.now in
     let name = c.in-Some.name in
     let bytes = c.in-Entry.file.entry.items in
+    let tests = tests_of c.in-Entry.file.tests.items in
     let of_key = rw c.in-Entry.is at c.in_ok-read_entry.ensures in
     let copied = c.in_ok-files.ensures.same in
     let is : IsLookUp lookup → IsNameOf lookup name = λ from. (
@@ -25,7 +27,7 @@ returns-in-Some g c =
         key,
         refl,
         from.is_key,
-        subst (λ (o : Option (String Global)). IfSome o (IsNamedMatch environment.reads_all request lookup.asked.now files.files key bytes)) c.in-Some.is
+        subst (λ (o : Option (String Global)). IfSome o (IsNamedMatch environment.reads_all request lookup.asked.now files.files key bytes tests)) c.in-Some.is
             (rw copied at (c.in_ok-found.ensures (rw copied from.calm) from.is_request (rw copied from.is_key))),
       ),
     ) in

@@ -1,7 +1,8 @@
-use Rattle.std.proofs.Common.{[], ℕ, Some, string_bytes, subst}
+use Rattle.std.proofs.Common.{[], ℕ, List, Some, string_bytes, ap, subst}
 use Rattle.std.specs.Option.{option_map}
 use Rattle.cck_files.specs.Calls.{Rose}
 use Rattle.cck_path.specs.Bytes.{Bytes}
+use Rattle.cck_cache_rules.specs.PathTest.{Test, tests_of}
 use Rattle.cck_entry.specs.Entry.{EntryText}
 use Rattle.cck_snapshot.specs.Snapshot.{IsLookedUp}
 use Rattle.sha2.specs.Sha256.{sha256}
@@ -23,6 +24,8 @@ returns g c calm is_request own =
     let before = c.add_entry_files.new.files in
     let statuses = c.in_ok-known.known in
     let object = c.in-Some-found.object.now in
+    let tests = tests_of c.args.file.now.tests.items in
+    let name = string_bytes c.in_ok-name.name in
     let grown = c.in_ok-add_entry_files.ensures in
     let is_entry : EntryText entry bytes = subst (λ (b : Bytes). EntryText entry b) c.deref-2.ensures.value (rw c.in-Some.is at c.in_ok-entry.ensures) in
     let looked = without_fault (λ (m n : ℕ). IsLookedUp sha256 before.files asked (Rose m n) statuses entry (option_map (λ k. k.now) c.in_ok-found.found)) before c.look_up.new.snapshot c.in_ok-found.ensures.keeps
@@ -40,5 +43,6 @@ returns g c calm is_request own =
         read = λ reads. c.in_ok-known.ensures.none (c.statuses_of.ensures reads);
         found = found (string_bytes key.text) bytes (key_of_part environment request environment.now [] asked input.files before.files key is_request own (grown.kept calm.quiet)) is_entry;
       };
-      is_name = subst (λ (i : Bytes). IsName request i entry object (string_bytes c.in_ok-name.name)) c.as_str.ensures.value c.in_ok-name.ensures;
+      is_name = subst (λ (i : Bytes). IsName request i entry tests object name) c.as_str-input.ensures.value
+          (subst (λ (t : List Test). IsName request c.as_str-input.result.now entry t object name) (ap tests_of c.deref-3.ensures.value) c.in_ok-name.ensures);
     }

@@ -1,6 +1,8 @@
-use Rattle.std.proofs.Common.{inl, inr, Some, None, string_bytes, refl, subst}
+use Rattle.std.proofs.Common.{◌∙◌, inl, inr, List, Some, None, string_bytes, refl, ap, subst}
 use Rattle.cck_cache_command.specs.Naming.{IsNameIn}
-use Rattle.cck_cache_command.specs.Record.{IsInputVerdict}
+use Rattle.cck_cache_command.specs.Record.{IsInputVerdict, gathered_tests}
+use Rattle.cck_cache_rules.specs.Files.{EntryFields}
+use Rattle.cck_cache_rules.specs.PathTest.{Test, tests_of}
 use Rattle.cck_cache_command.specs.declared.record.InputVerdict.TheVariants.{Key}
 use Rattle.cck_path.specs.Bytes.{Bytes}
 use Rattle.cck_cache_command.proofs.RecordLemmas.{asked_of, recorded_over}
@@ -54,6 +56,8 @@ returns g c calm =
     let key = c.in_ok-recording.recording.key in
     let entry = c.in-Some.entry in
     let name = c.in_ok-name.name in
+    let tests = gathered_tests gathered in
+    let fields = c.in_ok-file.ensures.1 in
     record {
       asked = asked;
       is_asked = is_asked;
@@ -64,7 +68,8 @@ returns g c calm =
       entry = entry;
       recorded = recorded_over asked text gathered.files c.judge_input.new.files c.record_text.new.snapshot c.in_ok-recording.recording (Some entry)
           calm c.in_ok-own.ensures.keeps c.in_ok-recording.ensures.keeps c.in-Some.is c.in_ok-recording.ensures.recorded;
-      is_name = subst (λ (i : Bytes). IsNameIn request i entry.bytes.items (string_bytes key) (string_bytes name)) c.as_str-input.ensures.value
-          (subst (λ (b : Bytes). IsNameIn request c.as_str-input.result.now b (string_bytes key) (string_bytes name)) c.deref-2.ensures.value
-          (subst (λ (k : Bytes). IsNameIn request c.as_str-input.result.now c.deref-2.result.now k (string_bytes name)) c.as_str.ensures.value c.in_ok-name.ensures));
+      is_name = subst (λ (i : Bytes). IsNameIn request i entry.bytes.items tests (string_bytes key) (string_bytes name)) c.as_str-input.ensures.value
+          (subst (λ (b : Bytes). IsNameIn request c.as_str-input.result.now b tests (string_bytes key) (string_bytes name)) (c.deref-2.ensures.value ∙ ap (λ (f : EntryFields). f.entry) fields)
+          (subst (λ (t : List Test). IsNameIn request c.as_str-input.result.now c.deref-2.result.now t (string_bytes key) (string_bytes name)) (ap tests_of c.deref-3.ensures.value ∙ ap (λ (f : EntryFields). f.tests) fields)
+          (subst (λ (k : Bytes). IsNameIn request c.as_str-input.result.now c.deref-2.result.now (tests_of c.deref-3.result.now) k (string_bytes name)) c.as_str-key.ensures.value c.in_ok-name.ensures)));
     }
