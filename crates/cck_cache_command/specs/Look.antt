@@ -17,6 +17,7 @@ use Rattle.cck_cache_command.specs.declared.look.Kept.{Kept}
 use Rattle.cck_cache_command.specs.declared.look.Kept.TheVariants.{Nothing, Damaged, Entry as KeptEntry}
 use Rattle.cck_cache_rules.specs.Files.{EntryFields}
 use Rattle.cck_cache_rules.specs.PathTest.{Test}
+use Rattle.cck_cache_files.specs.EntryNames.{entry_files}
 use Rattle.cck_cache_files.specs.Snapshot.{ArePut, IsPart}
 use Rattle.cck_cache_arguments.specs.declared.request.Request.{Request}
 use Rattle.cck_cache_arguments.specs.declared.task.Look.{Look}
@@ -93,13 +94,13 @@ IsKeptObject outputs place name (Missed missed) = missed.object_name ≡ Some na
 -- what was found by one entry file or by some
 abbrev pub IsLooked : LookUp → Looked → Type 0
 IsLooked lookup (Object place name object) =
-    (place < 16) × IsNameOf lookup name × (object.key.items ≡ string_bytes name) × (has_outputs lookup.wanted.now.outputs object ≡ true)
+    (place < entry_files) × IsNameOf lookup name × (object.key.items ≡ string_bytes name) × (has_outputs lookup.wanted.now.outputs object ≡ true)
 IsLooked lookup (Missed missed) = IfSome missed.object_name (IsNameOf lookup)
 
 -- what was found for a preprocessor key over a snapshot of the input
 abbrev pub IsFoundFor : Bool → Look → SnapshotRequest → FileMap → String Global → Found → Type 0
 IsFoundFor reads_all wanted asked input key (Hit k place n object) =
-    (k ≡ key) × (place < 16) × IsNameOfKey reads_all wanted.request asked input key n × (object.key.items ≡ string_bytes n) × (has_outputs wanted.outputs object ≡ true)
+    (k ≡ key) × (place < entry_files) × IsNameOfKey reads_all wanted.request asked input key n × (object.key.items ≡ string_bytes n) × (has_outputs wanted.outputs object ≡ true)
 IsFoundFor reads_all wanted asked input key (Miss k since missed) = (k ≡ key) × IfSome missed.object_name (IsNameOfKey reads_all wanted.request asked input key)
 IsFoundFor reads_all wanted asked input key NoKey = ⊥
 
@@ -107,7 +108,7 @@ IsFoundFor reads_all wanted asked input key NoKey = ⊥
 -- key.
 abbrev pub IsLookResult : Environment → Look → Found → Type 0
 IsLookResult environment wanted (Hit k place n object) =
-    (has : HasPreprocessorKey environment wanted.request (Some (string_bytes k))) × (place < 16)
+    (has : HasPreprocessorKey environment wanted.request (Some (string_bytes k))) × (place < entry_files)
     × IsNameOfKey environment.reads_all wanted.request has.asked has.input k n × (object.key.items ≡ string_bytes n) × (has_outputs wanted.outputs object ≡ true)
 IsLookResult environment wanted (Miss k since missed) =
     (has : HasPreprocessorKey environment wanted.request (Some (string_bytes k))) × IfSome missed.object_name (IsNameOfKey environment.reads_all wanted.request has.asked has.input k)

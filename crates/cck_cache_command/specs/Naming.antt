@@ -1,26 +1,15 @@
 -- the name of the object of a key, by an entry, the recorded digest of the input and the tests of paths
-use Rattle.std.specs.Prelude.{◌≡◌, ◌++◌, List, [], Contains, Option, Some, None, map}
+use Rattle.std.specs.Prelude.{◌≡◌, List, Contains, Option}
 use Rattle.std.specs.FinMap.{entries}
 use Rattle.cck_cache_rules.specs.Base.{BaseOf}
-use Rattle.cck_cache_rules.specs.PathTest.{Test, test_bytes}
+use Rattle.cck_cache_rules.specs.PathTest.{Test}
 use Rattle.cck_cache_command.specs.Request.{request_words}
 use Rattle.cck_cache_rules.specs.ObjectName.{object_name}
 use Rattle.cck_cache_arguments.specs.declared.request.Request.{Request}
-use Rattle.cck_digest.specs.Digest.{digest_text}
-use Rattle.cck_digest.specs.Frames.{frame, framed_list}
 use Rattle.cck_entry.specs.Entry.{Entry, EntryText}
 use Rattle.cck_include.specs.Include.{Include}
 use Rattle.cck_path.specs.Bytes.{Bytes}
 use Rattle.sha2.specs.Sha256.{sha256}
-
--- the tests that count in a name: none of an object that other base directories share, since their paths are below one
-abbrev pub counted_tests : Option Bytes → List Test → List Test
-counted_tests None tests = tests
-counted_tests (Some base) tests = []
-
--- the hex digest of tests, which are a list of frames
-abbrev pub tests_digest : List Test → Bytes
-tests_digest tests = digest_text sha256 (framed_list frame (map test_bytes tests))
 
 -- The name of the object of a key. The entry has a result of the key, and the name is by what that included, by the recorded digest of the input, by
 -- the tests of paths, and by the base directory of the request.
@@ -29,7 +18,7 @@ pub record IsName (request : Request) (input : Bytes) (entry : Entry) (tests : L
   pub is_result : Contains (entries entry) (key, includes)
   pub base : Option Bytes
   pub is_base : BaseOf (request_words request) base
-  pub is_name : name ≡ object_name sha256 (key ++ tests_digest (counted_tests base tests)) input base includes
+  pub is_name : name ≡ object_name sha256 key input base includes tests
 
 -- the same by the text of an entry
 pub record IsNameIn (request : Request) (input bytes : Bytes) (tests : List Test) (key name : Bytes) : Type 0 where

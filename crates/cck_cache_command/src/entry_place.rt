@@ -1,5 +1,8 @@
 //! Which entry file of a preprocessor key a recording writes.
-ghost use Rattle.std.specs.Prelude.{◌≡◌, ◌<◌, ◌↔◌, IfOk, IsTrue};
+ghost use Rattle.std.specs.Prelude.{◌<◌, ◌↔◌, IfOk, IsTrue};
+ghost use Rattle.cck_cache_command.specs.EntryPlace.{HasSameEntry};
+ghost use Rattle.cck_cache_files.specs.EntryNames.{entry_files};
+ghost use Rattle.cck_cache_rules.specs.Files.{entry_fields};
 
 use crate::look::{Kept, read_entry};
 use cck_cache_files::{ENTRY_FILES, Kind, StoreDirectory, entry_name, modified};
@@ -13,17 +16,17 @@ use std::rt::Files;
 enum Place {
     // Nothing that a look-up can use.
     Free,
-    // An entry file of the same entry.
+    // An entry file of the same entry, with the same tests.
     Same,
     // Another entry file, which was last used at this time, if that is known.
     Used(Option<Timestamp>),
 }
 
-// Whether two entry files have the same entry.
+// Whether two entry files have the same entry and the same tests of paths. Their statuses may differ.
 fn has_same_entry(a: &EntryFile, b: &EntryFile) -> bool
-    ensures { IsTrue result ↔ (a.now.entry.items ≡ b.now.entry.items) }
+    ensures { IsTrue result ↔ HasSameEntry (entry_fields a.now) (entry_fields b.now) }
 {
-    a.entry == b.entry
+    a.entry == b.entry && a.tests == b.tests
 }
 
 // When the store's entry file of this name was last used. `None` where that is not known.
@@ -49,14 +52,14 @@ fn place_at<R: Files + AllocGlobal>(
     file: &EntryFile,
 ) -> Result<Place, AllocError> {
     let name = entry_name(rt.alloc(), key, place)?;
-    Ok(match read_entry(rt, store, None, key, name.as_str()) {
+    Ok(match read_entry(rt, store, key, name.as_str()) {
         Ok(Kept::Entry(held)) if has_same_entry(&held, file) => Place::Same,
         Ok(Kept::Entry(_)) => Place::Used(last_use(rt, store, name.as_str())?),
         Ok(Kept::Nothing | Kept::Damaged) | Err(_) => Place::Free,
     })
 }
 
-/// The place at which an entry file of this preprocessor key is written: that of a file of the same entry; else
+/// The place at which an entry file of this preprocessor key is written: that of a file of the same entry and tests; else
 /// the first one without a file that can be used; else that of the file that was used longest ago.
 ///
 /// The only error is lack of memory.
@@ -66,7 +69,7 @@ pub fn place_for<R: Files + AllocGlobal>(
     key: &str,
     file: &EntryFile,
 ) -> Result<usize, AllocError>
-    ensures { IfOk result (λ place. place < 16) }
+    ensures { IfOk result (λ place. place < entry_files) }
 {
     let mut free = None;
     let mut oldest = 0;

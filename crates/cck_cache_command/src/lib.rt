@@ -7,6 +7,7 @@
 
 mod absence;
 mod call;
+mod changed;
 mod copies;
 mod entry_place;
 mod environment;

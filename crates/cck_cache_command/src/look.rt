@@ -1,10 +1,11 @@
 //! Looks for an object in the store.
-ghost use Rattle.std.specs.Prelude.{◌≡◌, ◌<◌, [], IfOk, IfSome, true};
+ghost use Rattle.std.specs.Prelude.{◌≡◌, ◌<◌, [], IfOk, IfSome, string_bytes, true};
 ghost use Rattle.cck_cache_command.specs.Input.{IsCalm};
 ghost use Rattle.cck_cache_command.specs.Look.{IsFoundFor, IsKeptObject, IsKeyEntry, IsLookResult, IsLooked, IsMissed, IsNamedMatch, IsLookUp};
 ghost use Rattle.cck_cache_command.specs.Request.{IsKeyOver, IsRequest};
 ghost use Rattle.cck_cache_rules.specs.PathTest.{tests_of};
 
+use crate::changed::{Changed, changed_in, may_match};
 use crate::environment::Environment;
 use crate::included::{add_entry_files, entry_view};
 use crate::input::input_snapshot;
@@ -22,7 +23,7 @@ use cck_files::MapFiles;
 use cck_path::Timestamp;
 use cck_snapshot::{SnapshotRequest, look_up, preprocessor_key};
 use cck_util::Sha256State;
-use std::alloc::AllocError;
+use std::alloc::{AllocError, Global};
 use std::rt::Files;
 use std::{fs, io};
 
@@ -118,27 +119,31 @@ fn entry_bytes<R: Files + AllocGlobal>(
     Ok(if bytes.is_empty() { None } else { Some(bytes) })
 }
 
-/// Reads an entry file of a preprocessor key: that at this path, if one is given, and else the
-/// store's of this name. A file at a path that is empty is no entry file.
-///
-/// The error is of a file that can't be read, which at a path includes one that is not there, or lack
-/// of memory.
-pub fn read_entry<R: Files + AllocGlobal>(
-    rt: &R,
-    store: &StoreDirectory,
-    path: Option<&str>,
-    key: &str,
-    name: &str,
-) -> Result<Kept>
+// What these bytes of an entry file hold of a preprocessor key.
+fn kept_in(alloc: Global, key: &str, bytes: &[u8]) -> Result<Kept, AllocError>
     ensures { IfOk result (IsKeyEntry key.now) }
 {
-    let Some(bytes) = entry_bytes(rt, store, path, name).context("the entry file")? else {
-        return Ok(Kept::Nothing);
-    };
-    Ok(match entry_in(rt.alloc(), key, &bytes)? {
+    Ok(match entry_in(alloc, key, bytes)? {
         Some(file) => Kept::Entry(file),
         None => Kept::Damaged,
     })
+}
+
+/// Reads the store's entry file of this name, of a preprocessor key.
+///
+/// The error is of a file that can't be read, or lack of memory.
+pub fn read_entry<R: Files + AllocGlobal>(
+    rt: &R,
+    store: &StoreDirectory,
+    key: &str,
+    name: &str,
+) -> io::Result<Kept>
+    ensures { IfOk result (IsKeyEntry key.now) }
+{
+    match store.read(rt, Kind::Entry, name)? {
+        Some(bytes) => Ok(kept_in(rt.alloc(), key, &bytes)?),
+        None => Ok(Kept::Nothing),
+    }
 }
 
 // The statuses by which files are not read and absent paths not tested: none, where all is read.
@@ -231,26 +236,20 @@ fn entry_path<R: AllocGlobal>(
     }
 }
 
-// Looks for the object by the entry file at a place, or at the path that is wanted.
-fn look_at_place<R: Files + AllocGlobal>(
+// Looks for the object by the entry file at a place. Where none of its results matches, the first file that changed is
+// noted, if there is one.
+fn look_by_entry<R: Files + AllocGlobal>(
     rt: &R,
     lookup: &LookUp<'_>,
     place: usize,
+    file: &EntryFile,
+    changed: &mut Option<Changed>,
 ) -> Result<Looked>
     requires { place < ENTRY_FILES }
+    requires { file.now.preprocessor_key.items ≡ string_bytes lookup.now.key.now.text }
     ensures { IfOk result (λ looked. IsLookUp lookup.now → IsLooked lookup.now looked) }
 {
-    let (alloc, path, key) = (rt.alloc(), lookup.wanted.entry, lookup.key.text.as_str());
-    let name = entry_name(alloc, key, place)?;
-    let file = match read_entry(rt, lookup.store, path, key, name.as_str())? {
-        Kept::Nothing => return Ok(nothing_found(None, None)),
-        Kept::Damaged => {
-            let path = entry_path(rt, lookup.store, path, name.as_str())?;
-            return Ok(nothing_found(None, Some(path)));
-        }
-        Kept::Entry(file) => file,
-    };
-    let mut files = lookup.files.copy(alloc)?;
+    let mut files = lookup.files.copy(rt.alloc())?;
     let found = matching_name(
         rt,
         lookup.environment,
@@ -258,11 +257,45 @@ fn look_at_place<R: Files + AllocGlobal>(
         lookup.asked,
         &mut files,
         lookup.key,
-        &file,
+        file,
     )?;
     match found {
         Some(name) => kept_object(rt, lookup.store, &lookup.wanted.outputs, place, name),
-        None => Ok(nothing_found(None, None)),
+        None => {
+            if changed.is_none() {
+                *changed = changed_in(rt.alloc(), &mut files, &file.entry)?;
+            }
+            Ok(nothing_found(None, None))
+        }
+    }
+}
+
+// Looks for the object by the entry file at a place, or at the path that is wanted. A file that has not the present
+// contents of a file that changed matches as little, and is not read further.
+fn look_at_place<R: Files + AllocGlobal>(
+    rt: &R,
+    lookup: &LookUp<'_>,
+    place: usize,
+    changed: &mut Option<Changed>,
+) -> Result<Looked>
+    requires { place < ENTRY_FILES }
+    ensures { IfOk result (λ looked. IsLookUp lookup.now → IsLooked lookup.now looked) }
+{
+    let (alloc, path, key) = (rt.alloc(), lookup.wanted.entry, lookup.key.text.as_str());
+    let name = entry_name(alloc, key, place)?;
+    let read = entry_bytes(rt, lookup.store, path, name.as_str()).context("the entry file")?;
+    let Some(bytes) = read else {
+        return Ok(nothing_found(None, None));
+    };
+    if !may_match(alloc, changed.as_ref(), &bytes)? {
+        return Ok(nothing_found(None, None));
+    }
+    match kept_in(alloc, key, &bytes)? {
+        Kept::Entry(file) => look_by_entry(rt, lookup, place, &file, changed),
+        Kept::Nothing | Kept::Damaged => {
+            let path = entry_path(rt, lookup.store, path, name.as_str())?;
+            Ok(nothing_found(None, Some(path)))
+        }
     }
 }
 
@@ -270,15 +303,16 @@ fn look_at_place<R: Files + AllocGlobal>(
 fn look_in_files<R: Files + AllocGlobal>(rt: &R, lookup: &LookUp<'_>) -> Result<Looked>
     ensures { IfOk result (λ looked. IsLookUp lookup.now → IsLooked lookup.now looked) }
 {
+    let mut changed = None;
     if lookup.wanted.entry.is_some() {
-        return look_at_place(rt, lookup, 0);
+        return look_at_place(rt, lookup, 0, &mut changed);
     }
     let mut all = Missed {
         object_name: None,
         damaged: None,
     };
     for place in 0..ENTRY_FILES {
-        match look_at_place(rt, lookup, place)? {
+        match look_at_place(rt, lookup, place, &mut changed)? {
             Looked::Missed(one) => {
                 all = Missed {
                     object_name: all.object_name.or(one.object_name),
@@ -343,7 +377,8 @@ fn look_for<R: Files + AllocGlobal>(
 ///
 /// Each entry file of the preprocessor key is asked, in the order of their places, until one has an object. A file
 /// that the entry names is not read if its status shows that it is unchanged, and a path is not
-/// tested if its directory's does, unless the environment asks that all are read.
+/// tested if its directory's does, unless the environment asks that all are read. Once a file is known to have
+/// changed, an entry file that names it, and not its present contents, is passed over.
 ///
 /// The error is of an input that is no regular file that can be read, of a program of the compiler, of
 /// the store, of a store of digests or of the file at `wanted.entry` that can't be read, of a file that

@@ -99,7 +99,7 @@ fn print_place<R: Files + AllocGlobal, W: Write>(
     writer: &mut W,
 ) -> Result<bool> {
     let name = entry_name(rt.alloc(), key, place)?;
-    match read_entry(rt, store, None, key, name.as_str())? {
+    match read_entry(rt, store, key, name.as_str())? {
         Kept::Nothing => return Ok(false),
         Kept::Damaged => {
             let path = store.path_of(rt, Kind::Entry, name.as_str())?;
@@ -129,12 +129,15 @@ fn print_kept<R: Files + AllocGlobal, W: Write>(
     Ok(())
 }
 
-/// Prints what the store has of a request and which paths keep it from matching, a line each:
-/// `preprocessor-key KEY`; `no entry`, or for each entry file `damaged PATH` or, for the first test of a path that does not hold
-/// now `present PATH`, if the path was absent when the entry was recorded, `absent PATH`, if a file was
-/// there, or `changed PATH`, if a directory was; `result KEY`, and after it `changed PATH` for each
-/// included file that does not match. `false` where the request has no preprocessor key: then a line
-/// says that.
+/// Prints what the store has of a request and which paths keep it from matching, a line each. `false` where the
+/// request has no preprocessor key: then a line says that.
+///
+/// - `preprocessor-key KEY`;
+/// - `no entry`, or for each entry file what follows;
+/// - `damaged PATH`, of a file that is not an entry file of the key;
+/// - for the first test of a path that does not hold now `present PATH`, if the path was absent when the entry was
+///   recorded, `absent PATH`, if a file was there, or `changed PATH`, if a directory was;
+/// - `result KEY`, and after it `changed PATH` for each included file that does not match.
 ///
 /// The error is of an input that is no regular file that can be read, of a program of the compiler or
 /// of an entry file that can't be read, of an entry that is malformed, of a failed write, or lack of

@@ -2,6 +2,10 @@
 use Rattle.std.specs.Prelude.{◌≡◌, ◌<◌, ◌^◌, ℕ, List, ◌++◌, nat_eq, if◌then◌else◌, codes, length}
 use Rattle.std.specs.Fmt.{decimal}
 
+-- the most entry files of a preprocessor key
+abbrev pub entry_files : ℕ
+entry_files = 16
+
 -- The name of the file at a place: the key itself at the first one, and else the key, a point and the number of the place.
 abbrev pub entry_name : List ℕ → ℕ → List ℕ
 entry_name key place = if nat_eq place 0 then key else key ++ codes "." ++ decimal place

@@ -1,11 +1,17 @@
 -- The definitions at literal values.
-use Rattle.std.proofs.Common.{arith, ◌≡◌, true, false, pos, negsuc, Some, None, [], ◌∷◌, ◌++◌, codes, refl}
+use Rattle.std.proofs.Common.{arith, ◌≡◌, ◌<◌, ◌^◌, ℕ, zero, suc, true, false, pos, negsuc, Some, None, [], ◌∷◌, ◌++◌, codes, drop, refl}
+use Rattle.std.specs.List.{sum}
 use Rattle.cck_digest.specs.Frames.{length_bytes}
 use Rattle.cck_include.specs.TimePart.{i64_bytes, u32_bytes}
 use Rattle.cck_cache_rules.specs.Age.{IsAbandoned}
 use Rattle.cck_cache_rules.specs.Checksum.{sums_of, words}
+use Rattle.cck_cache_rules.specs.ObjectName.{is_inside, object_parts, tests_inside}
 use Rattle.cck_cache_rules.specs.PathStatus.{status_bytes}
+use Rattle.cck_cache_rules.specs.PathTest.{Absent, File}
 use Rattle.cck_cache_rules.specs.Refusal.{IsRefusal}
+use Rattle.cck_cache_rules.specs.Removal.{IsRemovedCount}
+use Rattle.cck_cache_rules.specs.Size.{IsSize}
+use Rattle.cck_cache_rules.specs.Size.IsUnit.{kibibyte}
 use Rattle.cck_cache_rules.specs.declared.refusal.Refusal.TheVariants.{DayChanged, NoKey}
 
 -- an hour and a second
@@ -44,3 +50,38 @@ a_status : status_bytes (record { path = codes "/a"; device = 1; inode = 258; mo
     ∷ 255 ∷ 255 ∷ 255 ∷ 255 ∷ 255 ∷ 255 ∷ 255 ∷ 255 ∷ 255 ∷ 201 ∷ 154 ∷ 59 ∷ codes "/a")
 unfolding length_bytes i64_bytes u32_bytes
 a_status = refl
+
+-- a base directory and what is below it, but not a longer name
+itself : is_inside (Some (codes "/b")) (codes "/b") ≡ true
+itself = refl
+
+longer : is_inside (Some (codes "/b")) (codes "/bc") ≡ false
+longer = refl
+
+-- a test of a path elsewhere, and one below the base directory
+two_tests : object_parts (codes "k") (codes "i") (Some (codes "/b")) [] (Absent (codes "/u/x") ∷ File (codes "/b/y") ∷ [])
+    ≡ record {
+      key = codes "k";
+      input = codes "i";
+      outside = [];
+      inside = [];
+      tests_outside = codes "absent /u/x" ∷ [];
+      tests_inside = codes "file /y" ∷ [];
+    }
+two_tests = refl
+
+-- two checkouts with the same tests
+two_checkouts : tests_inside (Some (codes "/b")) (File (codes "/b/y") ∷ []) ≡ tests_inside (Some (codes "/c")) (File (codes "/c/y") ∷ [])
+two_checkouts = refl
+
+-- the first of three sizes goes, and no more
+one_goes : IsRemovedCount (3 ∷ 4 ∷ 5 ∷ []) 9 1
+one_goes = record { within = omega arith; fits = omega arith; fewest = fewest }
+  where
+    fewest : (fewer : ℕ) → fewer < 1 → 9 < sum (drop fewer (3 ∷ 4 ∷ 5 ∷ []))
+    fewest zero lt = omega arith
+    fewest (suc n) lt = absurd (omega (arith, lt))
+
+-- ten kibibytes
+ten_kibibytes : IsSize (codes "10Ki") 10240
+ten_kibibytes = record { unit = 2 ^ 10; number = (omega arith, (omega arith, (omega arith, tt))); suffix = kibibyte; value = refl; below = omega arith }

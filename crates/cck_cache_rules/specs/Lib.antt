@@ -1,6 +1,7 @@
 pub mod Age
 pub mod Argument
 pub mod Base
+pub mod Changed
 pub mod Checksum
 pub mod Contents
 pub mod PathStatus

@@ -1,34 +1,66 @@
 -- the name under which a store keeps an object
-use Rattle.std.specs.Prelude.{◌≡◌, ◌↔◌, ℕ, List, ◌++◌, Bool, false, not, Option, Some, None, codes, filter, map, nat_eq}
+use Rattle.std.specs.Prelude.{◌≡◌, ◌↔◌, ℕ, List, ◌++◌, Bool, false, not, Option, Some, None, codes, drop, filter, length, map, nat_eq}
 use Rattle.std.specs.List.{starts_with}
 use Rattle.cck_digest.specs.Digest.{digest_text}
 use Rattle.cck_digest.specs.Frames.{frame, framed_list}
 use Rattle.cck_include.specs.Include.{Include}
+use Rattle.cck_cache_rules.specs.PathTest.{Test, test_bytes, test_path, with_path}
 
--- whether a path goes on after the base directory and a slash; without a base directory none does
+-- whether a path is that of the base directory, or goes on after it and a slash; without a base directory none does
 abbrev pub is_inside : Option (List ℕ) → List ℕ → Bool
 is_inside None path = false
-is_inside (Some base) path = starts_with nat_eq path (base ++ codes "/")
+is_inside (Some base) path = starts_with nat_eq (path ++ codes "/") (base ++ codes "/")
 
--- the recorded digests of the files that are not below the base directory, and of those that are
+-- what follows the base directory in a path inside
+abbrev pub after_base : Option (List ℕ) → List ℕ → List ℕ
+after_base None path = path
+after_base (Some base) path = drop (length base) path
+
+-- the recorded digests of the files that are not inside the base directory, and of those that are
 abbrev pub digests_outside : Option (List ℕ) → List Include → List (List ℕ)
 digests_outside base includes = map (λ i. i.digest) (filter (λ i. not (is_inside base i.path)) includes)
 
 abbrev pub digests_inside : Option (List ℕ) → List Include → List (List ℕ)
 digests_inside base includes = map (λ i. i.digest) (filter (λ i. is_inside base i.path) includes)
 
--- a key, and the recorded digests of an input and of two groups of files
-abbrev pub object_material : List ℕ → List ℕ → List (List ℕ) → List (List ℕ) → List ℕ
-object_material key input outside inside =
-    frame key ++ frame input ++ framed_list frame outside ++ framed_list frame inside
+-- the bytes of the tests of paths that are not inside the base directory, and of those that are, without it
+abbrev pub tests_outside : Option (List ℕ) → List Test → List (List ℕ)
+tests_outside base tests = map test_bytes (filter (λ t. not (is_inside base (test_path t))) tests)
 
--- the name of the object of a key, for an input and the files that a result included
-unfoldable pub object_name : (List ℕ → List ℕ) → List ℕ → List ℕ → Option (List ℕ) → List Include → List ℕ
-object_name hash key input base includes =
-    digest_text hash (object_material key input (digests_outside base includes) (digests_inside base includes))
+abbrev pub tests_inside : Option (List ℕ) → List Test → List (List ℕ)
+tests_inside base tests =
+    map (λ t. test_bytes (with_path t (after_base base (test_path t)))) (filter (λ t. is_inside base (test_path t)) tests)
+
+-- what decides an object beside the compiler: its key, and the recorded digests and the tests of two groups each
+pub record ObjectParts : Type 0 where
+  pub key : List ℕ
+  pub input : List ℕ
+  pub outside : List (List ℕ)
+  pub inside : List (List ℕ)
+  pub tests_outside : List (List ℕ)
+  pub tests_inside : List (List ℕ)
+
+-- the parts, each with its length or its count before it
+abbrev pub object_material : ObjectParts → List ℕ
+object_material p =
+    frame p.key ++ frame p.input ++ framed_list frame p.outside ++ framed_list frame p.inside ++ framed_list frame p.tests_outside
+    ++ framed_list frame p.tests_inside
+
+-- the parts of an object with this key, for an input, the files that a result included and tests of paths
+abbrev pub object_parts : List ℕ → List ℕ → Option (List ℕ) → List Include → List Test → ObjectParts
+object_parts key input base includes tests = record {
+  key = key;
+  input = input;
+  outside = digests_outside base includes;
+  inside = digests_inside base includes;
+  tests_outside = tests_outside base tests;
+  tests_inside = tests_inside base tests;
+}
+
+-- the name of the object
+unfoldable pub object_name : (List ℕ → List ℕ) → List ℕ → List ℕ → Option (List ℕ) → List Include → List Test → List ℕ
+object_name hash key input base includes tests = digest_text hash (object_material (object_parts key input base includes tests))
 
 -- two materials are equal exactly if all their parts are
 abbrev pub MaterialTellsObject : Type 0
-MaterialTellsObject =
-    (k l i j : List ℕ) (os ps is js : List (List ℕ))
-    → object_material k i os is ≡ object_material l j ps js ↔ ((k ≡ l) × (i ≡ j) × (os ≡ ps) × (is ≡ js))
+MaterialTellsObject = (p q : ObjectParts) → object_material p ≡ object_material q ↔ (p ≡ q)

@@ -27,6 +27,13 @@ test_path (File path) = path
 test_path (Directory path) = path
 test_path (Searched path place) = path
 
+-- the same test of another path
+abbrev pub with_path : Test → List ℕ → Test
+with_path (Absent path) other = Absent other
+with_path (File path) other = File other
+with_path (Directory path) other = Directory other
+with_path (Searched path place) other = Searched other place
+
 -- the bytes of the test of a directory that is searched, by its place and its path
 abbrev pub searched_bytes : ℕ × List ℕ → List ℕ
 searched_bytes p = codes "searched " ++ (length_bytes p.0 ++ p.1)

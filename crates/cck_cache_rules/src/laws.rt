@@ -18,9 +18,9 @@ pub fn checksum_tells_two_words()
     ensures { ChecksumTellsTwoWords }
 {}
 
-/// What is hashed for the names of two objects is equal exactly if their keys and the recorded digests
-/// of their inputs and of both groups of their files are. Each length and each count is written before
-/// its bytes or items.
+/// What is hashed for the names of two objects is equal exactly if their keys, the recorded digests
+/// of their inputs and of both groups of their files, and both groups of their tests are. Each length and each
+/// count is written before its bytes or items.
 pub fn material_tells_object()
     ensures { MaterialTellsObject }
 {}

@@ -6,6 +6,7 @@
 //! - [`EntryFile`] and [`ObjectFile`] are the two kinds of file of a store. Their bytes end in
 //!   frames, after a checksum of these, so that a file that was damaged is not read.
 //!   [`entry_in`] and [`object_in`] return what the bytes of a file hold for a key.
+//! - [`may_have_digest`] says, by a search of its bytes, whether an entry file may have a file's present contents.
 //! - [`PathTest`] is what must hold of a path before an entry is used, and [`PathStatus`] is what
 //!   the system said of a directory when the entry was recorded.
 //! - [`object_name`] returns the name under which an object is kept.
@@ -32,6 +33,7 @@
 mod age;
 mod argument;
 mod base;
+mod changed;
 mod checksum;
 mod contents;
 mod entry_file;
@@ -50,6 +52,7 @@ mod text;
 
 pub use age::{is_abandoned, is_day_old};
 pub use base::{Words, base_of};
+pub use changed::may_have_digest;
 pub use contents::{entry_in, object_in};
 pub use entry_file::EntryFile;
 pub use object_file::ObjectFile;

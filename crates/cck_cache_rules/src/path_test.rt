@@ -1,7 +1,7 @@
 //! What is tested of a path before an entry is used.
 ghost use Rattle.std.specs.Prelude.{◌≡◌, ◌++◌, IfOk};
 ghost use Rattle.std.specs.Option.{option_map};
-ghost use Rattle.cck_cache_rules.specs.PathTest.{searched_bytes, test_bytes, test_of, test_path};
+ghost use Rattle.cck_cache_rules.specs.PathTest.{searched_bytes, test_bytes, test_of, test_path, with_path};
 ghost use Rattle.cck_cache_rules.specs.Reading.{ReadsBack};
 
 use crate::frames::{number_bytes, read_number};
@@ -37,7 +37,7 @@ pub enum PathTest {
 }
 
 // These, one after the other.
-fn joined(alloc: Global, front: &[u8], rest: &[u8]) -> Result<Vec<u8>, AllocError>
+pub(crate) fn joined(alloc: Global, front: &[u8], rest: &[u8]) -> Result<Vec<u8>, AllocError>
     ensures { IfOk result (λ all. all.items ≡ front.now ++ rest.now) }
 {
     let mut all = front.to_vec(alloc)?;
@@ -71,22 +71,31 @@ impl PathTest {
         }
     }
 
+    /// The bytes of the same test of another path.
+    ///
+    /// The only error is lack of memory.
+    pub fn write_with(&self, alloc: Global, path: &[u8]) -> Result<Vec<u8>, AllocError>
+        ensures { IfOk result (λ bytes. bytes.items ≡ test_bytes (with_path (test_of self.now) path.now)) }
+    {
+        match self {
+            PathTest::Absent(_) => joined(alloc, ABSENT, path),
+            PathTest::File(_) => joined(alloc, FILE, path),
+            PathTest::Directory(_) => joined(alloc, DIRECTORY, path),
+            PathTest::Searched { place, .. } => {
+                let mut bytes = joined(alloc, SEARCHED, &number_bytes(*place as u64))?;
+                bytes.extend_from_slice(path)?;
+                Ok(bytes)
+            }
+        }
+    }
+
     /// The bytes of the test in an entry file.
     ///
     /// The only error is lack of memory.
     pub fn write(&self, alloc: Global) -> Result<Vec<u8>, AllocError>
         ensures { IfOk result (λ bytes. bytes.items ≡ test_bytes (test_of self.now)) }
     {
-        match self {
-            PathTest::Absent(path) => joined(alloc, ABSENT, path),
-            PathTest::File(path) => joined(alloc, FILE, path),
-            PathTest::Directory(path) => joined(alloc, DIRECTORY, path),
-            PathTest::Searched { path, place } => {
-                let mut bytes = joined(alloc, SEARCHED, &number_bytes(*place as u64))?;
-                bytes.extend_from_slice(path)?;
-                Ok(bytes)
-            }
-        }
+        self.write_with(alloc, self.path())
     }
 
     /// The test that has these bytes. `None` where no test has.

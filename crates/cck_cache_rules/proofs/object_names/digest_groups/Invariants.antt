@@ -2,7 +2,7 @@ use Rattle.std.proofs.Common.{◌≡◌, map, take}
 use Rattle.std.specs.Option.{option_map}
 use Rattle.cck_include.specs.Include.{include_lent}
 use Rattle.cck_cache_rules.specs.ObjectName.{digests_inside, digests_outside}
-use Rattle.cck_cache_rules.proofs.object_names.groups_of.Given as goal
+use Rattle.cck_cache_rules.proofs.object_names.digest_groups.Given as goal
 
 abbrev pub invariant-loop-include : goal.invariant-loop-include
 invariant-loop-include l = record {
