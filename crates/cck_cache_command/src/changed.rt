@@ -25,12 +25,8 @@ pub struct Changed {
 }
 
 // The hex digest of what a snapshot has at a path. `None` where it has nothing there.
-fn digest_in(
-    alloc: Global,
-    files: &mut MapFiles,
-    path: &[u8],
-) -> Result<Option<String>, UtilError>
-    ensures { IfOk result (λ found. IfSome found (λ digest.
+fn digest_in(alloc: Global, files: &mut MapFiles, path: &[u8]) -> Result<Option<String>, UtilError>
+    ensures found { IfOk result (λ found. IfSome found (λ digest.
         digest_text_at sha256 files.old.files (components path.now) ≡ Some (string_bytes digest))) }
     ensures kept { files.new.files ≡ files.old.files }
 {
@@ -47,7 +43,7 @@ fn changed_of(
     files: &mut MapFiles,
     found: &ResultRef<'_>,
 ) -> Result<Option<Changed>, UtilError>
-    ensures { IfOk result (λ changed. IfSome changed (IsChanged files.old.files)) }
+    ensures changed { IfOk result (λ changed. IfSome changed (IsChanged files.old.files)) }
     ensures kept { files.new.files ≡ files.old.files }
 {
     for include in found.includes() {
@@ -86,11 +82,7 @@ pub fn changed_in(alloc: Global, files: &mut MapFiles, bytes: &[u8]) -> Result<O
 /// where the bytes name the file and have not the digest of its contents.
 ///
 /// The only error is lack of memory.
-pub fn may_match(
-    alloc: Global,
-    changed: Option<&Changed>,
-    bytes: &[u8],
-) -> Result<bool, AllocError>
+pub fn may_match(alloc: Global, changed: Option<&Changed>, bytes: &[u8]) -> Result<bool, AllocError>
     ensures { IfOk result (λ may. IsTrue may ↔ MayMatch (option_map (λ c. c.now) changed.entry) bytes.now) }
 {
     match changed {

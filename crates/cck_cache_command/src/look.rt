@@ -245,8 +245,8 @@ fn look_by_entry<R: Files + AllocGlobal>(
     file: &EntryFile,
     changed: &mut Option<Changed>,
 ) -> Result<Looked>
-    requires { place < ENTRY_FILES }
-    requires { file.now.preprocessor_key.items ≡ string_bytes lookup.now.key.now.text }
+    requires place { place < ENTRY_FILES }
+    requires key { file.now.preprocessor_key.items ≡ string_bytes lookup.now.key.now.text }
     ensures { IfOk result (λ looked. IsLookUp lookup.now → IsLooked lookup.now looked) }
 {
     let mut files = lookup.files.copy(rt.alloc())?;

@@ -1,7 +1,7 @@
 -- the arguments that count in a key are arguments of the call
 use Rattle.std.proofs.Common.{◌≡◌, ◌⊎◌, ℕ, Bool, true, false, cond, List, [], ◌∷◌, ◌++◌, Option, Some, None, refl, ap, sym, ◌∙◌, inl, inr, append_assoc, nat_eq, codes, map, subst}
 use Rattle.std.specs.Prelude.{fold}
-use Rattle.std.specs.List.{ends_with, starts_with}
+use Rattle.std.specs.List.{starts_with}
 use Rattle.std.proofs.lemmas.List.{append-nil}
 use Rattle.cck_cache_options.specs.declared.reason.Reason.{Reason}
 use Rattle.cck_cache_options.specs.declared.reason.Reason.TheVariants.{OtherInput, PassedOption}
@@ -11,7 +11,7 @@ use Rattle.cck_cache_options.specs.declared.table.Form.TheVariants.{Alone, Joine
 use Rattle.cck_cache_options.specs.declared.table.Class.{Class}
 use Rattle.cck_cache_options.specs.declared.table.Class.TheVariants.{Text, Code, Message, CompilerMessage, Directory, Nothing, Compile, Output, Dependencies, Rule, Target, DependencyFile, PreprocessorDependencyFile, Passed}
 use Rattle.cck_cache_options.specs.Table.{Entry, after_name, has_bytes, longest}
-use Rattle.cck_cache_options.specs.Call.{Asked, KeyedArgument, State, advance, flag, go, has_comma, is_keyed, keep, nothing_asked, on_argument, on_dash, on_equals, on_found, on_input, on_known, on_option, on_rest, on_value, refused, start, step, step_unless, stop, take, with_dependency_file, with_input, with_output, with_preprocessor_file}
+use Rattle.cck_cache_options.specs.Call.{Asked, KeyedArgument, State, advance, flag, go, has_comma, is_keyed, is_source, keep, nothing_asked, on_argument, on_dash, on_equals, on_found, on_input, on_known, on_option, on_rest, on_value, refused, start, step, step_unless, stop, take, with_dependency_file, with_input, with_output, with_preprocessor_file}
 use Rattle.cck_cache_options.specs.Laws.{AreInOrder, KeyedInOrder}
 use Rattle.cck_cache_options.proofs.StateLemmas.{finished, stops_never}
 
@@ -109,7 +109,7 @@ input_same call (Some other) argument = tt
 
 input_adds : (call : Asked) (argument : List ℕ) → Adds call (on_input call argument) argument
 input_adds call argument =
-    adds_cond call argument (ends_with nat_eq argument (codes ".c")) (with_input call call.input argument) (stop OtherInput)
+    adds_cond call argument (is_source argument) (with_input call call.input argument) (stop OtherInput)
     (kept_adds call Text argument (with_input call call.input argument) (input_same call call.input argument)) tt
 
 known_adds : (call : Asked) (option : Entry) (argument : List ℕ) (rest : Option (List ℕ)) → Adds call (on_known call option argument rest) argument

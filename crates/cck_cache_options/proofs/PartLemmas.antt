@@ -1,7 +1,7 @@
 -- a call that is cached has known parts alone
 use Rattle.std.proofs.Common.{◌≡◌, ◌⊎◌, ℕ, Bool, true, false, cond, List, [], ◌∷◌, ◌++◌, Option, Some, None, refl, ap, sym, ◌∙◌, inl, inr, subst, nat_eq, codes}
 use Rattle.std.specs.Prelude.{flat_map, fold}
-use Rattle.std.specs.List.{ends_with, starts_with}
+use Rattle.std.specs.List.{starts_with}
 use Rattle.std.proofs.lemmas.Bool.{false≢true}
 use Rattle.std.proofs.lemmas.Bool.Decides.{Decides-eqb}
 use Rattle.std.proofs.lemmas.List.{append-nil}
@@ -12,7 +12,7 @@ use Rattle.cck_cache_options.specs.declared.table.Form.TheVariants.{Alone, Joine
 use Rattle.cck_cache_options.specs.declared.table.Class.{Class}
 use Rattle.cck_cache_options.specs.declared.table.Class.TheVariants.{Text, Code, Message, CompilerMessage, Directory, Nothing, Compile, Output, Dependencies, Rule, Target, DependencyFile, PreprocessorDependencyFile, Passed}
 use Rattle.cck_cache_options.specs.Table.{Entry, after_name, form_fits, longest, rest_fits}
-use Rattle.cck_cache_options.specs.Call.{Asked, KeyedArgument, State, advance, flag, go, has_comma, keep, nothing_asked, on_dash, on_equals, on_found, on_input, on_known, on_rest, start, step, stop, take, take_preprocessor_file, with_dependency_file, with_input, with_output, with_preprocessor_file}
+use Rattle.cck_cache_options.specs.Call.{Asked, KeyedArgument, State, advance, flag, go, has_comma, is_source, keep, nothing_asked, on_dash, on_equals, on_found, on_input, on_known, on_rest, start, step, stop, take, take_preprocessor_file, with_dependency_file, with_input, with_output, with_preprocessor_file}
 use Rattle.cck_cache_options.specs.Laws.{IsLongest}
 use Rattle.cck_cache_options.specs.Parts.{AreParts, AskedIsRead, IsPart, IsRead, Part, TakesFlag, TakesValue, with_flag, with_part, with_value, written}
 use Rattle.cck_cache_options.specs.Parts.Part.{input, alone, joined, equal, apart}
@@ -231,15 +231,15 @@ first_or_second false a b s e = inr (refl, e)
 
 input_leads : (table : List Entry) (call : Asked) (argument : List ℕ) (c : Asked) (w : Option Class) → starts_with nat_eq argument (codes "-") ≡ false
     → on_input call argument ≡ go c w → Leads table call argument c w
-input_leads table call argument c w no_dash e = by_source (first_or_second (ends_with nat_eq argument (codes ".c")) (with_input call call.input argument) (stop OtherInput) (go c w) e)
+input_leads table call argument c w no_dash e = by_source (first_or_second (is_source argument) (with_input call call.input argument) (stop OtherInput) (go c w) e)
   where
-    by_input : ends_with nat_eq argument (codes ".c") ≡ true → (old : Option (List ℕ)) → call.input ≡ old → with_input call old argument ≡ go c w → Leads table call argument c w
+    by_input : is_source argument ≡ true → (old : Option (List ℕ)) → call.input ≡ old → with_input call old argument ≡ go c w → Leads table call argument c w
     by_input source None f q =
         let s = same (record (keep call Text argument) { input = Some argument }) c None w q in
         closes table call argument c w s.waiting (record { part = input argument; one = refl; allowed = (f, no_dash, source); is = s.call })
     by_input source (Some other) f q = never TwoInputs c w q
 
-    by_source : ((ends_with nat_eq argument (codes ".c") ≡ true) × (with_input call call.input argument ≡ go c w)) ⊎ ((ends_with nat_eq argument (codes ".c") ≡ false) × (stop OtherInput ≡ go c w))
+    by_source : ((is_source argument ≡ true) × (with_input call call.input argument ≡ go c w)) ⊎ ((is_source argument ≡ false) × (stop OtherInput ≡ go c w))
         → Leads table call argument c w
     by_source (inl q) = by_input q.0 call.input refl q.1
     by_source (inr q) = never OtherInput c w q.1

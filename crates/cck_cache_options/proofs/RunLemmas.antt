@@ -10,7 +10,7 @@ use Rattle.std.proofs.lemmas.Grind.{flat_map-append, fold-append}
 use Rattle.cck_cache_options.specs.declared.runs.Run.{Run}
 use Rattle.cck_cache_options.specs.declared.runs.Runs.{Runs}
 use Rattle.cck_cache_options.specs.declared.table.Row.{Row}
-use Rattle.cck_cache_options.specs.Runs.{AreRuns, IsMore, IsOpened, IsRun, after_dash, run_entries}
+use Rattle.cck_cache_options.specs.Runs.{IsMore, IsOpened, IsRun, after_dash, run_entries}
 use Rattle.cck_cache_options.specs.Table.{Entry, after_name, better, entries, entry, fits, is_longer, rest_fits}
 
 -- options that an argument is not change nothing

@@ -1,5 +1,5 @@
 -- the arguments of a call
-use Rattle.std.specs.Prelude.{ℕ, Bool, true, false, cond, not, ◌&&◌, ◌||◌, List, [], ◌∷◌, ◌++◌, Option, Some, None, codes, fold, map, nat_eq}
+use Rattle.std.specs.Prelude.{ℕ, Bool, true, false, cond, not, ◌&&◌, ◌||◌, List, [], ◌∷◌, ◌++◌, Option, Some, None, codes, drop, fold, map, nat_eq}
 use Rattle.std.specs.Option.{option_map}
 use Rattle.std.specs.List.{ends_with, list_any, starts_with}
 use Rattle.cck_cache_options.specs.declared.call.Call.{Call}
@@ -187,9 +187,13 @@ abbrev pub with_input : Asked → Option (List ℕ) → List ℕ → State
 with_input call None argument = go (record (keep call Text argument) { input = Some argument }) None
 with_input call (Some other) argument = stop TwoInputs
 
+-- whether a compiler takes a file of this name for a source in C: it ends in `.c` and is longer
+abbrev pub is_source : List ℕ → Bool
+is_source name = ends_with nat_eq (drop 1 name) (codes ".c")
+
 -- an argument that is no option and no value: a source in C
 abbrev pub on_input : Asked → List ℕ → State
-on_input call argument = cond (ends_with nat_eq argument (codes ".c")) (with_input call call.input argument) (stop OtherInput)
+on_input call argument = cond (is_source argument) (with_input call call.input argument) (stop OtherInput)
 
 abbrev pub on_known : Asked → Entry → List ℕ → Option (List ℕ) → State
 on_known call option argument (Some rest) = on_option call option.form option.class argument rest

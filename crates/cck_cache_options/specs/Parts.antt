@@ -1,11 +1,11 @@
 -- the parts of a call's arguments
 use Rattle.std.specs.Prelude.{◌≡◌, ◌≢◌, ◌⊎◌, ℕ, true, false, List, [], ◌∷◌, ◌++◌, Some, None, codes, flat_map, nat_eq}
-use Rattle.std.specs.List.{ends_with, starts_with}
+use Rattle.std.specs.List.{starts_with}
 use Rattle.cck_cache_options.specs.declared.table.Form.TheVariants.{Alone, Joined, Separate, Either, Equals}
 use Rattle.cck_cache_options.specs.declared.table.Class.{Class}
 use Rattle.cck_cache_options.specs.declared.table.Class.TheVariants.{Text, Code, Message, CompilerMessage, Directory, Nothing, Compile, Output, Dependencies, Rule, Target, DependencyFile, PreprocessorDependencyFile, Passed}
 use Rattle.cck_cache_options.specs.Table.{Entry}
-use Rattle.cck_cache_options.specs.Call.{Asked, asks, has_comma, is_contrary, keep, parse, start}
+use Rattle.cck_cache_options.specs.Call.{Asked, asks, has_comma, is_contrary, is_source, keep, parse, start}
 use Rattle.cck_cache_options.specs.Laws.{IsLongest}
 
 -- the input, an option without a value, one with its value in the same argument, one with a `=` before it, one with its value in the next argument
@@ -101,7 +101,7 @@ TakesFlag (Passed cause) = ⊥
 
 -- A part that may come next: the first input, which is a source in C, or an option of the table in its form, whose argument is no option of a longer name.
 abbrev pub IsPart : List Entry → Asked → Part → Type 0
-IsPart table call (input path) = (call.input ≡ None) × (starts_with nat_eq path (codes "-") ≡ false) × (ends_with nat_eq path (codes ".c") ≡ true)
+IsPart table call (input path) = (call.input ≡ None) × (starts_with nat_eq path (codes "-") ≡ false) × (is_source path ≡ true)
 IsPart table call (alone option) = IsLongest table option.name (Some option) × (option.form ≡ Alone) × TakesFlag option.class
 IsPart table call (joined option value) =
     IsLongest table (option.name ++ value) (Some option) × ((option.form ≡ Joined) ⊎ (option.form ≡ Either)) × TakesValue call option.class value

@@ -3,7 +3,7 @@ ghost use Rattle.std.specs.Prelude.{◌≡◌, IfOk, map};
 ghost use Rattle.std.specs.Option.{option_map};
 ghost use Rattle.cck_cache_options.specs.Runs.{AreRuns, runs_entries};
 ghost use Rattle.cck_cache_options.specs.Table.{entries};
-ghost use Rattle.cck_cache_options.specs.Call.{advance, call_of, conclude, finish, flag, is_contrary, is_keyed, is_preprocessed, keep, next_of, nothing_asked, on_argument, on_dash, on_input, on_option, on_value, outcome_of, parse, refused, step, take, take_dependency_file, take_output, take_preprocessor_file};
+ghost use Rattle.cck_cache_options.specs.Call.{advance, call_of, conclude, finish, flag, is_contrary, is_keyed, is_preprocessed, is_source, keep, next_of, nothing_asked, on_argument, on_dash, on_input, on_option, on_value, outcome_of, parse, refused, step, take, take_dependency_file, take_output, take_preprocessor_file};
 
 use crate::reason::Reason;
 use crate::runs::{Runs, longest, runs_of};
@@ -215,12 +215,22 @@ fn on_option<'a>(
     }
 }
 
+// Whether the compiler takes a file of this name for a source in C: it ends in `.c` and is longer.
+fn is_source(name: &[u8]) -> bool
+    ensures { result ≡ is_source name.now }
+{
+    match name.split_first() {
+        Some((_, rest)) => rest.ends_with(b".c"),
+        None => false,
+    }
+}
+
 // The state after an argument that is no option and no value. The text may show the path of the input,
 // so the argument counts.
 fn on_input<'a>(call: Call<'a>, argument: &'a [u8]) -> Result<Next<'a>, AllocError>
     ensures { IfOk result (λ next. next_of next ≡ on_input (call_of call.entry) argument.now) }
 {
-    if !argument.ends_with(b".c") {
+    if !is_source(argument) {
         return Ok(Next::Stop(Reason::OtherInput));
     }
     if call.input.is_some() {

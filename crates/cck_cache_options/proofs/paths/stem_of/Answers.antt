@@ -1,4 +1,4 @@
-use Rattle.std.proofs.Common.{add-one, arith}
+use Rattle.std.proofs.Common.{arith}
 use Rattle.cck_cache_options.proofs.PathLemmas.{no_stem, stem_at}
 use Rattle.cck_cache_options.proofs.paths.stem_of.Goals as goal
 

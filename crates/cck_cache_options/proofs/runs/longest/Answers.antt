@@ -1,11 +1,10 @@
-use Rattle.std.proofs.Common.{◌≡◌, None, List, ap, sym, ◌∙◌, subst}
+use Rattle.std.proofs.Common.{None, List, ap, sym, ◌∙◌, subst}
 use Rattle.std.specs.Prelude.{flat_map, fold}
 use Rattle.std.specs.List.{AllByRecursion}
-use Rattle.std.specs.Option.{option_map}
 use Rattle.std.proofs.lemmas.Grind.{fold-append}
 use Rattle.cck_cache_options.specs.declared.runs.Run.{Run}
 use Rattle.cck_cache_options.specs.Runs.{IsRun, run_entries}
-use Rattle.cck_cache_options.specs.Table.{better, entry, longest}
+use Rattle.cck_cache_options.specs.Table.{better, longest}
 use Rattle.cck_cache_options.proofs.runs.longest.Goals as goal
 
 pub returns : goal.returns
