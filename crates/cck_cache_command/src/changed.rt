@@ -1,5 +1,5 @@
 //! A file that changed since an entry was recorded.
-ghost use Rattle.std.specs.Prelude.{◌≡◌, IfOk, IfSome, IsTrue, Some, map, string_bytes};
+ghost use Rattle.std.specs.Prelude.{◌≡◌, ◌↔◌, IfOk, IfSome, IsTrue, Some, map, string_bytes};
 ghost use Rattle.std.specs.Option.{option_map};
 ghost use Rattle.cck_cache_command.specs.Changed.{IsChanged, MayMatch};
 ghost use Rattle.cck_files.specs.FileDigest.{digest_text_at};

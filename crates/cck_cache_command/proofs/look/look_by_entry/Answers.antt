@@ -6,7 +6,7 @@ use Rattle.cck_cache_rules.specs.PathTest.{tests_of}
 use Rattle.cck_cache_command.specs.Look.{IsKeptObject, IsLooked, IsNameOf, IsNamedMatch, IsLookUp}
 use Rattle.cck_cache_command.specs.declared.look.Looked.{Looked}
 use Rattle.cck_cache_command.proofs.LookLemmas.{looked_kept}
-use Rattle.cck_cache_command.proofs.look.look_at_place.Goals as goal
+use Rattle.cck_cache_command.proofs.look.look_by_entry.Goals as goal
 
 pub returns-in-Some : goal.returns-in-Some
 returns-in-Some g c =
@@ -15,14 +15,14 @@ returns-in-Some g c =
     let request = lookup.wanted.now.request in
     let files = lookup.files.now in
     let key = lookup.key.now in
+    let file = c.args.file.now in
     let name = c.in-Some.name in
-    let bytes = c.in-Entry.file.entry.items in
-    let tests = tests_of c.in-Entry.file.tests.items in
-    let of_key = rw c.in-Entry.is at c.in_ok-read_entry.ensures in
+    let bytes = file.entry.items in
+    let tests = tests_of file.tests.items in
     let copied = c.in_ok-files.ensures.same in
     let is : IsLookUp lookup → IsNameOf lookup name = λ from. (
-      entry_fields c.in-Entry.file,
-      of_key ∙ c.as_str-key.ensures.value,
+      entry_fields file,
+      c.requires.key,
       (
         key,
         refl,
@@ -32,4 +32,4 @@ returns-in-Some g c =
       ),
     ) in
     IfOk-weaker c.kept_object.result (IsKeptObject lookup.wanted.now.outputs c.args.place name) (λ (looked : Looked). IsLookUp lookup → IsLooked lookup looked)
-    (λ looked kept from. looked_kept lookup c.args.place name looked c.requires (is from) kept) c.kept_object.ensures
+    (λ looked kept from. looked_kept lookup c.args.place name looked c.requires.place (is from) kept) c.kept_object.ensures
