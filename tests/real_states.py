@@ -22,13 +22,18 @@ ENTRY_FILES = 16
 
 
 class Project:
-    """A project of generated files, with a store of its own."""
+    """A project of generated files. All of a room have one store."""
 
-    def __init__(self, room):
-        self.place, self.log = f"{room}/project", f"{room}/log"
-        self.store = f"{room}/store"
+    def __init__(self, room, name="project"):
+        self.room, self.place, self.log = room, f"{room}/{name}", f"{room}/log"
+        self.store, self.options = f"{room}/store", []
         self.variables = dict(os.environ, CCK_PROGRAM=PROGRAM, CCK_STORE=self.store, CCK_LOG=self.log, LC_ALL="C")
         os.makedirs(self.place)
+
+    def share(self):
+        """Has the calls share objects with those of another project."""
+        self.variables["CCK_BASEDIR"] = self.place
+        self.options = [f"-ffile-prefix-map={self.place}=."]
 
     def write(self, name, text):
         """A new file in the place of this name, unless it has this text."""
@@ -56,7 +61,7 @@ class Project:
 
     def compile(self, compiler, number, suffix):
         """Compiles a source, and returns what was made and printed."""
-        words = [*compiler, "-O1", "-g", "-MD", "-MT", "o", "-MF", f"s{number}.d{suffix}", "-c", f"s{number}.c", "-o", f"s{number}.o{suffix}"]
+        words = [*compiler, "-O1", "-g", *self.options, "-MD", "-MT", "o", "-MF", f"s{number}.d{suffix}", "-c", f"s{number}.c", "-o", f"s{number}.o{suffix}"]
         done = subprocess.run(words, cwd=self.place, env=self.variables, capture_output=True, check=False)
         made = []
         for name in (f"s{number}.o{suffix}", f"s{number}.d{suffix}"):
@@ -155,7 +160,26 @@ def removed(project):
     return None if words["hit"] == 4 * SOURCES - 2 * changed else f"the others: {dict(words)}"
 
 
-TESTS = (two_branches, many_states, at_once, removed)
+def two_checkouts(project):
+    """Two directories with one store: what is compiled in one is found by its text in the other, unless a comment differs."""
+    other = Project(project.room, "other")
+    for state in (0, 1):
+        for one in (project, other):
+            one.share()
+            one.switch(state)
+            if not one.build():
+                return f"state {state}: another output"
+            words = one.logged()
+            if one is other and words["hit"] != SOURCES:
+                return f"state {state}: {dict(words)}"
+    other.write("h0.h", "#pragma once\n/* text */\nstatic inline int h0(void) { return 1; }\n")
+    time.sleep(PAUSE)
+    same, words = other.build(), other.logged()
+    # The object of a source that includes the header is another one, since lines may differ.
+    return None if same and words["recorded"] == SOURCES // 2 else f"a comment: {same}, {dict(words)}"
+
+
+TESTS = (two_branches, many_states, at_once, removed, two_checkouts)
 
 
 def main():

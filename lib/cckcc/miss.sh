@@ -309,15 +309,20 @@ keep() {
     { mkdir -p "$cck_place" && cp "$3" "$cck_place/$2.new$$" && mv "$cck_place/$2.new$$" "$cck_place/$2"; } 2>/dev/null
 }
 
-# Takes the object of the name $1 from the server, and prints the compiler's messages. What is damaged, or
-# of another name, is not taken.
-take_object() {
-    get object "$1" "$cck_scratch/object" || return 1
-    case $("$cck_program" unpack "$cck_store" --name="$1" --packed="$cck_scratch/object" --out="$cck_out" \
+# Writes the outputs of the object of the name $1 from the file $2, and prints the compiler's messages. What is damaged,
+# or of another name, is not taken.
+unpack() {
+    case $("$cck_program" unpack "$cck_store" --name="$1" --packed="$2" --out="$cck_out" \
         ${cck_dependencies:+--dependencies="$cck_dependencies"}) in
     unpacked*) ;;
-    *) note "server: the object $1 is damaged"; return 1 ;;
+    *) note "the object $1 is damaged"; return 1 ;;
     esac
+}
+
+# Takes the object of the name $1 from the server.
+take_object() {
+    get object "$1" "$cck_scratch/object" || return 1
+    unpack "$1" "$cck_scratch/object" || return 1
     keep objects "$1" "$cck_scratch/object"
 }
 
@@ -360,20 +365,53 @@ send() {
     put object "$cck_object" "$cck_scratch/packed" && put entry "$cck_key" "$cck_scratch/entry"
 }
 
-# Looks for the object of the text at the server, and ends if it is there. The object's name depends on the entry, so
-# this is made first, and kept only where the object is there.
+# Takes the object of the text from the server.
+take_text_from_server() {
+    take_object "$cck_object" || return 1
+    keep entries "$cck_key" "$cck_scratch/entry"
+    put entry "$cck_key" "$cck_scratch/entry"
+    count server-hit-text
+}
+
+# Takes the object of the text, which other base directories share, from the directory. The words are those of `record`.
+take_text_from_directory() {
+    cck_place=$cck_store/objects/${cck_object%"${cck_object#??}"}/$cck_object
+    [ -e "$cck_place" ] || return 1
+    unpack "$cck_object" "$cck_place" || return 1
+    record "$@" > "$cck_scratch/reply"
+    count hit-text
+}
+
+# Looks for the object of the text, and ends if it is there. The object's name depends on the entry, so this is made
+# first, and kept only where the object is there.
 look_for_text() {
     cck_found=$(record --entry-out="$cck_scratch/entry" "$@")
     case $cck_found in
     recorded*) cck_object=${cck_found#recorded } ;;
     *) return 1 ;;
     esac
-    take_object "$cck_object" || return 1
-    keep entries "$cck_key" "$cck_scratch/entry"
-    put entry "$cck_key" "$cck_scratch/entry"
-    count server-hit-text
+    if [ -n "$cck_server" ]; then
+        take_text_from_server || return 1
+    else
+        take_text_from_directory "$@" || return 1
+    fi
     log "hit $cck_object $cck_input, by its text"
     exit 0
+}
+
+# With a base directory: sets `cck_noted` to the path of an empty file. If it is there, the directory may have an object
+# of an input with the contents of this one.
+name_input() {
+    cck_noted=
+    [ -n "$CCK_BASEDIR" ] || return 0
+    cck_noted=$(cksum < "$cck_input" 2>/dev/null) || { cck_noted=; return 0; }
+    cck_noted=$cck_store/inputs/${cck_noted%% *}-${cck_noted#* }
+}
+
+# Writes that file.
+note_input() {
+    if [ -z "$cck_noted" ] || [ -e "$cck_noted" ]; then return; fi
+    { mkdir -p "$cck_store/inputs" && : > "$cck_noted"; } 2>/dev/null
 }
 
 # Has the program look for the call's object, or where no directory keeps objects make its key.
@@ -387,7 +425,7 @@ look_up() {
 
 # From here on the words are those of a call for cck_cache. The first one says which programs the compiler runs.
 set -- --directory="$PWD" -- $cck_color "$@"
-[ -z "$CCK_BASEDIR" ] || [ -z "$cck_server" ] || set -- --base="$CCK_BASEDIR" "$@"
+[ -z "$CCK_BASEDIR" ] || set -- --base="$CCK_BASEDIR" "$@"
 [ -z "$cck_server" ] || set -- --digests="$cck_store" "$@"
 set -- --driver="$cck_compiler" "$@"
 cck_scratch= cck_failed= cck_text=
@@ -475,8 +513,9 @@ make_scratch || { cck_found='no scratch'; pass_on "$@"; }
 # With a server, what is recorded is first in the scratch directory.
 cck_entry_out=
 [ -z "$cck_server" ] || cck_entry_out=$cck_scratch/entry
-# The preprocessor runs beside the compiler, unless a server may have the object of its text.
-if [ -n "$cck_server" ]; then
+# The preprocessor runs beside the compiler, unless the object of its text may be there.
+name_input
+if [ -n "$cck_server" ] || [ -e "$cck_noted" ]; then
     write_text
     if [ ! -e "$cck_scratch/failed" ] && [ ! -e "$cck_scratch/shows-time" ]; then look_for_text "$@"; fi
 else
@@ -515,7 +554,7 @@ log "$cck_found $cck_input"
 case $cck_found in
 recorded*)
     cck_object=${cck_found#recorded }
-    [ -z "$cck_server" ] || send
+    if [ -n "$cck_server" ]; then send; else note_input; fi
     ;;
 refused*) ;;
 *) count record-error ;;
