@@ -341,7 +341,8 @@ check '-march=native' 'passed on (native)*' same -c x.c -Ib -march=native
 check '-Wp,' 'passed on (preprocessor-option)*' same -c x.c -Ib -Wp,-DX
 check '-Wp,-MD, and -MF' 'passed on (dependencies)*' same -c x.c -Ib -Wp,-MD,x.d -MF y.d
 check '-Wp,-MD, with another option' 'passed on (preprocessor-option)*' same -c x.c -Ib -Wp,-MD,x.d,-DX
-check '-Wa,' 'passed on (assembler-option)*' same -c x.c -Ib -Wa,--noexecstack
+check '-Wa,' 'passed on (assembler-option)*' same -c x.c -Ib -Wa,-L
+check '-Wa, of the table' 'recorded*' same -c x.c -Ib -Wa,--noexecstack
 echo '-Ib' >options
 check '@file' 'passed on (response-file)*' same -c x.c @options
 check '-x' 'passed on (mode)*' same -x c -c x.c -Ib
