@@ -6,7 +6,8 @@ USAGE = """usage: python3 -m reference COMMAND, in the directory tests
   key DIGEST LANGUAGE [ARG..]  prints what `cck key` prints
   run                          prints what `cck run` prints for the script on standard input
   check [FILE..]               compares each expected result of the vector files with its own
-  write [FILE..]               puts its own results in place of those that differ
+  write [FILE..]               puts its own results in place of those that differ; FILE is the end
+                               of a vector file's name, as values/keys.txt
   compare [--scripts N] [--damaged N] [--keys N] [--seed S] [--from K] PROGRAM
                                compares what PROGRAM prints with its own, on random scripts, damaged
                                scripts and keys of the numbers from K on

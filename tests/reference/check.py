@@ -36,8 +36,12 @@ def name_of(file):
 
 
 def chosen_files(words):
-    """The vector files whose names end with one of these words, or all where there are no words."""
+    """The vector files whose names end with one of these words, or all where there are no words. Ends the program where a
+    word is the end of no name."""
     files = vector_files()
+    for word in words:
+        if not any(name_of(file).endswith(word) for file, _ in files):
+            sys.exit(f"reference: no vector file has a name that ends with {word}")
     return [pair for pair in files if not words or name_of(pair[0]).endswith(tuple(words))]
 
 
