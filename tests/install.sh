@@ -1,0 +1,67 @@
+#!/bin/sh
+# Installs into an empty directory, and compares what is there with the list below: paths, kinds and modes. Then a
+# compilation by the installed link `gcc` is recorded and found again, the options of the wrapper are tried, and
+# --uninstall leaves nothing. Needs gcc and the program (CCK_PROGRAM, by default the one that was proved and built here),
+# which stands for all three. The last line is `install: N passed, M failed`.
+top=$(cd "$(dirname "$0")/.." && pwd)
+program=${CCK_PROGRAM:-$top/crates/cck_cache/out/cck_cache}
+room=$(mktemp -d)
+trap 'rm -rf "$room"' EXIT
+passed=0 failed=0
+check() {
+    if [ "$2" = "$3" ]; then passed=$((passed + 1)); else
+        failed=$((failed + 1))
+        printf 'FAILED: %s\nwanted: %s\nfound:  %s\n' "$1" "$3" "$2"
+    fi
+}
+mkdir "$room/built"
+for name in cck_run cck_explain cck_cache; do cp "$program" "$room/built/$name"; done
+: >"$room/built/libcck.a"
+installed() { (cd "$1" && find . ! -type d -printf '%y %m %P\n' | sort -k 3); }
+wanted() {
+    for name in cck cck_cache cck_explain cckcc; do echo "f 755 bin/$name"; done
+    echo 'f 644 include/cck.h'
+    echo 'f 644 lib/cckcc/miss.sh'
+    echo 'f 644 lib/libcck.a'
+    echo 'f 644 lib/pkgconfig/libcck.pc'
+    echo 'l 777 libexec/cckcc/cc'
+    echo 'l 777 libexec/cckcc/gcc'
+    for name in CHANGELOG.md LICENSE NOTICE README.md; do echo "f 644 share/doc/cck/$name"; done
+    for page in "$top"/docs/*.md; do echo "f 644 share/doc/cck/docs/${page##*/}"; done
+    for page in cck cck_cache cck_explain cckcc; do echo "f 644 share/man/man1/$page.1"; done
+}
+"$top/install" --prefix "$room/a b" --built "$room/built" >/dev/null
+check 'the files' "$(installed "$room/a b")" "$(wanted | sort -k 3)"
+"$top/install" --prefix /opt/cck --destdir "$room/package" --built "$room/built" >/dev/null
+check 'the files of a package' "$(installed "$room/package/opt/cck")" "$(wanted | sort -k 3)"
+check 'the prefix of a package' "$(sed -n 1p "$room/package/opt/cck/lib/pkgconfig/libcck.pc")" 'prefix=/opt/cck'
+
+mkdir "$room/project"
+cd "$room/project" || exit 2
+echo 'int v;' >x.c
+sleep 0.1
+unset CCK_PROGRAM CCK_BASEDIR
+PATH="$room/a b/libexec/cckcc:$room/a b/bin:$PATH" CCK_STORE=$room/store CCK_LOG=$room/log
+export PATH CCK_STORE CCK_LOG
+gcc -c x.c
+gcc -c x.c
+check 'a hit by the link' "$(sed -n 's/^cckcc: \([a-z]*\).*/\1/p' "$room/log" | tr '\n' ' ')" 'look why recorded hit '
+check 'the compiler by the link' "$(gcc -dumpversion)" "$(/usr/bin/gcc -dumpversion)"
+check 'the statistics' "$(cckcc --show-stats | grep '^count hit')" 'count hit 1'
+cckcc --zero-stats
+check 'no statistics' "$(cckcc -s | grep '^count')" ''
+check 'an empty store' "$(cckcc --clear)" 'removed 2 files, 0 bytes left'
+check 'the version' "$(cckcc --version)" "$("$program" --version)"
+cckcc --unknown 2>/dev/null
+check 'an unknown option' $? 2
+PATH="$room/a b/libexec/cckcc" /bin/sh "$room/a b/libexec/cckcc/gcc" -c x.c 2>/dev/null
+check 'no other compiler' $? 127
+
+for prefix in "$room/a b" "$room/package/opt/cck"; do
+    "$top/install" --prefix "$prefix" --built "$room/built" --uninstall
+    check "nothing is left of $prefix" "$(find "$prefix" 2>/dev/null)" ''
+done
+"$top/install" --prefix relative 2>/dev/null
+check 'a relative prefix' $? 2
+echo "install: $passed passed, $failed failed"
+[ "$failed" -eq 0 ]
