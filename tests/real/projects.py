@@ -198,7 +198,7 @@ class Project:
             options.append(["-I" + self.pick(["linked", "linked/", "./linked", "b/../linked", "a", "linked/../b"])])
         self.chance.shuffle(options)
         self.call = {"mode": ["-c"], "output": self.pick(OUTPUTS), "input": ["x.c"], "options": options,
-                     "variables": {}, "directory": "work", "umask": 0o022}
+                     "variables": {"CCK_BASEDIR": "@root"} if self.is_rare(0.25) else {}, "directory": "work", "umask": 0o022}
         for _ in range(self.chance.randint(1, 7)):
             self.add_option(is_usual=True)
 

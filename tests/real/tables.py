@@ -49,6 +49,9 @@ SNIPPETS = r"""
 0.6 any #undef N@m\n#define N@m "@h"\n#if __has_include(N@m)\nint e@n;\n#endif
 0.6 any #if __has_\\\ninclude("@h")\nint e@n;\n#endif
 0.6 h #if __has_include_next(<@h>)\nint e@n;\n#endif
+2 any #if __has_include("@h")\n#line 1000\n__attribute__((used)) static int l@n(int *a, int i) { return a[i] / i; }\n#else\n#line 1000\n__attribute__((used)) static int l@n(int *a, int i) { return  a[i]  /  i; }\n#endif\n#line 2000
+1 any #if __has_include(<@h>)\n#line 1000\n#warning said @k\n#else\n#line 1000\n#warning     said @k\n#endif\n#line 2000
+1 h #if __has_include_next(<@h>)\n#line 1000\nstatic int l@n(void) { int unused; return 0; }\n#else\n#line 1000\nstatic int l@n(void) { int  unused; return  0; }\n#endif\n#line 2000
 1.5 any #if defined E@m && (E@m)\nint e@n = @k;\n#endif
 1.2 any #pragma GCC dependency "@h"
 0.6 any #pragma GCC dep\\\nendency "@h"
@@ -88,6 +91,8 @@ OPTIONS = r"""
 9 alone -g -g -g -g3 -g1 -ggdb -gdwarf-4 -g0 -gno-column-info
 5 alone -fsanitize=undefined -fsanitize=address
 9 alone -Wall -Wextra -Wall -Wextra -w -pedantic -Wno-all
+1.6 alone -Wmissing-include-dirs -Wno-missing-include-dirs
+1.6 alone -nostdinc -isysroota -isysroot../other -Wa,--noexecstack -Wa,--fatal-warnings -Wa,--no-warn -Wp,-D_FORTIFY_SOURCE=2
 2 alone -Wunused-variable -Wimplicit-fallthrough -Wimplicit-fallthrough=2
 2 alone -Wsign-compare -Wmisleading-indentation -Wsystem-headers
 1.6 alone -Werror -Werror=unused-variable -Wfatal-errors -Wno-cpp
@@ -136,8 +141,8 @@ OPTIONS = r"""
 0.7 alone -Wa,-L -Wa,--MD,out/as.d -Wa,-Ia -Wa,-g -Xassembler
 0.7 words -Xpreprocessor -DM1=1
 0.5 words -Xassembler -L
-0.7 alone -nostdinc -isysroota --sysroot=a -iprefixa/ -iwithprefixc -imultilibx -I-
-0.35 alone -fdebug-prefix-map=@root=x -ffile-prefix-map=@root=x
+0.7 alone --sysroot=a -iprefixa/ -iwithprefixc -imultilibx -I-
+1.6 alone -fdebug-prefix-map=@root=x -ffile-prefix-map=@root=x
 0.35 alone -fmacro-prefix-map=@root=x -fworking-directory -fno-working-directory
 0.35 alone --include=h.h --include-directory=a --define-macro=M1 --undefine-macro=M1 --debug
 0.35 alone --optimize=2 --output=out/x.o --all-warnings --pedantic --warn-all
@@ -150,7 +155,8 @@ OPTIONS = r"""
 
 # A variable and its values; '' is the empty one.
 VARIABLES = r"""
-4 CPATH a a/ b:a :b a: '' missing:b ./a/c
+4 CPATH a a/ b:a :b a: '' missing:b ./a/c missing data
+4 CCK_BASEDIR @root @root/work @root/other '' work
 2 C_INCLUDE_PATH a b/ :a '' missing
 1 CPLUS_INCLUDE_PATH a
 2 COMPILER_PATH '' a @root/work/a
