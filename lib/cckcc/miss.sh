@@ -399,11 +399,20 @@ look_for_text() {
     exit 0
 }
 
+# Whether the object of the text may be that of another directory. Where the call names directories of system headers,
+# gcc may name a header by its real path, if that is shorter, so that two directories differ.
+shares_text() {
+    [ -z "$C_INCLUDE_PATH" ] || return 1
+    case $cck_preprocessed in
+    *-isystem*|*-idirafter*|*-isysroot*) return 1 ;;
+    esac
+}
+
 # With a base directory: sets `cck_noted` to the path of an empty file. If it is there, the directory may have an object
 # of an input with the contents of this one.
 name_input() {
     cck_noted=
-    [ -n "$CCK_BASEDIR" ] || return 0
+    if [ -z "$CCK_BASEDIR" ] || ! shares_text; then return 0; fi
     cck_noted=$(cksum < "$cck_input" 2>/dev/null) || { cck_noted=; return 0; }
     cck_noted=$cck_store/inputs/${cck_noted%% *}-${cck_noted#* }
 }
@@ -477,11 +486,11 @@ fi
 # C. The preprocessor warns of each time macro that it expands, however that is spelled and wherever it is: what a text
 # shows of the time is in no key. It names system headers as they are looked for, and not by a shorter path that links
 # lead to: a header that the compiler names so is not recorded. It also writes each directive that includes a header
-# (-dI), since it may pass over a copy of a header that was read.
+# (-dI), since it may pass over a copy of a header that was read. What is on standard input is for the compiler.
 preprocess() {
     eval "LC_ALL=C \"\$cck_compiler\" $cck_preprocessed" \
         '-Wdate-time -Wsystem-headers -Wno-error -fno-canonical-system-headers' "$1" \
-        '-dI -E -v -o "$cck_scratch/text"' 2> "$cck_scratch/search" || : > "$cck_scratch/failed"
+        '-dI -E -v -o "$cck_scratch/text"' < /dev/null 2> "$cck_scratch/search" || : > "$cck_scratch/failed"
 }
 
 # Writes the text of the call. No entry is made of a text that names no file beside the input. Such a text names an empty
@@ -517,7 +526,7 @@ cck_entry_out=
 name_input
 if [ -n "$cck_server" ] || [ -e "$cck_noted" ]; then
     write_text
-    if [ ! -e "$cck_scratch/failed" ] && [ ! -e "$cck_scratch/shows-time" ]; then look_for_text "$@"; fi
+    if [ ! -e "$cck_scratch/failed" ] && [ ! -e "$cck_scratch/shows-time" ] && shares_text; then look_for_text "$@"; fi
 else
     { write_text; } 2>/dev/null &
     cck_text=$!
