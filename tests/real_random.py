@@ -74,6 +74,7 @@ def played(options, name, steps, project):
             project.failed = judged.wanted.status != 0
             counts[judged.verdict] += 1
             counts["unstable"] += not judged.is_stable
+            counts.update([f"{project.about} call", f"{project.about} {judged.verdict}"])
             counts["differing" if judged.differing else "equal"] += 1
             if judged.differing:
                 failure = place, judged
@@ -111,7 +112,7 @@ def replay(options):
     with open(options.replay, encoding="utf-8") as file:
         read = json.load(file)
     options.compiler = read["compiler"]
-    return played(options, "replay", read["history"], types.SimpleNamespace(history=read["history"]))
+    return played(options, "replay", read["history"], types.SimpleNamespace(history=read["history"], about="replay"))
 
 
 def play_all(options):
@@ -180,6 +181,8 @@ def main():
     calls = counts["equal"] + counts["differing"]
     print(f"{calls} calls in {time.time() - start:.0f} seconds: " + ", ".join(
         f"{name} {counts[name]}" for name in COUNTS))
+    print("hits of calls by what a project is about: " + ", ".join(
+        f"{name[:-5]} {counts[name[:-4] + 'hit']} of {counts[name]}" for name in sorted(counts) if name.endswith(" call")))
     if 4 * counts["hit"] < calls and calls >= 200:
         print("fewer than a quarter of the calls were hits: this run tests little")
     print(f"real_random: {counts['equal']} passed, {counts['differing']} failed")

@@ -10,6 +10,8 @@ import subprocess
 import sys
 import time
 
+from server import Server
+
 TOP = os.path.dirname(os.path.dirname(os.path.dirname(os.path.abspath(__file__))))
 WRAPPER = os.environ.get("CCK_WRAPPER", TOP + "/bin/cckcc")
 PROGRAM = os.environ.get("CCK_PROGRAM", TOP + "/crates/cck_cache/out/cck_cache")
@@ -127,12 +129,14 @@ def limit():
 
 class Room:
     """A directory with a tree of files, a store and a log. A call is (words, directory, variables, umask): the words
-    of the plain compiler, to which the wrapper is put in front."""
+    of the plain compiler, to which the wrapper is put in front. A second checkout is a room with another tree and the
+    same store."""
 
-    def __init__(self, directory):
+    def __init__(self, directory, tree="tree", server=None):
         self.top = os.path.realpath(directory)
-        self.root, self.log = self.top + "/tree", self.top + "/log"
-        for name in ("tree", "tmp", "home", "late"):
+        self.root, self.log = f"{self.top}/{tree}", self.top + "/log"
+        self.second, self.server = None, server or Server(self.top)
+        for name in (tree, "tmp", "home", "late"):
             os.makedirs(f"{self.top}/{name}", exist_ok=True)
         self.tree, self.known = Tree(self.root), {}
         self.variables = {"PATH": os.environ["PATH"], "HOME": self.top + "/home", "TMPDIR": self.top + "/tmp",
@@ -140,6 +144,21 @@ class Room:
                           "CCACHE_DIR": self.top + "/ccache"}
         # All calls read all files, if that is wished.
         self.variables.update({name: os.environ[name] for name in ("CCK_READ",) if name in os.environ})
+
+    def checkouts(self, step):
+        """The rooms in which a step is done: the first one and the second one if there is one, or one of them."""
+        rooms = [self, self.second]
+        return [room for room in (rooms if step.get("in") is None else rooms[step["in"]:][:1]) if room]
+
+    def add_checkout(self):
+        self.second = self.second or Room(self.top, "second", self.server)
+
+    def around(self, place, variables):
+        """The variables of a process, in which `@server` is the address of the server."""
+        variables = {**self.variables, "PWD": place, **variables}
+        if variables["CCK_STORE"] == "@server":
+            variables["CCK_STORE"] = self.server.start()
+        return variables
 
     def run(self, words, directory, variables, umask, is_known=False):
         """Makes a call, puts the tree back, and returns the outcome. One that is known, of the same call in the same
@@ -149,7 +168,7 @@ class Room:
         if is_known and call in self.known and self.known[call][0] == before:
             return self.known[call][1]
         place = os.path.join(self.root, directory)
-        done = subprocess.run(words, cwd=place, env={**self.variables, "PWD": place, **variables}, umask=umask,
+        done = subprocess.run(words, cwd=place, env=self.around(place, variables), umask=umask,
                               capture_output=True, stdin=subprocess.DEVNULL, check=False, preexec_fn=limit)
         after = self.tree.read()
         self.tree.forget(put_back(self.root, before, after))

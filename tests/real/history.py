@@ -120,14 +120,25 @@ def late_of(step, root):
     return (late["path"], text_of(late).replace("@root", root)) if late else None
 
 
+def rooms(step, room):
+    """The room in which a call is made, if it has the directory. Another step is done, and there is none."""
+    if step["do"] == "checkout":
+        room.add_checkout()
+    elif step["do"] != "call":
+        for checkout in room.checkouts(step):
+            apply(step, checkout.root)
+    else:
+        for checkout in room.checkouts(step)[:1]:
+            if os.path.isdir(os.path.join(checkout.root, step["directory"])):
+                yield checkout
+
+
 def play(history, compiler, room):
     """Plays a history, and gives the place and the judgement of each call, which both compilers make."""
     for place, step in enumerate(history):
-        if step["do"] != "call":
-            apply(step, room.root)
-        elif os.path.isdir(os.path.join(room.root, step["directory"])):
-            call = call_of(step, room.root, compiler)
-            yield place, room.judge(call, [WRAPPER, *call[0]], step["waits"], late_of(step, room.root))
+        for checkout in rooms(step, room):
+            call = call_of(step, checkout.root, compiler)
+            yield place, checkout.judge(call, [WRAPPER, *call[0]], step["waits"], late_of(step, checkout.root))
 
 
 class Fresh:
@@ -138,6 +149,7 @@ class Fresh:
         return self.room
 
     def __exit__(self, *_):
+        self.room.server.stop()
         shutil.rmtree(self.room.top, ignore_errors=True)
 
 
@@ -145,12 +157,10 @@ def last(history, compiler):
     """The judgement of the last call, where the wrapper alone makes the calls before it; None without its directory."""
     with Fresh() as room:
         for step in history[:-1]:
-            if step["do"] != "call":
-                apply(step, room.root)
-            elif os.path.isdir(os.path.join(room.root, step["directory"])):
+            for checkout in rooms(step, room):
                 time.sleep(2 * PAUSE if step["waits"] else 0)
-                call = call_of(step, room.root, compiler)
-                room.run_cached(call, [WRAPPER, *call[0]], late_of(step, room.root))
+                call = call_of(step, checkout.root, compiler)
+                checkout.run_cached(call, [WRAPPER, *call[0]], late_of(step, checkout.root))
         return next((judged for _, judged in play(history[-1:], compiler, room)), None)
 
 
@@ -274,7 +284,8 @@ def late_line(late):
 
 def call_line(step, compiler):
     words = " ".join(quoted(word) for group in step["words"] for word in group)
-    variables = "".join(f"{name}={quoted(value)} " for name, value in sorted(step["variables"].items()))
+    variables = "".join(f"{name}={'$server' if value == '@server' else quoted(value)} "
+                        for name, value in sorted(step["variables"].items()))
     around = "" if step["directory"] == CWD else f"cd {path_in_script(step['directory'])}; "
     around += "" if step["umask"] == 0o022 else f"umask {step['umask']:03o}; "
     line = f"{variables}{compiler} {words}"
@@ -302,20 +313,36 @@ LINES = {"write": write_line, "link": link_line, "touch": touch_line,
                                                                          path_in_script(step["to"])),
          "hard": lambda step: f"ln -f {path_in_script(step['to'])} {path_in_script(step['path'])}",
          "again": lambda step: "cp -a {0} k; rm -r {0}; mv k {0}".format(path_in_script(step["path"])),
+         "alike": lambda step: f"touch -d @1000000000 {path_in_script(step['path'])} {path_in_script(step['to'])}",
+         "checkout": lambda step: "",
          "mode": lambda step: f"chmod {step['mode']:03o} {path_in_script(step['path'])}",
          "sleep": lambda step: f"sleep {step['seconds']}"}
 
 
+def checkout_line(step, line, has_second):
+    """A line for one of two checkouts, or for both."""
+    if not has_second or not line:
+        return line
+    place = step.get("in", 0 if step["do"] == "call" else None)
+    if place is None:
+        return f"for root in $top/tree $top/second; do cd $root/{CWD}; {line}; done"
+    return f"root=$top/{['tree', 'second'][place]}; cd $root/{CWD}; {line}"
+
+
 def script(history, judged, compiler):
     """The lines of a script, which is run in an empty directory, and a remark that says what differs."""
+    has_second = any(step["do"] == "checkout" for step in history)
     lines, made = ["root=$PWD; mkdir work; cd work"], {CWD, ""}
+    if has_second:
+        lines = ["top=$PWD server=redis://127.0.0.1:6379/0; mkdir -p tree/work second/work"]
     for step in history:
         if step["do"] == "call":
-            lines.append(call_line(step, "cckcc " + compiler))
+            lines.append(checkout_line(step, call_line(step, "cckcc " + compiler), has_second))
             continue
         for path in [step["path"]] + ([step["to"]] if step["do"] in ("rename", "exchange") else []):
-            if os.path.dirname(path) not in made and step["do"] != "sleep":
+            if os.path.dirname(path) not in made and step["do"] not in ("sleep", "checkout"):
                 made.add(os.path.dirname(path))
-                lines.append("mkdir -p " + path_in_script(os.path.dirname(path)))
-        lines.append(LINES[step["do"]](step))
+                lines.append(checkout_line({"do": ""}, "mkdir -p " + path_in_script(os.path.dirname(path)), has_second))
+        lines.append(checkout_line(step, LINES[step["do"]](step), has_second))
+    lines = [line for line in lines if line]
     return lines + [f"# a {judged.verdict}; differs from {compiler}: {', '.join(judged.differing)}"]

@@ -5,6 +5,7 @@ import random
 import re
 
 from tables import OPTIONS, SNIPPETS, VARIABLES
+from themes import THEMES
 
 CALLS = 25
 HEADERS = ["h.h", "g.h", "k.h", "c/d.h"]
@@ -60,10 +61,18 @@ class Project:
         self.call = None
         # How likely the last change of the call is undone after it, and what is written while the next call is recorded.
         self.undone, self.pending = 0, None
+        # What the project is about; and the one checkout that is changed, or None where all are.
+        self.theme, self.only = self.pick(list(THEMES), list(THEMES.values()))(self), None
         self.start()
+        self.theme.start()
         self.without = few
         # Whether the compiler failed in the last call, as the player says; and what was so when it last did not.
         self.failed, self.good = False, None
+
+    @property
+    def about(self):
+        """The name of the theme, in lower case."""
+        return type(self.theme).__name__.lower()
 
     def steps(self):
         """The steps, one after the other. What makes the compiler fail is mostly undone after a call or more."""
@@ -87,15 +96,25 @@ class Project:
                 self.call = dict(self.good[0] if self.good else self.calls[0])
             self.undone = 0
             for _ in range(self.pick([0, 1, 1, 1, 2])):
-                getattr(self, self.pick(*self.CHANGES))()
+                if self.about != "plain" and self.is_rare(0.6):
+                    self.theme.change()
+                else:
+                    getattr(self, self.pick(*self.CHANGES))()
 
     def undo(self):
         """Makes the call and the tree what they were when the compiler last did not fail."""
         call, tree, place = self.good
         self.call = dict(call)
         steps = [step for step in self.history[place:] if step["do"] != "call"]
-        for path in sorted({step["path"] for step in steps} | {step["to"] for step in steps if step["do"] == "rename"}):
-            self.do({**tree[path], "path": path} if path in tree else {"do": "remove", "path": path})
+        paths = {step["path"] for step in steps} | {step["to"] for step in steps if step["do"] in ("rename", "exchange")}
+        # A directory that was removed or moved is made again with what it had.
+        gone = {step["path"] for step in steps if step["do"] in ("remove", "rename", "exchange", "link")} - {"link"}
+        paths |= {path for path in tree if any(path.startswith(other + "/") for other in gone)}
+        for path in sorted(paths):
+            if path not in tree or tree[path]["do"] == "directory" and path in gone:
+                self.do({"do": "remove", "path": path})
+            if path in tree:
+                self.do({**tree[path], "path": path})
 
     def pick(self, things, weights=None):
         return self.chance.choices(things, weights)[0]
@@ -105,7 +124,7 @@ class Project:
 
     def do(self, step):
         """Adds a step and keeps what is at its path."""
-        self.history.append(step)
+        self.history.append(step if self.only is None else {**step, "in": self.only})
         path = step["path"]
         self.recent = path
         if path in self.tree:
@@ -176,6 +195,8 @@ class Project:
         self.do({"do": "write", "path": path, "snippets": snippets, "guard": guard})
 
     def start(self):
+        if self.theme.checkouts > 1:
+            self.do({"do": "checkout", "path": "."})
         for name in ("work/src", "work/out", "out", "other", "work/a", "work/b"):
             self.do({"do": "directory", "path": name})
         self.do({"do": "link", "path": "link", "to": "work"})
@@ -203,7 +224,9 @@ class Project:
             self.add_option(is_usual=True)
 
     def spelled(self, directory):
-        return self.pick(SPELLINGS).format(directory) if self.is_rare(0.6) else directory
+        spelling = self.pick(SPELLINGS) if self.is_rare(0.6) else "{}"
+        # A compilation with the path of the base directory is not shared.
+        return directory if "@root" in spelling and self.theme.checkouts > 1 else spelling.format(directory)
 
     # The call.
 
@@ -213,7 +236,8 @@ class Project:
         groups = options + [call["mode"], call["output"], call["input"]]
         self.history.append({"do": "call", "words": [group for group in groups if group], "umask": call["umask"],
                              "variables": dict(call["variables"]), "directory": call["directory"],
-                             "waits": not self.is_rare(0.12), **({"late": self.pending} if self.pending else {})})
+                             "waits": not self.is_rare(0.12), **({"late": self.pending} if self.pending else {}),
+                             **({"in": self.chance.randrange(2)} if self.theme.checkouts > 1 else {})})
         self.calls.append({**call, "options": options, "variables": dict(call["variables"])})
 
     def option(self, is_usual):
@@ -452,7 +476,8 @@ class Project:
         """A change of the input so that the call is recorded, and a header, mostly one that the input includes, that is
         written while it is."""
         step = self.tree.get("work/x.c")
-        if not step or step["do"] != "write":
+        # With a server a recording begins before the compiler does.
+        if not step or step["do"] != "write" or self.theme.checkouts > 1:
             return
         self.rewrite("work/x.c", step["snippets"] + [self.snippet("work/x.c", "int")])
         text = "".join(step["snippets"])

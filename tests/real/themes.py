@@ -1,0 +1,233 @@
+"""What a part of the random projects is about: files, options and changes in turn that a wrong hit of one kind needs. The
+`start` of a theme is called after the project has its files, and `change` between calls."""
+import os
+
+# Texts with one place for more blanks: the preprocessor prints one text for both, and only columns differ.
+BODIES = ["int c@n(int a) {@s return a << @k; }", "int c@n;@s int d@n = @k;", "int c@n(int *a, int i) {@s return a[i] / i; }",
+          "int c@n(void) {@s int unused = @k; return 0; }", "int c@n(unsigned a, int b) {@s return a < b; }",
+          "long c@n(int a, long b) { return @s(a + @k) * b; }"]
+CONDITIONS = ['__has_include("t.h")', "__has_include(<t.h>)", "__has_include_next(<t.h>)", '__has_include_next("t.h")',
+              '__has_include("c/t.h")', "__has_include(<c/t.h>)", '! __has_include("t.h")', '__has_include("../b/t.h")',
+              '__has_include(<t.h>) && __has_include("c/t.h")', 'defined M0 || __has_include("t.h")']
+TESTED = ["work/a/t.h", "work/b/t.h", "work/inc/t.h", "work/src/t.h", "work/t.h", "work/a/c/t.h"]
+# Options with which columns show.
+SHOWING = [[["-g"]], [["-g"], ["-O2"]], [["-g3"], ["-Og"]], [["-fsanitize=undefined"]], [["-Wall", "-Wextra"]]]
+BOTH = [["-Ia"], ["-Ib"]]
+
+
+class Theme:
+    """What themes have in common."""
+    checkouts = 1
+
+    def __init__(self, project):
+        self.project, self.path = project, None
+
+    def start(self):
+        pass
+
+    def change(self):
+        pass
+
+    def put(self, path, *snippets):
+        self.project.do({"do": "write", "path": path, "snippets": list(snippets), "guard": ""})
+
+    def include(self, *lines):
+        """Lines of the input after its macros."""
+        snippets = self.project.tree["work/x.c"]["snippets"]
+        self.project.rewrite("work/x.c", snippets[:1] + list(lines) + snippets[1:])
+
+    def give(self, options, first=()):
+        """Options of the call, in any order, and those that come first in theirs."""
+        options = self.project.call["options"] + options
+        self.project.chance.shuffle(options)
+        self.project.call["options"] = list(first) + options
+
+    def value(self, name, value):
+        """A variable of the call from now on, or none."""
+        variables = self.project.call["variables"] = dict(self.project.call["variables"])
+        variables.pop(name, None)
+        if value is not None:
+            variables[name] = value
+
+    def columns(self):
+        """A test for a header, whose branches differ in columns alone."""
+        project = self.project
+        project.number += 1
+        body = project.pick(BODIES).replace("@n", str(project.number)).replace("@k", str(project.chance.randrange(1, 10)))
+        line = f"#line {1000 + 20 * project.number}"
+        return (f"#if {project.pick(CONDITIONS)}\n{line}\n{body.replace('@s', '   ')}\n#else\n{line}\n{body.replace('@s', '')}\n"
+                f"#endif\n{line}9")
+
+    def tested(self):
+        """The header of a test comes or goes, mostly the one that did so before."""
+        project = self.project
+        if not self.path or project.is_rare(0.3):
+            self.path = project.pick(TESTED)
+        if self.path in project.tree:
+            project.do({"do": "remove", "path": self.path})
+        elif project.is_rare(0.85):
+            self.put(self.path, project.pick(["", "int unread;"]))
+        elif project.is_rare(0.5):
+            project.do({"do": "directory", "path": self.path})
+        else:
+            project.do({"do": "link", "path": self.path, "to": project.pick(["@root/work/data", "nowhere"])})
+
+
+class Plain(Theme):
+    """None: a project of tables alone."""
+
+
+class Columns(Theme):
+    """Tests for headers in a header, whose branches have one preprocessed text."""
+
+    def start(self):
+        project = self.project
+        path = project.pick(["work/a", "work/a", "work/b", "work/src", "work"]) + "/m.h"
+        self.put(path, *[self.columns() for _ in range(project.pick([1, 1, 2]))])
+        is_found = path.startswith(("work/a/", "work/b/"))
+        self.include(project.pick(["#include <m.h>", '#include "m.h"']) if is_found else f'#include "{path[5:]}"')
+        self.give(self.showing(), project.pick([BOTH, BOTH[::-1], BOTH + [["-isystem", "inc"]], [["-Ilinked"]] + BOTH]))
+
+    def showing(self):
+        return [[word] for words in self.project.pick(SHOWING) for word in words]
+
+    def change(self):
+        if self.project.is_rare(0.1):
+            self.project.turn()
+        else:
+            self.tested()
+
+
+class Base(Columns):
+    """The same below a base directory, in two checkouts that share a store."""
+    checkouts = 2
+
+    def start(self):
+        super().start()
+        base = self.project.pick(["@root", "@root/work"])
+        self.give([[self.project.pick(["-ffile-prefix-map=", "-fdebug-prefix-map="]) + base + "=."]])
+        self.value("CCK_BASEDIR", base)
+        # A directory has no use for the base directory, a server has.
+        if self.project.is_rare(0.9):
+            self.value("CCK_STORE", "@server")
+
+    def showing(self):
+        return [[word] for word in self.project.pick([["-g"], ["-g", "-O2"], ["-g3"], ["-g", "-Wall", "-Wextra"]])]
+
+    def change(self):
+        """A change in both checkouts or in one of them."""
+        self.project.only = self.project.pick([None, 0, 1])
+        super().change()
+        self.project.only = None
+
+
+class Variables(Theme):
+    """Directories of headers that variables name."""
+    VALUES = ["a", "a", "b", "b", "missing", "", None, None, "a:b", "b:a", "missing:b", ":a", "./b/", "linked"]
+
+    def start(self):
+        project = self.project
+        texts = [self.columns(), "int v;"]
+        for place in ("a", "b", "inc"):
+            own = [] if project.is_rare(0.4) else [f"const char *from = \"{place}\";"]
+            self.put(f"work/{place}/v.h", *texts, *own)
+        self.include("#include <v.h>")
+        project.call["options"] = [option for option in project.call["options"] if option[0][:2] not in ("-I", "-i")]
+        self.give([[word] for words in project.pick(SHOWING) for word in words] + [["-Isrc"], ["-Iother"]][:project.pick([0, 1, 2])])
+        self.give([], [["-idirafter", "inc"]])
+
+    def change(self):
+        project = self.project
+        how = project.chance.random()
+        if how < 0.7:
+            self.value(project.pick(["CPATH", "C_INCLUDE_PATH"]), project.pick(self.VALUES))
+        elif how < 0.8:
+            self.tested()
+        elif "work/missing" in project.tree:
+            project.tree.pop("work/missing/v.h", None)
+            project.do({"do": "remove", "path": "work/missing"})
+        else:
+            project.do({"do": "directory", "path": "work/missing"})
+            self.put("work/missing/v.h", "int missing;")
+
+
+class Missing(Theme):
+    """Directories of the search list that come and go, with a warning of those that are missing."""
+    PLACES = ["work/gone", "work/gone", "work/gone/c", "work/b/gone", "work/words"]
+
+    def start(self):
+        project = self.project
+        options = [["-Wmissing-include-dirs"]]
+        for path in project.chance.sample(sorted(set(self.PLACES)), project.pick([1, 1, 2])):
+            options.append([project.pick(["-I", "-I", "-I", "-isystem", "-iquote", "-idirafter"]),
+                            project.spelled(os.path.relpath(path, "work"))])
+        if project.is_rare(0.3):
+            self.value(project.pick(["CPATH", "C_INCLUDE_PATH"]), "gone")
+        self.give(options)
+
+    def change(self):
+        project = self.project
+        path = self.path = self.path if self.path and project.is_rare(0.6) else project.pick(self.PLACES)
+        if path in project.tree and project.is_rare(0.7):
+            for other in [other for other in project.tree if other.startswith(path + "/")]:
+                project.tree.pop(other)
+            project.do({"do": "remove", "path": path})
+        elif project.is_rare(0.7):
+            project.do({"do": "remove", "path": path})
+            project.do({"do": "directory", "path": path})
+        elif project.is_rare(0.5):
+            self.put(path, "a file")
+        else:
+            project.do({"do": "link", "path": path, "to": project.pick(["a", "nowhere", "@root/work/b", "data"])})
+
+
+class Copies(Theme):
+    """Equal headers that are read once, by several spellings."""
+    PLACES = ["work/a/o.h", "work/b/o.h", "work/inc/o.h"]
+    SPELLINGS = ["{}"] * 3 + ["src/../{}", "./{}", "b/../{}", "@root/work/{}", "../work/{}", "@root/link/{}"]
+
+    def start(self):
+        project = self.project
+        self.paths = project.chance.sample(self.PLACES, project.pick([2, 2, 3]))
+        project.number += 1
+        # The assembler's line shows how often a file was read.
+        self.snippets = [f"int o{project.number};", 'asm(".pushsection .data\\n\\t.long 1\\n\\t.popsection");']
+        self.is_once = project.is_rare(0.6)
+        if self.is_once:
+            self.snippets.insert(0, project.pick(["#pragma once"] * 3 + ['_Pragma("once")']))
+        for path in self.paths:
+            self.put(path, *self.snippets)
+        word = "include" if self.is_once and project.is_rare(0.8) else "import"
+        self.include(*[f'#{word} "{self.spelled(path)}"' for path in self.paths for _ in range(project.pick([1, 1, 2]))])
+        if project.is_rare(0.5):
+            self.include(f"#{word} <o.h>")
+            self.give([], project.pick([BOTH, BOTH[::-1], [["-Ilinked"], ["-Iinc"]] + BOTH]))
+
+    def spelled(self, path):
+        name = path[5:]
+        if name == "a/o.h" and self.project.is_rare(0.4):
+            return self.project.pick(["linked/o.h", "b/../linked/o.h"])
+        return self.project.pick(self.SPELLINGS).format(name)
+
+    def change(self):
+        project = self.project
+        path, to = project.chance.sample(self.paths, 2)
+        how = project.pick(["alike", "touch", "other", "same", "hard", "link", "turn"], [3, 3, 4, 4, 2, 1, 1])
+        if how == "alike":
+            project.do({"do": "alike", "path": path, "to": to})
+        elif how == "touch":
+            project.do({"do": "touch", "path": path, "seconds": 1000000000 + project.chance.randrange(3)})
+        elif how in ("other", "same"):
+            snippets = self.snippets if how == "same" else self.snippets[:-1] + [self.snippets[-1].replace("long 1", "long 2")]
+            project.do({"do": "remove", "path": path})
+            self.put(path, *snippets)
+        elif how == "hard":
+            project.do({"do": "hard", "path": path, "to": to})
+        elif how == "link":
+            project.do({"do": "link", "path": path, "to": "@root/" + to})
+        else:
+            project.turn()
+
+
+# How often a project has a theme.
+THEMES = {Plain: 10, Columns: 2.5, Variables: 1.5, Missing: 1, Base: 1.5, Copies: 1.5}
