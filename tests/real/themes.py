@@ -107,8 +107,8 @@ class Base(Columns):
         base = self.project.pick(["@root", "@root/work"])
         self.give([[self.project.pick(["-ffile-prefix-map=", "-fdebug-prefix-map="]) + base + "=."]])
         self.value("CCK_BASEDIR", base)
-        # A directory has no use for the base directory, a server has.
-        if self.project.is_rare(0.9):
+        # The store of both is a directory or a server.
+        if self.project.is_rare(0.4):
             self.value("CCK_STORE", "@server")
 
     def showing(self):
