@@ -62,6 +62,7 @@ def arguments():
                         "has a file `stop`, no further project begins")
     parser.add_argument("--replay", metavar="FILE", help="play the history of a file")
     parser.add_argument("--shrink-seconds", type=float, default=60, help="the time to shrink one failure")
+    parser.add_argument("--plain", action="store_true", help="no project has a theme")
     parser.add_argument("--planted", action="store_true", help="look for planted errors instead, each in so many calls")
     return parser.parse_args()
 
@@ -102,7 +103,7 @@ def report(options, name, history, judged):
 
 def project(options, name):
     """Plays a random project, unless the run is to end."""
-    made = Project(name)
+    made = Project(name, options.plain)
     is_over = options.keep and os.path.exists(options.keep + "/stop")
     return played(options, name, [] if is_over else made.steps(), made)
 
@@ -133,7 +134,7 @@ def shows(path, program):
 def find(options, program, directory):
     """Plays random projects with a program that has an error, and prints the first difference that the program without
     the error does not have. It returns whether there is one."""
-    words = ["--keep", directory] + [word for name in ("seed", "steps", "jobs", "compiler") for word in (
+    words = ["--plain", "--keep", directory] + [word for name in ("seed", "steps", "jobs", "compiler") for word in (
         f"--{name}", str(getattr(options, name)))] + ["--shrink-seconds", str(options.shrink_seconds)]
     run = subprocess.Popen([sys.executable, os.path.abspath(__file__), *words], env={**os.environ, "CCK_PROGRAM": program},
                            stdout=subprocess.PIPE, text=True)

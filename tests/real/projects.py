@@ -5,7 +5,7 @@ import random
 import re
 
 from tables import OPTIONS, SNIPPETS, VARIABLES
-from themes import THEMES
+from themes import THEMES, Plain
 
 CALLS = 25
 HEADERS = ["h.h", "g.h", "k.h", "c/d.h"]
@@ -50,7 +50,7 @@ KINDS = ("__TI|__DATE|__TIMES|T@m", "__has_|E@m", "asm", "dep")
 class Project:
     """Makes a random history: first the files, and then calls with changes between them."""
 
-    def __init__(self, seed):
+    def __init__(self, seed, is_plain=False):
         self.chance = random.Random(seed)
         self.history, self.past, self.calls, self.number, self.recent = [], {}, [], 0, None
         few = re.compile("|".join(kind for kind in KINDS if not self.is_rare(0.4)) or "$^")
@@ -62,7 +62,8 @@ class Project:
         # How likely the last change of the call is undone after it, and what is written while the next call is recorded.
         self.undone, self.pending = 0, None
         # What the project is about; and the one checkout that is changed, or None where all are.
-        self.theme, self.only = self.pick(list(THEMES), list(THEMES.values()))(self), None
+        themes = {Plain: 1} if is_plain else THEMES
+        self.theme, self.only = self.pick(list(themes), list(themes.values()))(self), None
         self.start()
         self.theme.start()
         self.without = few
