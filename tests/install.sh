@@ -41,12 +41,13 @@ cd "$room/project" || exit 2
 echo 'int v;' >x.c
 sleep 0.1
 unset CCK_PROGRAM CCK_BASEDIR
+compiler=$(command -v gcc)
 PATH="$room/a b/libexec/cckcc:$room/a b/bin:$PATH" CCK_STORE=$room/store CCK_LOG=$room/log
 export PATH CCK_STORE CCK_LOG
 gcc -c x.c
 gcc -c x.c
 check 'a hit by the link' "$(sed -n 's/^cckcc: \([a-z]*\).*/\1/p' "$room/log" | tr '\n' ' ')" 'look why recorded hit '
-check 'the compiler by the link' "$(gcc -dumpversion)" "$(/usr/bin/gcc -dumpversion)"
+check 'the compiler by the link' "$(gcc -dumpversion)" "$("$compiler" -dumpversion)"
 check 'the statistics' "$(cckcc --show-stats | grep '^count hit')" 'count hit 1'
 cckcc --zero-stats
 check 'no statistics' "$(cckcc -s | grep '^count')" ''
@@ -56,6 +57,9 @@ cckcc --unknown 2>/dev/null
 check 'an unknown option' $? 2
 PATH="$room/a b/libexec/cckcc" /bin/sh "$room/a b/libexec/cckcc/gcc" -c x.c 2>/dev/null
 check 'no other compiler' $? 127
+other=$room/package/opt/cck/libexec/cckcc
+check 'two wrappers' "$(PATH="$other:$PATH" timeout 10 gcc -dumpversion)" "$("$compiler" -dumpversion)"
+check 'two wrappers, by a path' "$(timeout 10 "$other/gcc" -dumpversion)" "$("$compiler" -dumpversion)"
 
 for prefix in "$room/a b" "$room/package/opt/cck"; do
     "$top/install" --prefix "$prefix" --built "$room/built" --uninstall

@@ -6,7 +6,7 @@ import time
 
 
 class Server:
-    """A server without a file. Where there is none a directory is in its place."""
+    """A server that keeps no file. Where redis-server is not installed, the store is a directory."""
 
     def __init__(self, directory):
         self.directory, self.run, self.address = directory, None, None
