@@ -10,6 +10,7 @@ use Rattle.cck_cache_rules.specs.PathTest.{Test, test_of, tests_of}
 use Rattle.cck_cache_text.specs.Sets.{IsSetOf, has_key}
 use Rattle.cck_cache_rules.specs.declared.path_test.PathTest.{PathTest}
 use Rattle.cck_cache_text.proofs.SetLemmas.{has_key_at, key_at}
+use Rattle.cck_cache_files.proofs.SetLemmas.{IsAmong, more_names, next_name}
 use Rattle.cck_cache_files.specs.PathStates.{KeepsStates}
 use Rattle.cck_cache_files.specs.declared.path_states.PathState.TheVariants as state
 use Rattle.cck_cache_files.specs.declared.path_states.PathStates.{PathStates}
@@ -24,21 +25,6 @@ absent_kept old new path absent keeps (inr (same, (front, short, first))) = inr 
 
 pub present_kept : (old new : PathStates) (path : Bytes) → KeepsStates old new → IsPresentAt old path → IsPresentAt new path
 present_kept old new path keeps (first, plain) = (first_other_kept old new path path state.File keeps first, plain)
-
--- one of the first names of a set
-abbrev pub IsAmong : List (Vec ℕ) → ℕ → Bytes → Type 0
-IsAmong keys n name = (i : ℕ) × (i < n) × (get_or (map (λ k. k.items) keys) i [] ≡ name)
-
-pub more_names : (keys : List (Vec ℕ)) (n : ℕ) (name : Bytes) → IsAmong keys n name → IsAmong keys (n + 1) name
-more_names keys n name (i, within, is) = (i, omega (arith, within), is)
-
--- it is among the first ones, or the next
-pub next_name : (keys : List (Vec ℕ)) (n : ℕ) (name : Bytes) → IsAmong keys (n + 1) name → IsAmong keys n name ⊎ (get_or (map (λ k. k.items) keys) n [] ≡ name)
-next_name keys n name (i, within, is) =
-    elim (cases_lt i n) [
-      | inl below ↦ inl (i, below, is)
-      | inr above ↦ (let same : i ≡ n = omega arith in inr (subst (λ (k : ℕ). get_or (map (λ (k : Vec ℕ). k.items) keys) k [] ≡ name) same is))
-    ]
 
 pub no_names : (states : PathStates) (directory : Bytes) (keys : List (Vec ℕ)) → ArePathsFor states directory (IsAmong keys 0) []
 no_names states directory keys = record {
@@ -91,13 +77,6 @@ paths_for_same states directory P Q paths there back for = record {
   only = λ path among. let at = for.only path among in (at.0, there at.0 at.1, at.2);
 }
 
--- the keys of a set
-pub key_among : (keys : BTreeSet (Vec ℕ)) (name : Bytes) → IsTrue (has_key keys name) → IsAmong keys.keys (length keys.keys) name
-key_among keys name has = key_at keys.keys name has
-
-pub among_keys : (keys : BTreeSet (Vec ℕ)) (n : ℕ) (name : Bytes) → n ≤ length keys.keys → IsAmong keys.keys n name → IsTrue (has_key keys name)
-among_keys keys n name all (i, within, is) = subst (λ (q : Bytes). IsTrue (has_key keys q)) is (has_key_at keys.keys i (omega (arith, within, all)))
-
 -- ---- the tests of paths
 
 -- the test of one more path
@@ -113,6 +92,10 @@ one_tested make first before after test paths i within is pushed so_far =
 -- the tests of all paths
 pub all_tested : (make : Bytes → Test) (first : List Test) (tests : List PathTest) (paths : List Bytes) (n : ℕ) → length paths ≤ n → tests_of tests ≡ first ++ map make (take n paths) → tests_of tests ≡ first ++ map make paths
 all_tested make first tests paths n all so_far = so_far ∙ ap (λ (ps : List Bytes). first ++ map make ps) (take_all n paths all)
+
+-- tests after others
+pub tests_joined : (all first rest : List PathTest) (before : List Test) → all ≡ first ++ rest → tests_of first ≡ before → tests_of all ≡ before ++ tests_of rest
+tests_joined all first rest before is so_far = ap tests_of is ∙ (map-append test_of first rest ∙ ap (λ (tests : List Test). tests ++ tests_of rest) so_far)
 
 -- ---- the directories that names leave
 

@@ -24,10 +24,6 @@ pub grows_included : (At : Bytes → Type 0) (a b c : FileState) (i : Include) (
 grows_included At a b c i known grown at (inl by_status) kept calm = subst (λ (s : FileState). SnapshotGrows At a s) (sym by_status.1) grown
 grows_included At a b c i known grown at (inr by_file) kept calm = grows_more At a b c i.path grown at by_file.1 kept calm
 
--- an element of a list under a function
-pub contains_map : {X Y : Type 0} (f : X → Y) (xs : List X) (x : X) → Contains xs x → Contains (map f xs) (f x)
-contains_map f xs x at = (at.0, subst (λ (n : ℕ). at.0 < n) (sym (length-map xs f)) at.1, get_or-map f xs at.0 x (f x) at.1 ∙ ap f at.2)
-
 -- a snapshot that grew two times
 pub grows_all : (At : Bytes → Type 0) (a b c : FileState) → SnapshotGrows At a b → SnapshotGrows At b c → SnapshotGrows At a c
 grows_all At a b c first second = record {

@@ -6,9 +6,10 @@ use Rattle.std.specs.Prelude.{Contains}
 use Rattle.std.proofs.lemmas.List.Elements.{Contains-append_cases, Contains-append_left, Contains-append_right}
 use Rattle.cck_cache_command.specs.Absence.{IsDoubtfulAt}
 use Rattle.cck_cache_command.specs.Tested.{AreTestsAt, AreTestsFor, AreAskedTests, HasDoubtfulTest, IsAskedPath, IsTestAt}
-use Rattle.cck_cache_command.proofs.AbsenceLemmas.{IsAmong, absent_kept, more_names, next_name, present_kept}
+use Rattle.cck_cache_files.proofs.SetLemmas.{IsAmong, more_names, next_name}
+use Rattle.cck_cache_command.proofs.AbsenceLemmas.{absent_kept, present_kept}
 use Rattle.cck_cache_text.specs.Names.{is_named}
-use Rattle.cck_cache_rules.specs.PathTest.{Test, Absent, File, Directory, Searched}
+use Rattle.cck_cache_rules.specs.PathTest.{Test, Absent, File, Directory, Searched, Plain, Real}
 use Rattle.cck_cache_text.specs.SearchList.{IsSearchList, SearchFields}
 use Rattle.cck_cache_text.specs.Sets.{has_key}
 use Rattle.cck_cache_files.specs.PathStates.{KeepsStates}
@@ -26,6 +27,8 @@ test_kept old new path (Absent absent) keeps is = absent_kept old new path absen
 test_kept old new path (File file) keeps is = (is.0, present_kept old new path keeps is.1)
 test_kept old new path (Directory directory) keeps is = absurd is
 test_kept old new path (Searched directory place) keeps is = absurd is
+test_kept old new path (Plain file) keeps is = absurd is
+test_kept old new path (Real file real) keeps is = absurd is
 
 pub no_tests : (states : PathStates) (directory : Bytes) (keys : List (Vec ℕ)) → AreTestsAt states directory (IsAmong keys 0) []
 no_tests states directory keys = record {

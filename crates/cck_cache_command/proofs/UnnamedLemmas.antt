@@ -9,8 +9,9 @@ use Rattle.std.proofs.lemmas.List.{get_or_default, length-map, map-append}
 use Rattle.std.proofs.lemmas.List.Elements.{Contains-append_left, Contains-push, Contains-push_cases}
 use Rattle.cck_cache_command.specs.Unnamed.{AreAllPassed, AreCompared, AreFronts, AreUnreadBySpelling, AreUnreadTests, AreUnreadWhere, GainsTest, HasSpelling, IsPassed, IsSpelling, IsThere, IsUnread, IsUnreadTest, KeepsKnown, LeadsNotTo, LeadsTo, normal_path}
 use Rattle.cck_cache_command.specs.Copies.{MayImport}
-use Rattle.cck_cache_command.proofs.AbsenceLemmas.{IsAmong, absent_kept, more_names, next_name}
-use Rattle.cck_cache_rules.specs.PathTest.{Test, Absent, Directory, File, Searched, test_of, tests_of}
+use Rattle.cck_cache_files.proofs.SetLemmas.{IsAmong, more_names, next_name}
+use Rattle.cck_cache_command.proofs.AbsenceLemmas.{absent_kept}
+use Rattle.cck_cache_rules.specs.PathTest.{Test, Absent, Directory, File, Searched, Plain, Real, test_of, tests_of}
 use Rattle.cck_cache_rules.specs.declared.path_test.PathTest.{PathTest}
 use Rattle.cck_cache_text.specs.Left.{IsLeftOn}
 use Rattle.cck_cache_text.specs.Names.{is_named}
@@ -36,6 +37,8 @@ module _ (old new : PathStates) (keeps : KeepsStates old new) (path : Bytes) whe
   unread_test_kept (Directory directory) (same, is) = (same, first_other_kept old new path path state.Directory keeps is)
   unread_test_kept (File file) none = absurd none
   unread_test_kept (Searched file place) none = absurd none
+  unread_test_kept (Plain file) none = absurd none
+  unread_test_kept (Real file real) none = absurd none
 
   pub unread_kept : IsUnread old path → IsUnread new path
   unread_kept (test, is) = (test, unread_test_kept test is)

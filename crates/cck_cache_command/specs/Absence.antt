@@ -6,13 +6,15 @@ use Rattle.cck_cache_command.specs.declared.absence.Absence.TheVariants.{Tests, 
 use Rattle.cck_cache_command.specs.Searched.{AreSearched, HasDoubtfulDirectory}
 use Rattle.cck_cache_text.specs.Absent.{AreAbsentNames, IsAbsentName, IsListed}
 use Rattle.cck_cache_text.specs.Left.{IsLeft}
-use Rattle.cck_cache_text.specs.Names.{is_system_name}
+use Rattle.cck_cache_text.specs.Names.{IsMarkedSystem, is_system_name}
 use Rattle.cck_cache_rules.specs.PathTest.{Test, Directory, tests_of, Absent as TestAbsent}
 use Rattle.cck_cache_text.specs.SearchList.{IsSearchList, SearchFields}
 use Rattle.cck_cache_command.specs.declared.absence.PathVerdict.{PathVerdict}
 use Rattle.cck_cache_command.specs.declared.absence.PathVerdict.TheVariants.{Absent, Present, Doubtful}
 use Rattle.cck_cache_files.specs.PathStates.{IsFirstOther, LeadsOn}
+use Rattle.cck_cache_files.specs.RealPaths.{ArePlaced, IsPathOf}
 use Rattle.cck_cache_files.specs.declared.path_states.PathState.{PathState}
+use Rattle.cck_cache_files.specs.declared.real_paths.LinkTests.{LinkTests}
 use Rattle.cck_cache_files.specs.declared.path_states.PathState.TheVariants as state
 use Rattle.cck_cache_files.specs.declared.path_states.PathStates.{PathStates}
 use Rattle.cck_cache_rules.specs.declared.refusal.Refusal.{Refusal}
@@ -79,7 +81,9 @@ pub record AreTestsOf (states : PathStates) (directory text printed : Bytes) (te
   pub paths_are : (marks : List Mark) → Marks true text marks → ArePathsFor states directory (IsAbsentName marks search) paths
   pub fronts : List Bytes
   pub fronts_are : (marks : List Mark) → Marks true text marks → AreLeft directory marks fronts
-  pub tests_are : tests ≡ (searched ++ map TestAbsent paths) ++ map Directory fronts
+  pub links : LinkTests
+  pub links_are : (marks : List Mark) → Marks true text marks → ArePlaced (IsPathOf directory (IsMarkedSystem marks)) links
+  pub tests_are : tests ≡ (((searched ++ map TestAbsent paths) ++ map Directory fronts) ++ tests_of links.plain.items) ++ tests_of links.real.items
 
 -- a path of the text is in doubt
 pub record HasDoubtfulPath (states : PathStates) (directory text printed : Bytes) : Type 0 where
@@ -99,6 +103,10 @@ pub record HasUnknownHeader (text printed : Bytes) : Type 0 where
   pub is_search : IsSearchList printed (Some search)
   pub unknown : (marks : List Mark) → Marks true text marks → AreAbsentNames marks search None
 
+-- a system header is named, of which it is not known where it is
+abbrev pub HasUnknownLink : Bytes → Type 0
+HasUnknownLink text = (marks : List Mark) → Marks true text marks → (name : Bytes) × IsMarkedSystem marks name
+
 abbrev pub IsRefusedByPath : PathStates → Bytes → Bytes → Bytes → Refusal → Type 0
 IsRefusedByPath states directory text printed NoSearchList = IsSearchList printed None
 IsRefusedByPath states directory text printed UnknownHeader = HasUnknownHeader text printed
@@ -110,7 +118,7 @@ IsRefusedByPath states directory text printed HeaderTest = ⊥
 IsRefusedByPath states directory text printed DependencyPragma = ⊥
 IsRefusedByPath states directory text printed AssemblerInclude = ⊥
 IsRefusedByPath states directory text printed OtherFile = ⊥
-IsRefusedByPath states directory text printed NamedFile = ⊥
+IsRefusedByPath states directory text printed NamedFile = HasUnknownLink text
 IsRefusedByPath states directory text printed BaseDirectory = ⊥
 
 -- what is found of the paths of a text

@@ -4,7 +4,7 @@ use Rattle.cck_cache_command.specs.Absence.{IsAbsentAt, IsDoubtfulAt, IsPresentA
 use Rattle.cck_cache_command.specs.declared.tested.Tested.{Tested}
 use Rattle.cck_cache_command.specs.declared.tested.Tested.TheVariants.{Tests, Refused}
 use Rattle.cck_cache_text.specs.HeaderTests.{AreTests, has_dependency}
-use Rattle.cck_cache_rules.specs.PathTest.{Test, Absent, File, Directory, Searched, tests_of}
+use Rattle.cck_cache_rules.specs.PathTest.{Test, Absent, File, Directory, Searched, Plain, Real, tests_of}
 use Rattle.cck_cache_text.specs.SearchList.{IsSearchList, SearchFields}
 use Rattle.cck_cache_text.specs.Splices.{unspliced}
 use Rattle.cck_cache_files.specs.Sources.{AsksFor, IsPlainSource, IsSource}
@@ -22,6 +22,8 @@ IsTestAt states path (Absent absent) = IsAbsentAt states path absent
 IsTestAt states path (File file) = (file ≡ path) × IsPresentAt states path
 IsTestAt states path (Directory directory) = ⊥
 IsTestAt states path (Searched directory place) = ⊥
+IsTestAt states path (Plain file) = ⊥
+IsTestAt states path (Real file real) = ⊥
 
 -- the test of what is at a path, if that is known
 abbrev pub IsTestOrDoubt : PathStates → Bytes → Option Test → Type 0

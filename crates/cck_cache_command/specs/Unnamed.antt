@@ -12,7 +12,7 @@ use Rattle.cck_cache_command.specs.declared.unnamed.UnnamedVerdict.TheVariants.{
 use Rattle.cck_cache_text.specs.Left.{IsLeftOn}
 use Rattle.cck_cache_text.specs.LookedAt.{IsLookedAt}
 use Rattle.cck_cache_text.specs.Names.{is_named}
-use Rattle.cck_cache_rules.specs.PathTest.{Test, Absent, Directory, File, Searched, tests_of}
+use Rattle.cck_cache_rules.specs.PathTest.{Test, Absent, Directory, File, Searched, Plain, Real, tests_of}
 use Rattle.cck_cache_text.specs.SearchList.{IsSearchList, SearchFields}
 use Rattle.cck_cache_text.specs.Sets.{has_key}
 use Rattle.cck_cache_files.specs.Copies.{AreKnown, IsInSnapshot}
@@ -35,6 +35,8 @@ IsUnreadTest states path (Absent absent) = IsAbsentAt states path absent
 IsUnreadTest states path (Directory directory) = (directory ≡ path) × IsFirstOther states path path state.Directory
 IsUnreadTest states path (File file) = ⊥
 IsUnreadTest states path (Searched file place) = ⊥
+IsUnreadTest states path (Plain file) = ⊥
+IsUnreadTest states path (Real file real) = ⊥
 
 -- gcc reads nothing at a path: nothing is there, a file is on the way to it, or a directory is there
 abbrev pub IsUnread : PathStates → Bytes → Type 0

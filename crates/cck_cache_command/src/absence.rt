@@ -10,9 +10,9 @@ ghost use Rattle.cck_path.specs.Bytes.{lists_of};
 
 use crate::preprocessed::Preprocessed;
 use crate::searched::searched_tests;
-use cck_cache_files::{PathState, PathStates};
+use cck_cache_files::{LinkTests, PathState, PathStates, link_tests};
 use cck_cache_rules::{PathTest, Refusal};
-use cck_cache_text::{SearchList, absent_names, left_directories};
+use cck_cache_text::{SearchList, absent_names, left_directories, system_names};
 use cck_digest::UtilError;
 use cck_path::join_path;
 use std::alloc::{AllocError, Global};
@@ -143,9 +143,20 @@ pub fn add_directories(
     Ok(())
 }
 
+/// These tests, and after them the others.
+pub fn all_tests(tests: Vec<PathTest>, others: Vec<PathTest>) -> Result<Vec<PathTest>, AllocError>
+    ensures { IfOk result (λ all. all.items ≡ tests.items ++ others.items) }
+{
+    let mut all = tests;
+    for test in others {
+        all.push(test)?;
+    }
+    Ok(all)
+}
+
 /// Judges the paths that decide where the headers of a text were found: the directories that the
-/// compiler searches, the paths at which a header would have been found earlier, and the directories
-/// that a name leaves by `..`.
+/// compiler searches, the paths at which a header would have been found earlier, the directories
+/// that a name leaves by `..`, and the links on the way to system headers.
 ///
 /// The only error is [`UtilError::Memory`]. The states that were kept are kept, after it too.
 pub fn absence_of<R: Files + AllocGlobal>(
@@ -175,5 +186,11 @@ pub fn absence_of<R: Files + AllocGlobal>(
     add_absent(alloc, &mut tests, &paths)?;
     let left = left_directories(alloc, directory.as_bytes(), text)?;
     add_directories(alloc, &mut tests, &left)?;
-    Ok(Absence::Tests(tests))
+    let systems = system_names(alloc, text)?;
+    let Some(links) = link_tests(rt, directory.as_bytes(), &systems)? else {
+        return Ok(Absence::Refused(Refusal::NamedFile));
+    };
+    let LinkTests { plain, real } = links;
+    let tests = all_tests(tests, plain)?;
+    Ok(Absence::Tests(all_tests(tests, real)?))
 }

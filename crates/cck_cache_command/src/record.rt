@@ -12,7 +12,7 @@ ghost use Rattle.cck_files.specs.FileState.{IsQuiet, fault_count};
 ghost use Rattle.cck_path.specs.Bytes.{lists_of};
 ghost use Rattle.jiff.specs.Words.{plain_zone};
 
-use crate::absence::{Absence, absence_of};
+use crate::absence::{Absence, absence_of, all_tests};
 use crate::copies::may_have_copies;
 use crate::entry_place::place_for;
 use crate::environment::Environment;
@@ -391,17 +391,6 @@ fn keep<R: Files + AllocGlobal>(
     }
     write_files(rt, store, compilation, object.as_ref(), name, file)?;
     Ok(None)
-}
-
-// These tests, and after them the others.
-fn all_tests(tests: Vec<PathTest>, others: Vec<PathTest>) -> Result<Vec<PathTest>, AllocError>
-    ensures { IfOk result (λ all. all.items ≡ tests.items ++ others.items) }
-{
-    let mut all = tests;
-    for test in others {
-        all.push(test)?;
-    }
-    Ok(all)
 }
 
 // The entry file of what was recorded.

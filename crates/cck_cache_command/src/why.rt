@@ -28,9 +28,10 @@ fn print_test<W: Write>(writer: &mut W, test: &PathTest) -> Result<()> {
     match test {
         PathTest::Absent(path) => print_path(writer, b"present ", path),
         PathTest::File(path) => print_path(writer, b"absent ", path),
-        PathTest::Directory(path) | PathTest::Searched { path, .. } => {
-            print_path(writer, b"changed ", path)
-        }
+        PathTest::Directory(path)
+        | PathTest::Searched { path, .. }
+        | PathTest::Plain(path)
+        | PathTest::Real { path, .. } => print_path(writer, b"changed ", path),
     }
 }
 

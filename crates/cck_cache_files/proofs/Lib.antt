@@ -4,6 +4,8 @@ pub mod ListingLemmas
 pub mod PathLemmas
 pub mod ProgramLemmas
 pub mod ReadOnceLemmas
+pub mod RealPathLemmas
+pub mod SetLemmas
 pub mod SnapshotLemmas
 pub mod SourceLemmas
 pub mod StateLemmas

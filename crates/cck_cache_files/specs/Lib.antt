@@ -8,6 +8,7 @@ pub mod PathTests
 pub mod Paths
 pub mod Programs
 pub mod ReadOnce
+pub mod RealPaths
 pub mod Searched
 pub mod Snapshot
 pub mod Sources

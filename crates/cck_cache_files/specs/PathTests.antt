@@ -1,6 +1,6 @@
 -- tests of paths that were made
 use Rattle.std.specs.Prelude.{◌≡◌, List, [], ◌∷◌, ◌++◌, Option, Some, None, IsUtf8}
-use Rattle.cck_cache_rules.specs.PathTest.{Test, Absent, File, Directory, Searched}
+use Rattle.cck_cache_rules.specs.PathTest.{Test, Absent, File, Directory, Searched, Plain, Real}
 use Rattle.cck_cache_files.specs.Searched.{IsFirstSame, IsPlaceOf}
 use Rattle.cck_cache_files.specs.declared.searched.Identity.{Identity}
 
@@ -10,6 +10,8 @@ abbrev pub Holds : List (Option Identity) → Test → List (Option Identity) �
 Holds before (Absent path) after = (after ≡ before) × IsUtf8 path
 Holds before (File path) after = (after ≡ before) × IsUtf8 path
 Holds before (Directory path) after = (after ≡ before) × IsUtf8 path
+Holds before (Plain path) after = (after ≡ before) × IsUtf8 path
+Holds before (Real path real) after = (after ≡ before) × IsUtf8 path
 Holds before (Searched path place) after = (identity : Identity) × (after ≡ before ++ Some identity ∷ []) × IsFirstSame after identity place × IsUtf8 path
 
 -- a test failed after these identities were found; one of a directory that is searched only where the first that is the same has another place
@@ -17,6 +19,8 @@ abbrev pub Fails : List (Option Identity) → Test → Type 0
 Fails before (Absent path) = Unit {0}
 Fails before (File path) = Unit {0}
 Fails before (Directory path) = Unit {0}
+Fails before (Plain path) = Unit {0}
+Fails before (Real path real) = Unit {0}
 Fails before (Searched path place) = (identity : Option Identity) × (IsPlaceOf (before ++ identity ∷ []) identity (Some place) → ⊥)
 
 -- these tests held, one after the other

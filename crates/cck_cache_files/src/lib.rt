@@ -9,6 +9,7 @@
 //!   the directories of absent paths when an entry is recorded, and [`unchanged_statuses`] of which it
 //!   says the same when the entry is looked for.
 //! - [`first_failing`] makes the tests of an entry file. [`SearchedDirectories`] says which of the directories that are searched are the same.
+//! - [`link_tests`] lists the tests of the links on the way to system headers.
 //! - [`asked_by`] says on which other files the sources of a text may depend.
 //! - [`may_be_copy`] says of a file whether gcc may have taken it for a copy of one of the files of a
 //!   text, which [`known_files`] returns by their lengths and times, and [`is_one_file`] whether two
@@ -37,6 +38,7 @@ mod path_statuses;
 mod path_tests;
 mod programs;
 mod read_once;
+mod real_paths;
 mod searched;
 mod snapshot;
 mod sources;
@@ -57,6 +59,7 @@ pub use path_statuses::{
 pub use path_tests::first_failing;
 pub use programs::{KeptPrograms, SearchVariables, kept_programs};
 pub use read_once::has_copies;
+pub use real_paths::{LinkTests, link_tests};
 pub use searched::SearchedDirectories;
 pub use snapshot::{add_file, add_named_files, is_one_file};
 pub use sources::{Asked, asked_by};

@@ -107,6 +107,13 @@ pub fn is_directory<R: Files>(rt: &R, path: &[u8]) -> bool
     look_at(rt, path, Timestamp::new(i64::MAX, 0)) == PathState::Directory
 }
 
+/// Whether a regular file is at a path, and no link to one. `false` where that can't be known.
+pub fn is_plain_file<R: Files>(rt: &R, path: &[u8]) -> bool
+    ensures { IsTrue result → IsUtf8 path.now }
+{
+    look_at(rt, path, Timestamp::new(i64::MAX, 0)) == PathState::File
+}
+
 /// Whether a regular file that the process may read is at a path, links followed. `false` where that can't be known.
 pub fn is_file<R: Files>(rt: &R, path: &[u8]) -> bool
     ensures { IsTrue result → IsUtf8 path.now }

@@ -80,8 +80,8 @@ fn add_status(
     Ok(())
 }
 
-/// Adds the statuses of the directories of the paths of these tests at which there is nothing. A directory
-/// in which a name may have come or gone at this time or later is left out.
+/// Adds the statuses of the directories of the paths of these tests at which there is nothing, or a file and no
+/// link. A directory in which a name may have come or gone at this time or later is left out.
 ///
 /// The only error is lack of memory.
 pub fn add_directory_statuses<R: Files + AllocGlobal>(
@@ -93,7 +93,7 @@ pub fn add_directory_statuses<R: Files + AllocGlobal>(
     let alloc = rt.alloc();
     let mut seen = BTreeSet::new(alloc);
     for test in tests {
-        let PathTest::Absent(path) = test else {
+        let (PathTest::Absent(path) | PathTest::Plain(path)) = test else {
             continue;
         };
         let Some(directory) = directory_of(path) else {
@@ -238,9 +238,9 @@ pub fn unchanged_statuses<R: Files + AllocGlobal>(
     Ok(known)
 }
 
-/// Whether there is still nothing at a path, since it is that of a name in a directory that is known to be
-/// unchanged: no name came there.
-pub fn stays_absent(known: &PathMap<Metadata>, path: &[u8]) -> bool
+/// Whether a path is that of a name in a directory that is known to be unchanged: no name came or went there,
+/// so what has the name, if anything has it, is of the kind that it was.
+pub fn is_in_unchanged_directory(known: &PathMap<Metadata>, path: &[u8]) -> bool
     ensures utf8 { IsTrue result → IsUtf8 path.now }
     ensures known { IsTrue result → IsInKnownDirectory known.now path.now }
 {

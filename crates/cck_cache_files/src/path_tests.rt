@@ -5,8 +5,9 @@ ghost use Rattle.cck_cache_rules.specs.PathTest.{test_of, tests_of};
 ghost use Rattle.cck_cache_rules.specs.PathTest as spec;
 ghost use Rattle.cck_cache_files.specs.PathTests.{Fails, Holds, IsFirstFailing};
 
-use crate::path_states::{is_absent, is_directory, is_file};
-use crate::path_statuses::stays_absent;
+use crate::path_states::{is_absent, is_directory, is_file, is_plain_file};
+use crate::path_statuses::is_in_unchanged_directory;
+use crate::real_paths::leads_to;
 use crate::searched::SearchedDirectories;
 use cck_cache_rules::PathTest;
 use cck_path::{Metadata, PathMap};
@@ -43,15 +44,19 @@ fn holds<R: Files + AllocGlobal>(
         (Fails searched.old.identities.items (test_of test.now))) }
 {
     match test {
-        PathTest::Absent(path) => Ok(stays_absent(known, path) || is_absent(rt, path)),
+        PathTest::Absent(path) => Ok(is_in_unchanged_directory(known, path) || is_absent(rt, path)),
         PathTest::File(path) => Ok(is_file(rt, path)),
         PathTest::Directory(path) => Ok(is_directory(rt, path)),
         PathTest::Searched { path, place } => is_searched_at(rt, searched, path, *place),
+        PathTest::Plain(path) => Ok(
+            is_in_unchanged_directory(known, path) || is_plain_file(rt, path),
+        ),
+        PathTest::Real { path, real } => leads_to(rt, path, real),
     }
 }
 
-/// The first of these tests that does not hold now. One of an absent path is not made where the path is that
-/// of a name in a directory that is known to be unchanged. One of a directory that is searched holds only if a
+/// The first of these tests that does not hold now. One of an absent path, or of a file and no link, is not made
+/// where the path is that of a name in a directory that is known to be unchanged. One of a directory that is searched holds only if a
 /// directory is at its path, and the first that is the same, by device and inode, has its place.
 ///
 /// The only error is lack of memory.

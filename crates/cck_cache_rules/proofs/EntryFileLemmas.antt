@@ -5,7 +5,7 @@ use Rattle.std.proofs.lemmas.List.{map-append}
 use Rattle.std.proofs.lemmas.List.Elements.{All-append, All-cons, All-nil}
 use Rattle.cck_cache_rules.specs.PathStatus.{AreStatuses, IsStatus, Status, status_bytes, status_of, statuses_of}
 use Rattle.cck_cache_rules.specs.Files.{EntryFields, IsEntryFile, entry_parts}
-use Rattle.cck_cache_rules.specs.PathTest.{Test, Absent, File, Directory, Searched, test_bytes}
+use Rattle.cck_cache_rules.specs.PathTest.{Test, Absent, File, Directory, Searched, Plain, Real, test_bytes}
 use Rattle.cck_cache_rules.specs.Reading.{ReadsBack, ReadsBackOf}
 use Rattle.cck_cache_rules.specs.declared.path_status.PathStatus.{PathStatus}
 use Rattle.cck_cache_rules.proofs.PathStatusLemmas.{statuses_differ}
@@ -60,6 +60,8 @@ no_both_bytes status (Absent path) e = apart 115 97 (omega arith) _ _ e
 no_both_bytes status (File path) e = apart 115 102 (omega arith) _ _ e
 no_both_bytes status (Directory path) e = apart 115 100 (omega arith) _ _ e
 no_both_bytes status (Searched path place) e = let same : 116 ≡ 101 = ap (λ (l : List ℕ). get_or l 1 0) e in omega (arith, same)
+no_both_bytes status (Plain path) e = apart 115 112 (omega arith) _ _ e
+no_both_bytes status (Real path real) e = apart 115 114 (omega arith) _ _ e
 
 abbrev parts_of : List Status → List Test → List (List ℕ)
 parts_of statuses tests = map status_bytes statuses ++ map test_bytes tests

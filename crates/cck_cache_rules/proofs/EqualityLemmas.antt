@@ -16,25 +16,45 @@ use Rattle.cck_cache_rules.specs.declared.path_status.PathStatus.{PathStatus}
 use Rattle.cck_cache_rules.specs.declared.entry_file.EntryFile.{EntryFile}
 use Rattle.cck_cache_rules.specs.declared.object_file.ObjectFile.{ObjectFile}
 use Rattle.cck_cache_rules.specs.declared.path_test.PathTest.{PathTest}
-use Rattle.cck_cache_rules.specs.declared.path_test.PathTest.TheVariants.{Absent, File, Directory, Searched}
+use Rattle.cck_cache_rules.specs.declared.path_test.PathTest.TheVariants.{Absent, File, Directory, Searched, Plain, Real}
 
 pub test_decides : (a b : PathTest) → Decides (same_test.ghosts.eq a b) (test_of a ≡ test_of b)
 test_decides (Absent a) (Absent b) = Decides-like _ (λ e. ap test.Absent e) (λ e. cc) (bytes_decides a.items b.items)
 test_decides (Absent a) (File b) = (λ e. absurd cc, λ e. absurd cc)
 test_decides (Absent a) (Directory b) = (λ e. absurd cc, λ e. absurd cc)
 test_decides (Absent a) (Searched b n) = (λ e. absurd cc, λ e. absurd cc)
+test_decides (Absent a) (Plain b) = (λ e. absurd cc, λ e. absurd cc)
+test_decides (Absent a) (Real b n) = (λ e. absurd cc, λ e. absurd cc)
 test_decides (File a) (Absent b) = (λ e. absurd cc, λ e. absurd cc)
 test_decides (File a) (File b) = Decides-like _ (λ e. ap test.File e) (λ e. cc) (bytes_decides a.items b.items)
 test_decides (File a) (Directory b) = (λ e. absurd cc, λ e. absurd cc)
 test_decides (File a) (Searched b n) = (λ e. absurd cc, λ e. absurd cc)
+test_decides (File a) (Plain b) = (λ e. absurd cc, λ e. absurd cc)
+test_decides (File a) (Real b n) = (λ e. absurd cc, λ e. absurd cc)
 test_decides (Directory a) (Absent b) = (λ e. absurd cc, λ e. absurd cc)
 test_decides (Directory a) (File b) = (λ e. absurd cc, λ e. absurd cc)
 test_decides (Directory a) (Directory b) = Decides-like _ (λ e. ap test.Directory e) (λ e. cc) (bytes_decides a.items b.items)
 test_decides (Directory a) (Searched b n) = (λ e. absurd cc, λ e. absurd cc)
+test_decides (Directory a) (Plain b) = (λ e. absurd cc, λ e. absurd cc)
+test_decides (Directory a) (Real b n) = (λ e. absurd cc, λ e. absurd cc)
 test_decides (Searched a m) (Absent b) = (λ e. absurd cc, λ e. absurd cc)
 test_decides (Searched a m) (File b) = (λ e. absurd cc, λ e. absurd cc)
 test_decides (Searched a m) (Directory b) = (λ e. absurd cc, λ e. absurd cc)
 test_decides (Searched a m) (Searched b n) = Decides-like _ (λ h. λ i. test.Searched (h.0 i) (h.1 i)) (λ e. (cc, cc)) (Decides-and _ _ (bytes_decides a.items b.items) (Decides-eqb m n))
+test_decides (Searched a m) (Plain b) = (λ e. absurd cc, λ e. absurd cc)
+test_decides (Searched a m) (Real b n) = (λ e. absurd cc, λ e. absurd cc)
+test_decides (Plain a) (Absent b) = (λ e. absurd cc, λ e. absurd cc)
+test_decides (Plain a) (File b) = (λ e. absurd cc, λ e. absurd cc)
+test_decides (Plain a) (Directory b) = (λ e. absurd cc, λ e. absurd cc)
+test_decides (Plain a) (Searched b n) = (λ e. absurd cc, λ e. absurd cc)
+test_decides (Plain a) (Plain b) = Decides-like _ (λ e. ap test.Plain e) (λ e. cc) (bytes_decides a.items b.items)
+test_decides (Plain a) (Real b n) = (λ e. absurd cc, λ e. absurd cc)
+test_decides (Real a m) (Absent b) = (λ e. absurd cc, λ e. absurd cc)
+test_decides (Real a m) (File b) = (λ e. absurd cc, λ e. absurd cc)
+test_decides (Real a m) (Directory b) = (λ e. absurd cc, λ e. absurd cc)
+test_decides (Real a m) (Searched b n) = (λ e. absurd cc, λ e. absurd cc)
+test_decides (Real a m) (Plain b) = (λ e. absurd cc, λ e. absurd cc)
+test_decides (Real a m) (Real b n) = Decides-like _ (λ h. λ i. test.Real (h.0 i) (h.1 i)) (λ e. (cc, cc)) (Decides-and _ _ (bytes_decides a.items b.items) (bytes_decides m.items n.items))
 
 module _ {X Y : Type 0} (E : X → X → Bool) (f : X → Y) (each : (a b : X) → Decides (E a b) (f a ≡ f b)) where
   list_of_decides : (a b : List X) → Decides (pointwise E a b) (map f a ≡ map f b)

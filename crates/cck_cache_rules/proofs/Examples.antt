@@ -7,7 +7,7 @@ use Rattle.cck_cache_rules.specs.Age.{IsAbandoned}
 use Rattle.cck_cache_rules.specs.Checksum.{sums_of, words}
 use Rattle.cck_cache_rules.specs.ObjectName.{is_inside, object_parts, tests_inside}
 use Rattle.cck_cache_rules.specs.PathStatus.{status_bytes}
-use Rattle.cck_cache_rules.specs.PathTest.{Absent, File}
+use Rattle.cck_cache_rules.specs.PathTest.{Absent, File, Plain, Real, test_bytes, with_path}
 use Rattle.cck_cache_rules.specs.Refusal.{IsRefusal}
 use Rattle.cck_cache_rules.specs.Removal.{IsRemovedCount}
 use Rattle.cck_cache_rules.specs.Size.{IsSize}
@@ -73,6 +73,18 @@ two_tests = refl
 -- two checkouts with the same tests
 two_checkouts : tests_inside (Some (codes "/b")) (File (codes "/b/y") ∷ []) ≡ tests_inside (Some (codes "/c")) (File (codes "/c/y") ∷ [])
 two_checkouts = refl
+
+-- where a path leads: the length of the real path in 8 bytes, the real path, and the path
+real_bytes_of : test_bytes (Real (codes "/i/x") (codes "/x")) ≡ codes "real " ++ (2 ∷ 0 ∷ 0 ∷ 0 ∷ 0 ∷ 0 ∷ 0 ∷ 0 ∷ []) ++ codes "/x/i/x"
+unfolding length_bytes
+real_bytes_of = refl
+
+-- the same test of another path leads to the same one
+real_moved : with_path (Real (codes "/i/x") (codes "/x")) (codes "/j/x") ≡ Real (codes "/j/x") (codes "/x")
+real_moved = refl
+
+plain_bytes : test_bytes (Plain (codes "/u/x")) ≡ codes "plain /u/x"
+plain_bytes = refl
 
 -- the first of three sizes goes, and no more
 one_goes : IsRemovedCount (3 ∷ 4 ∷ 5 ∷ []) 9 1

@@ -50,7 +50,7 @@ object_parts file = file.key ∷ file.object ∷ file.messages ∷ file.dependen
 
 -- an entry file
 abbrev pub entry_file : EntryFields → List ℕ
-entry_file file = stored_file (codes "cck entry 3\n") (entry_parts file)
+entry_file file = stored_file (codes "cck entry 4\n") (entry_parts file)
 
 -- an object file of the store
 abbrev pub object_file : ObjectFields → List ℕ

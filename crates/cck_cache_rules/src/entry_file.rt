@@ -12,7 +12,7 @@ use crate::stored::{read_stored, write_stored};
 use std::alloc::{AllocError, Global};
 
 /// How an entry file begins.
-const KIND: &[u8] = b"cck entry 3\n";
+const KIND: &[u8] = b"cck entry 4\n";
 
 /// What an entry file holds.
 #[derive(Debug, Drop, PartialEq, Eq)]

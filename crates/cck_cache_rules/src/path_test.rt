@@ -1,10 +1,10 @@
 //! What is tested of a path before an entry is used.
 ghost use Rattle.std.specs.Prelude.{◌≡◌, ◌++◌, IfOk};
 ghost use Rattle.std.specs.Option.{option_map};
-ghost use Rattle.cck_cache_rules.specs.PathTest.{searched_bytes, test_bytes, test_of, test_path, with_path};
+ghost use Rattle.cck_cache_rules.specs.PathTest.{real_bytes, searched_bytes, test_bytes, test_of, test_path, with_path};
 ghost use Rattle.cck_cache_rules.specs.Reading.{ReadsBack};
 
-use crate::frames::{number_bytes, read_number};
+use crate::frames::{number_bytes, push_frame, read_frame, read_number};
 use std::alloc::{AllocError, Global};
 
 /// How the bytes of each test begin.
@@ -15,6 +15,10 @@ const FILE: &[u8] = b"file ";
 const DIRECTORY: &[u8] = b"directory ";
 
 const SEARCHED: &[u8] = b"searched ";
+
+const PLAIN: &[u8] = b"plain ";
+
+const REAL: &[u8] = b"real ";
 
 /// What must hold of a path, so that a preprocessor finds what it found.
 #[derive(Debug, Drop, PartialEq, Eq)]
@@ -33,6 +37,15 @@ pub enum PathTest {
         /// The place of the first directory that is the same, counted over these tests in their order:
         /// the place of this one where no earlier one is.
         place: usize,
+    },
+    /// A regular file is at the path, and no link to one.
+    Plain(Vec<u8>),
+    /// The path leads to this one, all links followed.
+    Real {
+        /// The path.
+        path: Vec<u8>,
+        /// The path of the same file or directory on whose way there is no link.
+        real: Vec<u8>,
     },
 }
 
@@ -60,14 +73,24 @@ fn read_searched(bytes: &[u8]) -> Option<(usize, &[u8])>
     Some((place as usize, path))
 }
 
+// The real path and the path of the test of where a path leads.
+fn read_real(bytes: &[u8]) -> Option<(&[u8], &[u8])>
+    ensures { ReadsBack real_bytes bytes.now (option_map (λ r. (r.0.now, r.1.now)) result) }
+{
+    read_frame(after(REAL, bytes)?)
+}
+
 impl PathTest {
     /// The path that is tested.
     pub fn path(&self) -> &[u8]
         ensures { result.now ≡ test_path (test_of self.now) }
     {
         match self {
-            PathTest::Absent(path) | PathTest::File(path) | PathTest::Directory(path) => path,
-            PathTest::Searched { path, .. } => path,
+            PathTest::Absent(path)
+            | PathTest::File(path)
+            | PathTest::Directory(path)
+            | PathTest::Plain(path) => path,
+            PathTest::Searched { path, .. } | PathTest::Real { path, .. } => path,
         }
     }
 
@@ -83,6 +106,13 @@ impl PathTest {
             PathTest::Directory(_) => joined(alloc, DIRECTORY, path),
             PathTest::Searched { place, .. } => {
                 let mut bytes = joined(alloc, SEARCHED, &number_bytes(*place as u64))?;
+                bytes.extend_from_slice(path)?;
+                Ok(bytes)
+            }
+            PathTest::Plain(_) => joined(alloc, PLAIN, path),
+            PathTest::Real { real, .. } => {
+                let mut bytes = REAL.to_vec(alloc)?;
+                push_frame(&mut bytes, real)?;
                 bytes.extend_from_slice(path)?;
                 Ok(bytes)
             }
@@ -113,12 +143,21 @@ impl PathTest {
         if let Some(path) = after(DIRECTORY, bytes) {
             return Ok(Some(PathTest::Directory(path.to_vec(alloc)?)));
         }
-        let Some((place, path)) = read_searched(bytes) else {
+        if let Some((place, path)) = read_searched(bytes) {
+            return Ok(Some(PathTest::Searched {
+                path: path.to_vec(alloc)?,
+                place,
+            }));
+        }
+        if let Some(path) = after(PLAIN, bytes) {
+            return Ok(Some(PathTest::Plain(path.to_vec(alloc)?)));
+        }
+        let Some((real, path)) = read_real(bytes) else {
             return Ok(None);
         };
-        Ok(Some(PathTest::Searched {
+        Ok(Some(PathTest::Real {
             path: path.to_vec(alloc)?,
-            place,
+            real: real.to_vec(alloc)?,
         }))
     }
 }

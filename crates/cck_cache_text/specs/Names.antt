@@ -1,5 +1,5 @@
 -- the files that a preprocessed text names
-use Rattle.std.specs.Prelude.{◌≡◌, ℕ, Bool, false, not, ◌&&◌, ◌||◌, ◌==◌, if◌then◌else◌, List, [], ◌∷◌, length, Option, Some, None, codes, nat_eq, is_some}
+use Rattle.std.specs.Prelude.{◌≡◌, ℕ, Bool, false, not, ◌&&◌, ◌||◌, ◌==◌, if◌then◌else◌, List, [], ◌∷◌, Contains, length, Option, Some, None, codes, nat_eq, is_some, true}
 use Rattle.std.specs.List.{list_any, starts_with, ends_with}
 use Rattle.std.specs.Str.{bytes_eq}
 use Rattle.cck_markers.specs.Marks.{Mark, Name, Refusal, Malformed}
@@ -28,6 +28,10 @@ is_some_true (Some b) = b
 -- a mark names this file, and the first one that does says that it is a system header
 abbrev pub is_system_name : List Mark → List ℕ → Bool
 is_system_name marks name = not (is_no_file name) && is_some_true (first_of_name name marks)
+
+-- a mark has the name of this file as that of a system header
+abbrev pub IsMarkedSystem : List Mark → List ℕ → Type 0
+IsMarkedSystem marks name = Contains marks (Name name true) × (is_no_file name ≡ false)
 
 -- a name up to its last slash, which is part of it
 abbrev pub directory_of : List ℕ → List ℕ

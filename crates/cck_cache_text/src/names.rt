@@ -1,9 +1,9 @@
 //! The files that a preprocessed text names.
-ghost use Rattle.std.specs.Prelude.{◌≡◌, ◌∷◌, ◌++◌, [], IfOk, List, OnOk, true, ℕ};
+ghost use Rattle.std.specs.Prelude.{◌≡◌, ◌∷◌, ◌++◌, [], IfOk, List, OnOk, false, true, ℕ};
 ghost use Rattle.cck_markers.specs.Marks as spec;
 ghost use Rattle.cck_markers.specs.Marks.{Marks};
-ghost use Rattle.cck_cache_text.specs.Names.{AreNames, directory_of, is_named, is_no_file};
-ghost use Rattle.cck_cache_text.specs.Sets.{has_key};
+ghost use Rattle.cck_cache_text.specs.Names.{AreNames, IsMarkedSystem, directory_of, is_named, is_no_file};
+ghost use Rattle.cck_cache_text.specs.Sets.{Adds, IsSetOf, has_key};
 
 use cck_markers::{Mark, Markers};
 use memchr::memrchr;
@@ -103,5 +103,39 @@ pub fn file_names(alloc: Global, text: &[u8]) -> Result<BTreeSet<Vec<u8>>, Alloc
         systems: _,
         directories: _,
     } = names_in(alloc, text)?;
+    Ok(names)
+}
+
+// Adds a name, unless it is of no file.
+fn add_file_name(
+    alloc: Global,
+    names: &mut BTreeSet<Vec<u8>>,
+    name: &[u8],
+) -> Result<(), AllocError>
+    ensures { OnOk result (Adds (λ added. (added ≡ name.now) × (is_no_file name.now ≡ false)) names.old names.new) }
+{
+    if is_no_file(name) || names.contains(name) {
+        return Ok(());
+    }
+    names.insert(name.to_vec(alloc)?)?;
+    Ok(())
+}
+
+/// The names that a mark of this preprocessed text has as that of a system header, in order and each once: also
+/// those that an earlier mark has as that of another file.
+///
+/// The only error is lack of memory.
+pub fn system_names(alloc: Global, text: &[u8]) -> Result<BTreeSet<Vec<u8>>, AllocError>
+    ensures { IfOk result (λ names. (marks : List spec.Mark) → Marks true text.now marks
+        → IsSetOf (IsMarkedSystem marks) names) }
+{
+    let mut names = BTreeSet::new(alloc);
+    for mark in Markers::new(text) {
+        if let Mark::Name { name, is_system } = mark
+            && is_system
+        {
+            add_file_name(alloc, &mut names, name)?;
+        }
+    }
     Ok(names)
 }

@@ -1,4 +1,4 @@
-use Rattle.std.proofs.Common.{◌∙◌, ◌++◌, Option, Some, None, List, ℕ, IsTrue, inl, inr, true, ap, map, subst}
+use Rattle.std.proofs.Common.{◌≡◌, ◌∙◌, ◌++◌, Option, Some, None, List, ℕ, IsTrue, inl, inr, true, ap, map, subst}
 use Rattle.std.specs.BTreeSet.{BTreeSet}
 use Rattle.std.specs.Global.{Vec}
 use Rattle.cck_cache_text.specs.Absent.{AreAbsentNames, IsAbsentName}
@@ -10,7 +10,10 @@ use Rattle.cck_markers.specs.Marks.{Mark, Marks}
 use Rattle.cck_path.specs.Bytes.{Bytes, lists_of}
 use Rattle.cck_cache_command.specs.Absence.{AreAbsentPaths, ArePathsFor}
 use Rattle.cck_cache_command.specs.Searched.{AreSearched, HasDoubtfulDirectory}
-use Rattle.cck_cache_command.proofs.AbsenceLemmas.{left_keys, paths_for_same}
+use Rattle.cck_cache_files.specs.RealPaths.{ArePlaced, IsPathOf}
+use Rattle.cck_cache_files.proofs.RealPathLemmas.{placed_as}
+use Rattle.cck_cache_text.specs.Names.{IsMarkedSystem}
+use Rattle.cck_cache_command.proofs.AbsenceLemmas.{left_keys, paths_for_same, tests_joined}
 use Rattle.cck_cache_command.proofs.absence.absence_of.Goals as goal
 
 pub returns-in_default-2-clause-absence : goal.returns-in_default-2-clause-absence
@@ -42,6 +45,11 @@ returns-in_default-4-clause-absence g c =
     subst (λ (d : Bytes). HasDoubtfulDirectory d search) c.as_bytes-2.ensures.value (rw c.in_default-4.is at c.in_ok-tests.ensures.tests) in
     inr (record { search = search; is_search = rw c.in-Some.is at c.in_ok-search.ensures; doubtful = found })
 
+pub returns-in_default-5-clause-absence : goal.returns-in_default-5-clause-absence
+returns-in_default-5-clause-absence g c =
+    let found : (name : Bytes) × IsTrue (has_key c.in_ok-systems.systems name) = rw c.in_default-5.is at c.in_ok-links.ensures.tests in
+    λ marks are. (found.0, (c.in_ok-systems.ensures marks are found.0).0 found.1)
+
 pub returns-clause-absence : goal.returns-clause-absence
 returns-clause-absence g c =
     let directory = c.args.preprocessed.now.request.now.directory.now in
@@ -52,6 +60,14 @@ returns-clause-absence g c =
     let searched = tests_of c.in-Some-4.tests.items in
     let left = c.in_ok-left.left in
     let IsName : Bytes → Type 0 = λ name. IsTrue (has_key names name) in
+    let links = c.in-Some-5.links in
+    let IsSystem : Bytes → Type 0 = λ name. IsTrue (has_key c.in_ok-systems.systems name) in
+    let placed : ArePlaced (IsPathOf directory IsSystem) links =
+    subst (λ (d : Bytes). ArePlaced (IsPathOf d IsSystem) links) c.as_bytes-4.ensures.value (rw c.in-Some-5.is at c.in_ok-links.ensures.tests) in
+    let others : List Test = (searched ++ map Absent paths) ++ map Directory (lists_of left.keys) in
+    let others_are : tests_of c.add_directories.new.tests.items ≡ others =
+    c.in_ok-add_directories.ensures
+    ∙ ap (λ (tests : List Test). tests ++ map Directory (lists_of left.keys)) (c.in_ok-add_absent.ensures ∙ ap (λ (ps : List (Vec ℕ)). searched ++ map Absent (lists_of ps)) c.deref.ensures.value) in
     let named : (marks : List Mark) → Marks true c.args.preprocessed.now.text.now marks → AreAbsentNames marks search (Some names) =
     λ marks are. subst (λ (o : Option (BTreeSet (Vec ℕ))). AreAbsentNames marks search o) c.in-Some-2.is (c.in_ok-names.ensures marks are) in
     let found : ArePathsFor states directory IsName paths = subst (λ (d : Bytes). ArePathsFor states d IsName paths) c.as_bytes.ensures.value (rw c.in-Some-3.is at c.in_ok-paths.ensures.paths) in
@@ -66,6 +82,9 @@ returns-clause-absence g c =
           (λ name has. ((named marks are).1 name).0 has) (λ name is. ((named marks are).1 name).1 is) found;
       fronts = lists_of left.keys;
       fronts_are = λ marks are. left_keys directory marks left (subst (λ (d : Bytes). IsSetOf (IsLeft d marks) left) c.as_bytes-3.ensures.value (c.in_ok-left.ensures.left marks are));
-      tests_are = c.in_ok-add_directories.ensures
-          ∙ ap (λ (tests : List Test). tests ++ map Directory (lists_of left.keys)) (c.in_ok-add_absent.ensures ∙ ap (λ (ps : List (Vec ℕ)). searched ++ map Absent (lists_of ps)) c.deref.ensures.value);
+      links = links;
+      links_are = λ marks are. placed_as (IsPathOf directory IsSystem) (IsPathOf directory (IsMarkedSystem marks)) links (λ p at. (at.0, (c.in_ok-systems.ensures marks are at.0).0 at.1, at.2))
+          (λ p at. (at.0, (c.in_ok-systems.ensures marks are at.0).1 at.1, at.2)) placed;
+      tests_are = tests_joined c.in_ok-all_tests.field-0.items c.in_ok-tests-2.tests.items links.real.items (others ++ tests_of links.plain.items) c.in_ok-all_tests.ensures
+          (tests_joined c.in_ok-tests-2.tests.items c.add_directories.new.tests.items links.plain.items others c.in_ok-tests-2.ensures others_are);
     }

@@ -9,7 +9,8 @@ use Rattle.cck_cache_files.proofs.StateLemmas.{KeepsStates-trans}
 use Rattle.cck_path.specs.Bytes.{Bytes, lists_of}
 use Rattle.cck_path.specs.Text.{join_path}
 use Rattle.cck_cache_command.specs.Absence.{ArePathsFor, IsDoubtfulAt}
-use Rattle.cck_cache_command.proofs.AbsenceLemmas.{IsAmong, among_keys, key_among, next_is_absent, next_is_present, no_names, paths_for_same}
+use Rattle.cck_cache_files.proofs.SetLemmas.{IsAmong, among_keys, key_among}
+use Rattle.cck_cache_command.proofs.AbsenceLemmas.{next_is_absent, next_is_present, no_names, paths_for_same}
 use Rattle.cck_cache_command.proofs.absence.absent_paths.Goals as goal
 use Rattle.cck_cache_command.proofs.absence.absent_paths.Goals.{in-Absent+in_ok-push_path-in-Absent, in-Present}
 

@@ -2,7 +2,7 @@ use Rattle.std.proofs.Common.{length}
 use Rattle.cck_cache_files.specs.PathStates.{KeepsStates}
 use Rattle.cck_path.specs.Bytes.{lists_of}
 use Rattle.cck_cache_command.specs.Absence.{ArePathsFor}
-use Rattle.cck_cache_command.proofs.AbsenceLemmas.{IsAmong}
+use Rattle.cck_cache_files.proofs.SetLemmas.{IsAmong}
 use Rattle.cck_cache_command.proofs.absence.absent_paths.Given as goal
 
 -- the paths for the names so far

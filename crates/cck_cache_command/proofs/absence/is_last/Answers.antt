@@ -2,7 +2,7 @@ use Rattle.std.proofs.Common.{◌≡◌, ◌<◌, ◌-◌, ◌∙◌, Contains, 
 use Rattle.std.proofs.lemmas.Option.{get_or_from_slice_get}
 use Rattle.std.proofs.lemmas.Slice.Eq.{bytes_eq-Decides}
 use Rattle.cck_path.specs.Bytes.{Bytes, lists_of}
-use Rattle.cck_cache_command.proofs.IncludedLemmas.{contains_map}
+use Rattle.cck_cache_files.proofs.SetLemmas.{contains_map}
 use Rattle.cck_cache_command.proofs.absence.is_last.Goals as goal
 
 pub returns-in-Some : goal.returns-in-Some

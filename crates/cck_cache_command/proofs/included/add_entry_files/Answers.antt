@@ -5,7 +5,8 @@ use Rattle.cck_cache_files.proofs.SnapshotLemmas.{grows_among, grows_not}
 use Rattle.cck_entry.specs.Lent.{result_lent}
 use Rattle.cck_entry.specs.Results.{KeyResult}
 use Rattle.cck_cache_command.specs.Included.{IsIncluded, IsIncludeOf}
-use Rattle.cck_cache_command.proofs.IncludedLemmas.{contains_map, grows_all}
+use Rattle.cck_cache_command.proofs.IncludedLemmas.{grows_all}
+use Rattle.cck_cache_files.proofs.SetLemmas.{contains_map}
 use Rattle.cck_cache_command.proofs.included.add_entry_files.Goals as goal
 
 pub loop-result-init : goal.loop-result-init

@@ -6,7 +6,7 @@ use Rattle.cck_entry.specs.Lent.{result_lent}
 use Rattle.cck_entry.specs.Results.{KeyResult}
 use Rattle.cck_entry.specs.declared.result_ref.ResultRef.{ResultRef}
 use Rattle.cck_path.specs.Bytes.{Bytes}
-use Rattle.cck_cache_command.proofs.IncludedLemmas.{contains_map}
+use Rattle.cck_cache_files.proofs.SetLemmas.{contains_map}
 use Rattle.cck_cache_command.proofs.NamingLemmas.{none_more}
 use Rattle.cck_cache_command.proofs.naming.result_of.Goals as goal
 

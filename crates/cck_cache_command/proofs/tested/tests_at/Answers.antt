@@ -12,7 +12,7 @@ use Rattle.cck_path.specs.Bytes.{Bytes}
 use Rattle.cck_path.specs.Text.{join_path}
 use Rattle.cck_cache_command.specs.Absence.{IsDoubtfulAt}
 use Rattle.cck_cache_command.specs.Tested.{AreTestsAt}
-use Rattle.cck_cache_command.proofs.AbsenceLemmas.{IsAmong, among_keys, key_among}
+use Rattle.cck_cache_files.proofs.SetLemmas.{IsAmong, among_keys, key_among}
 use Rattle.cck_cache_command.proofs.SourceTestLemmas.{next_test, no_tests, tests_for_same}
 use Rattle.cck_cache_command.proofs.tested.tests_at.Goals as goal
 

@@ -3,7 +3,7 @@ use Rattle.std.proofs.lemmas.Option.{get_or_from_slice_get}
 use Rattle.std.proofs.lemmas.Slice.Eq.{bytes_eq-Decides}
 use Rattle.cck_cache_rules.specs.PathTest.{Test, Absent, test_of, tests_of}
 use Rattle.cck_path.specs.Bytes.{Bytes}
-use Rattle.cck_cache_command.proofs.IncludedLemmas.{contains_map}
+use Rattle.cck_cache_files.proofs.SetLemmas.{contains_map}
 use Rattle.cck_cache_command.proofs.unnamed.is_last.Goals as goal
 
 pub returns-in-Some-Absent : goal.returns-in-Some-Absent

@@ -16,7 +16,7 @@ use Rattle.cck_path.specs.Bytes.{Bytes}
 use Rattle.cck_path.specs.Text.{join_path}
 use Rattle.cck_cache_command.specs.Unnamed.{AreAllPassed, AreFronts, HasSpelling, IsUnclear, IsUnnamedVerdict}
 use Rattle.cck_cache_command.specs.declared.unnamed.UnnamedVerdict.{UnnamedVerdict}
-use Rattle.cck_cache_command.proofs.AbsenceLemmas.{IsAmong, among_keys, key_among}
+use Rattle.cck_cache_files.proofs.SetLemmas.{IsAmong, among_keys, key_among}
 use Rattle.cck_cache_command.proofs.UnnamedLemmas.{any_same, fronts_same, next_is_passed, next_is_spelling, next_passed, next_spelling, no_fronts, no_spelling}
 use Rattle.cck_cache_command.proofs.unnamed.spellings_of.Goals as goal
 use Rattle.cck_cache_command.proofs.unnamed.spellings_of.Goals.{in-Passed, in-Spelling+in_ok-add_left-in-Spelling}

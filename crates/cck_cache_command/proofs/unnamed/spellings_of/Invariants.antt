@@ -5,7 +5,7 @@ use Rattle.cck_cache_files.specs.PathStates.{KeepsStates}
 use Rattle.cck_files.specs.Calls.{Keeps}
 use Rattle.cck_files.specs.FileState.{FileState, IsQuiet, fault_count}
 use Rattle.cck_cache_command.specs.Unnamed.{AreAllPassed, AreFronts, HasSpelling}
-use Rattle.cck_cache_command.proofs.AbsenceLemmas.{IsAmong}
+use Rattle.cck_cache_files.proofs.SetLemmas.{IsAmong}
 use Rattle.cck_cache_command.proofs.unnamed.spellings_of.Given as goal
 
 -- whether one of the names so far is another spelling, and the directories that these leave

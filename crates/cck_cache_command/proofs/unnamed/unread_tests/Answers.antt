@@ -11,7 +11,7 @@ use Rattle.cck_cache_rules.specs.declared.path_test.PathTest.{PathTest}
 use Rattle.cck_path.specs.Bytes.{Bytes}
 use Rattle.cck_path.specs.Text.{join_path}
 use Rattle.cck_cache_command.specs.Unnamed.{AreUnreadTests, IsUnclear}
-use Rattle.cck_cache_command.proofs.AbsenceLemmas.{IsAmong, among_keys, key_among}
+use Rattle.cck_cache_files.proofs.SetLemmas.{IsAmong, among_keys, key_among}
 use Rattle.cck_cache_command.proofs.UnnamedLemmas.{next_there, next_unread, no_tests, unread_same}
 use Rattle.cck_cache_command.proofs.unnamed.unread_tests.Goals as goal
 use Rattle.cck_cache_command.proofs.unnamed.unread_tests.Goals.{in-Absent+in_ok-push_absent-in-Absent, in-Directory+in_ok-push_directory-in-Directory, in-There+else-not-is_file}

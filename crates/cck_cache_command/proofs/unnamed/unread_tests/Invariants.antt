@@ -2,7 +2,7 @@ use Rattle.std.proofs.Common.{length}
 use Rattle.cck_cache_files.specs.PathStates.{KeepsStates}
 use Rattle.cck_cache_rules.specs.PathTest.{tests_of}
 use Rattle.cck_cache_command.specs.Unnamed.{AreUnreadTests}
-use Rattle.cck_cache_command.proofs.AbsenceLemmas.{IsAmong}
+use Rattle.cck_cache_files.proofs.SetLemmas.{IsAmong}
 use Rattle.cck_cache_command.proofs.unnamed.unread_tests.Given as goal
 
 -- the tests for the names so far

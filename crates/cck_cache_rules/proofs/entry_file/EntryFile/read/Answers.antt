@@ -15,5 +15,5 @@ returns-in_default c =
 pub returns : goal.returns
 returns c =
     IfOk-weaker c.file_of.result _ _
-    (λ found read. read_twice IsEntryFile (stored_file (codes "cck entry 3\n")) entry_parts c.args.bytes.now (byte_lists c.in-Some.parts) (option_map entry_fields found) (rw c.in-Some.is at c.in_ok-parts.ensures) read)
+    (λ found read. read_twice IsEntryFile (stored_file (codes "cck entry 4\n")) entry_parts c.args.bytes.now (byte_lists c.in-Some.parts) (option_map entry_fields found) (rw c.in-Some.is at c.in_ok-parts.ensures) read)
     c.file_of.ensures

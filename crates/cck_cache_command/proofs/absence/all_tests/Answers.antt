@@ -1,7 +1,7 @@
 use Rattle.std.proofs.Common.{◌≡◌, [], ◌∷◌, ◌++◌, List, refl, sym, ◌∙◌, ap, append_assoc}
 use Rattle.std.proofs.lemmas.List.{append-nil, nil_from_length}
 use Rattle.cck_cache_rules.specs.declared.path_test.PathTest.{PathTest}
-use Rattle.cck_cache_command.proofs.record.all_tests.Goals as goal
+use Rattle.cck_cache_command.proofs.absence.all_tests.Goals as goal
 
 pub loop-test-init : goal.loop-test-init
 loop-test-init c = rw (c.into_iter-test-iterator.ensures.into_iter_gives.0) refl

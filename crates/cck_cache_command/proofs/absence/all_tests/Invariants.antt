@@ -1,5 +1,5 @@
 use Rattle.std.proofs.Common.{◌≡◌, ◌++◌}
-use Rattle.cck_cache_command.proofs.record.all_tests.Given as goal
+use Rattle.cck_cache_command.proofs.absence.all_tests.Given as goal
 
 -- the tests so far, and those that are left
 abbrev pub invariant-loop-test : goal.invariant-loop-test

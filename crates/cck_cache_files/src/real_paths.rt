@@ -1,0 +1,133 @@
+//! The links on the way to system headers.
+//!
+//! GCC names a system header by its real path, all links followed, where that is shorter than the path at which
+//! it was found: in a dependency file and in debug information. So a link that comes, goes or leads elsewhere
+//! changes what is compiled, though each header is found with its contents.
+//!
+//! Source: `-fno-canonical-system-headers` of the manual of GCC's preprocessor.
+ghost use Rattle.std.specs.Prelude.{◌≡◌, IfOk, IfSome, IsOkUnless, IsTrue, IsUtf8, MatchOption, OnOk};
+ghost use Rattle.cck_cache_rules.specs.PathTest.{tests_of};
+ghost use Rattle.cck_cache_text.specs.Sets.{has_key};
+ghost use Rattle.cck_cache_files.specs.RealPaths.{ArePlaced, GainsPlace, GainsReal, HasReal, IsPathOf};
+ghost use Rattle.cck_path.specs.Bytes.{Bytes};
+
+use crate::path_states::is_plain_file;
+use cck_cache_rules::PathTest;
+use cck_cache_text::directory_of;
+use cck_digest::UtilError;
+use cck_path::join_path;
+use std::alloc::AllocError;
+use std::collections::BTreeSet;
+use std::fs;
+use std::rt::Files;
+
+/// Tests of the links on the way to files.
+#[derive(Debug, Drop)]
+pub struct LinkTests {
+    /// The tests that a file is no link itself.
+    pub plain: Vec<PathTest>,
+    /// The tests of where the directories of these files, and other paths, lead.
+    pub real: Vec<PathTest>,
+}
+
+// The real path of what is at a path. `None` where it can't be known.
+fn real_path<R: Files + AllocGlobal>(rt: &R, path: &[u8]) -> Result<Option<Vec<u8>>, AllocError>
+    ensures { IfOk result (λ found. IfSome found (λ _. IsUtf8 path.now)) }
+{
+    let Ok(path) = std::str::from_utf8(path) else {
+        return Ok(None);
+    };
+    match fs::canonicalize(rt, path) {
+        Ok(real) => Ok(Some(real.into_string().into_bytes())),
+        Err(_) => Ok(None),
+    }
+}
+
+/// Whether a path leads to this one, all links followed. `false` where that can't be known.
+///
+/// The only error is lack of memory.
+pub fn leads_to<R: Files + AllocGlobal>(
+    rt: &R,
+    path: &[u8],
+    real: &[u8],
+) -> Result<bool, AllocError>
+    ensures { IfOk result (λ leads. IsTrue leads → IsUtf8 path.now) }
+{
+    match real_path(rt, path)? {
+        Some(found) => Ok(found.as_slice() == real),
+        None => Ok(false),
+    }
+}
+
+// Whether the last of these tests is of where this path leads.
+fn is_last(real: &[PathTest], path: &[u8]) -> bool
+    ensures { IsTrue result → HasReal (tests_of real.now) path.now }
+{
+    match real.last() {
+        Some(PathTest::Real { path: last, .. }) => last.as_slice() == path,
+        _ => false,
+    }
+}
+
+impl LinkTests {
+    // Adds the test of where a path leads, unless it is the last one. Returns `false` where that can't be known.
+    fn add_real<R: Files + AllocGlobal>(&mut self, rt: &R, path: &[u8]) -> Result<bool, AllocError>
+        ensures plain { self.new.plain ≡ self.old.plain }
+        ensures real { IfOk result (λ known. IsTrue known
+            → GainsReal (tests_of self.old.real.items) path.now (tests_of self.new.real.items)) }
+    {
+        if is_last(&self.real, path) {
+            return Ok(true);
+        }
+        let Some(real) = real_path(rt, path)? else {
+            return Ok(false);
+        };
+        self.real.push(PathTest::Real {
+            path: path.to_vec(rt.alloc())?,
+            real,
+        })?;
+        Ok(true)
+    }
+
+    // Adds the tests of the links on the way to the file at a path. Returns `false` where they can't be known.
+    fn add<R: Files + AllocGlobal>(&mut self, rt: &R, path: &[u8]) -> Result<bool, AllocError>
+        ensures { IfOk result (λ known. IsTrue known → GainsPlace self.old path.now self.new) }
+    {
+        if is_plain_file(rt, path) {
+            self.plain.push(PathTest::Plain(path.to_vec(rt.alloc())?))?;
+            let known = self.add_real(rt, directory_of(path))?;
+            return Ok(known);
+        }
+        let known = self.add_real(rt, path)?;
+        Ok(known)
+    }
+}
+
+/// The tests of the links on the way to the files of these names, which are relative to a directory: of each that
+/// is no link itself, that it is none, and where its directory leads; of another one, where it leads. `None`
+/// where it is not known where one of them leads.
+///
+/// The only error is [`UtilError::Memory`].
+pub fn link_tests<R: Files + AllocGlobal>(
+    rt: &R,
+    directory: &[u8],
+    names: &BTreeSet<Vec<u8>>,
+) -> Result<Option<LinkTests>, UtilError>
+    ensures tests { IfOk result (λ found. MatchOption found
+        ((name : Bytes) × IsTrue (has_key names.now name))
+        (ArePlaced (IsPathOf directory.now (λ name. IsTrue (has_key names.now name))))) }
+    ensures errors { IsOkUnless result UtilError.Memory }
+{
+    let alloc = rt.alloc();
+    let mut tests = LinkTests {
+        plain: Vec::new(alloc),
+        real: Vec::new(alloc),
+    };
+    for name in names {
+        let path = join_path(alloc, directory, name)?;
+        if !tests.add(rt, &path)? {
+            return Ok(None);
+        }
+    }
+    Ok(Some(tests))
+}
