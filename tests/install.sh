@@ -67,5 +67,9 @@ for prefix in "$room/a b" "$room/package/opt/cck"; do
 done
 "$top/install" --prefix relative 2>/dev/null
 check 'a relative prefix' $? 2
+rm "$room/built/cck_run"
+check 'a missing program' "$("$top/install" --prefix "$room/none" --built "$room/built" 2>&1)" \
+    "install: there is no $room/built/cck_run"
+check 'nothing is installed without it' "$(find "$room/none" 2>/dev/null)" ''
 echo "install: $passed passed, $failed failed"
 [ "$failed" -eq 0 ]
