@@ -16,7 +16,7 @@ check() {
 }
 mkdir "$room/built"
 for name in cck_run cck_explain cck_cache; do cp "$program" "$room/built/$name"; done
-: >"$room/built/libcck.a"
+ar rcs "$room/built/libcck.a"
 installed() { (cd "$1" && find . ! -type d -printf '%y %m %P\n' | sort -k 3); }
 wanted() {
     for name in cck cck_cache cck_explain cckcc; do echo "f 755 bin/$name"; done
@@ -26,15 +26,27 @@ wanted() {
     echo 'f 644 lib/pkgconfig/libcck.pc'
     echo 'l 777 libexec/cckcc/cc'
     echo 'l 777 libexec/cckcc/gcc'
+    echo 'f 644 share/bash-completion/completions/cckcc'
     for name in CHANGELOG.md LICENSE NOTICE README.md; do echo "f 644 share/doc/cck/$name"; done
     for page in "$top"/docs/*.md; do echo "f 644 share/doc/cck/docs/${page##*/}"; done
     for page in cck cck_cache cck_explain cckcc; do echo "f 644 share/man/man1/$page.1"; done
+    echo 'f 644 share/zsh/site-functions/_cckcc'
 }
 "$top/install" --prefix "$room/a b" --built "$room/built" >/dev/null
 check 'the files' "$(installed "$room/a b")" "$(wanted | sort -k 3)"
 "$top/install" --prefix /opt/cck --destdir "$room/package" --built "$room/built" >/dev/null
 check 'the files of a package' "$(installed "$room/package/opt/cck")" "$(wanted | sort -k 3)"
 check 'the prefix of a package' "$(sed -n 1p "$room/package/opt/cck/lib/pkgconfig/libcck.pc")" 'prefix=/opt/cck'
+if command -v pkg-config >/dev/null; then
+    export PKG_CONFIG_PATH="$room/package/opt/cck/lib/pkgconfig"
+    check 'the flags of the library' "$(echo $(pkg-config --cflags --libs libcck))" '-I/opt/cck/include -L/opt/cck/lib -lcck'
+    check 'its version' "$(pkg-config --modversion libcck)" "$("$program" --version | sed 's/.* //')"
+    PKG_CONFIG_PATH="$room/a b/lib/pkgconfig"
+    printf '#include <cck.h>\nint main(void) { return CCK_DONE; }\n' >"$room/main.c"
+    eval "gcc $(pkg-config --cflags libcck) $room/main.c -o $room/main $(pkg-config --libs libcck)"
+    "$room/main"
+    check 'a program with the library' $? 0
+fi
 
 mkdir "$room/project"
 cd "$room/project" || exit 2
