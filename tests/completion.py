@@ -1,7 +1,8 @@
 #!/usr/bin/env python3
 """What the completions of cckcc for bash and zsh (lib/completion) make of a line that ends where the cursor is. The shells
-that are there are tried. With bash-completion the words after a compiler are those of its own completion. The last line
-is `completion: N passed, M failed`."""
+that are there are tried. With bash-completion the words after a compiler are those of its own completion. The options that
+bash and zsh complete and the manual page has are those of `cckcc --help`. The last line is
+`completion: N passed, M failed`."""
 import os
 import pathlib
 import pty
@@ -15,11 +16,15 @@ import time
 TOP = pathlib.Path(__file__).resolve().parent.parent
 PLACE = TOP / "lib" / "completion"
 LIBRARY = "/usr/share/bash-completion/bash_completion"
+# The options of the wrapper, as it prints them.
+USAGE = subprocess.run([TOP / "bin/cckcc", "--help"], env={"PATH": os.environ["PATH"]}, capture_output=True, text=True,
+                       check=True).stdout
+OPTIONS = re.findall(r"--[a-z-]+", USAGE)
 # A line, and words that have to be among the completions, or after `!` must not be.
 BASH = [
-    ("cckcc --sh", "--show-stats"),
+    ("cckcc --sh", "--show-stats --show-config !--clear"),
     ("cckcc --z", "--zero-stats !--show-stats"),
-    ("cckcc --", "--show-stats --zero-stats --clear --version --help"),
+    ("cckcc --", " ".join(OPTIONS)),
     ("cckcc --show-stats -", "!--clear !-c"),
     ("cckcc gc", "gcc !--clear"),
     ("cckcc gcc input", "input.c"),
@@ -101,8 +106,16 @@ def zsh_faults(directory):
         yield None if is_right else f"zsh: {line!r}: {shown!r}"
 
 
+def list_faults():
+    """The same for the lists of options: those that zsh completes and those of the manual page are those that cckcc prints."""
+    for path in (PLACE / "_cckcc", TOP / "docs/man/cckcc.1"):
+        found = set(re.findall(r"(?<!\S)--[a-z-]+", re.sub(r"[{,}']", " ", path.read_text().replace("\\", ""))))
+        differing = " ".join(sorted(found ^ set(OPTIONS)))
+        yield f"{path}: {differing}" if differing else None
+
+
 def main():
-    results = []
+    results = list(list_faults())
     with tempfile.TemporaryDirectory() as directory:
         pathlib.Path(directory, "input.c").touch()
         for shell, faults in (("bash", bash_faults), ("zsh", zsh_faults)):

@@ -21,7 +21,7 @@ installed() { (cd "$1" && find . ! -type d -printf '%y %m %P\n' | sort -k 3); }
 wanted() {
     for name in cck cck_cache cck_explain cckcc; do echo "f 755 bin/$name"; done
     echo 'f 644 include/cck.h'
-    echo 'f 644 lib/cckcc/miss.sh'
+    for name in command config miss; do echo "f 644 lib/cckcc/$name.sh"; done
     echo 'f 644 lib/libcck.a'
     echo 'f 644 lib/pkgconfig/libcck.pc'
     echo 'l 777 libexec/cckcc/cc'
@@ -52,10 +52,11 @@ mkdir "$room/project"
 cd "$room/project" || exit 2
 echo 'int v;' >x.c
 sleep 0.1
-unset CCK_PROGRAM CCK_BASEDIR
+unset CCK_PROGRAM CCK_BASEDIR CCK_DISABLE
 compiler=$(command -v gcc)
 PATH="$room/a b/libexec/cckcc:$room/a b/bin:$PATH" CCK_STORE=$room/store CCK_LOG=$room/log
-export PATH CCK_STORE CCK_LOG
+XDG_CONFIG_HOME=$room/configuration
+export PATH CCK_STORE CCK_LOG XDG_CONFIG_HOME
 gcc -c x.c
 gcc -c x.c
 check 'a hit by the link' "$(sed -n 's/^cckcc: \([a-z]*\).*/\1/p' "$room/log" | tr '\n' ' ')" 'look why recorded hit '
@@ -65,6 +66,12 @@ cckcc --zero-stats
 check 'no statistics' "$(cckcc -s | grep '^count')" ''
 check 'an empty store' "$(cckcc --clear)" 'removed 2 files, 0 bytes left'
 check 'the version' "$(cckcc --version)" "$("$program" --version)"
+mkdir -p "$room/configuration/cck"
+echo "CCK_STORE = $room/other store" >"$room/configuration/cck/config"
+gcc -c x.c
+(unset CCK_STORE; gcc -c x.c; gcc -c x.c)
+check 'a hit with a configuration file' "$(CCK_STORE=$room/other\ store cckcc -s | grep '^count hit')" 'count hit 1'
+rm -r "$room/configuration"
 cckcc --unknown 2>/dev/null
 check 'an unknown option' $? 2
 PATH="$room/a b/libexec/cckcc" /bin/sh "$room/a b/libexec/cckcc/gcc" -c x.c 2>/dev/null

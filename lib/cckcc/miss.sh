@@ -1,7 +1,8 @@
 # What bin/cckcc does with a call that is no hit of a directory: a compilation that is recorded, a call that is not
 # cached, the first call of a compiler, and each call with a Redis server. bin/cckcc sources this script, and has set
-# `cck_compiler`, `cck_program`, `cck_store`, `cck_color`, which is an option of the compiler or nothing, and
-# `cck_found`, what the program printed of the call, if it was called. The words are the compiler's arguments.
+# `cck_compiler`, `cck_program`, `cck_store`, `cck_home`, the directory of a store that none names, `cck_color`, which
+# is an option of the compiler or nothing, and `cck_found`, what the program printed of the call, if it was called. The
+# words are the compiler's arguments.
 
 # Appends a line to the log.
 log() { [ -z "$CCK_LOG" ] || { echo "cckcc: $*" >> "$CCK_LOG"; } 2>/dev/null; }
@@ -43,7 +44,7 @@ case $cck_store in
 redis://*)
     cck_server=$cck_store
     cck_address=${cck_server#redis://}
-    cck_store=${CCK_DIR:-$HOME/.cache/cck}
+    cck_store=${CCK_DIR:-$cck_home}
     cck_keeps=$CCK_DIR
     case $cck_address in
     *@*) cck_user=${cck_address%@*} cck_address=${cck_address##*@} ;;

@@ -7,7 +7,9 @@ trap 'exit 130' INT TERM HUP
 CCK_PROGRAM=${CCK_PROGRAM:-$top/crates/cck_cache/out/cck_cache}
 CCK_STORE=$room/store
 CCK_LOG=$room/log
-export CCK_PROGRAM CCK_STORE CCK_LOG
+XDG_CONFIG_HOME=$room/no_configuration
+export CCK_PROGRAM CCK_STORE CCK_LOG XDG_CONFIG_HOME
+unset XDG_CACHE_HOME CCK_DISABLE
 PATH=$top/bin:$PATH
 faults=0
 

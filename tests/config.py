@@ -1,0 +1,144 @@
+#!/usr/bin/env python3
+"""The configuration file of cckcc: what the wrapper prints and does with a file, variables and words. A program that
+prints its words and some variables stands for cck_cache, so that the commands show what they ask it for. Needs gcc, and
+strace for the last case. The last line is `config: N passed, M failed`."""
+import collections
+import os
+import pathlib
+import re
+import shutil
+import subprocess
+import sys
+import tempfile
+
+TOP = pathlib.Path(__file__).resolve().parent.parent
+# `@` is the directory of a case, FILE the configuration file. A file of `None` is missing.
+FILE = "@/home/.config/cck/config"
+STAND_IN = """#!/bin/sh
+echo x >> "$HOME/called"
+case $1 in
+look) echo 'passed mode' ;;
+*) echo "$*" "size=${CCK_MAXSIZE-none}" "read=${CCK_READ-none}" "store=${CCK_STORE-none}" ;;
+esac
+"""
+Case = collections.namedtuple("Case", "name file variables words status output messages")
+SHOW, STATS, COMPILE = "cckcc --show-config", "cckcc --show-stats", "cckcc gcc -c x.c"
+NO_SIZE = "size=none read=none store=none"
+
+# Of --show-config the wanted lines are some of those that are printed.
+SHOWN = [
+    ("no file", None, {}, ["(default) CCK_STORE = @/home/.cache/cck", "(default) CCK_MAXSIZE = 5G", "(default) CCK_TTL = 2592000",
+                           "(environment) CCK_PROGRAM = @/cck_cache", "(default) CCK_DISABLE = "]),
+    ("an empty file", "", {}, ["(default) CCK_TIMEOUT = 2"]),
+    ("a line", "CCK_STORE = /s\n", {}, [f"({FILE}:1) CCK_STORE = /s"]),
+    ("blanks and comments", "# CCK_TTL = 1\n\n \t# x\n\tCCK_TTL\t=\t7 \t\nCCK_DIR=/d\n", {},
+     [f"({FILE}:4) CCK_TTL = 7", f"({FILE}:5) CCK_DIR = /d"]),
+    ("no line feed at the end", "CCK_TTL = 1\nCCK_DIR = /d", {}, [f"({FILE}:2) CCK_DIR = /d"]),
+    ("the last line of a name", "CCK_TTL = 1\nCCK_TTL = 2\n", {}, [f"({FILE}:2) CCK_TTL = 2"]),
+    ("the environment", "CCK_TTL = 1\nCCK_TTL = 2\n", {"CCK_TTL": "3"}, ["(environment) CCK_TTL = 3"]),
+    ("an empty variable", "CCK_BASEDIR = /b\n", {"CCK_BASEDIR": ""}, ["(environment) CCK_BASEDIR = "]),
+    ("an empty value", "CCK_LOG =\n", {}, [f"({FILE}:1) CCK_LOG = "]),
+    ("a value is not evaluated", "CCK_STORE = $(touch evil)`touch evil`;touch evil\nCCK_DIR = ~/a b\\n\"$HOME\" # c = '\n", {},
+     [f"({FILE}:1) CCK_STORE = $(touch evil)`touch evil`;touch evil", f"({FILE}:2) CCK_DIR = ~/a b\\n\"$HOME\" # c = '"]),
+    ("a place of files without a slash", "CCK_TTL = 1\n", {"XDG_CONFIG_HOME": "home/.config"}, [f"({FILE}:1) CCK_TTL = 1"]),
+    ("another place of files", "x\n", {"XDG_CONFIG_HOME": "@/other"}, ["(@/other/cck/config:1) CCK_TTL = 9"]),
+    ("a place of stores", None, {"XDG_CACHE_HOME": "@/cache"}, ["(default) CCK_STORE = @/cache/cck"]),
+    ("a place of stores without a slash", None, {"XDG_CACHE_HOME": "cache"}, ["(default) CCK_STORE = @/home/.cache/cck"]),
+]
+# What is wrong with a file, and in which line.
+WRONG = [
+    ("no equals sign", "CCK_TTL = 1\n\nCCK_DIR /d\n", "3: no '=' in: CCK_DIR /d"),
+    ("an unknown name", "CCK_MAX_SIZE = 1G\n", "1: no such variable: CCK_MAX_SIZE"),
+    ("a variable that is none of the cache", "PATH = /evil\n", "1: no such variable: PATH"),
+    ("no name", "# x\n= 1\n", "2: no such variable: "),
+    ("a name with a blank", "CCK_TTL x = 1\n", "1: no such variable: CCK_TTL x"),
+    ("a name that would be evaluated", "CCK_TTL$(touch evil) = 1\n", "1: no such variable: CCK_TTL$(touch evil)"),
+    ("export", "export CCK_TTL=1\n", "1: no such variable: export CCK_TTL"),
+]
+
+
+def cases():
+    """All cases. After a wrong file a command has status 2, and a compilation goes to the compiler."""
+    for name, file, variables, lines in SHOWN:
+        yield Case(name, file, variables, SHOW, 0, lines, "")
+    for name, file, message in WRONG:
+        for words in (STATS, SHOW, "cckcc"):
+            yield Case(f"{name}, {words}", file, {}, words, 2, "", f"cckcc: {FILE}:{message}\n")
+        for words in (COMPILE, "gcc -c x.c"):
+            yield Case(f"{name}, {words}", file, {}, words, 0, "", f"cckcc: {FILE}:{message}\n")
+    yield Case("the size and the reading", "CCK_MAXSIZE = 1G\nCCK_READ = 1\nCCK_STORE = /s\n", {}, STATS, 0,
+               "stats /s size=1G read=1 store=none\n", "")
+    yield Case("they are in the environment", "CCK_MAXSIZE = 1G\n", {"CCK_MAXSIZE": "2G"}, STATS, 0,
+               "stats @/home/.cache/cck size=2G read=none store=none\n", "")
+    yield Case("the store", "CCK_STORE = @/a b\n", {}, "cckcc --clear", 0, f"clear @/a b {NO_SIZE}\n", "")
+    yield Case("the directory beside a server", "CCK_STORE = redis://h\nCCK_DIR = /d\n", {}, STATS, 0,
+               f"stats /d {NO_SIZE}\n", "")
+    yield Case("a compilation", "CCK_STORE = @/s\nCCK_LOG = @/log\n", {}, COMPILE, 0, "", "")
+    yield Case("the program", "CCK_PROGRAM = /bin/echo\nCCK_STORE = /s\n", {"CCK_PROGRAM": None}, STATS, 0,
+               "stats /s\n", "")
+
+
+def judge(case, room):
+    """What differs from what a case wants, in a directory of its own."""
+    def placed(text):
+        return text.replace("@", str(room))
+    (room / "home/.config/cck").mkdir(parents=True)
+    (room / "other/cck").mkdir(parents=True)
+    (room / "other/cck/config").write_text("CCK_TTL = 9\n")
+    (room / "x.c").write_text("int v;\n")
+    (room / "cck_cache").write_text(STAND_IN)
+    (room / "cck_cache").chmod(0o755)
+    (room / "gcc").symlink_to(TOP / "bin/cckcc")
+    if case.file is not None:
+        pathlib.Path(placed(FILE)).write_text(placed(case.file))
+    path = (f"{room}:" if case.words.startswith("gcc") else "") + f"{TOP}/bin:{os.environ['PATH']}"
+    variables = {"PATH": path, "HOME": f"{room}/home", "CCK_PROGRAM": "@/cck_cache", **case.variables}
+    variables = {name: placed(value) for name, value in variables.items() if value is not None}
+    done = subprocess.run(case.words.split(), cwd=room, env=variables, capture_output=True, text=True, check=False)
+    if done.returncode != case.status or done.stderr != placed(case.messages):
+        yield f"status {done.returncode}, {done.stderr!r}"
+    if isinstance(case.output, list):
+        yield from (f"no line {placed(line)!r}" for line in case.output if placed(line) not in done.stdout.split("\n"))
+    elif done.stdout != placed(case.output):
+        yield f"printed {done.stdout!r}"
+    if (room / "evil").exists():
+        yield "a value was evaluated"
+    if " -c " in case.words and not (room / "x.o").exists():
+        yield "no object"
+    if case.messages and (room / "home/called").exists():
+        yield "the program was called"
+    if "CCK_LOG" in (case.file or "") and case.words == COMPILE and not (room / "log").exists():
+        yield "no log"
+
+
+def processes(room, file):
+    """The system calls that start a process or a program in a call that is passed on, with a file or without one."""
+    home = room / "home" / str(len(file))
+    (home / ".config/cck").mkdir(parents=True)
+    if file:
+        (home / ".config/cck/config").write_text(file)
+    variables = {"PATH": os.environ["PATH"], "HOME": str(home), "CCK_DISABLE": "1"}
+    subprocess.run(["strace", "-f", "-o", room / "calls", "-e", "trace=clone,clone3,fork,vfork,execve",
+                    TOP / "bin/cckcc", "true"], env=variables, check=True)
+    return len(re.findall(r"\d (?:clone|fork|vfork|execve)", (room / "calls").read_text()))
+
+
+def main():
+    passed, failed = 0, 0
+    for case in cases():
+        with tempfile.TemporaryDirectory() as room:
+            faults = list(judge(case, pathlib.Path(room)))
+        passed, failed = passed + (not faults), failed + bool(faults)
+        print("".join(f"FAILED: {case.name}: {fault}\n" for fault in faults), end="")
+    if shutil.which("strace"):
+        with tempfile.TemporaryDirectory() as room:
+            found = [processes(pathlib.Path(room), file) for file in ("", "CCK_TTL = 1\n# x\nCCK_MAXSIZE = 1G\n")]
+        passed, failed = passed + (found[0] == found[1]), failed + (found[0] != found[1])
+        if found[0] != found[1]:
+            print(f"FAILED: the file is read by other processes: {found}")
+    print(f"config: {passed} passed, {failed} failed")
+    sys.exit(failed != 0)
+
+
+if __name__ == "__main__":
+    main()
