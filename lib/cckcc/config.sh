@@ -38,7 +38,7 @@ divide_line() {
     cck_name=${cck_line%%=*} cck_value=${cck_line#*=}
     cck_name=${cck_name%"${cck_name##*[! 	]}"} cck_value=${cck_value#"${cck_value%%[! 	]*}"}
     case $cck_name in
-    CCK_STORE|CCK_MAXSIZE|CCK_PROGRAM|CCK_LOG|CCK_READ|CCK_BASEDIR|CCK_DISABLE) ;;
+    CCK_STORE|CCK_MAXSIZE|CCK_PROGRAM|CCK_LOG|CCK_READ|CCK_BASEDIR|CCK_DISABLE|CCK_RECHECK) ;;
     CCK_DIR|CCK_TTL|CCK_TIMEOUT|CCK_DEBUG) ;;
     *) cck_fault="no such variable: $cck_name"; return 1 ;;
     esac

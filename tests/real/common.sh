@@ -9,7 +9,7 @@ CCK_STORE=$room/store
 CCK_LOG=$room/log
 XDG_CONFIG_HOME=$room/no_configuration
 export CCK_PROGRAM CCK_STORE CCK_LOG XDG_CONFIG_HOME
-unset XDG_CACHE_HOME CCK_DISABLE
+unset XDG_CACHE_HOME CCK_DISABLE CCK_RECHECK
 PATH=$top/bin:$PATH
 faults=0
 
