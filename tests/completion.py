@@ -33,7 +33,8 @@ WITH_LIBRARY = [("cckcc gcc -Wunused-va", "-Wunused-variable !--version"), ("cck
 # A line, and what it has to be after one tabulator.
 ZSH = [
     ("cckcc --show-s", "cckcc --show-stats"),
-    ("cckcc --cle", "cckcc --clear"),
+    ("cckcc --clear", "cckcc --clear"),
+    ("cckcc --show-c", "cckcc --show-config"),
     ("cckcc gcc inp", "cckcc gcc input.c"),
     ("cckcc gcc -fwhole-prog", "cckcc gcc -fwhole-program"),
     ("cckcc gcc --show-s", "cckcc gcc --show-s"),

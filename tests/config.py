@@ -21,7 +21,8 @@ look) echo 'passed mode' ;;
 *) echo "$*" "size=${CCK_MAXSIZE-none}" "read=${CCK_READ-none}" "store=${CCK_STORE-none}" ;;
 esac
 """
-Case = collections.namedtuple("Case", "name file variables words status output messages")
+# `after` is what the file has after the words, if this is not what it had.
+Case = collections.namedtuple("Case", "name file variables words status output messages after", defaults=[None])
 SHOW, STATS, COMPILE = "cckcc --show-config", "cckcc --show-stats", "cckcc gcc -c x.c"
 NO_SIZE = "size=none read=none store=none"
 
@@ -55,6 +56,29 @@ WRONG = [
     ("a name that would be evaluated", "CCK_TTL$(touch evil) = 1\n", "1: no such variable: CCK_TTL$(touch evil)"),
     ("export", "export CCK_TTL=1\n", "1: no such variable: export CCK_TTL"),
 ]
+# What a file has before and after `--max-size`, and the size.
+SIZES = [
+    ("no file", None, "5G", "CCK_MAXSIZE = 5G\n"),
+    ("an empty file", "", "20Gi", "CCK_MAXSIZE = 20Gi\n"),
+    ("no line", "# x\nCCK_TTL = 1", "0", "# x\nCCK_TTL = 1\nCCK_MAXSIZE = 0\n"),
+    ("a line", "CCK_TTL = 1\n\tCCK_MAXSIZE=1G\n\n#CCK_MAXSIZE = 2\n", "700M",
+     "CCK_TTL = 1\nCCK_MAXSIZE = 700M\n\n#CCK_MAXSIZE = 2\n"),
+    ("two lines", "CCK_MAXSIZE = 1\nCCK_LOG = CCK_MAXSIZE = 3\nCCK_MAXSIZE = 2\n", "1000000k",
+     "CCK_MAXSIZE = 1000000k\nCCK_LOG = CCK_MAXSIZE = 3\nCCK_MAXSIZE = 1000000k\n"),
+]
+NO_SIZES = ["5X", "G", "5GB", "-1", "1.5G", "5G/e", "1000000000000000000", "1000000T"]
+
+
+def size_cases():
+    """Those of --max-size."""
+    for name, file, size, after in SIZES:
+        for words in (f"cckcc --max-size {size}", f"cckcc -M {size}", f"cckcc --max-size={size}"):
+            yield Case(f"{name}, {words}", file, {}, words, 0, f"CCK_MAXSIZE = {size} in {FILE}\n", "", after)
+    for size in NO_SIZES:
+        yield Case(f"no size, {size}", "CCK_MAXSIZE = 1\n", {}, f"cckcc --max-size={size}", 2, "", f"cckcc: no size: {size}\n")
+    yield Case("a size and the environment", "", {"CCK_MAXSIZE": "1M"}, "cckcc -M 5G", 0, f"CCK_MAXSIZE = 5G in {FILE}\n",
+               "cckcc: CCK_MAXSIZE of the environment counts more: 1M\n", "CCK_MAXSIZE = 5G\n")
+    yield Case("a size and a wrong file", "x\n", {}, "cckcc -M 5G", 2, "", f"cckcc: {FILE}:1: no '=' in: x\n")
 
 
 def cases():
@@ -66,6 +90,7 @@ def cases():
             yield Case(f"{name}, {words}", file, {}, words, 2, "", f"cckcc: {FILE}:{message}\n")
         for words in (COMPILE, "gcc -c x.c"):
             yield Case(f"{name}, {words}", file, {}, words, 0, "", f"cckcc: {FILE}:{message}\n")
+    yield from size_cases()
     yield Case("the size and the reading", "CCK_MAXSIZE = 1G\nCCK_READ = 1\nCCK_STORE = /s\n", {}, STATS, 0,
                "stats /s size=1G read=1 store=none\n", "")
     yield Case("they are in the environment", "CCK_MAXSIZE = 1G\n", {"CCK_MAXSIZE": "2G"}, STATS, 0,
@@ -101,11 +126,18 @@ def judge(case, room):
         yield from (f"no line {placed(line)!r}" for line in case.output if placed(line) not in done.stdout.split("\n"))
     elif done.stdout != placed(case.output):
         yield f"printed {done.stdout!r}"
+    file = pathlib.Path(placed(FILE))
+    has = file.read_text() if file.exists() else None
+    wanted = case.after if case.after is not None else case.file
+    if has != (wanted and placed(wanted)):
+        yield f"the file has {has!r}"
+    if list(file.parent.iterdir()) != [file] * file.exists():
+        yield "another file beside it"
     if (room / "evil").exists():
         yield "a value was evaluated"
     if " -c " in case.words and not (room / "x.o").exists():
         yield "no object"
-    if case.messages and (room / "home/called").exists():
+    if "config:" in case.messages and (room / "home/called").exists():
         yield "the program was called"
     if "CCK_LOG" in (case.file or "") and case.words == COMPILE and not (room / "log").exists():
         yield "no log"
@@ -130,6 +162,18 @@ def main():
             faults = list(judge(case, pathlib.Path(room)))
         passed, failed = passed + (not faults), failed + bool(faults)
         print("".join(f"FAILED: {case.name}: {fault}\n" for fault in faults), end="")
+    with tempfile.TemporaryDirectory() as room:
+        place = pathlib.Path(room)
+        (place / "cck").mkdir()
+        (place / "cck/config").symlink_to("../own")
+        (place / "own").touch(0o600)
+        subprocess.run([TOP / "bin/cckcc", "-M", "1G"], env={"PATH": os.environ["PATH"], "XDG_CONFIG_HOME": room}, check=True,
+                       stdout=subprocess.DEVNULL)
+        is_kept = (place / "cck/config").is_symlink() and (place / "own").stat().st_mode & 0o777 == 0o600
+        is_kept = is_kept and (place / "own").read_text() == "CCK_MAXSIZE = 1G\n"
+    passed, failed = passed + is_kept, failed + (not is_kept)
+    if not is_kept:
+        print("FAILED: a link in the place of the file")
     if shutil.which("strace"):
         with tempfile.TemporaryDirectory() as room:
             found = [processes(pathlib.Path(room), file) for file in ("", "CCK_TTL = 1\n# x\nCCK_MAXSIZE = 1G\n")]

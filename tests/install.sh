@@ -64,6 +64,12 @@ check 'the compiler by the link' "$(gcc -dumpversion)" "$("$compiler" -dumpversi
 check 'the statistics' "$(cckcc --show-stats | grep '^count hit')" 'count hit 1'
 cckcc --zero-stats
 check 'no statistics' "$(cckcc -s | grep '^count')" ''
+check 'a store within its limit' "$(cckcc --cleanup | sed 's/,.*//')" 'removed 0 files'
+check 'a store without a limit' "$(CCK_MAXSIZE=0 cckcc -c | sed 's/,.*//')" 'removed 0 files'
+cckcc --max-size 100 >/dev/null
+check 'a store beyond its limit' "$(cckcc --cleanup)" 'removed 2 files, 0 bytes left'
+rm -r "$room/configuration"
+gcc -c x.c
 check 'an empty store' "$(cckcc --clear)" 'removed 2 files, 0 bytes left'
 check 'the version' "$(cckcc --version)" "$("$program" --version)"
 mkdir -p "$room/configuration/cck"
@@ -74,6 +80,12 @@ check 'a hit with a configuration file' "$(CCK_STORE=$room/other\ store cckcc -s
 rm -r "$room/configuration"
 cckcc --unknown 2>/dev/null
 check 'an unknown option' $? 2
+for option in --version --show-stats --cleanup --clear; do
+    CCK_PROGRAM=/nowhere cckcc $option 2>/dev/null
+    check "no program, $option" $? 127
+done
+XDG_CONFIG_HOME=/dev/null/none cckcc --max-size 1G 2>/dev/null
+check 'no place for the configuration' $? 1
 PATH="$room/a b/libexec/cckcc" /bin/sh "$room/a b/libexec/cckcc/gcc" -c x.c 2>/dev/null
 check 'no other compiler' $? 127
 other=$room/package/opt/cck/libexec/cckcc

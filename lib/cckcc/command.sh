@@ -7,7 +7,8 @@ esac
 
 print_usage() {
     echo 'usage: cckcc COMPILER ARG..'
-    echo '       cckcc --show-stats | --zero-stats | --clear | --show-config | --version | --help'
+    echo '       cckcc --show-stats | --zero-stats | --cleanup | --clear | --version | --help'
+    echo '       cckcc --show-config | --max-size SIZE'
 }
 
 # Prints each variable, its value, and where it is from. The list has the values of those that nothing sets.
@@ -39,12 +40,60 @@ CCK_DEBUG
 END
 }
 
+# Removes what was used longest ago, until the directory keeps its limit, which is the program's to say.
+clean_up() {
+    cck_found=$("$cck_program" stats "$cck_directory") || { cck_status=$?; echo "$cck_found"; exit $cck_status; }
+    cck_limit=$(echo "$cck_found" | sed -n 's/^limit //p')
+    case $cck_limit in
+    none) cck_limit=18446744073709551615 ;;
+    esac
+    exec "$cck_program" prune "$cck_directory" --max-size "$cck_limit"
+}
+
+# Whether a word is a size that the program reads: a number, a suffix or none, and less than 10^18 bytes.
+is_size() {
+    cck_digits=${1%%[!0-9]*}
+    case ${1#"$cck_digits"} in
+    '') cck_most=18 ;;
+    k|Ki) cck_most=15 ;;
+    M|Mi) cck_most=12 ;;
+    G|Gi) cck_most=9 ;;
+    T|Ti) cck_most=6 ;;
+    *) return 1 ;;
+    esac
+    [ -n "$cck_digits" ] && [ ${#cck_digits} -le $cck_most ]
+}
+
+# Writes the size into each line of the configuration file for one, or after all lines. The new file is made beside its
+# place and renamed, and a link to the file stays one.
+set_max_size() {
+    if ! is_size "$1"; then
+        echo "cckcc: no size: $1" >&2
+        exit 2
+    fi
+    cck_file=$(readlink -m "$cck_configuration") cck_line='^[[:blank:]]*CCK_MAXSIZE[[:blank:]]*='
+    cck_new=$cck_file.new$$
+    trap 'rm -f "$cck_new"' EXIT
+    mkdir -p "${cck_file%/*}" && { [ -f "$cck_file" ] || touch "$cck_file"; } && cp -p "$cck_file" "$cck_new" &&
+        sed -e "s/$cck_line.*/CCK_MAXSIZE = $1/" -e '$a\' "$cck_file" > "$cck_new" &&
+        { grep -q "$cck_line" "$cck_new" || echo "CCK_MAXSIZE = $1" >> "$cck_new"; } &&
+        mv "$cck_new" "$cck_file" || exit 1
+    case $cck_origins:${CCK_MAXSIZE+set} in
+    *" CCK_MAXSIZE:"*|*:) ;;
+    *) echo "cckcc: CCK_MAXSIZE of the environment counts more: $CCK_MAXSIZE" >&2 ;;
+    esac
+    echo "CCK_MAXSIZE = $1 in $cck_configuration"
+}
+
 case ${1-} in
 -V|--version) exec "$cck_program" --version ;;
 -s|--show-stats) exec "$cck_program" stats "$cck_directory" ;;
 -z|--zero-stats) exec rm -rf "$cck_directory/counts" ;;
+-c|--cleanup) clean_up ;;
 -C|--clear) exec "$cck_program" clear "$cck_directory" ;;
 -p|--show-config) show_config ;;
+-M|--max-size) [ $# -eq 2 ] || { print_usage >&2; exit 2; }; set_max_size "$2" ;;
+--max-size=*) set_max_size "${1#*=}" ;;
 -h|--help) print_usage ;;
 *) print_usage >&2; exit 2 ;;
 esac
