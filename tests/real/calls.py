@@ -142,8 +142,9 @@ class Room:
         self.variables = {"PATH": os.environ["PATH"], "HOME": self.top + "/home", "TMPDIR": self.top + "/tmp",
                           "CCK_STORE": self.top + "/store", "CCK_LOG": self.log, "CCK_PROGRAM": PROGRAM,
                           "CCACHE_DIR": self.top + "/ccache"}
-        # All calls read all files, if that is wished.
-        self.variables.update({name: os.environ[name] for name in ("CCK_READ",) if name in os.environ})
+        # All calls read all files, or compare each hit with the compiler, if that is wished.
+        wished = [name for name in ("CCK_READ", "CCK_RECHECK") if name in os.environ]
+        self.variables.update({name: os.environ[name] for name in wished})
 
     def checkouts(self, step):
         """The rooms in which a step is done: the first one and the second one if there is one, or one of them."""
