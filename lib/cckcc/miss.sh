@@ -13,6 +13,8 @@ note() {
     [ -z "$CCK_DEBUG" ] || echo "cckcc: $*" >&2
 }
 
+# An empty file is made by `true > FILE`: the command `:` ends the shell where it can't be made.
+
 # Counts an event of the name $1, as cck_cache does.
 count() {
     { [ -d "$cck_store/counts" ] || mkdir -p "$cck_store/counts"; printf . >> "$cck_store/counts/$1"; } 2>/dev/null
@@ -218,7 +220,7 @@ find_programs() {
         mkdir -p "$cck_store/compilers" &&
             printf '%s%s\n%s\n%s\n' "$cck_context" "$cck_driver" "$cck_searched" "$cck_programs" > "$cck_list.new$$" &&
             mv "$cck_list.new$$" "$cck_list"
-        [ -e "$cck_store/empty.h" ] || : > "$cck_store/empty.h"
+        [ -e "$cck_store/empty.h" ] || true > "$cck_store/empty.h"
     } 2>/dev/null
     return 0
 }
@@ -275,7 +277,7 @@ ask() {
     read -r cck_said < "$cck_scratch/said"
     if [ $cck_status -eq 124 ]; then
         cck_said='no reply in time'
-        : > "$cck_store/down-$cck_host-$cck_port"
+        true > "$cck_store/down-$cck_host-$cck_port"
     fi 2>/dev/null
     case $cck_said in
     NOPERM*) ;;
@@ -421,7 +423,7 @@ name_input() {
 # Writes that file.
 note_input() {
     if [ -z "$cck_noted" ] || [ -e "$cck_noted" ]; then return; fi
-    { mkdir -p "$cck_store/inputs" && : > "$cck_noted"; } 2>/dev/null
+    { mkdir -p "$cck_store/inputs" && true > "$cck_noted"; } 2>/dev/null
 }
 
 # Has the program look for the call's object, or where no directory keeps objects make its key.
@@ -491,7 +493,7 @@ fi
 preprocess() {
     eval "LC_ALL=C \"\$cck_compiler\" $cck_preprocessed" \
         '-Wdate-time -Wsystem-headers -Wno-error -fno-canonical-system-headers' "$1" \
-        '-dI -E -v -o "$cck_scratch/text"' < /dev/null 2> "$cck_scratch/search" || : > "$cck_scratch/failed"
+        '-dI -E -v -o "$cck_scratch/text"' < /dev/null 2> "$cck_scratch/search" || true > "$cck_scratch/failed"
 }
 
 # Writes the text of the call. No entry is made of a text that names no file beside the input. Such a text names an empty
@@ -501,7 +503,7 @@ write_text() {
     if [ ! -e "$cck_scratch/failed" ] && ! grep -q '^# [0-9]* ".*" 1' "$cck_scratch/text"; then
         preprocess '-imacros "$cck_store/empty.h"'
     fi
-    ! grep -q 'might prevent reproducible builds' "$cck_scratch/search" || : > "$cck_scratch/shows-time"
+    ! grep -q 'might prevent reproducible builds' "$cck_scratch/search" || true > "$cck_scratch/shows-time"
 }
 
 # Whether what the arguments include are regular files: a pipe can't be read by two.

@@ -355,6 +355,21 @@ def full():
         subprocess.run(["umount", "device"], check=False)
 
 
+def unmade():
+    """A store that can't be made, or of which a directory can't: the wrapper compiles."""
+    write("u.c", "int u;\n")
+    settle()
+    os.makedirs("partly")
+    write("partly/inputs", "")
+    for store in ("/proc/cck", ROOM + "/u.c/store", ROOM + "/partly"):
+        if os.path.exists("u.o"):
+            os.unlink("u.o")
+        variables = {**os.environ, "CCK_STORE": store, "CCK_BASEDIR": ROOM}
+        got = subprocess.run(["cckcc", "gcc", "-c", "u.c"], env=variables, check=False, capture_output=True)
+        if got.returncode or got.stderr or not os.path.exists("u.o"):
+            faults.append(f"a store that can't be made: {store}")
+
+
 def pruned():
     """What `prune` removes: what was used longest ago, and what killed recordings left an hour ago."""
     store = ROOM + "/a.new/store"  # the directories above have any names
@@ -401,6 +416,7 @@ rewritten()
 swapped_while_read()
 at_once(15)
 full()
+unmade()
 pruned()
 if faults:
     print("FAILED:", ", ".join(faults))
