@@ -1,9 +1,5 @@
 # The options of the wrapper itself. bin/cckcc sources this script, with its words, and has set `cck_program`,
 # `cck_store`, `cck_home`, `cck_configuration` and `cck_origins`, which says what the configuration file set.
-cck_directory=$cck_store
-case $cck_store in
-redis://*) cck_directory=${CCK_DIR:-$cck_home} ;;
-esac
 
 print_usage() {
     echo 'usage: cckcc COMPILER ARG..'
@@ -42,12 +38,12 @@ END
 
 # Removes what was used longest ago, until the directory keeps its limit, which is the program's to say.
 clean_up() {
-    cck_found=$("$cck_program" stats "$cck_directory") || { cck_status=$?; echo "$cck_found"; exit $cck_status; }
+    cck_found=$("$cck_program" stats "$cck_store") || { cck_status=$?; echo "$cck_found"; exit $cck_status; }
     cck_limit=$(echo "$cck_found" | sed -n 's/^limit //p')
     case $cck_limit in
     none) cck_limit=18446744073709551615 ;;
     esac
-    exec "$cck_program" prune "$cck_directory" --max-size "$cck_limit"
+    exec "$cck_program" prune "$cck_store" --max-size "$cck_limit"
 }
 
 # Whether a word is a size that the program reads: a number, a suffix or none, and less than 10^18 bytes.
@@ -87,10 +83,10 @@ set_max_size() {
 
 case ${1-} in
 -V|--version) exec "$cck_program" --version ;;
--s|--show-stats) exec "$cck_program" stats "$cck_directory" ;;
--z|--zero-stats) exec rm -rf "$cck_directory/counts" ;;
+-s|--show-stats) exec "$cck_program" stats "$cck_store" ;;
+-z|--zero-stats) exec rm -rf "$cck_store/counts" ;;
 -c|--cleanup) clean_up ;;
--C|--clear) exec "$cck_program" clear "$cck_directory" ;;
+-C|--clear) exec "$cck_program" clear "$cck_store" ;;
 -p|--show-config) show_config ;;
 -M|--max-size) [ $# -eq 2 ] || { print_usage >&2; exit 2; }; set_max_size "$2" ;;
 --max-size=*) set_max_size "${1#*=}" ;;

@@ -1,8 +1,8 @@
 # What bin/cckcc does with a call that is no hit of a directory: a compilation that is recorded, a call that is not
-# cached, the first call of a compiler, and each call with a Redis server. bin/cckcc sources this script, and has set
-# `cck_compiler`, `cck_program`, `cck_store`, `cck_home`, the directory of a store that none names, `cck_color`, which
-# is an option of the compiler or nothing, and `cck_found`, what the program printed of the call, if it was called. The
-# words are the compiler's arguments.
+# cached, the first call of a compiler, and each call with a server. bin/cckcc sources this script, and has set
+# `cck_compiler`, `cck_program`, `cck_store`, `cck_server`, the address of a server or nothing, `cck_color`, which is an
+# option of the compiler or nothing, and `cck_found`, what the program printed of the call, if it was called. The words
+# are the compiler's arguments.
 
 # Appends a line to the log.
 log() { [ -z "$CCK_LOG" ] || { echo "cckcc: $*" >> "$CCK_LOG"; } 2>/dev/null; }
@@ -39,30 +39,15 @@ locate() {
     cck_located=
 }
 
-# The server. Where it is one, the directory has counts and digests of compilers, and objects only if
-# CCK_DIR names it.
-cck_server= cck_address= cck_user= cck_host= cck_port= cck_database= cck_keeps=1
-case $cck_store in
-redis://*)
-    cck_server=$cck_store
-    cck_address=${cck_server#redis://}
-    cck_store=${CCK_DIR:-$cck_home}
-    cck_keeps=$CCK_DIR
-    case $cck_address in
-    *@*) cck_user=${cck_address%@*} cck_address=${cck_address##*@} ;;
-    esac
-    case $cck_user in
-    *:*) REDISCLI_AUTH=${cck_user#*:} cck_user=${cck_user%%:*}; export REDISCLI_AUTH ;;
-    esac
-    case $cck_address in
-    */*) cck_database=${cck_address#*/} cck_address=${cck_address%%/*} ;;
-    esac
-    cck_host=${cck_address%%:*}
-    case $cck_address in
-    *:*) cck_port=${cck_address##*:} ;;
-    esac
-    ;;
-esac
+# Where a directory keeps objects.
+cck_keeps=1 cck_failed= cck_unusable=
+if [ -n "$cck_server" ]; then
+    cck_keeps=$CCK_DIR cck_unusable=script cck_why="can't read server.sh"
+    if find_script server.sh; then
+        . "$cck_script"
+        read_server
+    fi
+fi
 
 cck_newline='
 '
@@ -75,13 +60,12 @@ locate as
 cck_assembler=$cck_located
 locate "$cck_compiler"
 [ -n "$cck_located" ] || cck_reason=no-compiler
-if [ -n "$cck_server" ]; then
-    case $cck_host in
-    ''|-*) cck_reason=address ;;
-    esac
-    case $cck_port$cck_database in
-    *[!0-9]*) cck_reason=address ;;
-    esac
+# Without the server the call goes on by the directory that keeps objects, if there is one.
+if [ -n "$cck_unusable" ]; then
+    note "server: not asked: $cck_why"
+    count "server-$cck_unusable"
+    cck_failed=1
+    [ -n "$cck_keeps" ] || cck_reason=$cck_unusable
 fi
 if [ -n "$cck_reason" ]; then
     log "passed on ($cck_reason): $*"
@@ -255,56 +239,6 @@ compile() {
     fi
 }
 
-# Whether the server may be asked: not after a failure in this call, nor for some seconds after a
-# request of another call took too long.
-is_up() {
-    [ -z "$cck_failed" ] || return 1
-    [ -e "$cck_store/down-$cck_host-$cck_port" ] || return 0
-    [ -z "$(find "$cck_store/down-$cck_host-$cck_port" -newermt '-10 seconds' 2>/dev/null)" ] && return 0
-    cck_failed=1
-    note "server: not asked, it was slow some seconds ago"
-    return 1
-}
-
-# Sends a command to the server, with what is to be read on standard input.
-ask() {
-    timeout "${CCK_TIMEOUT:-2}" redis-cli -h "$cck_host" -p "${cck_port:-6379}" -n "${cck_database:-0}" \
-        ${cck_user:+--user "$cck_user"} --no-auth-warning -e -D '' "$@" 2> "$cck_scratch/said"
-    cck_status=$?
-    # Where the server rejects a user or a database redis-cli continues as the default user, in database 0.
-    [ $cck_status -ne 0 ] || [ -s "$cck_scratch/said" ] || return 0
-    cck_said=
-    read -r cck_said < "$cck_scratch/said"
-    if [ $cck_status -eq 124 ]; then
-        cck_said='no reply in time'
-        true > "$cck_store/down-$cck_host-$cck_port"
-    fi 2>/dev/null
-    case $cck_said in
-    NOPERM*) ;;
-    *) cck_failed=1 ;;
-    esac
-    [ "$1" != -x ] || shift
-    note "server: $1 failed: $cck_said"
-    count server-failed
-    return 1
-}
-
-# Writes the file of the kind $1 and the key $2 that the server has to $3, which is empty where it has
-# none.
-get() {
-    : > "$3"
-    is_up || return 1
-    ask GET "cck:4:$1:$2" > "$3" || { : > "$3"; return 1; }
-    [ -s "$3" ]
-}
-
-# Puts the file $3 of the kind $1 and the key $2 to the server.
-put() {
-    is_up || return 1
-    ask -x SETEX "cck:4:$1:$2" "${CCK_TTL:-2592000}" < "$3" > "$cck_scratch/reply" || return 1
-    count "server-put-$1"
-}
-
 # Keeps the file $3 in the directory, under the kind $1 and the key $2.
 keep() {
     [ -n "$cck_keeps" ] || return 0
@@ -440,7 +374,7 @@ set -- --directory="$PWD" -- $cck_color "$@"
 [ -z "$CCK_BASEDIR" ] || set -- --base="$CCK_BASEDIR" "$@"
 [ -z "$cck_server" ] || set -- --digests="$cck_store" "$@"
 set -- --driver="$cck_compiler" "$@"
-cck_scratch= cck_failed= cck_text=
+cck_scratch= cck_text=
 if [ -n "$cck_server" ]; then
     make_scratch || cck_keeps=
     look_up "$@"

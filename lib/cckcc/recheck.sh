@@ -1,7 +1,7 @@
 # With CCK_RECHECK: runs a call by the cache, and after a hit by the compiler too, and compares what the two made.
-# bin/cckcc sources this script, with the compiler's words, and has set `cck_compiler`, `cck_program`, `cck_store`,
-# `cck_home`, and `cck_color`, which is an option of the compiler or nothing. It returns where there is nothing to compare
-# by: a standard stream is closed, or there is no temporary directory.
+# bin/cckcc sources this script, with the compiler's words, and has set `cck_compiler`, `cck_program`, `cck_store`, and
+# `cck_color`, which is an option of the compiler or nothing. It returns where there is nothing to compare by: a standard
+# stream is closed, or there is no temporary directory.
 #
 # The compiler gets the words as they are, since other names of its files would change what it makes. So what the hit
 # wrote is put aside first, and what the call leaves is the compiler's.
@@ -13,7 +13,7 @@ tell() {
 }
 
 # Counts an event of this name in the directory of the store.
-count() { { mkdir -p "$cck_directory/counts" && printf . >> "$cck_directory/counts/$1"; } 2>/dev/null; }
+count() { { mkdir -p "$cck_store/counts" && printf . >> "$cck_store/counts/$1"; } 2>/dev/null; }
 
 # Runs the call by the cache, and returns its status. What it writes to standard error and to the log goes to files.
 run_by_cache() {
@@ -27,14 +27,9 @@ run_by_cache() {
 # Sets the paths of the call. The program prints them, quoted for a shell, in the second line of a miss: that of a
 # store that has nothing but the programs of compilers.
 find_paths() {
-    mkdir "$cck_room/store" && cp -R "$cck_directory/compilers" "$cck_room/store" || return 1
+    mkdir "$cck_room/store" && cp -R "$cck_store/compilers" "$cck_room/store" || return 1
     cck_found=$("$cck_program" look "$cck_room/store" --driver="$cck_compiler" ${CCK_BASEDIR:+--base="$CCK_BASEDIR"} \
         --directory="$PWD" -- $cck_color "$@" | sed -n 2p)
-    [ -n "$cck_found" ] && eval "paths $cck_found"
-}
-paths() {
-    cck_found=$("$cck_program" preprocessor-key --driver="$cck_compiler" ${CCK_BASEDIR:+--base="$CCK_BASEDIR"} \
-        --digests="$cck_directory" --directory="$PWD" -- $cck_color "$@" | sed -n 2p)
     [ -n "$cck_found" ] && eval "paths $cck_found"
 }
 paths() { cck_out=$2 cck_dependencies=$3; }
@@ -76,10 +71,6 @@ end_by() {
 cck_room=$(mktemp -d 2>/dev/null) || return 0
 trap 'rm -rf "$cck_room"' EXIT
 for cck_signal in HUP INT TERM; do trap "end_by $cck_signal" $cck_signal; done
-cck_directory=$cck_store
-case $cck_store in
-redis://*) cck_directory=${CCK_DIR:-$cck_home} ;;
-esac
 run_by_cache "$@"
 cck_status=$?
 [ -z "$CCK_LOG" ] || { cat "$cck_room/log" >> "$CCK_LOG"; } 2>/dev/null

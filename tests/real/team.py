@@ -1,5 +1,5 @@
 """What tests/team_build.sh needs beside a shell: a proxy in front of a Redis server, and values of the
-server that are damaged.
+server that are damaged. tests/team_servers.py uses its functions.
 
     team.py proxy PORT sleep SECONDS     prints its port, and delays each reply
     team.py proxy PORT cut BYTES         ends the connection after so many bytes of replies
@@ -20,9 +20,11 @@ chance = random.Random(int(os.environ.get("SEED", "1")))
 class Server:
     """A connection to a Redis server."""
 
-    def __init__(self, port):
+    def __init__(self, port, password=None):
         self.connection = socket.create_connection(("127.0.0.1", port))
         self.replies = self.connection.makefile("rb")
+        if password:
+            self.ask(b"AUTH", password.encode())
         self.ask(b"SELECT", str(DATABASE).encode())
 
     def reply(self):
@@ -202,7 +204,8 @@ def damage(port, directory):
     return len(owner) == len(values) and not counts["wrong"] and not counts["failed"]
 
 
-if sys.argv[1] == "proxy":
-    proxy(int(sys.argv[2]), sys.argv[3], float(sys.argv[4]))
-elif not damage(int(sys.argv[2]), sys.argv[3]):
-    sys.exit(1)
+if __name__ == "__main__":
+    if sys.argv[1] == "proxy":
+        proxy(int(sys.argv[2]), sys.argv[3], float(sys.argv[4]))
+    elif not damage(int(sys.argv[2]), sys.argv[3]):
+        sys.exit(1)

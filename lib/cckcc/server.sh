@@ -1,0 +1,116 @@
+# The server of a team's store: lib/cckcc/miss.sh sources this script where CCK_STORE is an address, which is
+# `cck_server`. The scheme of the address is decided in `read_server` alone, which chooses the functions that read the
+# rest of the address and ask the server. What is asked for, and what is put, does not depend on the scheme.
+
+# The names at a server have this number, which changes with the formats of the values.
+cck_formats=4
+
+# Sets why the server can't be asked: a word under which this is counted, and what the log says.
+unusable() { cck_unusable=$1 cck_why=$2; }
+
+# Reads the address. What has a secret is in no message: of an unknown scheme the log has the name alone.
+read_server() {
+    cck_unusable=
+    cck_scheme=${cck_server%%:*} cck_address=${cck_server#*://}
+    case $cck_scheme in
+    redis) cck_protocol=redis ;;
+    *[!A-Za-z0-9+.-]*|'') unusable scheme 'no scheme'; return ;;
+    *) unusable scheme "unknown scheme $cck_scheme"; return ;;
+    esac
+    case $cck_server in
+    "$cck_scheme"://*) "read_$cck_protocol" ;;
+    *) unusable address "no // after $cck_scheme:" ;;
+    esac
+}
+
+# Reads [USER[:PASSWORD]@]HOST[:PORT][/DB].
+read_redis() {
+    cck_user= cck_port= cck_database=
+    case $cck_address in
+    *@*) cck_user=${cck_address%@*} cck_address=${cck_address##*@} ;;
+    esac
+    case $cck_user in
+    *:*) REDISCLI_AUTH=${cck_user#*:} cck_user=${cck_user%%:*}; export REDISCLI_AUTH ;;
+    esac
+    case $cck_address in
+    */*) cck_database=${cck_address#*/} cck_address=${cck_address%%/*} ;;
+    esac
+    cck_host=${cck_address%%:*}
+    case $cck_address in
+    *:*) cck_port=${cck_address##*:} ;;
+    esac
+    cck_mark=$cck_host-$cck_port
+    case $cck_host in
+    ''|-*) unusable address 'no host' ;;
+    esac
+    case $cck_port$cck_database in
+    *[!0-9]*) unusable address 'a port or a database that is not a number' ;;
+    esac
+}
+
+# Whether the server may be asked: not after a failure in this call, nor for some seconds after a request of another
+# call took too long.
+is_up() {
+    [ -z "$cck_failed" ] || return 1
+    [ -e "$cck_store/down-$cck_mark" ] || return 0
+    [ -z "$(find "$cck_store/down-$cck_mark" -newermt '-10 seconds' 2>/dev/null)" ] && return 0
+    cck_failed=1
+    note "server: not asked, it was slow some seconds ago"
+    return 1
+}
+
+# Notes and counts a request $1 that failed, for the reason $2.
+fail() {
+    note "server: $1 failed: $2"
+    count server-failed
+    return 1
+}
+
+# Runs a client with these words. It fails if the client does, or says something.
+run_client() {
+    cck_said=
+    timeout "${CCK_TIMEOUT:-2}" "$@" 2> "$cck_scratch/said"
+    cck_status=$?
+    [ $cck_status -ne 0 ] || [ -s "$cck_scratch/said" ] || return 0
+    read -r cck_said < "$cck_scratch/said"
+    if [ $cck_status -eq 124 ]; then
+        cck_said='no reply in time'
+        # The command `:` would end the shell where the file can't be made.
+        true > "$cck_store/down-$cck_mark"
+    fi 2>/dev/null
+    return 1
+}
+
+# Sends a command to a Redis server, with what is to be read on standard input. Where the server rejects a user or a
+# database redis-cli says so, and continues as the default user, in database 0.
+ask_redis() {
+    run_client redis-cli -h "$cck_host" -p "${cck_port:-6379}" -n "${cck_database:-0}" \
+        ${cck_user:+--user "$cck_user"} --no-auth-warning -e -D '' "$@" && return
+    case $cck_said in
+    NOPERM*) ;;
+    *) cck_failed=1 ;;
+    esac
+    [ "$1" != -x ] || shift
+    fail "$1" "$cck_said"
+}
+
+# Gets the file of the kind $1 and the key $2, and writes it to $3.
+get_redis() { ask_redis GET "cck:$cck_formats:$1:$2" > "$3"; }
+
+# Puts it.
+put_redis() { ask_redis -x SETEX "cck:$cck_formats:$1:$2" "${CCK_TTL:-2592000}" < "$3" > "$cck_scratch/reply"; }
+
+# Writes the file of the kind $1 and the key $2 that the server has to $3, which is empty where it has none.
+get() {
+    : > "$3"
+    is_up || return 1
+    "get_$cck_protocol" "$@" || { : > "$3"; return 1; }
+    [ -s "$3" ]
+}
+
+# Puts the file $3 of the kind $1 and the key $2 to the server.
+put() {
+    is_up || return 1
+    "put_$cck_protocol" "$@" || return 1
+    count "server-put-$1"
+}
