@@ -1,10 +1,12 @@
 #!/usr/bin/env python3
 """Compiles small projects by each kind of server of a team's store, and compares each object, dependency file and
 message with gcc's: three checkouts, addresses that are not valid, faults of each server. No fault may end a call, and
-each is counted. Needs gcc, redis-server and redis-cli. The program is CCK_PROGRAM, by default the one that was proved
-and built here. DIGESTS is a directory that keeps the digests of the compiler's programs for the next run. With names,
-only these checks are made. The last line is `team_servers: N passed, M failed`."""
+each is counted. No secret may be an argument of a process, in the log, or in the environment of a compiler. Needs gcc,
+openssl, redis-server and redis-cli. The program is CCK_PROGRAM, by default the one that was proved and built here.
+DIGESTS is a directory that keeps the digests of the compiler's programs for the next run. With names, only these checks
+are made. The last line is `team_servers: N passed, M failed`."""
 import collections
+import glob
 import os
 import pathlib
 import re
@@ -12,6 +14,7 @@ import shutil
 import subprocess
 import sys
 import tempfile
+import threading
 import time
 
 TOP = pathlib.Path(__file__).resolve().parent.parent
@@ -23,6 +26,15 @@ FILES = {
     "src/b.c": '#include "common.h"\nint b(int c) { int unused; return c << COMMON; }\n',
     "src/common.h": "#define COMMON 4\n",
 }
+# The programs in whose place a script notes the arguments and the environment, and calls the program.
+WATCHED = ["as", "redis-cli"]
+WATCH = """#!/bin/sh
+name=${0##*/} here=${0%/*}
+[ "$name" != as ] || env >>"$here/environment"
+printf '%s\\n' "$name" "$@" >>"$here/arguments"
+PATH=${PATH#*:}
+exec "$name" "$@"
+"""
 Done = collections.namedtuple("Done", "status outputs log counts")
 
 
@@ -33,13 +45,14 @@ class Test:
         self.room, self.passed, self.failed, self.number = pathlib.Path(room), 0, 0, 0
         program = os.environ.get("CCK_PROGRAM", str(TOP / "crates/cck_cache/out/cck_cache"))
         self.variables = {name: value for name, value in os.environ.items() if not name.startswith(("CCK_", "REDIS"))}
-        self.variables.update(CCK_PROGRAM=program, PATH=f"{TOP}/bin:{os.environ['PATH']}", CCK_TIMEOUT="10")
-        self.plain = {}
+        self.seed = pathlib.Path(os.environ.get("DIGESTS", self.room / "seed"))
+        self.watch()
+        self.variables.update(CCK_PROGRAM=program, PATH=f"{self.seed}:{TOP}/bin:{os.environ['PATH']}", CCK_TIMEOUT="10")
+        self.plain, self.logs = {}, ""
         for name in ("one", "two", "three"):
             self.add_checkout(name)
         time.sleep(0.1)
         # The programs of the compiler are hashed once. The scheme is of no server.
-        self.seed = pathlib.Path(os.environ.get("DIGESTS", self.room / "seed"))
         self.run("one", "a", self.seed, CCK_STORE="none://", CCK_DIR=str(self.seed / ".cache/cck"))
 
     def check(self, label, found, wanted):
@@ -49,6 +62,17 @@ class Test:
         else:
             self.failed += 1
             print(f"FAILED: {label}\nwanted: {wanted}\nfound:  {found}", flush=True)
+
+    def watch(self):
+        """Makes the scripts that note the arguments and the environment of programs."""
+        self.seed.mkdir(exist_ok=True)
+        for name in ("environment", "arguments"):
+            (self.seed / name).write_text("")
+        for name in WATCHED:
+            script = self.seed / name
+            if not script.exists():
+                script.write_text(WATCH)
+                script.chmod(0o755)
 
     def add_checkout(self, name):
         """A checkout, and what gcc makes of its files."""
@@ -96,6 +120,7 @@ class Test:
         got = subprocess.run(["cckcc", "gcc", *self.words(checkout, source)], cwd=top / "src", check=False,
                              capture_output=True, env={**self.variables, "HOME": str(home), "CCK_BASEDIR": str(top),
                                                        "CCK_LOG": str(log), **variables})
+        self.logs += log.read_text()
         return Done(got.returncode, self.outputs(checkout, source, got), log.read_text(), counts_of(store) - before)
 
     def compile(self, label, checkout, source, home, **variables):
@@ -127,6 +152,10 @@ ADDRESSES = [
     ("redis://-h", "server-address"),
     ("redis://127.0.0.1:1x", "server-address"),
     ("redis://127.0.0.1:1/zero", "server-address"),
+    ("redis+unix://socket", "server-address"),
+    ("redis+unix:///socket?db=x", "server-address"),
+    ("rediss://127.0.0.1", "server-cacert"),
+    ("redis://127.0.0.1 no secret", "server-secret"),
 ]
 
 
@@ -134,7 +163,9 @@ def addresses(test):
     """Addresses that are not valid: an event is counted, no directory is made, and the call goes on."""
     for address, event in ADDRESSES:
         home = test.machine()
-        done = test.compile(address, "one", "a", home, CCK_STORE=address)
+        address, _, secret = address.partition(" ")
+        secret = {"CCK_SECRET_FILE": str(test.room / secret)} if secret else {}
+        done = test.compile(address, "one", "a", home, CCK_STORE=address, **secret)
         test.check(f"{address}: without a directory", (way_of(done), done.counts[event]), ("passed on", 1))
         scheme = address.split(":")[0]
         if event == "server-scheme" and scheme:
@@ -167,23 +198,98 @@ def checkouts(test, server):
             test.check(label, (way_of(done), done.counts["server-failed"]), (wanted, 0))
 
 
-SERVERS = [servers.Redis]
-CHECKS = [checkouts]
+def faults(test, server):
+    """Faults of a server that has the objects: the call compiles, and each is counted."""
+    def tried(label, changes, least=1, checkout="one"):
+        """A call with these variables, on a new machine. It says nothing, and is no hit."""
+        label = f"{server.scheme}: {label}"
+        done = test.compile(label, checkout, "a", test.machine(), **{**server.variables(), **changes})
+        test.check(label, (way_of(done), done.counts["server-failed"] >= least), ("recorded", True))
+        return done
+
+    for label, changes in server.faulty():
+        tried(label, changes)
+    server.pause(3)
+    done = tried("a slow server", {"CCK_TIMEOUT": "1"})
+    test.check(f"{server.scheme}: a slow server", "no reply in time" in done.log, True)
+    server.connection.ask(b"PING")
+    for certificate, wanted in server.certificates_tried():
+        other = type(server)(test.room, server.certificates, certificate)
+        try:
+            label = f"{server.scheme}: a server with the certificate {certificate}"
+            done = test.compile(label, "one", "a", test.machine(), **other.variables())
+            test.check(label, (way_of(done), done.counts["server-failed"]), ("recorded", wanted))
+        finally:
+            other.stop()
+    server.stop()
+    tried("no server", {})
+    server.start()
+
+
+def secrets(test, found):
+    """No secret is where another user or the compiler can see it."""
+    seen = {name: (test.seed / name).read_text() for name in ("arguments", "environment")}
+    for name in WATCHED:
+        test.check(f"{name} was watched", name in seen["arguments"].split("\n"), True)
+    test.check("the environment was watched", "CCK_PROGRAM=" in seen["environment"], True)
+    for name, text in {**seen, "log": test.logs}.items():
+        for secret in servers.SECRETS:
+            test.check(f"the {name}: a secret", secret in text, False)
+    test.check("arguments of processes", found, [])
+
+
+class Processes(threading.Thread):
+    """Looks at the arguments of all processes, again and again."""
+
+    def __init__(self):
+        super().__init__(daemon=True)
+        self.found, self.rounds, self.ends = [], 0, False
+
+    def run(self):
+        while not self.ends:
+            self.found += [words for words in arguments() if any(word in words for word in servers.SECRETS)]
+            self.rounds += 1
+            time.sleep(0.002)
+
+
+def arguments():
+    """The arguments of each process."""
+    for path in glob.glob("/proc/[0-9]*/cmdline"):
+        try:
+            yield pathlib.Path(path).read_bytes().decode(errors="replace")
+        except OSError:
+            pass
+
+
+SERVERS = [servers.Redis, servers.RedisByTls, servers.RedisBySocket]
+CHECKS = [checkouts, faults]
 
 
 def main(names):
     with tempfile.TemporaryDirectory() as room:
         test = Test(os.path.realpath(room))
+        processes = Processes()
+        processes.start()
+        # The watch finds a secret that is an argument.
+        subprocess.run(["sh", "-c", "sleep 0.5", servers.SECRETS[0]], check=True)
+        test.check("the watch of arguments", bool(processes.found), True)
+        processes.found.clear()
         if not names or "addresses" in names:
             addresses(test)
+        certificates = servers.Certificates(test.room / "certificates")
         for kind in SERVERS:
-            server = kind(room)
+            if names and not {kind.scheme, *(check.__name__ for check in CHECKS)} & set(names):
+                continue
+            server = kind(test.room, certificates)
             try:
                 for check in CHECKS:
-                    if not names or check.__name__ in names:
+                    if not {each.__name__ for each in CHECKS} & set(names) or check.__name__ in names:
                         check(test, server)
             finally:
                 server.stop()
+        processes.ends = True
+        processes.join()
+        secrets(test, processes.found)
     print(f"team_servers: {test.passed} passed, {test.failed} failed")
     return 1 if test.failed else 0
 

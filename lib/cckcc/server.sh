@@ -13,25 +13,49 @@ read_server() {
     cck_unusable=
     cck_scheme=${cck_server%%:*} cck_address=${cck_server#*://}
     case $cck_scheme in
-    redis) cck_protocol=redis ;;
+    redis|rediss|redis+unix) cck_protocol=redis ;;
     *[!A-Za-z0-9+.-]*|'') unusable scheme 'no scheme'; return ;;
     *) unusable scheme "unknown scheme $cck_scheme"; return ;;
     esac
     case $cck_server in
-    "$cck_scheme"://*) "read_$cck_protocol" ;;
+    "$cck_scheme"://*) read_secret; "read_$cck_protocol" ;;
     *) unusable address "no // after $cck_scheme:" ;;
     esac
 }
 
-# Reads [USER[:PASSWORD]@]HOST[:PORT][/DB].
+# Reads the secret of a file. It is kept in a variable that is not exported, and is no word of a process.
+read_secret() {
+    [ -n "$CCK_SECRET_FILE" ] || return 0
+    cck_secret=
+    { IFS= read -r cck_secret < "$CCK_SECRET_FILE"; } 2>/dev/null
+    [ -n "$cck_secret" ] || unusable secret "no line in the file of CCK_SECRET_FILE"
+}
+
+# Reads what comes after the scheme of a Redis server. It has a user before the last `@`, or before `@/` and a path.
 read_redis() {
-    cck_user= cck_port= cck_database=
-    case $cck_address in
+    cck_user= cck_host= cck_port= cck_database=
+    case $cck_scheme:$cck_address in
+    redis+unix:/*) ;;
+    redis+unix:*@/*) cck_user=${cck_address%%@/*} cck_address=/${cck_address#*@/} ;;
+    redis+unix:*) unusable address 'no absolute path of a socket' ;;
     *@*) cck_user=${cck_address%@*} cck_address=${cck_address##*@} ;;
     esac
     case $cck_user in
-    *:*) REDISCLI_AUTH=${cck_user#*:} cck_user=${cck_user%%:*}; export REDISCLI_AUTH ;;
+    *:*) cck_secret=${cck_user#*:} cck_user=${cck_user%%:*} ;;
     esac
+    case $cck_scheme in
+    redis+unix) read_socket ;;
+    *) read_host ;;
+    esac
+    case $cck_port$cck_database in
+    *[!0-9]*) unusable address 'a port or a database that is not a number' ;;
+    esac
+    # redis-cli does not test the name in a certificate.
+    [ "$cck_scheme" != rediss ] || [ -n "$CCK_CACERT" ] || unusable cacert 'CCK_CACERT does not name an authority'
+}
+
+# Reads HOST[:PORT][/DB].
+read_host() {
     case $cck_address in
     */*) cck_database=${cck_address#*/} cck_address=${cck_address%%/*} ;;
     esac
@@ -43,9 +67,15 @@ read_redis() {
     case $cck_host in
     ''|-*) unusable address 'no host' ;;
     esac
-    case $cck_port$cck_database in
-    *[!0-9]*) unusable address 'a port or a database that is not a number' ;;
+}
+
+# Reads /PATH[?db=DB].
+read_socket() {
+    case $cck_address in
+    *\?db=*) cck_database=${cck_address##*\?db=} cck_address=${cck_address%\?db=*} ;;
     esac
+    cck_mark=$cck_address
+    while [ "$cck_mark" != "${cck_mark#*/}" ]; do cck_mark=${cck_mark%%/*}-${cck_mark#*/}; done
 }
 
 # Whether the server may be asked: not after a failure in this call, nor for some seconds after a request of another
@@ -66,10 +96,14 @@ fail() {
     return 1
 }
 
-# Runs a client with these words. It fails if the client does, or says something.
+# Runs a client with these words. It fails if the client does, or says something. A password is in the environment of
+# redis-cli and of `timeout`, which runs it.
 run_client() {
     cck_said=
-    timeout "${CCK_TIMEOUT:-2}" "$@" 2> "$cck_scratch/said"
+    (
+        if [ "$cck_protocol" = redis ] && [ -n "$cck_secret" ]; then export REDISCLI_AUTH="$cck_secret"; fi
+        exec timeout "${CCK_TIMEOUT:-2}" "$@"
+    ) 2> "$cck_scratch/said"
     cck_status=$?
     [ $cck_status -ne 0 ] || [ -s "$cck_scratch/said" ] || return 0
     read -r cck_said < "$cck_scratch/said"
@@ -81,24 +115,35 @@ run_client() {
     return 1
 }
 
-# Sends a command to a Redis server, with what is to be read on standard input. Where the server rejects a user or a
-# database redis-cli says so, and continues as the default user, in database 0.
+# Sends a command to a Redis server, with what is to be read on standard input. The words are the command and options.
+# Where the server rejects a user or a database redis-cli says so, and continues as the default user, in database 0.
 ask_redis() {
-    run_client redis-cli -h "$cck_host" -p "${cck_port:-6379}" -n "${cck_database:-0}" \
-        ${cck_user:+--user "$cck_user"} --no-auth-warning -e -D '' "$@" && return
+    cck_command=$1
+    [ "$1" != SETEX ] || set -- -x "$@"
+    set -- -n "${cck_database:-0}" ${cck_user:+--user "$cck_user"} --no-auth-warning -e -D '' "$@"
+    case $cck_scheme in
+    redis+unix) set -- -s "$cck_address" "$@" ;;
+    *) set -- -h "$cck_host" -p "${cck_port:-6379}" "$@" ;;
+    esac
+    if [ "$cck_scheme" = rediss ]; then
+        set -- --tls --cacert "$CCK_CACERT" ${CCK_CERT:+--cert "$CCK_CERT"} ${CCK_KEY:+--key "$CCK_KEY"} "$@"
+        case $cck_host in
+        *[!0-9.]*) set -- --sni "$cck_host" "$@" ;;
+        esac
+    fi
+    run_client redis-cli "$@" && return
     case $cck_said in
     NOPERM*) ;;
     *) cck_failed=1 ;;
     esac
-    [ "$1" != -x ] || shift
-    fail "$1" "$cck_said"
+    fail "$cck_command" "$cck_said"
 }
 
 # Gets the file of the kind $1 and the key $2, and writes it to $3.
 get_redis() { ask_redis GET "cck:$cck_formats:$1:$2" > "$3"; }
 
 # Puts it.
-put_redis() { ask_redis -x SETEX "cck:$cck_formats:$1:$2" "${CCK_TTL:-2592000}" < "$3" > "$cck_scratch/reply"; }
+put_redis() { ask_redis SETEX "cck:$cck_formats:$1:$2" "${CCK_TTL:-2592000}" < "$3" > "$cck_scratch/reply"; }
 
 # Writes the file of the kind $1 and the key $2 that the server has to $3, which is empty where it has none.
 get() {
