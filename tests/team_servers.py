@@ -1,10 +1,11 @@
 #!/usr/bin/env python3
 """Compiles small projects by each kind of server of a team's store, and compares each object, dependency file and
-message with gcc's: three checkouts, addresses that are not valid, faults of each server. No fault may end a call, and
-each is counted. No secret may be an argument of a process, in the log, or in the environment of a compiler. Needs gcc,
-openssl, redis-server and redis-cli. The program is CCK_PROGRAM, by default the one that was proved and built here.
-DIGESTS is a directory that keeps the digests of the compiler's programs for the next run. With names, only these checks
-are made. The last line is `team_servers: N passed, M failed`."""
+message with gcc's: three checkouts, addresses that are not valid, faults of each server, damaged values. No fault may
+end a call, and each is counted. No secret may be an argument of a process, in the log, or in the environment of a
+compiler. Needs gcc, openssl, redis-server, redis-cli, nginx and curl. The program is CCK_PROGRAM, by default the one
+that was proved and built here. DAMAGES is the number of damaged values, 100 by default, and DIGESTS a directory that
+keeps the digests of the compiler's programs for the next run. With names of checks or schemes only these are tried.
+The last line is `team_servers: N passed, M failed`."""
 import collections
 import glob
 import os
@@ -20,6 +21,7 @@ import time
 TOP = pathlib.Path(__file__).resolve().parent.parent
 sys.path.insert(0, str(TOP / "tests/real"))
 import servers  # noqa: E402
+import team  # noqa: E402
 
 FILES = {
     "src/a.c": '#include "common.h"\nint a(void) { return COMMON; }\n',
@@ -27,8 +29,9 @@ FILES = {
     "src/common.h": "#define COMMON 4\n",
 }
 # The programs in whose place a script notes the arguments and the environment, and calls the program.
-WATCHED = ["as", "redis-cli"]
+WATCHED = ["as", "curl", "redis-cli"]
 WATCH = """#!/bin/sh
+ulimit -S -f unlimited
 name=${0##*/} here=${0%/*}
 [ "$name" != as ] || env >>"$here/environment"
 printf '%s\\n' "$name" "$@" >>"$here/arguments"
@@ -155,7 +158,14 @@ ADDRESSES = [
     ("redis+unix://socket", "server-address"),
     ("redis+unix:///socket?db=x", "server-address"),
     ("rediss://127.0.0.1", "server-cacert"),
-    ("redis://127.0.0.1 no secret", "server-secret"),
+    ("redis://127.0.0.1 none", "server-secret"),
+    ("http:///prefix", "server-address"),
+    ("http://127.0.0.1:1/a b", "server-address"),
+    ("http://127.0.0.1:1/a?b", "server-address"),
+    ('http://127.0.0.1:1/"', "server-address"),
+    ("https://user:pass/word@127.0.0.1:1", "server-address"),
+    ("http://127.0.0.1:1 one/src/a.c", "server-secret"),
+    ("http://127.0.0.1:1 none", "server-secret"),
 ]
 
 
@@ -163,7 +173,8 @@ def addresses(test):
     """Addresses that are not valid: an event is counted, no directory is made, and the call goes on."""
     for address, event in ADDRESSES:
         home = test.machine()
-        address, _, secret = address.partition(" ")
+        # What comes after a space is the path of a file with a secret.
+        address, _, secret = address.partition(" ") if event == "server-secret" else (address, "", "")
         secret = {"CCK_SECRET_FILE": str(test.room / secret)} if secret else {}
         done = test.compile(address, "one", "a", home, CCK_STORE=address, **secret)
         test.check(f"{address}: without a directory", (way_of(done), done.counts[event]), ("passed on", 1))
@@ -209,10 +220,10 @@ def faults(test, server):
 
     for label, changes in server.faulty():
         tried(label, changes)
-    server.pause(3)
+    server.pause()
     done = tried("a slow server", {"CCK_TIMEOUT": "1"})
+    server.resume()
     test.check(f"{server.scheme}: a slow server", "no reply in time" in done.log, True)
-    server.connection.ask(b"PING")
     for certificate, wanted in server.certificates_tried():
         other = type(server)(test.room, server.certificates, certificate)
         try:
@@ -226,11 +237,81 @@ def faults(test, server):
     server.start()
 
 
+def http_faults(test, server):
+    """Faults of an HTTP server: the call compiles, each is counted, and no redirection is followed."""
+    if server.scheme != "http":
+        return
+    test.compile("http: a value", "one", "a", test.machine(), **server.variables())
+    faulty = servers.Faulty(server.values())
+    done = test.compile("http: no fault", "one", "a", test.machine(), **faulty.variables())
+    test.check("http: no fault", way_of(done), "hit")
+    for fault, changes, event in servers.FAULTS:
+        faulty.server.fault = fault
+        done = test.compile(f"http: {fault}", "one", "a", test.machine(), **faulty.variables(), **changes)
+        test.check(f"http: {fault}", (way_of(done), done.counts[event] > 0), ("recorded", True))
+        if event == "server-status-403":
+            test.check("http: 403 may be of one request", done.counts[event], 3)
+    followed = [path for _, path, _ in faulty.server.requests if path.startswith("/followed")]
+    test.check("http: redirections", followed, [])
+    faulty.stop()
+
+
+def modes(test, server):
+    """A call that may only read, and an object that is too large."""
+    for label, changes, event in (("reads", {"CCK_REMOTE_MODE": "read"}, None),
+                                  ("an unknown mode", {"CCK_REMOTE_MODE": "raed"}, None)):
+        label = f"{server.scheme}: {label}"
+        for name in server.values():
+            server.remove(name)
+        variables = {**server.variables(), **changes}
+        done = test.compile(label, "one", "a", test.machine(), **variables)
+        test.check(label, (way_of(done), len(server.values()), done.counts["server-failed"]), ("recorded", 0, 0))
+        if event:
+            test.check(label, done.counts[event], 1)
+        else:
+            test.compile(label, "one", "a", test.machine(), **server.variables())
+            done = test.compile(label, "one", "a", test.machine(), **variables)
+            test.check(f"{label}: a value that is there", way_of(done), "hit")
+
+
+def known(test, server):
+    """An object that is there, and that a call did not ask for, is not put again by HTTP."""
+    for machine, wanted in ((1, 0), (2, int(server.scheme.startswith("http")))):
+        label = f"{server.scheme}: machine {machine} puts"
+        # With such a directory the call does not look for the text.
+        variables = {**server.variables(), "C_INCLUDE_PATH": str(test.room / "one")}
+        done = test.compile(label, "one", "b", test.machine(), **variables)
+        found = way_of(done), done.counts["server-had-object"], done.counts["server-put-object"]
+        test.check(label, found, ("recorded", wanted, 1 - wanted))
+        for name in server.values():
+            if "entry" in name:
+                server.remove(name)
+
+
+def damage(test, server):
+    """Values that are damaged: none is used, and what the call writes is right."""
+    test.compile(f"{server.scheme}: values", "one", "a", test.machine(), **server.variables())
+    values = server.values()
+    for name in values:
+        for _ in range(int(os.environ.get("DAMAGES", "100")) // (len(SERVERS) * len(values))):
+            way = team.chance.choice([way for way in team.WAYS if way not in ("list", "empty", "gone")])
+            data = team.damaged(way, values[name], list(values.values()))
+            server.set(name, data)
+            label = f"{server.scheme}: {way} of {name.split('cck')[-1][:12]}"
+            done = test.compile(label, "one", "a", test.machine(), **server.variables())
+            is_same = data == values[name]
+            used = way_of(done) == "hit" or "object" in name and way_of(done) != "recorded"
+            test.check(label, (used, done.counts["server-damaged"] > 0), (is_same, not is_same))
+            for each in server.values():
+                server.remove(each)
+            for each, data in values.items():
+                server.set(each, data)
+
+
 def secrets(test, found):
     """No secret is where another user or the compiler can see it."""
     seen = {name: (test.seed / name).read_text() for name in ("arguments", "environment")}
-    for name in WATCHED:
-        test.check(f"{name} was watched", name in seen["arguments"].split("\n"), True)
+    test.check("arguments were watched", not set(WATCHED).isdisjoint(seen["arguments"].split("\n")), True)
     test.check("the environment was watched", "CCK_PROGRAM=" in seen["environment"], True)
     for name, text in {**seen, "log": test.logs}.items():
         for secret in servers.SECRETS:
@@ -249,7 +330,7 @@ class Processes(threading.Thread):
         while not self.ends:
             self.found += [words for words in arguments() if any(word in words for word in servers.SECRETS)]
             self.rounds += 1
-            time.sleep(0.002)
+            time.sleep(0.01)
 
 
 def arguments():
@@ -261,8 +342,13 @@ def arguments():
             pass
 
 
-SERVERS = [servers.Redis, servers.RedisByTls, servers.RedisBySocket]
-CHECKS = [checkouts, faults]
+SERVERS = [servers.Redis, servers.RedisByTls, servers.RedisBySocket, servers.Nginx, servers.NginxByTls]
+CHECKS = [checkouts, faults, http_faults, known, modes, damage]
+
+
+def chosen(items, names, name_of):
+    """The items that are named, or all if none is."""
+    return [item for item in items if name_of(item) in names] or items
 
 
 def main(names):
@@ -277,14 +363,11 @@ def main(names):
         if not names or "addresses" in names:
             addresses(test)
         certificates = servers.Certificates(test.room / "certificates")
-        for kind in SERVERS:
-            if names and not {kind.scheme, *(check.__name__ for check in CHECKS)} & set(names):
-                continue
+        for kind in chosen(SERVERS, names, lambda kind: kind.scheme):
             server = kind(test.room, certificates)
             try:
-                for check in CHECKS:
-                    if not {each.__name__ for each in CHECKS} & set(names) or check.__name__ in names:
-                        check(test, server)
+                for check in chosen(CHECKS, names, lambda check: check.__name__):
+                    check(test, server)
             finally:
                 server.stop()
         processes.ends = True

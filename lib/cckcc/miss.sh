@@ -258,8 +258,9 @@ unpack() {
 
 # Takes the object of the name $1 from the server.
 take_object() {
+    cck_sought=$1
     get object "$1" "$cck_scratch/object" || return 1
-    unpack "$1" "$cck_scratch/object" || return 1
+    unpack "$1" "$cck_scratch/object" || { count server-damaged; return 1; }
     keep objects "$1" "$cck_scratch/object"
 }
 
@@ -278,7 +279,10 @@ look_at_server() {
         *) pass_on "$@" ;;
         esac
         case $cck_found in
-        *' damaged '*) note "server: the entry $cck_key is damaged" ;;
+        *' damaged '*)
+            note "server: the entry $cck_key is damaged"
+            count server-damaged
+            ;;
         esac
     fi
     if [ -n "$cck_object" ] && take_object "$cck_object"; then
@@ -299,7 +303,8 @@ record() {
 send() {
     keep objects "$cck_object" "$cck_scratch/packed"
     keep entries "$cck_key" "$cck_scratch/entry"
-    put object "$cck_object" "$cck_scratch/packed" && put entry "$cck_key" "$cck_scratch/entry"
+    has_object "$cck_object" || put object "$cck_object" "$cck_scratch/packed" || return
+    put entry "$cck_key" "$cck_scratch/entry"
 }
 
 # Takes the object of the text from the server.

@@ -10,10 +10,15 @@ unusable() { cck_unusable=$1 cck_why=$2; }
 
 # Reads the address. What has a secret is in no message: of an unknown scheme the log has the name alone.
 read_server() {
-    cck_unusable=
+    cck_unusable= cck_sought=
+    case $CCK_REMOTE_MAX in
+    ''|0*|*[!0-9]*) cck_max=100000000 ;;
+    *) cck_max=$CCK_REMOTE_MAX ;;
+    esac
     cck_scheme=${cck_server%%:*} cck_address=${cck_server#*://}
     case $cck_scheme in
     redis|rediss|redis+unix) cck_protocol=redis ;;
+    http|https) cck_protocol=http ;;
     *[!A-Za-z0-9+.-]*|'') unusable scheme 'no scheme'; return ;;
     *) unusable scheme "unknown scheme $cck_scheme"; return ;;
     esac
@@ -78,6 +83,31 @@ read_socket() {
     while [ "$cck_mark" != "${cck_mark#*/}" ]; do cck_mark=${cck_mark%%/*}-${cck_mark#*/}; done
 }
 
+# Reads [USER:PASSWORD@]HOST[:PORT][/PREFIX]. curl reads it again, in a file of options, where `"` and `\` are special.
+# The token is that of a file: the variable of redis-cli is of another server.
+read_http() {
+    cck_url=$cck_scheme://${cck_address%/} cck_header= cck_user=
+    case $cck_address in
+    *@*) cck_user=${cck_address%@*} ;;
+    esac
+    cck_address=${cck_address##*@}
+    cck_mark=${cck_address%%/*}
+    case $cck_mark in
+    ''|[-:]*) unusable address 'no host' ;;
+    esac
+    case $cck_url in
+    *[![:graph:]]*|*[\"\\?#]*) unusable address 'a character that has to be encoded' ;;
+    esac
+    case $cck_user in
+    */*) unusable address 'a / before an @' ;;
+    esac
+    [ -n "$CCK_SECRET_FILE" ] || return 0
+    cck_header="header = \"Authorization: Bearer $cck_secret\""
+    case $cck_secret in
+    *[!A-Za-z0-9._~+/=-]*) unusable secret 'a token has letters, digits and ._~+/=- alone' ;;
+    esac
+}
+
 # Whether the server may be asked: not after a failure in this call, nor for some seconds after a request of another
 # call took too long.
 is_up() {
@@ -96,11 +126,13 @@ fail() {
     return 1
 }
 
-# Runs a client with these words. It fails if the client does, or says something. A password is in the environment of
-# redis-cli and of `timeout`, which runs it.
+# Runs a client with these words. It fails if the client does, or says something. It can't write much more than a value
+# may have. A password is in the environment of redis-cli and of `timeout`, which runs it.
 run_client() {
     cck_said=
     (
+        trap '' XFSZ
+        ulimit -S -f $((cck_max / 512 + 1)) 2>/dev/null
         if [ "$cck_protocol" = redis ] && [ -n "$cck_secret" ]; then export REDISCLI_AUTH="$cck_secret"; fi
         exec timeout "${CCK_TIMEOUT:-2}" "$@"
     ) 2> "$cck_scratch/said"
@@ -145,6 +177,67 @@ get_redis() { ask_redis GET "cck:$cck_formats:$1:$2" > "$3"; }
 # Puts it.
 put_redis() { ask_redis SETEX "cck:$cck_formats:$1:$2" "${CCK_TTL:-2592000}" < "$3" > "$cck_scratch/reply"; }
 
+# A command for this would need a permission more.
+has_redis() { return 1; }
+
+# Sends a request of the method $1 for the file of the kind $2 and the key $3, and sets `cck_code` to the status of the
+# reply. The other words are options of curl, which reads what has a secret from standard input, and no file of options
+# of the user.
+ask_http() {
+    cck_method=$1 cck_path=$cck_formats/$2/${3%"${3#??}"}/$3
+    shift 3
+    if [ "$cck_scheme" = https ]; then
+        set -- ${CCK_CACERT:+--cacert "$CCK_CACERT"} ${CCK_CERT:+--cert "$CCK_CERT"} ${CCK_KEY:+--key "$CCK_KEY"} "$@"
+    fi
+    if run_client curl -q --silent --show-error --globoff --proto "=$cck_scheme" --max-filesize "$cck_max" \
+        --header Expect: --write-out '%{http_code}' --config - "$@" > "$cck_scratch/code" << CONFIG
+url = "$cck_url/$cck_path"
+$cck_header
+CONFIG
+    then
+        read -r cck_code < "$cck_scratch/code"
+        return 0
+    fi
+    cck_failed=1
+    fail "$cck_method" "$cck_said"
+}
+
+# Counts a status by its number. Of one that forbids a request the next request may be allowed.
+reject() {
+    count "server-status-$cck_code"
+    case $cck_code in
+    403|405|413) ;;
+    *) cck_failed=1 ;;
+    esac
+    fail "$cck_method" "status $cck_code"
+}
+
+get_http() {
+    ask_http GET "$1" "$2" --output "$3" || return 1
+    case $cck_code in
+    200) ;;
+    404) return 1 ;;
+    *) reject ;;
+    esac
+}
+
+put_http() {
+    ask_http PUT "$1" "$2" --upload-file "$3" --output "$cck_scratch/reply" || return 1
+    case $cck_code in
+    200|201|204) ;;
+    *) reject ;;
+    esac
+}
+
+has_http() {
+    ask_http HEAD "$1" "$2" --head --output "$cck_scratch/reply" || return 1
+    case $cck_code in
+    200) ;;
+    404) return 1 ;;
+    *) reject ;;
+    esac
+}
+
 # Writes the file of the kind $1 and the key $2 that the server has to $3, which is empty where it has none.
 get() {
     : > "$3"
@@ -153,9 +246,24 @@ get() {
     [ -s "$3" ]
 }
 
+# Whether files may be put to the server.
+writes() {
+    case $CCK_REMOTE_MODE in
+    ''|write) ;;
+    *) return 1 ;;
+    esac
+}
+
+# Whether the server has the object $1 that this call did not ask for. One that is damaged was asked for.
+has_object() {
+    if [ "$1" = "$cck_sought" ] || ! writes || ! is_up; then return 1; fi
+    "has_$cck_protocol" object "$1" || return 1
+    count server-had-object
+}
+
 # Puts the file $3 of the kind $1 and the key $2 to the server.
 put() {
-    is_up || return 1
+    if ! writes || ! is_up; then return 1; fi
     "put_$cck_protocol" "$@" || return 1
     count "server-put-$1"
 }
