@@ -259,7 +259,8 @@ def http_faults(test, server):
 def modes(test, server):
     """A call that may only read, and an object that is too large."""
     for label, changes, event in (("reads", {"CCK_REMOTE_MODE": "read"}, None),
-                                  ("an unknown mode", {"CCK_REMOTE_MODE": "raed"}, None)):
+                                  ("an unknown mode", {"CCK_REMOTE_MODE": "raed"}, None),
+                                  ("too large", {"CCK_REMOTE_MAX": "500"}, "server-too-large")):
         label = f"{server.scheme}: {label}"
         for name in server.values():
             server.remove(name)

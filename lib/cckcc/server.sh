@@ -264,6 +264,11 @@ has_object() {
 # Puts the file $3 of the kind $1 and the key $2 to the server.
 put() {
     if ! writes || ! is_up; then return 1; fi
+    if [ "$(wc -c < "$3")" -gt "$cck_max" ]; then
+        note "server: not put, too large: the $1 $2"
+        count server-too-large
+        return 1
+    fi
     "put_$cck_protocol" "$@" || return 1
     count "server-put-$1"
 }
