@@ -21,7 +21,7 @@ PATH = re.compile(r"(?<![a-z_/.*])(?:\.\.?/)*((?:tests|bench|bin|crates|examples
 NAME = re.compile(r"[A-Za-z_]\w+|(?<!\S)--?[A-Za-z][\w-]*")
 NO_NAME = re.compile(r"[0-9a-f]+$|.*[A-Z]{2}|[a-z]?[A-Z]+$|-no-|-[a-z]+$|_")
 # Words of other programs and parts of names, and the pages that are full of such words or of names that were.
-OTHERS = "Answers Beginning CMAKE_C_COMPILER_LAUNCHER --aclfile aclfile cli logic lru man memmove mmap plant rediss start_lib tidy".split()
+OTHERS = "Answers Beginning CMAKE_C_COMPILER_LAUNCHER --aclfile aclfile cli logic lru man memmove mmap plant start_lib tidy".split()
 OTHER_PAGES = "CHANGELOG.md DIFFERENCES.md GLOSSARY.md RESULTS.md".split()
 PLACEHOLDER = re.compile(r"\*|\.\.|(?:^|/)[A-Z]{2,}(?:/|$)|/out(?:/|$)|(?:^|/)N\b")
 

@@ -111,6 +111,8 @@ class Test:
             shutil.copy2(self.seed / ".cache/cck" / name, store)
         for name in ("compilers", "digests"):
             shutil.copytree(self.seed / ".cache/cck" / name, store / name)
+        # What curl would read without the option -q.
+        (self.room / f"home{self.number}/.curlrc").write_text("insecure\nlocation\n")
         return store.parent.parent
 
     def run(self, checkout, source, home, **variables):
