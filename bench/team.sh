@@ -1,8 +1,9 @@
 #!/bin/sh
 # Times builds of lua's 34 files at -O2 -g with all hits: from a directory, from a Redis server on loopback by
-# entries and by texts, and by gcc alone, and says what the server takes for them. A round has each build,
-# those of hits three times; ROUNDS, 3 by default, is their number, and the least time of each counts. Needs
-# gcc, make, Python 3, Debian's redis-server and redis-tools, and Debian's package archive.
+# entries and by texts, from an HTTP server on loopback by entries, and by gcc alone, and says what the Redis server takes
+# for them. A round has each build, those of hits three times; ROUNDS, 3 by default, is their number, and the least time
+# of each counts. Needs gcc, make, Python 3, Debian's redis-server, redis-tools, nginx and curl, and Debian's package
+# archive. FILES are patterns of the C files, by default all.
 set -eu
 top=$(cd "$(dirname "$0")/.." && pwd)
 . "$top/tests/real/common.sh"
@@ -14,9 +15,12 @@ HOME=$room/home
 export HOME
 start_server
 trap 'stop_servers; rm -rf "$room"' EXIT
+start_http
+files=${FILES:-*.c}
 for checkout in one two; do unpack lua5.4 $checkout; done
 directory=$CCK_STORE
 server=redis://127.0.0.1:$port/$database
+http=http://127.0.0.1:$http_port
 
 # Enters the checkout $1.
 enter() {
@@ -32,6 +36,7 @@ sleep 0.1
 CCK_STORE=$server cckcc gcc $flags -c lzio.c -o lzio.o
 empty
 CCK_STORE=$server timed 'the server, empty' 'cckcc gcc'
+CCK_STORE=$http timed 'the HTTP server, empty' 'cckcc gcc'
 CCK_STORE=$directory timed 'a directory, empty' 'cckcc gcc'
 entries=$(count_of entry)
 echo "$(count_of object) objects and $entries entries take $(($(info used_memory_dataset))) bytes of the server"
@@ -46,6 +51,7 @@ for round in $(seq "${ROUNDS:-3}"); do
         enter one
         CCK_STORE=$directory timed 'all hits, a directory' 'cckcc gcc'
         CCK_STORE=$server timed 'all hits, the server' 'cckcc gcc'
+        CCK_STORE=$http timed 'all hits, the HTTP server' 'cckcc gcc'
         # Without the entries of this checkout its objects are found by their texts.
         enter two
         ask_server --scan --pattern 'cck:4:entry:*' | xargs redis-cli -p "$port" -n "$database" DEL >/dev/null

@@ -213,17 +213,17 @@ def checkouts(test, server):
 
 def faults(test, server):
     """Faults of a server that has the objects: the call compiles, and each is counted."""
-    def tried(label, changes, least=1, checkout="one"):
-        """A call with these variables, on a new machine. It says nothing, and is no hit."""
+    def fails(label, changes):
+        """A call with these variables, on a new machine."""
         label = f"{server.scheme}: {label}"
-        done = test.compile(label, checkout, "a", test.machine(), **{**server.variables(), **changes})
-        test.check(label, (way_of(done), done.counts["server-failed"] >= least), ("recorded", True))
+        done = test.compile(label, "one", "a", test.machine(), **{**server.variables(), **changes})
+        test.check(label, (way_of(done), done.counts["server-failed"] > 0), ("recorded", True))
         return done
 
     for label, changes in server.faulty():
-        tried(label, changes)
+        fails(label, changes)
     server.pause()
-    done = tried("a slow server", {"CCK_TIMEOUT": "1"})
+    done = fails("a slow server", {"CCK_TIMEOUT": "1"})
     server.resume()
     test.check(f"{server.scheme}: a slow server", "no reply in time" in done.log, True)
     for certificate, wanted in server.certificates_tried():
@@ -235,7 +235,7 @@ def faults(test, server):
         finally:
             other.stop()
     server.stop()
-    tried("no server", {})
+    fails("no server", {})
     server.start()
 
 
@@ -327,13 +327,20 @@ class Processes(threading.Thread):
 
     def __init__(self):
         super().__init__(daemon=True)
-        self.found, self.rounds, self.ends = [], 0, False
+        self.found, self.ends = [], False
 
     def run(self):
         while not self.ends:
             self.found += [words for words in arguments() if any(word in words for word in servers.SECRETS)]
-            self.rounds += 1
             time.sleep(0.01)
+
+    def __enter__(self):
+        self.start()
+        return self
+
+    def __exit__(self, *_):
+        self.ends = True
+        self.join()
 
 
 def arguments():
@@ -354,27 +361,29 @@ def chosen(items, names, name_of):
     return [item for item in items if name_of(item) in names] or items
 
 
+def tried(test, names):
+    """Makes the checks."""
+    if not names or "addresses" in names:
+        addresses(test)
+    certificates = servers.Certificates(test.room / "certificates")
+    for kind in chosen(SERVERS, names, lambda kind: kind.scheme):
+        server = kind(test.room, certificates)
+        try:
+            for check in chosen(CHECKS, names, lambda check: check.__name__):
+                check(test, server)
+        finally:
+            server.stop()
+
+
 def main(names):
     with tempfile.TemporaryDirectory() as room:
         test = Test(os.path.realpath(room))
-        processes = Processes()
-        processes.start()
         # The watch finds a secret that is an argument.
-        subprocess.run(["sh", "-c", "sleep 0.5", servers.SECRETS[0]], check=True)
+        with Processes() as processes:
+            subprocess.run(["sh", "-c", "sleep 0.5", servers.SECRETS[0]], check=True)
         test.check("the watch of arguments", bool(processes.found), True)
-        processes.found.clear()
-        if not names or "addresses" in names:
-            addresses(test)
-        certificates = servers.Certificates(test.room / "certificates")
-        for kind in chosen(SERVERS, names, lambda kind: kind.scheme):
-            server = kind(test.room, certificates)
-            try:
-                for check in chosen(CHECKS, names, lambda check: check.__name__):
-                    check(test, server)
-            finally:
-                server.stop()
-        processes.ends = True
-        processes.join()
+        with Processes() as processes:
+            tried(test, names)
         secrets(test, processes.found)
     print(f"team_servers: {test.passed} passed, {test.failed} failed")
     return 1 if test.failed else 0

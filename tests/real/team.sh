@@ -53,10 +53,29 @@ stop_proxy() {
     proxy=
 }
 
+# Starts an HTTP server that is empty, on a free port.
+start_http() {
+    http_port=$(python3 -c 'import socket; s = socket.socket(); s.bind(("127.0.0.1", 0)); print(s.getsockname()[1])')
+    mkdir -p "$room/http/files"
+    cat >"$room/http/config" <<CONFIG
+daemon off; master_process off; pid $room/http/pid; error_log $room/http/errors; events {}
+http {
+    access_log off; client_body_temp_path $room/http/body; proxy_temp_path $room/http/proxy;
+    fastcgi_temp_path $room/http/fastcgi; uwsgi_temp_path $room/http/uwsgi; scgi_temp_path $room/http/scgi;
+    server { listen 127.0.0.1:$http_port; root $room/http/files; dav_methods PUT; create_full_put_path on;
+        client_max_body_size 200m; }
+}
+CONFIG
+    nginx -c "$room/http/config" -e "$room/http/errors" &
+    http_server=$!
+    wait_until curl -s "http://127.0.0.1:$http_port/" || fault 'nginx does not start'
+}
+
 # Stops all that was started.
 stop_servers() {
     stop_proxy
     stop_server
+    [ -z "${http_server-}" ] || kill "$http_server" 2>/dev/null || :
 }
 
 # Sends a command to the server.
