@@ -31,11 +31,13 @@ FILES = {
 # The programs in whose place a script notes the arguments and the environment, and calls the program.
 WATCHED = ["as", "curl", "redis-cli"]
 WATCH = """#!/bin/sh
+limit=$(ulimit -S -f)
 ulimit -S -f unlimited
 name=${0##*/} here=${0%/*}
 [ "$name" != as ] || env >>"$here/environment"
 printf '%s\\n' "$name" "$@" >>"$here/arguments"
 PATH=${PATH#*:}
+ulimit -S -f "$limit"
 exec "$name" "$@"
 """
 Done = collections.namedtuple("Done", "status outputs log counts")
