@@ -41,7 +41,7 @@ CCK_STORE=$directory timed 'a directory, empty' 'cckcc gcc'
 entries=$(count_of entry)
 echo "$(count_of object) objects and $entries entries take $(($(info used_memory_dataset))) bytes of the server"
 for kind in object entry; do
-    ask_server --scan --pattern "cck:4:$kind:*" | while read -r name; do ask_server STRLEN "$name"; done |
+    ask_server --scan --pattern "cck:5:$kind:*" | while read -r name; do ask_server STRLEN "$name"; done |
         awk -v kind=$kind '{ sum += $1 } END { printf "%s: %d values, %d bytes, %d on average\n", kind, NR, sum, sum / NR }'
 done
 for round in $(seq "${ROUNDS:-3}"); do
@@ -54,10 +54,10 @@ for round in $(seq "${ROUNDS:-3}"); do
         CCK_STORE=$http timed 'all hits, the HTTP server' 'cckcc gcc'
         # Without the entries of this checkout its objects are found by their texts.
         enter two
-        ask_server --scan --pattern 'cck:4:entry:*' | xargs redis-cli -p "$port" -n "$database" DEL >/dev/null
+        ask_server --scan --pattern 'cck:5:entry:*' | xargs redis-cli -p "$port" -n "$database" DEL >/dev/null
         CCK_STORE=$server timed 'all hits by their texts' 'cckcc gcc'
         enter one
-        ask_server --scan --pattern 'cck:4:entry:*' | xargs redis-cli -p "$port" -n "$database" DEL >/dev/null
+        ask_server --scan --pattern 'cck:5:entry:*' | xargs redis-cli -p "$port" -n "$database" DEL >/dev/null
         CCK_STORE=$server timed 'all hits by their texts' 'cckcc gcc'
         make -s -f "$top/tests/real/objects.mk" clean
     done

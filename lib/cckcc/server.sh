@@ -3,7 +3,7 @@
 # rest of the address and ask the server. What is asked for, and what is put, does not depend on the scheme.
 
 # The names at a server have this number, which changes with the formats of the values.
-cck_formats=4
+cck_formats=5
 
 # Sets why the server can't be asked: a word under which this is counted, and what the log says.
 unusable() { cck_unusable=$1 cck_why=$2; }

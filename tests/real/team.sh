@@ -90,7 +90,7 @@ empty() {
 }
 
 # The number of values of this kind.
-count_of() { ask_server --scan --pattern "cck:4:$1:*" | wc -l; }
+count_of() { ask_server --scan --pattern "cck:5:$1:*" | wc -l; }
 
 # A number that the server says of itself.
 info() { ask_server INFO | tr -d '\r' | sed -n "s/^$1://p"; }
