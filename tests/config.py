@@ -12,7 +12,7 @@ import sys
 import tempfile
 
 TOP = pathlib.Path(__file__).resolve().parent.parent
-# `@` is the directory of a case, FILE the configuration file. A file of `None` is missing.
+# `@` is the directory of a case, `%` is `@`, FILE the configuration file. A file of `None` is missing.
 FILE = "@/home/.config/cck/config"
 STAND_IN = """#!/bin/sh
 echo x >> "$HOME/called"
@@ -45,16 +45,40 @@ SHOWN = [
     ("another place of files", "x\n", {"XDG_CONFIG_HOME": "@/other"}, ["(@/other/cck/config:1) CCK_TTL = 9"]),
     ("a place of stores", None, {"XDG_CACHE_HOME": "@/cache"}, ["(default) CCK_STORE = @/cache/cck"]),
     ("a place of stores without a slash", None, {"XDG_CACHE_HOME": "cache"}, ["(default) CCK_STORE = @/home/.cache/cck"]),
+    ("the variables of servers", "CCK_SECRET_FILE = /f\nCCK_CACERT = /a\nCCK_CERT = /c\nCCK_KEY = /k\nCCK_REMOTE_MODE = read\n"
+     "CCK_REMOTE_MAX = 7\n", {}, [f"({FILE}:{line}) CCK_{end}" for line, end in enumerate(
+         ("SECRET_FILE = /f", "CACERT = /a", "CERT = /c", "KEY = /k", "REMOTE_MODE = read", "REMOTE_MAX = 7"), 1)]),
+    ("their defaults", None, {}, ["(default) CCK_REMOTE_MODE = write", "(default) CCK_REMOTE_MAX = 100000000",
+                                  "(default) CCK_SECRET_FILE = "]),
+]
+# Addresses of a server with `%` for each `@`, and how they are shown: without the password, which is or begins with PW.
+ADDRESSES = [
+    ("redis://u:PW%h:1/2", "redis://u:***%h:1/2"),
+    ("redis://:PW%h", "redis://:***%h"),
+    ("rediss://u:PW:a//PW%b%h/0", "rediss://u:***%h/0"),
+    ("rediss://s://s:PW%h", "rediss://s:***%h"),
+    ("rediss://redis:PW%redis:1", "rediss://redis:***%redis:1"),
+    ("redis+unix://u:PW%/a%b:c?db=1", "redis+unix://u:***%/a%b:c?db=1"),
+    ("redis+unix:///a:b%c/d", "redis+unix:///a:b%c/d"),
+    ("https://u:PW%h:1/p", "https://u:***%h:1/p"),
+    ("http://u:PW/PW%h", "http://u:***%h"),
+    ("none://u:PW%h", "none://u:***%h"),
+    ("u:PW%h", "u:***%h"),
+    ("redis:u:PW%h", "redis:***%h"),
+    ("redis://u%h:1", "redis://u%h:1"),
+    ("http://h:1/", "http://h:1/"),
 ]
 # What is wrong with a file, and in which line.
 WRONG = [
-    ("no equals sign", "CCK_TTL = 1\n\nCCK_DIR /d\n", "3: no '=' in: CCK_DIR /d"),
+    ("no equals sign", "CCK_TTL = 1\n\nCCK_DIR /d\n", "3: no '='"),
     ("an unknown name", "CCK_MAX_SIZE = 1G\n", "1: no such variable: CCK_MAX_SIZE"),
     ("a variable that is none of the cache", "PATH = /evil\n", "1: no such variable: PATH"),
-    ("no name", "# x\n= 1\n", "2: no such variable: "),
-    ("a name with a blank", "CCK_TTL x = 1\n", "1: no such variable: CCK_TTL x"),
-    ("a name that would be evaluated", "CCK_TTL$(touch evil) = 1\n", "1: no such variable: CCK_TTL$(touch evil)"),
-    ("export", "export CCK_TTL=1\n", "1: no such variable: export CCK_TTL"),
+    ("no name", "# x\n= 1\n", "2: no name before '='"),
+    ("a name with a blank", "CCK_TTL x = 1\n", "1: no name before '='"),
+    ("a name that would be evaluated", "CCK_TTL$(touch evil) = 1\n", "1: no name before '='"),
+    ("a password", "CCK_STORE redis://u:PW=%h\n", "1: no name before '='"),
+    ("a password without an equals sign", "CCK_STORE redis://u:PW%h\n", "1: no '='"),
+    ("export", "export CCK_TTL=1\n", "1: no name before '='"),
 ]
 # What a file has before and after `--max-size`, and the size.
 SIZES = [
@@ -78,13 +102,16 @@ def size_cases():
         yield Case(f"no size, {size}", "CCK_MAXSIZE = 1\n", {}, f"cckcc --max-size={size}", 2, "", f"cckcc: no size: {size}\n")
     yield Case("a size and the environment", "", {"CCK_MAXSIZE": "1M"}, "cckcc -M 5G", 0, f"CCK_MAXSIZE = 5G in {FILE}\n",
                "cckcc: CCK_MAXSIZE of the environment counts more: 1M\n", "CCK_MAXSIZE = 5G\n")
-    yield Case("a size and a wrong file", "x\n", {}, "cckcc -M 5G", 2, "", f"cckcc: {FILE}:1: no '=' in: x\n")
+    yield Case("a size and a wrong file", "x\n", {}, "cckcc -M 5G", 2, "", f"cckcc: {FILE}:1: no '='\n")
 
 
 def cases():
     """All cases. After a wrong file a command has status 2, and a compilation goes to the compiler."""
     for name, file, variables, lines in SHOWN:
         yield Case(name, file, variables, SHOW, 0, lines, "")
+    for address, shown in ADDRESSES:
+        yield Case(f"the address {address}", None, {"CCK_STORE": address}, SHOW, 0, [f"(environment) CCK_STORE = {shown}"], "")
+        yield Case(f"the line {address}", f"CCK_STORE = {address}\n", {}, SHOW, 0, [f"({FILE}:1) CCK_STORE = {shown}"], "")
     for name, file, message in WRONG:
         for words in (STATS, SHOW, "cckcc"):
             yield Case(f"{name}, {words}", file, {}, words, 2, "", f"cckcc: {FILE}:{message}\n")
@@ -106,7 +133,7 @@ def cases():
 def judge(case, room):
     """What differs from what a case wants, in a directory of its own."""
     def placed(text):
-        return text.replace("@", str(room))
+        return text.replace("@", str(room)).replace("%", "@")
     (room / "home/.config/cck").mkdir(parents=True)
     (room / "other/cck").mkdir(parents=True)
     (room / "other/cck/config").write_text("CCK_TTL = 9\n")
@@ -126,6 +153,8 @@ def judge(case, room):
         yield from (f"no line {placed(line)!r}" for line in case.output if placed(line) not in done.stdout.split("\n"))
     elif done.stdout != placed(case.output):
         yield f"printed {done.stdout!r}"
+    if "PW" in done.stdout:
+        yield "a password is shown"
     file = pathlib.Path(placed(FILE))
     has = file.read_text() if file.exists() else None
     wanted = case.after if case.after is not None else case.file

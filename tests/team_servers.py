@@ -49,7 +49,8 @@ class Test:
     def __init__(self, room):
         self.room, self.passed, self.failed, self.number = pathlib.Path(room), 0, 0, 0
         program = os.environ.get("CCK_PROGRAM", str(TOP / "crates/cck_cache/out/cck_cache"))
-        self.variables = {name: value for name, value in os.environ.items() if not name.startswith(("CCK_", "REDIS"))}
+        self.variables = {name: value for name, value in os.environ.items()
+                          if not name.startswith(("CCK_", "REDIS", "XDG_"))}
         self.seed = pathlib.Path(os.environ.get("DIGESTS", self.room / "seed"))
         self.watch()
         self.variables.update(CCK_PROGRAM=program, PATH=f"{self.seed}:{TOP}/bin:{os.environ['PATH']}", CCK_TIMEOUT="10")
@@ -313,6 +314,17 @@ def damage(test, server):
                 server.set(each, data)
 
 
+def rechecked(test, server):
+    """With CCK_RECHECK a hit of the server is compared with what the compiler makes."""
+    for name in server.values():
+        server.remove(name)
+    for way, checkout in (("recorded", "one"), ("hit", "one"), ("hit, by its text", "two")):
+        label = f"{server.scheme}: recheck, {way}"
+        done = test.compile(label, checkout, "b", test.machine(), **server.variables(), CCK_RECHECK="1")
+        found = way_of(done), done.counts["recheck"], done.counts["recheck-differs"], done.counts["server-failed"]
+        test.check(label, found, (way, int(way != "recorded"), 0, 0))
+
+
 def secrets(test, found):
     """No secret is where another user or the compiler can see it."""
     seen = {name: (test.seed / name).read_text() for name in ("arguments", "environment")}
@@ -355,7 +367,7 @@ def arguments():
 
 
 SERVERS = [servers.Redis, servers.RedisByTls, servers.RedisBySocket, servers.Nginx, servers.NginxByTls]
-CHECKS = [checkouts, faults, http_faults, known, modes, damage]
+CHECKS = [checkouts, faults, http_faults, known, modes, damage, rechecked]
 
 
 def chosen(items, names, name_of):

@@ -1,5 +1,6 @@
 # The options of the wrapper itself. bin/cckcc sources this script, with its words, and has set `cck_program`,
-# `cck_store`, `cck_home`, `cck_configuration` and `cck_origins`, which says what the configuration file set.
+# `cck_store`, the directory, `cck_server`, the address of a server or nothing, `cck_home`, the default of the directory,
+# `cck_configuration` and `cck_origins`, which says what the configuration file set.
 
 print_usage() {
     echo 'usage: cckcc COMPILER ARG..'
@@ -7,8 +8,20 @@ print_usage() {
     echo '       cckcc --show-config | --max-size SIZE'
 }
 
+# Sets CCK_STORE to the address of the server as it may be shown: `***` is in the place of a password.
+hide_password() {
+    find_script server.sh || exit 2
+    . "$cck_script"
+    divide_address
+    CCK_STORE=$cck_server cck_rest=${cck_server#*://}
+    case $cck_user in
+    *:*) CCK_STORE=${cck_server%"$cck_rest"}${cck_user%%:*}:***${cck_rest#"$cck_user"} ;;
+    esac
+}
+
 # Prints each variable, its value, and where it is from. The list has the values of those that nothing sets.
 show_config() {
+    [ -z "$cck_server" ] || hide_password
     while read -r cck_name cck_value; do
         cck_from=default
         case $cck_origins in
@@ -30,6 +43,12 @@ CCK_BASEDIR
 CCK_DISABLE
 CCK_RECHECK
 CCK_DIR
+CCK_SECRET_FILE
+CCK_CACERT
+CCK_CERT
+CCK_KEY
+CCK_REMOTE_MODE write
+CCK_REMOTE_MAX 100000000
 CCK_TTL 2592000
 CCK_TIMEOUT 2
 CCK_DEBUG

@@ -29,21 +29,26 @@ set_variable() {
     esac
 }
 
-# Divides `cck_line` into `cck_name` and `cck_value`. It fails where the line has no `=` or another name.
+# Divides `cck_line` into `cck_name` and `cck_value`. It fails where the line has no `=` or another name. A line may have a
+# password: a message has no more of it than a name.
 divide_line() {
     case $cck_line in
     *=*) ;;
-    *) cck_fault="no '=' in: $cck_line"; return 1 ;;
+    *) cck_fault="no '='"; return 1 ;;
     esac
     cck_name=${cck_line%%=*} cck_value=${cck_line#*=}
     cck_name=${cck_name%"${cck_name##*[! 	]}"} cck_value=${cck_value#"${cck_value%%[! 	]*}"}
     case $cck_name in
     CCK_STORE|CCK_MAXSIZE|CCK_PROGRAM|CCK_LOG|CCK_READ|CCK_BASEDIR|CCK_DISABLE|CCK_RECHECK) ;;
-    CCK_DIR|CCK_TTL|CCK_TIMEOUT|CCK_DEBUG) ;;
+    CCK_DIR|CCK_TTL|CCK_TIMEOUT|CCK_DEBUG|CCK_REMOTE_MODE|CCK_REMOTE_MAX) ;;
+    CCK_SECRET_FILE|CCK_CACERT|CCK_CERT|CCK_KEY) ;;
+    ''|*[!A-Za-z0-9_]*) cck_fault="no name before '='"; return 1 ;;
     *) cck_fault="no such variable: $cck_name"; return 1 ;;
     esac
 }
 
+# The compiler gets no line, also if its caller exported variables of these names.
+unset cck_line cck_value
 cck_number=0 cck_at= cck_fault=
 if [ -r "$cck_configuration" ]; then
     while IFS=' 	' read -r cck_line || [ -n "$cck_line" ]; do

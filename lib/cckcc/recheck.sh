@@ -1,7 +1,8 @@
 # With CCK_RECHECK: runs a call by the cache, and after a hit by the compiler too, and compares what the two made.
-# bin/cckcc sources this script, with the compiler's words, and has set `cck_compiler`, `cck_program`, `cck_store`, and
-# `cck_color`, which is an option of the compiler or nothing. It returns where there is nothing to compare by: a standard
-# stream is closed, or there is no temporary directory.
+# bin/cckcc sources this script, with the compiler's words, and has set `cck_compiler`, `cck_program`, `cck_store`, the
+# directory, `cck_server` and `cck_secret`, the address of a server and a password or nothing, and `cck_color`, which is an
+# option of the compiler or nothing. It returns where there is nothing to compare by: a standard stream is closed, or there
+# is no temporary directory.
 #
 # The compiler gets the words as they are, since other names of its files would change what it makes. So what the hit
 # wrote is put aside first, and what the call leaves is the compiler's.
@@ -15,29 +16,36 @@ tell() {
 # Counts an event of this name in the directory of the store.
 count() { { mkdir -p "$cck_store/counts" && printf . >> "$cck_store/counts/$1"; } 2>/dev/null; }
 
-# Runs the call by the cache, and returns its status. What it writes to standard error and to the log goes to files.
+# Runs the call by the cache, and returns its status. What it writes to standard error and to the log goes to files. Its
+# environment has what bin/cckcc keeps from the compiler.
 run_by_cache() {
-    cck_recheck=0
-    [ -z "$cck_color" ] || cck_recheck=color
-    : > "$cck_room/log"
-    CCK_RECHECK=$cck_recheck CCK_DEBUG='' CCK_LOG=$cck_room/log "$(readlink -f "$0")" "$cck_compiler" "$@" \
-        2> "$cck_room/messages"
+    true > "$cck_room/log"
+    (
+        CCK_RECHECK=0 CCK_DEBUG='' CCK_LOG=$cck_room/log
+        [ -z "$cck_color" ] || CCK_RECHECK=color
+        export CCK_RECHECK CCK_DEBUG CCK_LOG
+        if [ -n "$cck_server" ]; then export CCK_STORE="$cck_server" REDISCLI_AUTH="$cck_secret"; fi
+        exec "$(readlink -f "$0")" "$cck_compiler" "$@"
+    ) 2> "$cck_room/messages"
 }
 
-# Sets the paths of the call. The program prints them, quoted for a shell, in the second line of a miss: that of a
-# store that has nothing but the programs of compilers.
+# Sets the paths of the call. The program prints them, quoted for a shell, in the second line of a miss: that of a new
+# store, which has nothing but the programs of compilers.
 find_paths() {
     mkdir "$cck_room/store" && cp -R "$cck_store/compilers" "$cck_room/store" || return 1
     cck_found=$("$cck_program" look "$cck_room/store" --driver="$cck_compiler" ${CCK_BASEDIR:+--base="$CCK_BASEDIR"} \
         --directory="$PWD" -- $cck_color "$@" | sed -n 2p)
     [ -n "$cck_found" ] && eval "paths $cck_found"
 }
+
+# Takes the words of that line: the input, the object, the dependency file or nothing, and the programs.
 paths() { cck_out=$2 cck_dependencies=$3; }
 
-# Puts aside what the hit wrote. A dependency file that is there is written in place by the compiler.
+# Puts aside what the hit wrote. A dependency file that is there is written in place by the compiler. The command `:` would
+# end the shell where the file can't be opened.
 put_aside() {
     mv -- "$cck_out" "$cck_room/object" || return 1
-    [ -z "$cck_dependencies" ] || { cp -- "$cck_dependencies" "$cck_room/dependencies" && : > "$cck_dependencies"; }
+    [ -z "$cck_dependencies" ] || { cp -- "$cck_dependencies" "$cck_room/dependencies" && true > "$cck_dependencies"; }
 }
 
 # Runs the compiler, and sets `cck_differing` to the words for what it made otherwise.
@@ -82,7 +90,8 @@ esac
 cck_hit=${cck_hit#cckcc: }
 if ! find_paths "$@" || ! put_aside; then
     tell "not rechecked: $cck_hit"
-    exit 1
+    rm -rf "$cck_room"
+    exec "$cck_compiler" $cck_color "$@"
 fi
 compare "$@"
 if [ -n "$cck_differing" ]; then

@@ -15,7 +15,7 @@ read_server() {
     ''|0*|*[!0-9]*) cck_max=100000000 ;;
     *) cck_max=$CCK_REMOTE_MAX ;;
     esac
-    cck_scheme=${cck_server%%:*} cck_address=${cck_server#*://}
+    divide_address
     case $cck_scheme in
     redis|rediss|redis+unix) cck_protocol=redis ;;
     http|https) cck_protocol=http ;;
@@ -36,15 +36,20 @@ read_secret() {
     [ -n "$cck_secret" ] || unusable secret "no line in the file of CCK_SECRET_FILE"
 }
 
-# Reads what comes after the scheme of a Redis server. It has a user before the last `@`, or before `@/` and a path.
-read_redis() {
-    cck_user= cck_host= cck_port= cck_database=
+# Divides the address into a user, with a password if it has one, and the rest: at the last `@`, or before the path of a
+# socket. `cckcc --show-config` calls it too.
+divide_address() {
+    cck_scheme=${cck_server%%:*} cck_address=${cck_server#*://} cck_user=
     case $cck_scheme:$cck_address in
     redis+unix:/*) ;;
     redis+unix:*@/*) cck_user=${cck_address%%@/*} cck_address=/${cck_address#*@/} ;;
-    redis+unix:*) unusable address 'no absolute path of a socket' ;;
     *@*) cck_user=${cck_address%@*} cck_address=${cck_address##*@} ;;
     esac
+}
+
+# Reads the rest of the address of a Redis server.
+read_redis() {
+    cck_host= cck_port= cck_database=
     case $cck_user in
     *:*) cck_secret=${cck_user#*:} cck_user=${cck_user%%:*} ;;
     esac
@@ -77,21 +82,20 @@ read_host() {
 # Reads /PATH[?db=DB].
 read_socket() {
     case $cck_address in
+    /*) ;;
+    *) unusable address 'no absolute path of a socket' ;;
+    esac
+    case $cck_address in
     *\?db=*) cck_database=${cck_address##*\?db=} cck_address=${cck_address%\?db=*} ;;
     esac
     cck_mark=$cck_address
     while [ "$cck_mark" != "${cck_mark#*/}" ]; do cck_mark=${cck_mark%%/*}-${cck_mark#*/}; done
 }
 
-# Reads [USER:PASSWORD@]HOST[:PORT][/PREFIX]. curl reads it again, in a file of options, where `"` and `\` are special.
+# Reads HOST[:PORT][/PREFIX]. curl reads the whole address again, in a file of options, where `"` and `\` are special.
 # The token is that of a file: the variable of redis-cli is of another server.
 read_http() {
-    cck_url=$cck_scheme://${cck_address%/} cck_header= cck_user=
-    case $cck_address in
-    *@*) cck_user=${cck_address%@*} ;;
-    esac
-    cck_address=${cck_address##*@}
-    cck_mark=${cck_address%%/*}
+    cck_url=${cck_server%/} cck_header= cck_mark=${cck_address%%/*}
     case $cck_mark in
     ''|[-:]*) unusable address 'no host' ;;
     esac
@@ -240,9 +244,9 @@ has_http() {
 
 # Writes the file of the kind $1 and the key $2 that the server has to $3, which is empty where it has none.
 get() {
-    : > "$3"
+    true > "$3"
     is_up || return 1
-    "get_$cck_protocol" "$@" || { : > "$3"; return 1; }
+    "get_$cck_protocol" "$@" || { true > "$3"; return 1; }
     [ -s "$3" ]
 }
 
