@@ -445,6 +445,27 @@ write_text() {
     ! grep -q 'might prevent reproducible builds' "$cck_scratch/search" || true > "$cck_scratch/shows-time"
 }
 
+# Whether the object has code for another device: its sections have random names.
+has_random_names() {
+    case " $* " in
+    *' -fopenmp '*|*' -fopenacc '*) grep -q '\.gnu\.offload_lto_' "$cck_out" 2>/dev/null ;;
+    *) return 1 ;;
+    esac
+}
+
+# Whether the compiler may read system headers that no list has: the preprocessor runs no pragma that sets macros of the
+# target, and with -MMD the compiler lists no system headers. Headers of the compiler itself set them back.
+hides_headers() {
+    case " $* " in
+    *' -MMD '*|*-Wp,-MMD*) ;;
+    *) return 1 ;;
+    esac
+    grep -q '# *pragma *GCC *\(target\|optimize\|pop_opt\|reset_opt\)' "$cck_scratch/text" 2>/dev/null || return 1
+    awk '/^# [0-9]+ "/ { is_own = $3 ~ /\/lib\/gcc\// }
+        !is_own && /^[ \t]*#[ \t]*pragma[ \t]+GCC[ \t]+(target|optimize|pop_options|reset_options)/ { found = 1; exit }
+        END { exit !found }' "$cck_scratch/text"
+}
+
 # Whether what the arguments include are regular files: a pipe can't be read by two.
 includes_files() {
     while [ $# -gt 0 ]; do
@@ -486,6 +507,8 @@ cck_refused=
 if [ -s "$cck_scratch/messages" ] && grep -q '/cc[A-Za-z0-9]\{6\}\.s' "$cck_scratch/messages"; then
     cck_refused=temporary-name
 fi
+! has_random_names "$@" || cck_refused=offload
+! hides_headers "$@" || cck_refused=target-pragma
 if [ $cck_status -ne 0 ] || [ -e "$cck_scratch/failed" ]; then
     log "not recorded (status $cck_status): $cck_input"
     count not-recorded-status
