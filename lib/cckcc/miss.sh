@@ -56,6 +56,7 @@ cck_reason=
 # A stream that is closed stays closed for the compiler, whose files may take its number.
 { { true 3>&1; } 2>/dev/null && true 3>&2; } || cck_reason=stream
 command -v "$cck_program" > /dev/null || cck_reason=no-program
+[ -z "$cck_has_specs" ] || cck_reason=variable
 locate as
 cck_assembler=$cck_located
 locate "$cck_compiler"
@@ -453,17 +454,31 @@ has_random_names() {
     esac
 }
 
-# Whether the compiler may read system headers that no list has: the preprocessor runs no pragma that sets macros of the
-# target, and with -MMD the compiler lists no system headers. Headers of the compiler itself set them back.
-hides_headers() {
+# Whether the compiler lists no system headers, so that it may read one that the text does not name.
+lists_no_systems() {
     case " $* " in
     *' -MMD '*|*-Wp,-MMD*) ;;
     *) return 1 ;;
     esac
-    grep -q '# *pragma *GCC *\(target\|optimize\|pop_opt\|reset_opt\)' "$cck_scratch/text" 2>/dev/null || return 1
+}
+
+# Whether a file that is not the compiler's own has a pragma that sets macros of the target: the preprocessor does not run
+# it. The compiler's headers set them back.
+has_target_pragma() {
+    grep -q '# *pragma *GCC *\(target\|optimize\|pop_opt\|reset_opt\)' "$cck_scratch/text" || return 1
     awk '/^# [0-9]+ "/ { is_own = $3 ~ /\/lib\/gcc\// }
         !is_own && /^[ \t]*#[ \t]*pragma[ \t]+GCC[ \t]+(target|optimize|pop_options|reset_options)/ { found = 1; exit }
         END { exit !found }' "$cck_scratch/text"
+}
+
+# Whether the compiler names a system header by a shorter real path, beside which it looks for what that includes. The
+# text has the names that were found.
+renames_headers() {
+    sed -n 's/^# [0-9]* "\(.*\)"[ 0-9]* 3[ 0-9]*$/\1/p' "$cck_scratch/text" | sort -u > "$cck_scratch/systems"
+    xargs -r -d '\n' readlink -f -- < "$cck_scratch/systems" > "$cck_scratch/real" || return 0
+    LC_ALL=C awk 'NR == FNR { size[FNR] = length($0); next }
+        length($0) < size[FNR] { found = 1; exit }
+        END { exit !found }' "$cck_scratch/systems" "$cck_scratch/real"
 }
 
 # Whether what the arguments include are regular files: a pipe can't be read by two.
@@ -508,7 +523,10 @@ if [ -s "$cck_scratch/messages" ] && grep -q '/cc[A-Za-z0-9]\{6\}\.s' "$cck_scra
     cck_refused=temporary-name
 fi
 ! has_random_names "$@" || cck_refused=offload
-! hides_headers "$@" || cck_refused=target-pragma
+if lists_no_systems "$@" && [ ! -e "$cck_scratch/failed" ]; then
+    ! has_target_pragma || cck_refused=target-pragma
+    ! renames_headers || cck_refused=other-file
+fi
 if [ $cck_status -ne 0 ] || [ -e "$cck_scratch/failed" ]; then
     log "not recorded (status $cck_status): $cck_input"
     count not-recorded-status
