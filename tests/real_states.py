@@ -56,6 +56,8 @@ class Project:
             text = "".join(f'#include "h{name}.h"\n' for name in names)
             calls = " + ".join(f"h{name}()" for name in names)
             more = f" + {state}" if number == SOURCES - 1 else ""
+            # The macro is of a header of the system: a line marker of this file says so.
+            text += "#include <stddef.h>\nvoid *p = NULL;\n"
             self.write(f"s{number}.c", f"{text}int s{number}(void) {{ return {calls}{more}; }}\n")
         time.sleep(PAUSE)
 

@@ -429,10 +429,11 @@ fi
 # C. The preprocessor warns of each time macro that it expands, however that is spelled and wherever it is: what a text
 # shows of the time is in no key. It names system headers as they are looked for, and not by a shorter path that links
 # lead to: a header that the compiler names so is not recorded. It also writes each directive that includes a header
-# (-dI), since it may pass over a copy of a header that was read. What is on standard input is for the compiler.
+# (-dI), since it may pass over a copy of a header that was read. A token of a system header's macro is one of the file
+# that uses it, so that no line marker has that as a system header. What is on standard input is for the compiler.
 preprocess() {
     eval "LC_ALL=C \"\$cck_compiler\" $cck_preprocessed" \
-        '-Wdate-time -Wsystem-headers -Wno-error -fno-canonical-system-headers' "$1" \
+        '-Wdate-time -Wsystem-headers -Wno-error -fno-canonical-system-headers -ftrack-macro-expansion=0' "$1" \
         '-dI -E -v -o "$cck_scratch/text"' < /dev/null 2> "$cck_scratch/search" || true > "$cck_scratch/failed"
 }
 
