@@ -450,7 +450,7 @@ write_text() {
 # Whether the object has code for another device: its sections have random names.
 has_random_names() {
     case " $* " in
-    *' -fopenmp '*|*' -fopenacc '*) grep -q '\.gnu\.offload_lto_' "$cck_out" 2>/dev/null ;;
+    *' -fopenmp '*|*' -fopenacc '*) grep -q '\.gnu\.offload_lto_' -- "$cck_out" 2>/dev/null ;;
     *) return 1 ;;
     esac
 }
@@ -463,11 +463,14 @@ lists_no_systems() {
     esac
 }
 
-# Whether a file that is not the compiler's own has a pragma that sets macros of the target: the preprocessor does not run
-# it. The compiler's headers set them back.
+# Whether a file outside the compiler's own directory of headers has a pragma that sets macros of the target: the
+# preprocessor does not run it. The compiler's headers set them back.
 has_target_pragma() {
-    grep -q '# *pragma *GCC *\(target\|optimize\|pop_opt\|reset_opt\)' "$cck_scratch/text" || return 1
-    awk '/^# [0-9]+ "/ { is_own = $3 ~ /\/lib\/gcc\// }
+    grep -q '#[[:blank:]]*pragma[[:blank:]]*GCC[[:blank:]]*\(target\|optimize\|pop_options\|reset_options\)' \
+        "$cck_scratch/text" || return 1
+    cck_own=$("$cck_compiler" -print-file-name=include 2>/dev/null) LC_ALL=C awk '
+        BEGIN { own = ENVIRON["cck_own"] ~ /^\// ? "\"" ENVIRON["cck_own"] "/" : "none" }
+        /^# [0-9]+ "/ { is_own = index($3, own) == 1 }
         !is_own && /^[ \t]*#[ \t]*pragma[ \t]+GCC[ \t]+(target|optimize|pop_options|reset_options)/ { found = 1; exit }
         END { exit !found }' "$cck_scratch/text"
 }
@@ -475,7 +478,8 @@ has_target_pragma() {
 # Whether the compiler names a system header by a shorter real path, beside which it looks for what that includes. The
 # text has the names that were found.
 renames_headers() {
-    sed -n 's/^# [0-9]* "\(.*\)"[ 0-9]* 3[ 0-9]*$/\1/p' "$cck_scratch/text" | sort -u > "$cck_scratch/systems"
+    LC_ALL=C sed -n 's/^# [0-9]* "\(.*\)"[ 0-9]* 3[ 0-9]*$/\1/p' "$cck_scratch/text" | LC_ALL=C sort -u \
+        > "$cck_scratch/systems"
     xargs -r -d '\n' readlink -f -- < "$cck_scratch/systems" > "$cck_scratch/real" || return 0
     LC_ALL=C awk 'NR == FNR { size[FNR] = length($0); next }
         length($0) < size[FNR] { found = 1; exit }

@@ -194,7 +194,9 @@ class Room:
             file.write(text)
         program = self.top + "/late/cck_cache"
         with open(program, "w", encoding="utf-8") as file:
-            file.write(f'#!/bin/sh\n[ "$1" != record ] || cp "{self.top}/late/text" "{self.root}/{path}"\n'
+            # Where a directory is at the path, nothing is written.
+            file.write(f'#!/bin/sh\n[ "$1" != record ] || [ -d "{self.root}/{path}" ] ||\n'
+                       f'cp "{self.top}/late/text" "{self.root}/{path}"\n'
                        f'exec "{PROGRAM}" "$@"\n')
         os.chmod(program, 0o755)
         return program
