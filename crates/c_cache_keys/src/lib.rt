@@ -34,7 +34,7 @@
 //! of calls.
 //!
 //! The interfaces of compilers and stores, and the walk, are re-exported from `cck_compiler`,
-//! `cck_store` and `cck_walk`. There are two stores: [`MapStore`] in memory, and [`EmptyStore`],
+//! `cck_compiler` and `cck_walk`. There are two stores: [`MapStore`] in memory, and [`EmptyStore`],
 //! which keeps nothing. All else that a caller names, such as hash functions, files, times and
 //! options, is in [`cck_util`] and [`cck_entry`], which are re-exported whole. Zones are those of
 //! `jiff`.
@@ -87,11 +87,10 @@ pub use c_compiler::CCompiler;
 pub use call::{CacheControl, HashResult};
 pub use calls::{Call, run_calls};
 pub use cck_compiler::{
-    ArtifactDescriptor, CCompilerImpl, CCompilerKind, ColorMode, CompilerArguments, KeyError,
-    ParsedArguments, PreprocessError,
+    ArtifactDescriptor, CCompilerImpl, CCompilerKind, ColorMode, CompilerArguments, EmptyStore,
+    KeyError, MapStore, ParsedArguments, PreprocessError, PreprocessorStore, StoreError, one_more,
 };
 pub use cck_entry;
-pub use cck_store::{EmptyStore, MapStore, PreprocessorStore, StoreError, one_more};
 pub use cck_util;
 pub use cck_walk::{
     LineAction, Records, Walk, process_preprocessed_file, process_preprocessor_line,

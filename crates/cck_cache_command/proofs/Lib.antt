@@ -1,4 +1,3 @@
-pub mod AbsenceLemmas
 pub mod CallLemmas
 pub mod IncludedLemmas
 pub mod InputLemmas
@@ -6,6 +5,3 @@ pub mod LookLemmas
 pub mod NamingLemmas
 pub mod RecordLemmas
 pub mod RequestLemmas
-pub mod SearchedLemmas
-pub mod SourceTestLemmas
-pub mod UnnamedLemmas

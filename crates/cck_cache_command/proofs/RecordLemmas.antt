@@ -7,7 +7,7 @@ use Rattle.cck_cache_rules.specs.Base.{WordLists, word_lists}
 use Rattle.cck_cache_rules.specs.Text.{AreBases}
 use Rattle.cck_cache_rules.specs.declared.base.Words.{Words}
 use Rattle.cck_cache_command.proofs.InputLemmas.{calm_kept, calm_stays, without_fault}
-use Rattle.cck_cache_command.specs.Copies.{IsCopiesVerdict}
+use Rattle.cck_cache_paths.specs.Copies.{IsCopiesVerdict}
 use Rattle.cck_cache_command.specs.Input.{IsCalm, IsInput, NoFault}
 use Rattle.cck_cache_command.specs.Record.{AreFilesOf, AreGathered, HasPathTests, HasAskedTests, HasUnnamedTests, IsAsked, IsLocalTime, IsOneDay, IsOutcome, IsOutcomeOver, ObjectShowsBase, ReadsAlone}
 use Rattle.cck_cache_command.specs.Request.{IsRequest, request_words}

@@ -26,7 +26,7 @@ use Rattle.cck_entry.specs.Entry.{Entry, EntryText}
 use Rattle.cck_entry.specs.Statuses.{Statuses}
 use Rattle.cck_files.specs.FileMap.{FileMap}
 use Rattle.cck_path.specs.Bytes.{Bytes}
-use Rattle.cck_store.specs.MapStore.{State, map_store}
+use Rattle.cck_compiler.specs.MapStore.{State, map_store}
 use Rattle.c_cache_keys.specs.Call.{Keyed}
 use Rattle.c_cache_keys.specs.declared.call.CacheControl.TheVariants.{Default}
 use Rattle.c_cache_keys.specs.declared.hasher.opening.PreprocessorKey.{PreprocessorKey}

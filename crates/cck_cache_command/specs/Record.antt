@@ -3,13 +3,13 @@ use Rattle.std.specs.Prelude.{◌≡◌, ◌++◌, ◌⊎◌, ℤ, pos, ◌*ℤ�
 use Rattle.std.specs.declared.alloc.Global.{Global}
 use Rattle.cck_cache_rules.specs.Shown.{ShowsBase}
 use Rattle.cck_cache_rules.specs.Text.{AreBases}
-use Rattle.cck_cache_command.specs.Absence.{AreTestsOf, IsRefusedByPath}
-use Rattle.cck_cache_command.specs.Copies.{IsCopiesVerdict}
+use Rattle.cck_cache_paths.specs.Absence.{AreTestsOf, IsRefusedByPath}
+use Rattle.cck_cache_paths.specs.Copies.{IsCopiesVerdict}
 use Rattle.cck_cache_command.specs.Input.{IsCalm, IsInput, NoFault}
 use Rattle.cck_cache_command.specs.Naming.{IsNameIn}
-use Rattle.cck_cache_command.specs.Tested.{AreAskedTests, IsRefusedBySource}
+use Rattle.cck_cache_paths.specs.Tested.{AreAskedTests, IsRefusedBySource}
 use Rattle.cck_cache_command.specs.Request.{IsKeyOver, IsRequest, key_over, request_words}
-use Rattle.cck_cache_command.specs.Unnamed.{AreUnnamedTests, IsRefusedByUnnamed}
+use Rattle.cck_cache_paths.specs.Unnamed.{AreUnnamedTests, IsRefusedByUnnamed}
 use Rattle.cck_cache_command.specs.declared.environment.Environment.{Environment}
 use Rattle.cck_cache_command.specs.declared.record.InputVerdict.{InputVerdict}
 use Rattle.cck_cache_command.specs.declared.record.InputVerdict.TheVariants.{Key, Refused as KeyRefused}

@@ -5,10 +5,8 @@
 //! a text. What is missing from a snapshot can only make a look-up miss or a compilation be refused.
 #![tactic(auto)]
 
-mod absence;
 mod call;
 mod changed;
-mod copies;
 mod entry_place;
 mod environment;
 mod included;
@@ -19,18 +17,14 @@ mod look;
 mod naming;
 mod outputs;
 mod places;
-mod preprocessed;
 mod program;
 mod programs;
 mod prune;
 mod record;
 mod request;
 mod response;
-mod searched;
 mod stats;
 mod store;
-mod tested;
-mod unnamed;
 mod unpack;
 mod why;
 

@@ -12,22 +12,21 @@ ghost use Rattle.cck_files.specs.FileState.{IsQuiet, fault_count};
 ghost use Rattle.cck_path.specs.Bytes.{lists_of};
 ghost use Rattle.jiff.specs.Words.{plain_zone};
 
-use crate::absence::{Absence, absence_of, all_tests};
-use crate::copies::may_have_copies;
 use crate::entry_place::place_for;
 use crate::environment::Environment;
 use crate::input::input_snapshot;
 use crate::naming::name_in;
-use crate::preprocessed::Preprocessed;
 use crate::request::{base_words, hasher_of, snapshot_request};
-use crate::tested::{Tested, tested_by};
-use crate::unnamed::{Unnamed, unnamed_by};
 use anyhow::Result;
 use c_cache_keys::PreprocessorKey;
 use cck_cache_arguments::{Compilation, Made, Request};
 use cck_cache_files::{
     Kind, PathStates, StoreDirectory, TextStatuses, add_directory_statuses, add_named_files,
     compared_paths, entry_name, text_statuses,
+};
+use cck_cache_paths::{
+    Absence, Preprocessed, Tested, Unnamed, absence_of, all_tests, may_have_copies, tested_by,
+    unnamed_by,
 };
 use cck_cache_rules::{
     EntryFile, Known, ObjectFile, PathStatus, PathTest, Refusal, bases_of, refusal_of, shows_base,

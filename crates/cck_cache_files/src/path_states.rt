@@ -15,7 +15,7 @@ use std::rt::Files;
 /// What there is at a path.
 #[derive(Debug, Clone, Copy, PartialEq, Eq)]
 pub enum PathState {
-    /// Nothing.
+    /// Nothing, and no file on the way to it.
     Absent,
     /// A link that last changed before the given time.
     Link,
@@ -75,7 +75,8 @@ fn state_found(found: &Metadata, is_old: bool) -> PathState
     }
 }
 
-// The state of a path. A link at the path itself is not followed.
+// The state of a path. A link at the path itself is not followed. A path below a file is in doubt: a compiler
+// passes over a header there, and ends with an error for a directory of its search list.
 fn look_at<R: Files>(rt: &R, path: &[u8], since: Timestamp) -> PathState
     ensures { ¬ (IsUtf8 path.now) → result ≡ PathState.Doubtful }
 {
@@ -84,7 +85,6 @@ fn look_at<R: Files>(rt: &R, path: &[u8], since: Timestamp) -> PathState
     };
     match fs::symlink_metadata(rt, path) {
         Err(error) if error.kind() == ErrorKind::NotFound => PathState::Absent,
-        Err(error) if error.kind() == ErrorKind::NotADirectory => PathState::Absent,
         Err(_) => PathState::Doubtful,
         Ok(found) => {
             let (modified, changed) = (modified(&found), changed(&found));

@@ -5,12 +5,12 @@ ghost use Rattle.cck_cache_rules.specs.PathTest.{test_of, tests_of};
 ghost use Rattle.cck_cache_rules.specs.PathTest as spec;
 ghost use Rattle.cck_cache_files.specs.PathTests.{Fails, Holds, IsFirstFailing};
 
-use crate::path_states::{is_absent, is_directory, is_file, is_plain_file};
+use crate::path_states::{PathStates, is_absent, is_directory, is_file, is_plain_file};
 use crate::path_statuses::is_in_unchanged_directory;
 use crate::real_paths::leads_to;
 use crate::searched::SearchedDirectories;
 use cck_cache_rules::PathTest;
-use cck_path::{Metadata, PathMap};
+use cck_path::{Metadata, PathMap, Timestamp};
 use std::alloc::AllocError;
 use std::rt::Files;
 
@@ -37,6 +37,7 @@ fn holds<R: Files + AllocGlobal>(
     rt: &R,
     known: &PathMap<Metadata>,
     searched: &mut SearchedDirectories,
+    states: &mut PathStates,
     test: &PathTest,
 ) -> Result<bool, AllocError>
     ensures { IfOk result (λ held. MatchBool held
@@ -51,7 +52,7 @@ fn holds<R: Files + AllocGlobal>(
         PathTest::Plain(path) => Ok(
             is_in_unchanged_directory(known, path) || is_plain_file(rt, path),
         ),
-        PathTest::Real { path, real } => leads_to(rt, path, real),
+        PathTest::Real { path, real } => leads_to(rt, states, path, real),
     }
 }
 
@@ -69,8 +70,10 @@ pub fn first_failing<'a, R: Files + AllocGlobal>(
         IsFirstFailing (tests_of tests.now) (option_map (λ t. test_of t.now) found)) }
 {
     let mut searched = SearchedDirectories::new(rt);
+    // A directory counts whenever it changed.
+    let mut states = PathStates::new(rt, Timestamp::new(i64::MAX, 0));
     for test in tests {
-        if !holds(rt, known, &mut searched, test)? {
+        if !holds(rt, known, &mut searched, &mut states, test)? {
             return Ok(Some(test));
         }
     }

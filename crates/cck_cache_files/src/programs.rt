@@ -9,7 +9,7 @@ ghost use Rattle.std.specs.Prelude.{◌≡◌, ◌↔◌, IfOk, IsTrue, List, Ma
 ghost use Rattle.std.specs.Option.{option_map};
 ghost use Rattle.cck_cache_files.specs.Programs.{ArePlaces, IsContext, IsLastPart, IsLine, IsListPath, IsListRead, StartsLine, absolute, may_execute, place_in};
 
-use crate::times::{is_before, modified};
+use crate::times::{changed, changed_before, modified};
 use cck_path::Timestamp;
 use std::alloc::{AllocError, Global};
 use std::fs;
@@ -252,16 +252,20 @@ fn locate<R: Files + AllocGlobal>(
     Ok(Located::Nowhere)
 }
 
-// Whether what is at a path was last modified before this time. What is not there, or can't be looked at,
-// was not.
+// Whether what was found last changed before this time, by both of its times: a program sets that of modification.
+fn is_old(found: &Metadata, since: Timestamp) -> bool {
+    changed_before(modified(found), changed(found), since)
+}
+
+// Whether what is at a path last changed before this time. What is not there, or can't be looked at, did not.
 fn is_older<R: Files>(rt: &R, path: &str, since: Timestamp) -> bool {
     match fs::metadata(rt, path) {
-        Ok(found) => is_before(modified(&found), since),
+        Ok(found) => is_old(&found, since),
         Err(_) => false,
     }
 }
 
-// Whether none of these directories, with colons between them, was modified at this time or later.
+// Whether none of these directories, with colons between them, changed at this time or later.
 fn are_older<R: Files>(rt: &R, directories: &str, since: Timestamp) -> bool {
     for directory in directories.split(':') {
         if !is_older(rt, directory, since) {
@@ -274,7 +278,7 @@ fn are_older<R: Files>(rt: &R, directories: &str, since: Timestamp) -> bool {
 // Whether the system's list of libraries was not changed at this time or later. A system may have none.
 fn has_old_libraries<R: Files>(rt: &R, since: Timestamp) -> bool {
     match fs::metadata(rt, LIBRARIES) {
-        Ok(found) => is_before(modified(&found), since),
+        Ok(found) => is_old(&found, since),
         Err(error) => error.kind() == ErrorKind::NotFound,
     }
 }
@@ -292,7 +296,7 @@ fn leads_to<R: Files>(rt: &R, path: &str, status: &Metadata) -> bool {
 // since the list was written.
 fn is_current<R: Files>(rt: &R, listed: &Listed<'_>, status: &Metadata, since: Timestamp) -> bool {
     leads_to(rt, listed.file, status)
-        && is_before(modified(status), since)
+        && is_old(status, since)
         && (listed.programs == UNKNOWN || are_older(rt, listed.directories, since))
         && has_old_libraries(rt, since)
 }
@@ -331,7 +335,7 @@ fn kept_in<R: Files + AllocGlobal>(
 /// directory and with these variables. What is kept counts only if it was kept for the same compiler, the
 /// same assembler and the same variables, and the compiler is still the same file; and only if since then
 /// neither the compiler, nor a directory in which it looks for programs, nor the system's list of libraries
-/// was modified.
+/// changed.
 ///
 /// The only error is lack of memory.
 pub fn kept_programs<R: Files + AllocGlobal>(

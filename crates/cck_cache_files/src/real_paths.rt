@@ -5,13 +5,13 @@
 //! changes what is compiled, though each header is found with its contents.
 //!
 //! Source: `-fno-canonical-system-headers` of the manual of GCC's preprocessor.
-ghost use Rattle.std.specs.Prelude.{◌≡◌, IfOk, IfSome, IsOkUnless, IsTrue, IsUtf8, MatchOption, OnOk};
+ghost use Rattle.std.specs.Prelude.{◌≡◌, IfOk, IfSome, IsOkUnless, IsTrue, IsUtf8, MatchOption, OnOk, false};
 ghost use Rattle.cck_cache_rules.specs.PathTest.{tests_of};
 ghost use Rattle.cck_cache_text.specs.Sets.{has_key};
 ghost use Rattle.cck_cache_files.specs.RealPaths.{ArePlaced, GainsPlace, GainsReal, HasReal, IsPathOf};
 ghost use Rattle.cck_path.specs.Bytes.{Bytes};
 
-use crate::path_states::is_plain_file;
+use crate::path_states::{PathStates, is_plain_file};
 use cck_cache_rules::PathTest;
 use cck_cache_text::directory_of;
 use cck_digest::UtilError;
@@ -43,19 +43,39 @@ fn real_path<R: Files + AllocGlobal>(rt: &R, path: &[u8]) -> Result<Option<Vec<u
     }
 }
 
-/// Whether a path leads to this one, all links followed. `false` where that can't be known.
+/// Whether a path leads to this one, all links followed. `false` where that can't be known. The path of a directory that
+/// is written as it is, with a slash at its end, is looked at in the states, each part once.
 ///
 /// The only error is lack of memory.
 pub fn leads_to<R: Files + AllocGlobal>(
     rt: &R,
+    states: &mut PathStates,
     path: &[u8],
     real: &[u8],
 ) -> Result<bool, AllocError>
     ensures { IfOk result (λ leads. IsTrue leads → IsUtf8 path.now) }
 {
+    let Ok(text) = std::str::from_utf8(path) else {
+        return Ok(false);
+    };
+    let is_written = path.len() == real.len() + 1 && path.starts_with(real) && path.ends_with(b"/");
+    if is_written && !states.has_other(rt, path)? {
+        return Ok(true);
+    }
+    match fs::canonicalize(rt, text) {
+        Ok(found) => Ok(found.as_str().as_bytes() == real),
+        Err(_) => Ok(false),
+    }
+}
+
+// Whether GCC names the system header at a path by its real path in place of this name: that is shorter. `true` where
+// that can't be known.
+fn is_renamed<R: Files + AllocGlobal>(rt: &R, path: &[u8], name: &[u8]) -> Result<bool, AllocError>
+    ensures { IfOk result (λ renamed. renamed ≡ false → IsUtf8 path.now) }
+{
     match real_path(rt, path)? {
-        Some(found) => Ok(found.as_slice() == real),
-        None => Ok(false),
+        Some(real) => Ok(real.len() < name.len()),
+        None => Ok(true),
     }
 }
 
@@ -89,10 +109,19 @@ impl LinkTests {
         Ok(true)
     }
 
-    // Adds the tests of the links on the way to the file at a path. Returns `false` where they can't be known.
-    fn add<R: Files + AllocGlobal>(&mut self, rt: &R, path: &[u8]) -> Result<bool, AllocError>
+    // Adds the tests of the links on the way to the file at a path, which has this name. Returns `false` where they
+    // can't be known, or GCC has another name for the file.
+    fn add<R: Files + AllocGlobal>(
+        &mut self,
+        rt: &R,
+        path: &[u8],
+        name: &[u8],
+    ) -> Result<bool, AllocError>
         ensures { IfOk result (λ known. IsTrue known → GainsPlace self.old path.now self.new) }
     {
+        if is_renamed(rt, path, name)? {
+            return Ok(false);
+        }
         if is_plain_file(rt, path) {
             self.plain.push(PathTest::Plain(path.to_vec(rt.alloc())?))?;
             let known = self.add_real(rt, directory_of(path))?;
@@ -105,7 +134,7 @@ impl LinkTests {
 
 /// The tests of the links on the way to the files of these names, which are relative to a directory: of each that
 /// is no link itself, that it is none, and where its directory leads; of another one, where it leads. `None`
-/// where it is not known where one of them leads.
+/// where it is not known where one of them leads, or its real path is shorter than its name.
 ///
 /// The only error is [`UtilError::Memory`].
 pub fn link_tests<R: Files + AllocGlobal>(
@@ -125,7 +154,7 @@ pub fn link_tests<R: Files + AllocGlobal>(
     };
     for name in names {
         let path = join_path(alloc, directory, name)?;
-        if !tests.add(rt, &path)? {
+        if !tests.add(rt, &path, name)? {
             return Ok(None);
         }
     }

@@ -43,7 +43,7 @@ fn is_earlier(time: Timestamp, since: Timestamp) -> bool
 }
 
 /// Whether a time is known, and before this one.
-pub fn is_before(time: Option<Timestamp>, since: Timestamp) -> bool
+fn is_before(time: Option<Timestamp>, since: Timestamp) -> bool
     ensures { IsTrue result ↔ IsTimeBefore time since }
 {
     match time {

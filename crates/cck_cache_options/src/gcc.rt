@@ -109,6 +109,9 @@ pub const GCC: &[u8] = b"\
 -Wp,-D_FORTIFY_SOURCE=2 alone text\n\
 -Wp,-D_FORTIFY_SOURCE=3 alone text\n\
 -Wp,-U_FORTIFY_SOURCE alone text\n\
+-Wp,-U_FORTIFY_SOURCE,-D_FORTIFY_SOURCE=1 alone text\n\
+-Wp,-U_FORTIFY_SOURCE,-D_FORTIFY_SOURCE=2 alone text\n\
+-Wp,-U_FORTIFY_SOURCE,-D_FORTIFY_SOURCE=3 alone text\n\
 -Wp,-D_GLIBCXX_ASSERTIONS alone text\n\
 -Xpreprocessor separate passed-preprocessor-option\n\
 -remap alone passed-preprocessor-option\n\
@@ -144,7 +147,7 @@ pub const GCC: &[u8] = b"\
 -ftest-coverage alone passed-profile\n\
 --coverage alone passed-profile\n\
 -coverage alone passed-profile\n\
--Winvalid-pch alone passed-precompiled\n\
+-Winvalid-pch alone message\n\
 -fpch either passed-precompiled\n\
 -emit-pch alone passed-precompiled\n\
 -fmodules either passed-precompiled\n\

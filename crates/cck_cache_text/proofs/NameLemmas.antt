@@ -1,22 +1,17 @@
 -- The names of a text, one mark after the other.
-use Rattle.std.proofs.Common.{◌≡◌, ℕ, zero, suc, ◌<◌, ◌⊎◌, inl, inr, Bool, true, false, not, cond, ◌&&◌, ◌||◌, ◌==◌, List, [], ◌∷◌, ◌++◌, Bor, IsTrue, length, take, get_or, Option, Some, None, refl, sym, ap, ◌∙◌, arith, subst}
+use Rattle.std.proofs.Common.{◌≡◌, ℕ, zero, suc, ◌<◌, ◌⊎◌, inl, inr, Bool, true, false, not, cond, ◌&&◌, ◌||◌, ◌==◌, List, [], ◌∷◌, ◌++◌, Bor, IsTrue, length, take, get_or, Option, Some, None, refl, sym, ap, ◌∙◌, arith}
 use Rattle.std.specs.List.{list_any}
 use Rattle.std.specs.Option.{is_some}
 use Rattle.std.specs.Str.{bytes_eq}
 use Rattle.std.proofs.lemmas.Bool.{or_left, or_right}
 use Rattle.std.proofs.lemmas.Slice.Eq.{bytes_eq-Decides}
-use Rattle.std.specs.BTreeSet.{BTreeSet}
-use Rattle.std.specs.Global.{Vec}
-use Rattle.std.specs.Prelude.{Contains}
-use Rattle.std.proofs.lemmas.List.Elements.{Contains-append_left, Contains-push, Contains-push_cases}
 use Rattle.cck_markers.specs.Marks.{Mark, Name, Refusal, Malformed}
 use Rattle.cck_markers.specs.Markers.{mark_of}
 use Rattle.cck_markers.specs.declared.mark.Mark as declared
 use Rattle.cck_markers.specs.declared.mark.Mark.TheVariants as variant
-use Rattle.cck_cache_text.specs.Names.{AreNames, IsMarkedSystem, directory_of, first_of_name, is_named, is_no_file, is_place, is_some_true, is_system_name}
-use Rattle.cck_cache_text.specs.Sets.{Adds, IsSetOf, has_key}
+use Rattle.cck_cache_text.specs.Names.{AreNames, directory_of, first_of_name, is_named, is_no_file, is_place, is_some_true, is_system_name}
+use Rattle.cck_cache_text.specs.Sets.{has_key}
 use Rattle.cck_cache_text.specs.declared.names.Named.{Named}
-use Rattle.cck_cache_text.proofs.SetLemmas.{adds_as, adds_nothing}
 
 abbrev first_or : Option Bool → Option Bool → Option Bool
 first_or None o = o
@@ -286,66 +281,3 @@ last_slash (byte ∷ name) zero within here none =
 last_slash (byte ∷ name) (suc k) within here none =
     ap (λ d. byte ∷ d) (last_slash name k (omega arith) here (λ j above lt. none (suc j) (omega arith) (omega arith)))
     ∙ sym (ap (λ b. cond b (byte ∷ directory_of name) []) (slashed (byte ∷ name) (suc k) within here))
-
--- ---- the system headers
-
--- a name that is added, unless it is of no file
-abbrev pub IsFileName : List ℕ → List ℕ → Type 0
-IsFileName n q = (q ≡ n) × (is_no_file n ≡ false)
-
-not_both : true ≡ false → ⊥
-not_both e = cc
-
-module _ (n : List ℕ) where
-  pub no_file_name : (names : BTreeSet (Vec ℕ)) → is_no_file n ≡ true → Adds (IsFileName n) names names
-  no_file_name names none = adds_nothing (IsFileName n) names (λ q p. not_both (sym none ∙ p.1))
-
-  pub known_file_name : (names : BTreeSet (Vec ℕ)) → IsTrue (has_key names n) → Adds (IsFileName n) names names
-  known_file_name names has q = (
-    λ h. inr h,
-    λ p. elim p [
-      | inl a ↦ subst (λ (m : List ℕ). IsTrue (has_key names m)) (sym a.0) has
-      | inr b ↦ b
-    ],
-  )
-
-  pub new_file_name : (old new : BTreeSet (Vec ℕ)) (k : Vec ℕ) → k.items ≡ n → is_no_file n ≡ false → Adds (λ q. q ≡ k.items) old new → Adds (IsFileName n) old new
-  new_file_name old new k same file adds = adds_as (λ q. q ≡ k.items) (IsFileName n) old new (λ q p. (p ∙ same, file)) (λ q p. p.0 ∙ sym same) adds
-
-  -- a mark of a system header
-  pub system_added : (done : List Mark) (old new : BTreeSet (Vec ℕ)) → Adds (IsFileName n) old new → IsSetOf (IsMarkedSystem done) old → IsSetOf (IsMarkedSystem (done ++ Name n true ∷ [])) new
-  system_added done old new adds are q = (
-    λ has. elim ((adds q).0 has) [
-      | inl here ↦ (
-        subst (λ (m : List ℕ). Contains (done ++ Name n true ∷ []) (Name m true)) (sym here.0) (Contains-push done (Name n true)),
-        subst (λ (m : List ℕ). is_no_file m ≡ false) (sym here.0) here.1,
-      )
-      | inr before ↦ (let at = (are q).0 before in (Contains-append_left done (Name n true ∷ []) (Name q true) at.0, at.1))
-    ],
-    λ marked. elim (Contains-push_cases done (Name n true) (Name q true) marked.0) [
-      | inl before ↦ (adds q).1 (inr ((are q).1 (before, marked.1)))
-      | inr same ↦ (let at : q ≡ n = cc in (adds q).1 (inl (at, subst (λ (m : List ℕ). is_no_file m ≡ false) at marked.1)))
-    ],
-  )
-
--- another mark
-pub system_as_before : (done : List Mark) (mark : Mark) (names : BTreeSet (Vec ℕ)) → ((q : List ℕ) → mark ≡ Name q true → ⊥) → IsSetOf (IsMarkedSystem done) names → IsSetOf (IsMarkedSystem (done ++ mark ∷ [])) names
-system_as_before done mark names none are q = (
-  λ has. let at = (are q).0 has in (Contains-append_left done (mark ∷ []) (Name q true) at.0, at.1),
-  λ marked. elim (Contains-push_cases done mark (Name q true) marked.0) [
-    | inl before ↦ (are q).1 (before, marked.1)
-    | inr same ↦ absurd (none q same)
-  ],
-)
-
-pub no_system_name : (n : List ℕ) (s : Bool) → s ≡ false → (q : List ℕ) → Name n s ≡ Name q true → ⊥
-no_system_name n s is q same = let both : s ≡ true = cc in not_both (sym both ∙ is)
-
-pub no_name_mark : (mark : declared.Mark) → ((name : Bor (List ℕ)) (s : Bool) → mark ≡ variant.Name name s → ⊥) → (q : List ℕ) → mark_of mark ≡ Name q true → ⊥
-no_name_mark (variant.Name name s) none q same = absurd (none name s refl)
-no_name_mark variant.Refusal none q same = cc
-no_name_mark variant.Malformed none q same = cc
-
--- no mark
-pub no_system : (names : BTreeSet (Vec ℕ)) → ((q : List ℕ) → has_key names q ≡ false) → IsSetOf (IsMarkedSystem []) names
-no_system names none q = (λ has. absurd (not_both (sym has ∙ none q)), λ marked. absurd (omega (arith, marked.0.1)))

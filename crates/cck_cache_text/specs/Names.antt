@@ -1,6 +1,6 @@
 -- the files that a preprocessed text names
-use Rattle.std.specs.Prelude.{◌≡◌, ℕ, Bool, false, not, ◌&&◌, ◌||◌, ◌==◌, if◌then◌else◌, List, [], ◌∷◌, Contains, length, Option, Some, None, codes, nat_eq, is_some, true}
-use Rattle.std.specs.List.{list_any, starts_with, ends_with}
+use Rattle.std.specs.Prelude.{◌≡◌, ℕ, Bool, false, not, ◌&&◌, ◌||◌, ◌==◌, if◌then◌else◌, List, [], ◌∷◌, length, Option, Some, None, codes, nat_eq, is_some, true}
+use Rattle.std.specs.List.{list_any, ends_with}
 use Rattle.std.specs.Str.{bytes_eq}
 use Rattle.cck_markers.specs.Marks.{Mark, Name, Refusal, Malformed}
 use Rattle.cck_cache_text.specs.Sets.{has_key}
@@ -13,9 +13,9 @@ first_of_name name (Name other is_system_in ∷ marks) = if bytes_eq name other 
 first_of_name name (Refusal ∷ marks) = first_of_name name marks
 first_of_name name (Malformed ∷ marks) = first_of_name name marks
 
--- a name of no file: none, one such as `<built-in>`, or that of a working directory, which ends in two slashes
+-- a name of no file: none, that of the macros of GCC or of its arguments, or that of a working directory, which ends in two slashes
 abbrev pub is_no_file : List ℕ → Bool
-is_no_file name = length name == 0 || starts_with nat_eq name (codes "<") || ends_with nat_eq name (codes "//")
+is_no_file name = length name == 0 || (bytes_eq name (codes "<built-in>") || (bytes_eq name (codes "<command-line>") || ends_with nat_eq name (codes "//")))
 
 -- a mark names this file
 abbrev pub is_named : List Mark → List ℕ → Bool
@@ -28,10 +28,6 @@ is_some_true (Some b) = b
 -- a mark names this file, and the first one that does says that it is a system header
 abbrev pub is_system_name : List Mark → List ℕ → Bool
 is_system_name marks name = not (is_no_file name) && is_some_true (first_of_name name marks)
-
--- a mark has the name of this file as that of a system header
-abbrev pub IsMarkedSystem : List Mark → List ℕ → Type 0
-IsMarkedSystem marks name = Contains marks (Name name true) × (is_no_file name ≡ false)
 
 -- a name up to its last slash, which is part of it
 abbrev pub directory_of : List ℕ → List ℕ

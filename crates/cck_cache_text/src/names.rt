@@ -2,8 +2,8 @@
 ghost use Rattle.std.specs.Prelude.{◌≡◌, ◌∷◌, ◌++◌, [], IfOk, List, OnOk, false, true, ℕ};
 ghost use Rattle.cck_markers.specs.Marks as spec;
 ghost use Rattle.cck_markers.specs.Marks.{Marks};
-ghost use Rattle.cck_cache_text.specs.Names.{AreNames, IsMarkedSystem, directory_of, is_named, is_no_file};
-ghost use Rattle.cck_cache_text.specs.Sets.{Adds, IsSetOf, has_key};
+ghost use Rattle.cck_cache_text.specs.Names.{AreNames, directory_of, is_named, is_no_file, is_system_name};
+ghost use Rattle.cck_cache_text.specs.Sets.{has_key};
 
 use cck_markers::{Mark, Markers};
 use memchr::memrchr;
@@ -22,11 +22,16 @@ pub struct Named {
     pub directories: BTreeSet<Vec<u8>>,
 }
 
-// Whether a name is of no file: `<built-in>` and the like, or a working directory.
+// The names that GCC gives to the macros that it defines itself, and to those of its arguments.
+const BUILT_IN: &[u8] = b"<built-in>";
+
+const COMMAND_LINE: &[u8] = b"<command-line>";
+
+// Whether a name is of no file: one of these two, or a working directory.
 fn is_no_file(name: &[u8]) -> bool
     ensures { result ≡ is_no_file name.now }
 {
-    name.is_empty() || name.starts_with(b"<") || name.ends_with(b"//")
+    name.is_empty() || name == BUILT_IN || name == COMMAND_LINE || name.ends_with(b"//")
 }
 
 // A name up to its last slash, which is part of it.
@@ -91,7 +96,7 @@ pub fn names_in(alloc: Global, text: &[u8]) -> Result<Named, AllocError>
 }
 
 /// The names of the files that this preprocessed text names, in order and each once: no name of no
-/// file, such as `<built-in>`, and no working directory.
+/// file, which are `<built-in>` and `<command-line>`, and no working directory.
 ///
 /// The only error is lack of memory.
 pub fn file_names(alloc: Global, text: &[u8]) -> Result<BTreeSet<Vec<u8>>, AllocError>
@@ -106,36 +111,19 @@ pub fn file_names(alloc: Global, text: &[u8]) -> Result<BTreeSet<Vec<u8>>, Alloc
     Ok(names)
 }
 
-// Adds a name, unless it is of no file.
-fn add_file_name(
-    alloc: Global,
-    names: &mut BTreeSet<Vec<u8>>,
-    name: &[u8],
-) -> Result<(), AllocError>
-    ensures { OnOk result (Adds (λ added. (added ≡ name.now) × (is_no_file name.now ≡ false)) names.old names.new) }
-{
-    if is_no_file(name) || names.contains(name) {
-        return Ok(());
-    }
-    names.insert(name.to_vec(alloc)?)?;
-    Ok(())
-}
-
-/// The names that a mark of this preprocessed text has as that of a system header, in order and each once: also
-/// those that an earlier mark has as that of another file.
+/// The names of the files that this preprocessed text names first as a system header, in order and each once. A later
+/// mark of one of these, or of another name, does not count: GCC also marks a token so that a macro of a system header
+/// makes.
 ///
 /// The only error is lack of memory.
 pub fn system_names(alloc: Global, text: &[u8]) -> Result<BTreeSet<Vec<u8>>, AllocError>
     ensures { IfOk result (λ names. (marks : List spec.Mark) → Marks true text.now marks
-        → IsSetOf (IsMarkedSystem marks) names) }
+        → (name : List ℕ) → has_key names name ≡ is_system_name marks name) }
 {
-    let mut names = BTreeSet::new(alloc);
-    for mark in Markers::new(text) {
-        if let Mark::Name { name, is_system } = mark
-            && is_system
-        {
-            add_file_name(alloc, &mut names, name)?;
-        }
-    }
-    Ok(names)
+    let Named {
+        names: _,
+        systems,
+        directories: _,
+    } = names_in(alloc, text)?;
+    Ok(systems)
 }

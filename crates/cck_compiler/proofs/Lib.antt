@@ -6,3 +6,4 @@ pub mod FileExamples
 pub mod ListLemmas
 mod OutputEquality
 pub mod Outputs
+pub mod MapEntries

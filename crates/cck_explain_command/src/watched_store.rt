@@ -1,7 +1,7 @@
 //! A store that keeps what is asked of it.
 ghost use Rattle.std.specs.Prelude.{◌≡◌};
 
-use cck_store::{MapStore, PreprocessorStore, StoreError};
+use cck_compiler::{MapStore, PreprocessorStore, StoreError};
 use std::alloc::{AllocError, Global};
 use std::marker::Model;
 use std::mem;
@@ -36,7 +36,7 @@ pub struct WatchedStore {
 }
 
 impl Model for WatchedStore {
-    ghost use Rattle.cck_store.specs.MapStore.{State, coded_map_state};
+    ghost use Rattle.cck_compiler.specs.MapStore.{State, coded_map_state};
 
     ghost Value = { State };
 
@@ -104,8 +104,8 @@ impl WatchedStore {
 }
 
 impl PreprocessorStore for WatchedStore {
-    ghost use Rattle.cck_store.specs.MapStore.{map_store};
-    ghost use Rattle.cck_store.specs.MapLemmas.{map_store_laws};
+    ghost use Rattle.cck_compiler.specs.MapStore.{map_store};
+    ghost use Rattle.cck_compiler.specs.MapLemmas.{map_store_laws};
 
     ghost store = { map_store };
 

@@ -1,6 +1,6 @@
 use Rattle.std.proofs.Common.{◌∙◌, inl, inr, true, false, refl, subst}
 use Rattle.cck_cache_rules.specs.PathTest.{tests_of}
-use Rattle.cck_cache_command.specs.Copies.{IsCopiesVerdict}
+use Rattle.cck_cache_paths.specs.Copies.{IsCopiesVerdict}
 use Rattle.cck_cache_command.specs.Record.{HasAskedTests, HasPathTests, HasUnnamedTests}
 use Rattle.cck_cache_command.proofs.InputLemmas.{calm_kept}
 use Rattle.cck_cache_command.proofs.RecordLemmas.{calm_grown, files_of, gathered_over}

@@ -1,0 +1,5 @@
+pub mod AbsenceLemmas
+pub mod SearchedLemmas
+pub mod SourceTestLemmas
+pub mod TestsAtLemmas
+pub mod UnnamedLemmas

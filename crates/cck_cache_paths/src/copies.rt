@@ -1,0 +1,50 @@
+//! Files of a text that are copies of each other.
+ghost use Rattle.std.specs.Prelude.{◌≡◌, ◌↔◌, ◌≤◌, IfOk, IsTrue, length};
+ghost use Rattle.cck_cache_paths.specs.Copies.{IsCopiesVerdict, MayImport, begins_import};
+ghost use Rattle.cck_files.specs.Calls.{Keeps};
+ghost use Rattle.cck_files.specs.FileState.{IsQuiet, fault_count};
+
+use crate::preprocessed::Preprocessed;
+use cck_cache_files::{compared_paths, has_copies};
+use cck_digest::UtilError;
+use cck_files::MapFiles;
+use std::alloc::Global;
+
+// Whether the word of a directive that imports a file is at this place.
+fn begins_import(text: &[u8], place: usize) -> bool
+    requires { place ≤ length text.now }
+    ensures { result ≡ begins_import text.now place }
+{
+    text[place..].starts_with(b"#import ")
+}
+
+/// Whether a text may have a directive that imports a file.
+pub fn may_import(text: &[u8]) -> bool
+    ensures { IsTrue result ↔ MayImport text.now }
+{
+    for place in 0..text.len() {
+        if begins_import(text, place) {
+            return true;
+        }
+    }
+    false
+}
+
+/// Whether two files of a text are copies, of which gcc may pass over one once they have the same time.
+///
+/// The error is of a file of the snapshot that can't be read, or lack of memory.
+pub fn may_have_copies(
+    alloc: Global,
+    files: &mut MapFiles,
+    preprocessed: &Preprocessed<'_>,
+) -> Result<bool, UtilError>
+    ensures keeps { IfOk result (λ _. Keeps (λ files. files.files) fault_count IsQuiet files.old files.new) }
+    ensures found { IfOk result (IsCopiesVerdict files.old.files
+        preprocessed.now.request.now preprocessed.now.text.now) }
+{
+    let (request, text) = (preprocessed.request, preprocessed.text);
+    let directory = request.directory.as_bytes();
+    let paths = compared_paths(alloc, directory, request.input.as_bytes(), text)?;
+    let found = has_copies(alloc, files, &paths, may_import(text))?;
+    Ok(found)
+}
