@@ -24,8 +24,9 @@ OPTIONS = re.findall(r"--[a-z-]+", USAGE)
 BASH = [
     ("cckcc --sh", "--show-stats --show-config !--clear"),
     ("cckcc --z", "--zero-stats !--show-stats"),
-    ("cckcc --", " ".join(OPTIONS)),
-    ("cckcc --show-stats -", "!--clear !-c"),
+    ("cckcc --", " ".join(it for it in OPTIONS if it != "--json") + " !--json"),
+    ("cckcc --show-stats -", "--json !--clear !-c"),
+    ("cckcc --zero-stats -", "!--json"),
     ("cckcc gc", "gcc !--clear"),
     ("cckcc gcc input", "input.c"),
 ]
@@ -110,7 +111,7 @@ def zsh_faults(directory):
 def list_faults():
     """The same for the lists of options: those that zsh completes and those of the manual page are those that cckcc prints."""
     for path in (PLACE / "_cckcc", TOP / "docs/man/cckcc.1"):
-        found = set(re.findall(r"(?<!\S)--[a-z-]+", re.sub(r"[{,}']", " ", path.read_text().replace("\\", ""))))
+        found = set(re.findall(r"(?<!\S)--[a-z-]+", re.sub(r"[{,}'()]", " ", path.read_text().replace("\\", ""))))
         differing = " ".join(sorted(found ^ set(OPTIONS)))
         yield f"{path}: {differing}" if differing else None
 

@@ -62,6 +62,10 @@ gcc -c x.c
 check 'a hit by the link' "$(sed -n 's/^cckcc: \([a-z]*\).*/\1/p' "$room/log" | tr '\n' ' ')" 'look why recorded hit '
 check 'the compiler by the link' "$(gcc -dumpversion)" "$("$compiler" -dumpversion)"
 check 'the statistics' "$(cckcc --show-stats | grep '^count hit')" 'count hit 1'
+check 'the statistics as JSON' "$(cckcc --show-stats --json | python3 -c 'import json, sys
+found = json.load(sys.stdin)
+print(found["objects"]["files"], found["limit"], found["counts"]["hit"])')" '1 5000000000 1'
+check 'no limit as JSON' "$(CCK_MAXSIZE=0 cckcc -s --json | grep -o '"limit": null')" '"limit": null'
 cckcc --zero-stats
 check 'no statistics' "$(cckcc -s | grep '^count')" ''
 check 'a store within its limit' "$(cckcc --cleanup | sed 's/,.*//')" 'removed 0 files'

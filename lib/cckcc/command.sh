@@ -4,7 +4,7 @@
 
 print_usage() {
     echo 'usage: cckcc COMPILER ARG..'
-    echo '       cckcc --show-stats | --zero-stats | --cleanup | --clear | --version | --help'
+    echo '       cckcc --show-stats [--json] | --zero-stats | --cleanup | --clear | --version | --help'
     echo '       cckcc --show-config | --max-size SIZE'
 }
 
@@ -55,6 +55,20 @@ CCK_DEBUG
 END
 }
 
+# Prints what the store has, and the counts: lines, or with --json an object, in which a store without a limit has `null`.
+show_stats() {
+    case $# in
+    1) exec "$cck_program" stats "$cck_store" ;;
+    esac
+    [ "$2" = --json ] && [ $# -eq 2 ] || { print_usage >&2; exit 2; }
+    cck_found=$("$cck_program" stats "$cck_store") || { cck_status=$?; echo "$cck_found" >&2; exit $cck_status; }
+    echo "$cck_found" | LC_ALL=C awk '
+        $1 == "count" { counts = counts (counts == "" ? "" : ", ") "\"" $2 "\": " $3; next }
+        NF == 3 { printf "%s\"%s\": {\"files\": %s, \"bytes\": %s}", NR == 1 ? "{" : ", ", $1, $2, $3; next }
+        { printf ", \"%s\": %s", $1, $2 == "none" ? "null" : $2 }
+        END { print ", \"counts\": {" counts "}}" }'
+}
+
 # Removes what was used longest ago, until the directory keeps its limit, which is the program's to say.
 clean_up() {
     cck_found=$("$cck_program" stats "$cck_store") || { cck_status=$?; echo "$cck_found"; exit $cck_status; }
@@ -102,7 +116,7 @@ set_max_size() {
 
 case ${1-} in
 -V|--version) exec "$cck_program" --version ;;
--s|--show-stats) exec "$cck_program" stats "$cck_store" ;;
+-s|--show-stats) show_stats "$@" ;;
 -z|--zero-stats) exec rm -rf "$cck_store/counts" ;;
 -c|--cleanup) clean_up ;;
 -C|--clear) exec "$cck_program" clear "$cck_store" ;;

@@ -4,8 +4,8 @@
 # option of the compiler or nothing, and `cck_found`, what the program printed of the call, if it was called. The words
 # are the compiler's arguments.
 
-# Appends a line to the log.
-log() { [ -z "$CCK_LOG" ] || { echo "cckcc: $*" >> "$CCK_LOG"; } 2>/dev/null; }
+# Appends a line to the log. A limit of the size of files ends no call: the signal is left to the compiler.
+log() { [ -z "$CCK_LOG" ] || (trap '' XFSZ; echo "cckcc: $*" >> "$CCK_LOG") 2>/dev/null; }
 
 # Appends a line to the log, and writes it to standard error for who looks for a fault.
 note() {
@@ -17,7 +17,7 @@ note() {
 
 # Counts an event of the name $1, as cck_cache does.
 count() {
-    { [ -d "$cck_store/counts" ] || mkdir -p "$cck_store/counts"; printf . >> "$cck_store/counts/$1"; } 2>/dev/null
+    (trap '' XFSZ; [ -d "$cck_store/counts" ] || mkdir -p "$cck_store/counts"; printf . >> "$cck_store/counts/$1") 2>/dev/null
 }
 
 # Sets `cck_located` to the absolute path of a program, as the shell finds it, or to nothing. It starts no process.
@@ -57,6 +57,10 @@ cck_reason=
 { { true 3>&1; } 2>/dev/null && true 3>&2; } || cck_reason=stream
 command -v "$cck_program" > /dev/null || cck_reason=no-program
 [ -z "$cck_has_specs" ] || cck_reason=variable
+# The list of directories that the compiler prints has one in each line.
+case $CPATH$C_INCLUDE_PATH in
+*"$cck_newline"*) cck_reason=variable ;;
+esac
 locate as
 cck_assembler=$cck_located
 locate "$cck_compiler"
@@ -140,16 +144,32 @@ is_known() {
     esac
 }
 
-# Adds the libraries that the programs load, and a file of specs, to the programs.
+# Whether the libraries that the programs load are named by absolute paths, without a space or a variable of the linker.
+# An empty element of LD_LIBRARY_PATH is the working directory.
+has_plain_libraries() {
+    case :$LD_PRELOAD in
+    *[[:space:]\$]*|*:[!/:]*/*) return 1 ;;
+    esac
+    [ -n "$LD_LIBRARY_PATH" ] || return 0
+    case :$LD_LIBRARY_PATH: in
+    *[[:space:]\;\$]*|*:[!/]*) return 1 ;;
+    esac
+}
+
+# Adds the libraries that the programs load to the programs.
 add_loaded() {
     for cck_library in $(ldd "$cck_driver" "$cck_proper" "$cck_assembler" 2>/dev/null |
         sed -n 's/^[[:space:]]\(.* => \)\{0,1\}\(\/[^ :]*\) (.*/\2/p' | sort -u); do
         cck_programs=$cck_programs:$cck_library
     done
-    cck_specs=$("$cck_compiler" -print-file-name=specs 2>/dev/null)
-    case $cck_specs in
-    /*) [ ! -f "$cck_specs" ] || cck_programs=$cck_programs:$cck_specs ;;
+}
+
+# Whether the compiler reads a file of specs, in the directory of its version or in the one above it.
+reads_specs() {
+    case $("$cck_compiler" -print-file-name=specs 2>/dev/null) in
+    /*) return 0 ;;
     esac
+    [ -e "${cck_proper%/*}/specs" ] || [ -e "${cck_proper%/*}/../specs" ]
 }
 
 # The programs that a compilation runs, and what they load, are kept in a list in the store, for each compiler, PATH and
@@ -161,6 +181,20 @@ cck_context=$cck_context$LD_LIBRARY_PATH$cck_newline$LD_PRELOAD$cck_newline
 
 # Sets `cck_list` to the path of the list, whose name has the length of the context in bytes.
 name_list() { cck_list=$cck_store/compilers/${cck_compiler##*/}-$(LC_ALL=C; echo ${#cck_context}); }
+
+# Adds a directory to those in which the compiler looks for programs, and the directory of each link on the way to it,
+# which changes when that leads elsewhere.
+add_searched() {
+    case :$cck_searched: in
+    *:"$1":*) return ;;
+    esac
+    cck_searched=$cck_searched:$1
+    cck_next=$1
+    while [ -n "$cck_next" ]; do
+        cck_above=${cck_next%/*}
+        if [ -h "$cck_next" ]; then add_searched "${cck_above:-/}"; cck_next=; else cck_next=$cck_above; fi
+    done
+}
 
 # Sets `cck_searched` to the directories in which the compiler looks for programs, with colons between them. One that is
 # not there is named by the one above it, which changes when it comes.
@@ -180,21 +214,18 @@ find_searched() {
             *) cck_directory= ;;
             esac
         done
-        case :$cck_searched: in
-        *:"${cck_directory:-/}":*) ;;
-        *) cck_searched=$cck_searched:${cck_directory:-/} ;;
-        esac
+        add_searched "${cck_directory:-/}"
     done
 }
 
 # Asks the compiler for the programs, and keeps them. It fails where there is no temporary directory.
 find_programs() {
-    cck_driver=$(readlink -f "$cck_located")
+    cck_driver=$(readlink -f "$cck_located" 2>/dev/null)
     cck_proper=$("$cck_compiler" -print-prog-name=cc1 2>/dev/null)
     cck_assembler=$(command -v "$("$cck_compiler" -print-prog-name=as 2>/dev/null)")
     cck_programs=-
     cck_tried=$(make_directory) || return 1
-    if is_known && says_what_it_read "$cck_assembler" "$cck_tried"; then
+    if is_known && ! reads_specs && has_plain_libraries && says_what_it_read "$cck_assembler" "$cck_tried"; then
         cck_programs=$cck_located:$cck_proper:$cck_assembler
         add_loaded
     fi
@@ -297,7 +328,7 @@ look_at_server() {
 # Records what was made of the text. The words are options of `record`, and those of the request.
 record() {
     "$cck_program" record "$cck_store" --since="$cck_since" --preprocessor-key="$cck_key" \
-        --search="$cck_scratch/search" "$@" 2>/dev/null < "$cck_scratch/text"
+        --search="$cck_scratch/text-search" "$@" 2>/dev/null < "$cck_scratch/text"
 }
 
 # Keeps what was recorded with a server, and puts it there: the entry only once the object is there.
@@ -425,26 +456,83 @@ if [ -n "$CCK_LOG" ] && [ -n "$cck_keeps" ]; then
     done
 fi
 
-# Preprocesses the input of the call, with these further words of a shell. The list of directories is read in the locale
-# C. The preprocessor warns of each time macro that it expands, however that is spelled and wherever it is: what a text
-# shows of the time is in no key. It names system headers as they are looked for, and not by a shorter path that links
-# lead to: a header that the compiler names so is not recorded. It also writes each directive that includes a header
-# (-dI), since it may pass over a copy of a header that was read. A token of a system header's macro is one of the file
-# that uses it, so that no line marker has that as a system header. What is on standard input is for the compiler.
+# Preprocesses the input of the call into the file $1, with these further words of a shell. The list of directories is
+# read in the locale C. The preprocessor warns of each time macro that it expands, however that is spelled and wherever it
+# is: what a text shows of the time is in no key. Extensions are no errors in system headers. It names these as they are
+# looked for, and not by a shorter path that links lead to: a header that the compiler names so is not recorded. It also
+# writes each directive that includes a header (-dI), since it may pass over a copy of a header that was read. What is on
+# standard input is for the compiler.
 preprocess() {
     eval "LC_ALL=C \"\$cck_compiler\" $cck_preprocessed" \
-        '-Wdate-time -Wsystem-headers -Wno-error -fno-canonical-system-headers -ftrack-macro-expansion=0' "$1" \
-        '-dI -E -v -o "$cck_scratch/text"' < /dev/null 2> "$cck_scratch/search" || true > "$cck_scratch/failed"
+        '-Wdate-time -Wsystem-headers -Wno-error -Wno-pedantic -fno-canonical-system-headers' "$2" \
+        '-dI -E -v -o "$cck_scratch/$1"' < /dev/null 2> "$cck_scratch/$1-search" || true > "$cck_scratch/failed"
+}
+
+# Writes two lines: `alone` if the text names no file beside the input, and why the compiler may read another text than
+# this, or have other names for its files.
+#
+# A pragma that sets macros of the target is run by the compiler alone; the compiler's own headers set them back. The
+# compiler knows declarations, by which `__has_builtin` is 0, so a project that may have it is preprocessed once more.
+# A header that is found in a directory of system headers only later has its shorter name from then on. A file between
+# `<` and `>` is named as what the compiler defines itself.
+judge_text() {
+    cck_own=${cck_programs#*:} cck_own=${cck_own%%:*}
+    cck_own=${cck_own%/*}/include/ LC_ALL=C awk '
+        function may_ask(name, line, letters) {
+            while ((getline line < name) > 0) {
+                gsub(/[^A-Za-z_]/, "", line)
+                letters = substr(letters, length(letters) - 10) line
+                if (index(letters, "has_builtin")) return 1
+            }
+            return close(name) != 0
+        }
+        /^# [0-9]+ "/ {
+            flags = name = $0
+            sub(/.*"/, "", flags)
+            sub(/^# [0-9]+ "/, "", name)
+            name = substr(name, 1, length(name) - length(flags) - 1)
+            is_system = flags ~ / 3/
+            is_own = index(name, ENVIRON["cck_own"]) == 1
+            if (flags ~ /^ 1/) {
+                found = 1
+                if (name in systems && systems[name] != is_system) reason = "other-file"
+                systems[name] = is_system
+            }
+            if (name ~ /^<.*>$/) {
+                if ($2 != 0 || name !~ /^<(built-in|command-line)>$/) reason = "other-file"
+            } else if (name !~ /\/\/$/ && !is_own && index(name, "/usr/include/") != 1) projects[name]
+        }
+        !is_own && /^[ \t]*#[ \t]*pragma[ \t]+GCC[ \t]+(target|optimize|pop_options|reset_options)/ {
+            reason = "target-pragma"
+        }
+        END {
+            print found ? "" : "alone"
+            if (reason == "") for (name in projects) if (may_ask(name)) { reason = "builtins"; break }
+            print reason
+        }' "$cck_scratch/text" < /dev/null
 }
 
 # Writes the text of the call. No entry is made of a text that names no file beside the input. Such a text names an empty
-# one.
+# one. Where `__has_builtin` may ask for a function, the text has to be the same if there is none.
 write_text() {
-    preprocess ''
-    if [ ! -e "$cck_scratch/failed" ] && ! grep -q '^# [0-9]* ".*" 1' "$cck_scratch/text"; then
-        preprocess '-imacros "$cck_store/empty.h"'
+    preprocess text ''
+    [ ! -e "$cck_scratch/failed" ] || return
+    judge_text > "$cck_scratch/judged"
+    { read -r cck_word; read -r cck_refused; } < "$cck_scratch/judged"
+    cck_words=
+    if [ "$cck_word" = alone ]; then
+        cck_words='-imacros "$cck_store/empty.h"'
+        preprocess text "$cck_words"
     fi
-    ! grep -q 'might prevent reproducible builds' "$cck_scratch/search" || true > "$cck_scratch/shows-time"
+    case $cck_refused:$cck_preprocessed in
+    builtins:*|:*has_builtin*)
+        cck_refused=
+        preprocess other "$cck_words -fno-builtin"
+        cmp -s "$cck_scratch/text" "$cck_scratch/other" || cck_refused=other-file
+        ;;
+    esac
+    ! grep -q 'might prevent reproducible builds' "$cck_scratch"/*-search || cck_refused=time-macro
+    echo "$cck_refused" > "$cck_scratch/refused"
 }
 
 # Whether the object has code for another device: its sections have random names.
@@ -453,37 +541,6 @@ has_random_names() {
     *' -fopenmp '*|*' -fopenacc '*) grep -q '\.gnu\.offload_lto_' -- "$cck_out" 2>/dev/null ;;
     *) return 1 ;;
     esac
-}
-
-# Whether the compiler lists no system headers, so that it may read one that the text does not name.
-lists_no_systems() {
-    case " $* " in
-    *' -MMD '*|*-Wp,-MMD*) ;;
-    *) return 1 ;;
-    esac
-}
-
-# Whether a file outside the compiler's own directory of headers has a pragma that sets macros of the target: the
-# preprocessor does not run it. The compiler's headers set them back.
-has_target_pragma() {
-    grep -q '#[[:blank:]]*pragma[[:blank:]]*GCC[[:blank:]]*\(target\|optimize\|pop_options\|reset_options\)' \
-        "$cck_scratch/text" || return 1
-    cck_own=$("$cck_compiler" -print-file-name=include 2>/dev/null) LC_ALL=C awk '
-        BEGIN { own = ENVIRON["cck_own"] ~ /^\// ? "\"" ENVIRON["cck_own"] "/" : "none" }
-        /^# [0-9]+ "/ { is_own = index($3, own) == 1 }
-        !is_own && /^[ \t]*#[ \t]*pragma[ \t]+GCC[ \t]+(target|optimize|pop_options|reset_options)/ { found = 1; exit }
-        END { exit !found }' "$cck_scratch/text"
-}
-
-# Whether the compiler names a system header by a shorter real path, beside which it looks for what that includes. The
-# text has the names that were found.
-renames_headers() {
-    LC_ALL=C sed -n 's/^# [0-9]* "\(.*\)"[ 0-9]* 3[ 0-9]*$/\1/p' "$cck_scratch/text" | LC_ALL=C sort -u \
-        > "$cck_scratch/systems"
-    xargs -r -d '\n' readlink -f -- < "$cck_scratch/systems" > "$cck_scratch/real" || return 0
-    LC_ALL=C awk 'NR == FNR { size[FNR] = length($0); next }
-        length($0) < size[FNR] { found = 1; exit }
-        END { exit !found }' "$cck_scratch/systems" "$cck_scratch/real"
 }
 
 # Whether what the arguments include are regular files: a pipe can't be read by two.
@@ -508,10 +565,10 @@ cck_entry_out=
 # The preprocessor runs beside the compiler, unless the object of its text may be there.
 name_input
 if [ -n "$cck_server" ] || [ -e "$cck_noted" ]; then
-    write_text
-    if [ ! -e "$cck_scratch/failed" ] && [ ! -e "$cck_scratch/shows-time" ] && shares_text; then look_for_text "$@"; fi
+    write_text 2>/dev/null
+    if [ ! -e "$cck_scratch/failed" ] && [ -z "$cck_refused" ] && shares_text; then look_for_text "$@"; fi
 else
-    { write_text; } 2>/dev/null &
+    write_text 2>/dev/null &
     cck_text=$!
 fi
 compile "$@" > "$cck_scratch/output" 2> "$cck_scratch/messages"
@@ -521,17 +578,13 @@ cck_status=$?
 wait
 cck_text=
 cck_refused=
-[ ! -e "$cck_scratch/shows-time" ] || cck_refused=time-macro
+[ -e "$cck_scratch/failed" ] || read -r cck_refused 2> /dev/null < "$cck_scratch/refused" || cck_refused=other-file
 # What an assembler prints there is not kept, nor a message that names a temporary file.
 [ ! -s "$cck_scratch/output" ] || cck_refused=output
 if [ -s "$cck_scratch/messages" ] && grep -q '/cc[A-Za-z0-9]\{6\}\.s' "$cck_scratch/messages"; then
     cck_refused=temporary-name
 fi
 ! has_random_names "$@" || cck_refused=offload
-if lists_no_systems "$@" && [ ! -e "$cck_scratch/failed" ]; then
-    ! has_target_pragma || cck_refused=target-pragma
-    ! renames_headers || cck_refused=other-file
-fi
 if [ $cck_status -ne 0 ] || [ -e "$cck_scratch/failed" ]; then
     log "not recorded (status $cck_status): $cck_input"
     count not-recorded-status

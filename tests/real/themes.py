@@ -229,5 +229,42 @@ class Copies(Theme):
             project.turn()
 
 
+class Readings(Theme):
+    """Conditions that the compiler may read in another way than its preprocessor, and names between `<` and `>`."""
+    BEFORE = ["int abs(int);", "int abs(int);", '#pragma GCC target("avx2")', '#pragma GCC optimize("O2")',
+              '_Pragma("GCC target(\\"avx2\\")")', "#include <immintrin.h>", "#include <stdlib.h>"]
+    CONDITIONS = ["__has_builtin(abs)", "! __has_builtin(abs)", "ASKS(abs)", "! ASKS(abs)", "ASKS(__builtin_abs)",
+                  "__has_\\\nbuiltin(labs)", "defined __AVX2__", "! defined __AVX2__", "defined __OPTIMIZE__",
+                  "SAME(\\\n__LINE__) % 2", "! (SAME(\\\n__LINE__) % 2)"]
+    PLACES = ["work/a/r.h", "work/b/r.h", "work/r.h", "work/<d>/r.h", "work/<r.h>", "work/b/k/r.h", "work/a/<r.h", "work/a/k"]
+    INCLUDES = ['#include "r.h"', "#include <r.h>", "#include <r.h>", '#include "<d>/r.h"', '#include "<r.h>"',
+                "#include <k/r.h>", '#include "<r.h"', '#line 1 "r.h"', '#line 1 "<r.h>"']
+
+    def start(self):
+        project = self.project
+        for path in project.chance.sample(self.PLACES, 4):
+            self.content(path)
+        lines = ["#define ASKS(x) __has_builtin(x)", "#define SAME(x) x"] + project.chance.sample(self.BEFORE, project.pick([0, 1, 1, 2]))
+        for _ in range(project.pick([1, 2])):
+            lines.append(f"#if {project.pick(self.CONDITIONS)}\n{project.pick(self.INCLUDES)}\n#endif")
+        project.number += 1
+        self.include(*lines, f"int c{project.number}(void) {{ int unused; return 0; }}")
+        way = project.pick(["-I", "-I", "-isystem"])
+        self.give([["-Wall"], project.pick([["-MMD"], ["-MD"], ["-w"]])], [[way, "a"], [way, "b"]])
+
+    def content(self, path):
+        self.project.number += 1
+        self.put(path, f"static int r{self.project.number} = {self.project.number};")
+
+    def change(self):
+        project = self.project
+        if not self.path or project.is_rare(0.4):
+            self.path = project.pick(self.PLACES)
+        if self.path in project.tree and project.is_rare(0.5):
+            project.do({"do": "remove", "path": self.path})
+        else:
+            self.content(self.path)
+
+
 # How often a project has a theme.
-THEMES = {Plain: 10, Columns: 2.5, Variables: 1.5, Missing: 1, Base: 1.5, Copies: 1.5}
+THEMES = {Plain: 10, Columns: 2.5, Variables: 1.5, Missing: 1, Base: 1.5, Copies: 1.5, Readings: 1.5}
