@@ -194,10 +194,10 @@ class Room:
             file.write(text)
         program = self.top + "/late/cck_cache"
         with open(program, "w", encoding="utf-8") as file:
-            # Where a directory is at the path, nothing is written.
-            file.write(f'#!/bin/sh\n[ "$1" != record ] || [ -d "{self.root}/{path}" ] ||\n'
-                       f'cp "{self.top}/late/text" "{self.root}/{path}"\n'
-                       f'exec "{PROGRAM}" "$@"\n')
+            # It is written after the compilation, and not where a directory is at the path.
+            file.write(f'#!/bin/sh\ncase $* in\n'
+                       f'record*--compiled=*) [ -d "{self.root}/{path}" ] || cp "{self.top}/late/text" "{self.root}/{path}" ;;\n'
+                       f'esac\nexec "{PROGRAM}" "$@"\n')
         os.chmod(program, 0o755)
         return program
 

@@ -277,7 +277,7 @@ def write_line(step):
 
 def late_line(late):
     """What makes a program that does what is late and then calls the one of the variable `real`."""
-    records = shlex.quote(f'[ "$1" != record ] || (cd "$root/{CWD}"; {write_line(late)})')
+    records = shlex.quote(f'case $* in record*--compiled=*) (cd "$root/{CWD}"; {write_line(late)}) ;; esac')
     lines = f"printf '%s\\n' '#!/bin/sh' {records} 'exec \"$real\" \"$@\"'"
     return f"{lines} >\"$root/cck_cache\"; chmod +x \"$root/cck_cache\"; "
 
