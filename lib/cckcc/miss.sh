@@ -468,13 +468,13 @@ preprocess() {
         '-dI -E -v -o "$cck_scratch/$1"' < /dev/null 2> "$cck_scratch/$1-search" || true > "$cck_scratch/failed"
 }
 
-# Writes two lines: `alone` if the text names no file beside the input, and why the compiler may read another text than
-# this, or have other names for its files.
+# Writes three lines: `alone` if the text names no file beside the input; why the compiler may read another text than
+# this, or have other names for its files; and what it may read in another way.
 #
-# A pragma that sets macros of the target is run by the compiler alone; the compiler's own headers set them back. The
-# compiler knows declarations, by which `__has_builtin` is 0, so a project that may have it is preprocessed once more.
-# A header that is found in a directory of system headers only later has its shorter name from then on. A file between
-# `<` and `>` is named as what the compiler defines itself.
+# A pragma that sets macros of the target is run by the compiler alone. The compiler's own headers set them back, to what
+# the target has. The compiler knows declarations, by which `__has_builtin` is 0. A header that is found in a directory
+# of system headers only later has its shorter name from then on. A file between `<` and `>` is named as what the compiler
+# defines itself. A line directive enters no file.
 judge_text() {
     cck_own=${cck_programs#*:} cck_own=${cck_own%%:*}
     cck_own=${cck_own%/*}/include/ LC_ALL=C awk '
@@ -495,21 +495,35 @@ judge_text() {
             is_own = index(name, ENVIRON["cck_own"]) == 1
             if (flags ~ /^ 1/) {
                 found = 1
+                owns[++depth] = is_own
                 if (name in systems && systems[name] != is_system) reason = "other-file"
                 systems[name] = is_system
             }
+            if (flags ~ /^ 2/ && depth > 0) depth--
             if (name ~ /^<.*>$/) {
                 if ($2 != 0 || name !~ /^<(built-in|command-line)>$/) reason = "other-file"
             } else if (name !~ /\/\/$/ && !is_own && index(name, "/usr/include/") != 1) projects[name]
         }
-        !is_own && /^[ \t]*#[ \t]*pragma[ \t]+GCC[ \t]+(target|optimize|pop_options|reset_options)/ {
-            reason = "target-pragma"
+        /^[ \t]*#[ \t]*pragma[ \t]+GCC[ \t]+(target|optimize|pop_options|reset_options)/ {
+            if (owns[depth]) doubts = " targets"; else reason = "target-pragma"
         }
         END {
             print found ? "" : "alone"
-            if (reason == "") for (name in projects) if (may_ask(name)) { reason = "builtins"; break }
             print reason
+            if (reason == "") for (name in projects) if (may_ask(name)) { doubts = doubts " builtins"; break }
+            print doubts
         }' "$cck_scratch/text" < /dev/null
+}
+
+# Whether a file of the project, or an argument, defines or undefines what may be a macro of the target, by a text that
+# has these directives (-dD). A name that ends as that of a guard is none.
+changes_targets() {
+    cck_own=${cck_programs#*:} cck_own=${cck_own%%:*}
+    cck_own=${cck_own%/*}/include/ LC_ALL=C awk '
+        BEGIN { own = "\"" ENVIRON["cck_own"] }
+        /^# [0-9]+ "/ { is_other = $3 == "\"<built-in>\"" || index($3, own) == 1 || index($3, "\"/usr/include/") == 1 }
+        !is_other && /^#(define|undef) __[A-Za-z0-9_]*__/ && $2 !~ /_[Hh]__/ { found = 1; exit }
+        END { exit !found }' "$1"
 }
 
 # Writes the text of the call. No entry is made of a text that names no file beside the input. Such a text names an empty
@@ -518,17 +532,22 @@ write_text() {
     preprocess text ''
     [ ! -e "$cck_scratch/failed" ] || return
     judge_text > "$cck_scratch/judged"
-    { read -r cck_word; read -r cck_refused; } < "$cck_scratch/judged"
+    { read -r cck_word; read -r cck_refused; read -r cck_doubts; } < "$cck_scratch/judged"
     cck_words=
     if [ "$cck_word" = alone ]; then
         cck_words='-imacros "$cck_store/empty.h"'
         preprocess text "$cck_words"
     fi
-    case $cck_refused:$cck_preprocessed in
-    builtins:*|:*has_builtin*)
-        cck_refused=
+    case $cck_doubts:$cck_preprocessed in
+    *builtins:*|*:*has_builtin*)
         preprocess other "$cck_words -fno-builtin"
         cmp -s "$cck_scratch/text" "$cck_scratch/other" || cck_refused=other-file
+        ;;
+    esac
+    case $cck_doubts in
+    *targets*)
+        preprocess macros -dD
+        ! changes_targets "$cck_scratch/macros" || cck_refused=target-pragma
         ;;
     esac
     ! grep -q 'might prevent reproducible builds' "$cck_scratch"/*-search || cck_refused=time-macro
@@ -584,6 +603,10 @@ cck_refused=
 if [ -s "$cck_scratch/messages" ] && grep -q '/cc[A-Za-z0-9]\{6\}\.s' "$cck_scratch/messages"; then
     cck_refused=temporary-name
 fi
+# With this option the assembler writes the name of its temporary input into the object.
+case " $* " in
+*' -gno-stabs'*) cck_refused=temporary-name ;;
+esac
 ! has_random_names "$@" || cck_refused=offload
 if [ $cck_status -ne 0 ] || [ -e "$cck_scratch/failed" ]; then
     log "not recorded (status $cck_status): $cck_input"
