@@ -94,6 +94,7 @@ def report(options, name, history, judged):
         lines.append("# not seen again")
     lines += ["    " + line for line in script(shrunk.history, shrunk.judged, options.compiler)]
     if options.keep:
+        os.makedirs(options.keep, exist_ok=True)
         path = os.path.join(options.keep, f"{name}.json")
         with open(path, "w", encoding="utf-8") as file:
             json.dump({"compiler": options.compiler, "history": shrunk.history, "whole": history}, file)

@@ -57,10 +57,8 @@ END
 
 # Prints what the store has, and the counts: lines, or with --json an object, in which a store without a limit has `null`.
 show_stats() {
-    case $# in
-    1) exec "$cck_program" stats "$cck_store" ;;
-    esac
-    [ "$2" = --json ] && [ $# -eq 2 ] || { print_usage >&2; exit 2; }
+    [ $# -ne 1 ] || exec "$cck_program" stats "$cck_store"
+    [ $# -eq 2 ] && [ "$2" = --json ] || { print_usage >&2; exit 2; }
     cck_found=$("$cck_program" stats "$cck_store") || { cck_status=$?; echo "$cck_found" >&2; exit $cck_status; }
     echo "$cck_found" | LC_ALL=C awk '
         $1 == "count" { counts = counts (counts == "" ? "" : ", ") "\"" $2 "\": " $3; next }

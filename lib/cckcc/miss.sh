@@ -468,6 +468,12 @@ preprocess() {
         '-dI -E -v -o "$cck_scratch/$1"' < /dev/null 2> "$cck_scratch/$1-search" || true > "$cck_scratch/failed"
 }
 
+# Sets `cck_own` to the compiler's own directory of headers, which is beside its programs.
+find_own() {
+    cck_own=${cck_programs#*:} cck_own=${cck_own%%:*}
+    cck_own=${cck_own%/*}/include/
+}
+
 # Writes three lines: `alone` if the text names no file beside the input; why the compiler may read another text than
 # this, or have other names for its files; and what it may read in another way.
 #
@@ -476,8 +482,7 @@ preprocess() {
 # of system headers only later has its shorter name from then on. A file between `<` and `>` is named as what the compiler
 # defines itself. A line directive enters no file.
 judge_text() {
-    cck_own=${cck_programs#*:} cck_own=${cck_own%%:*}
-    cck_own=${cck_own%/*}/include/ LC_ALL=C awk '
+    cck_own=$cck_own LC_ALL=C awk '
         function may_ask(name, line, letters) {
             while ((getline line < name) > 0) {
                 gsub(/[^A-Za-z_]/, "", line)
@@ -518,19 +523,20 @@ judge_text() {
 # Whether a file of the project, or an argument, defines or undefines what may be a macro of the target, by a text that
 # has these directives (-dD). A name that ends as that of a guard is none.
 changes_targets() {
-    cck_own=${cck_programs#*:} cck_own=${cck_own%%:*}
-    cck_own=${cck_own%/*}/include/ LC_ALL=C awk '
+    cck_own=$cck_own LC_ALL=C awk '
         BEGIN { own = "\"" ENVIRON["cck_own"] }
         /^# [0-9]+ "/ { is_other = $3 == "\"<built-in>\"" || index($3, own) == 1 || index($3, "\"/usr/include/") == 1 }
         !is_other && /^#(define|undef) __[A-Za-z0-9_]*__/ && $2 !~ /_[Hh]__/ { found = 1; exit }
         END { exit !found }' "$1"
 }
 
-# Writes the text of the call. No entry is made of a text that names no file beside the input. Such a text names an empty
-# one. Where `__has_builtin` may ask for a function, the text has to be the same if there is none.
+# Writes the text of the call, and why it is not recorded, or an empty line. No entry is made of a text that names no file
+# beside the input: such a text names an empty one. Where `__has_builtin` may ask for a function, the text has to be the
+# same if there is none.
 write_text() {
     preprocess text ''
     [ ! -e "$cck_scratch/failed" ] || return
+    find_own
     judge_text > "$cck_scratch/judged"
     { read -r cck_word; read -r cck_refused; read -r cck_doubts; } < "$cck_scratch/judged"
     cck_words=
