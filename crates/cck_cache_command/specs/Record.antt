@@ -67,7 +67,7 @@ pub record HasPathTests (request : Request) (since : Moment) (text : Bytes) (mad
   pub states : PathStates
   pub since_is : states.since ≡ since
   pub printed : Bytes
-  pub tests_are : AreTestsOf states request.directory.now text printed made
+  pub tests_are : AreTestsOf states request.directory.now text (lists_of request.arguments.items) printed made
 
 -- files of a text: the input, and files at the paths of the names of the text, none of which replaced another
 pub record AreFilesOf (request : Request) (text : Bytes) (files : FileMap) : Type 0 where
@@ -106,7 +106,7 @@ pub record HasPathRefusal (request : Request) (since : Moment) (text : Bytes) (r
   pub states : PathStates
   pub since_is : states.since ≡ since
   pub printed : Bytes
-  pub refused : IsRefusedByPath states request.directory.now text printed refusal
+  pub refused : IsRefusedByPath states request.directory.now text (lists_of request.arguments.items) printed refusal
 
 -- what a source asks for keeps a compilation from being recorded, by files that were gathered for the text
 pub record HasSourceRefusal (request : Request) (since : Moment) (text : Bytes) (refusal : Refusal) : Type 0 where

@@ -172,7 +172,6 @@ pub const GCC: &[u8] = b"\
 -Warray-bounds equals message\n\
 -Warray-parameter equals message\n\
 -Wattribute-alias equals message\n\
--Wattributes equals message\n\
 -Wbidi-chars equals message\n\
 -Wcast-align equals message\n\
 -Wcatch-value equals message\n\
@@ -1586,8 +1585,8 @@ pub const GCC: &[u8] = b"\
 -gno-gnu-pubnames alone code\n\
 -gno-inline-points alone code\n\
 -gno-internal-reset-location-views alone code\n\
--gno-stabs alone code\n\
--gno-stabs+ alone code\n\
+-gno-stabs alone passed-recorded-switches\n\
+-gno-stabs+ alone passed-recorded-switches\n\
 -gno-statement-frontiers alone code\n\
 -gno-strict-dwarf alone code\n\
 -gno-toggle alone code\n\

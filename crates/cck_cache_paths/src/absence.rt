@@ -62,16 +62,18 @@ pub fn absence_of<R: Files + AllocGlobal>(
     preprocessed: &Preprocessed<'_>,
 ) -> Result<Absence, UtilError>
     ensures absence { IfOk result (IsAbsence states.new preprocessed.now.request.now.directory.now
-        preprocessed.now.text.now preprocessed.now.printed.now) }
+        preprocessed.now.text.now (lists_of preprocessed.now.request.now.arguments.items)
+        preprocessed.now.printed.now) }
     ensures kept { KeepsStates states.old states.new }
     ensures errors { IsOkUnless result UtilError.Memory }
 {
     let alloc = rt.alloc();
-    let (directory, text) = (preprocessed.request.directory, preprocessed.text);
+    let (request, text) = (preprocessed.request, preprocessed.text);
+    let directory = request.directory;
     let Some(search) = SearchList::read(alloc, preprocessed.printed)? else {
         return Ok(Absence::Refused(Refusal::NoSearchList));
     };
-    let Some(names) = absent_names(alloc, text, &search)? else {
+    let Some(names) = absent_names(alloc, text, &request.arguments, &search)? else {
         return Ok(Absence::Refused(Refusal::UnknownHeader));
     };
     let Some(earlier) = tests_at(rt, states, directory.as_bytes(), &names)? else {

@@ -1,8 +1,8 @@
 -- Tests for headers, as they are found place by place and line by line.
-use Rattle.std.proofs.Common.{◌≡◌, ℕ, zero, suc, ◌+◌, ◌<◌, ◌⊎◌, inl, inr, Bool, true, false, List, [], ◌∷◌, ◌++◌, ◌&&◌, codes, nat_eq, take, drop, Option, Some, None, length, map, get_or, refl, sym, ap, ◌∙◌, arith, subst, append_assoc}
+use Rattle.std.proofs.Common.{◌≡◌, ℕ, zero, suc, ◌+◌, ◌<◌, ◌⊎◌, inl, inr, Bool, true, false, List, [], ◌∷◌, ◌++◌, ◌&&◌, codes, nat_eq, take, drop, Some, None, length, get_or, refl, sym, ap, ◌∙◌, arith, subst, append_assoc}
 use Rattle.std.specs.Prelude.{Contains}
-use Rattle.std.specs.List.{join_with_byte, starts_with}
-use Rattle.std.proofs.lemmas.Bool.{cases_lt}
+use Rattle.std.specs.List.{ends_with, join_with_byte, starts_with}
+use Rattle.std.proofs.lemmas.Bool.{cases_lt, or_cases, or_left, or_right}
 use Rattle.std.proofs.lemmas.List.{append-nil, get_or_default, take-append-drop}
 use Rattle.std.proofs.lemmas.List.Splits.{join_with_byte-slice_split}
 use Rattle.std.proofs.lemmas.List.Elements.{Contains-append_cases, Contains-append_left, Contains-append_right}
@@ -10,7 +10,9 @@ use Rattle.std.proofs.lemmas.Slice.Eq.{bytes_eq-Decides}
 use Rattle.cck_digest.specs.TimeMacros.{Has, has}
 use Rattle.cck_digest.proofs.HasLemmas.{has_iff}
 use Rattle.cck_cache_text.specs.SearchList.{text_lines}
-use Rattle.cck_cache_text.specs.HeaderTests.{AreTests, Gains, IsBlindIn, IsLine, IsTestIn, TestFields, is_test, is_test_word, tested}
+use Rattle.cck_cache_text.specs.HeaderTests.{AreTests, Gains, IsBlindIn, IsLine, IsTestIn, TestFields, begins_word, is_test, is_test_name, is_test_word, is_word_byte, may_have_test, tested, word_of}
+use Rattle.cck_cache_text.specs.Splices.{run_length}
+use Rattle.cck_cache_rules.proofs.ListLemmas.{ends_decided}
 
 -- a test at one of the first places of a line
 abbrev pub IsTestBelow : List ℕ → ℕ → TestFields → Type 0
@@ -163,18 +165,56 @@ word_of_part front part back a b word is =
     ap (λ p. front ++ (p ++ back)) is
     ∙ (ap (λ p. front ++ p) (append_assoc a (word ++ b) back ∙ ap (λ p. a ++ p) (append_assoc word b back)) ∙ sym (append_assoc front a (word ++ (b ++ back))))
 
--- a text in which a line has a test has the word
-pub no_test : (text line : List ℕ) (place : ℕ) → has text (codes "__has") ≡ false → IsLine text line → is_test line place ≡ true → ⊥
-no_test text line place none at is =
-    let word = codes "__has" in
-    let first : starts_with nat_eq (drop place line) word ≡ true = and_first (starts_with nat_eq (drop place line) word) _ (and_first (is_test_word (drop place line)) _ is) in
-    let front : take 5 (drop place line) ≡ word = sym ((bytes_eq-Decides word (take 5 (drop place line))).0 first) in
-    let whole : line ≡ take place line ++ (word ++ drop 5 (drop place line)) = sym (take-append-drop place line) ∙ ap (λ rest. take place line ++ rest) (sym (take-append-drop 5 (drop place line)) ∙ ap (λ w. w ++ drop 5 (drop place line)) front) in
+-- a word of a line is in the text
+line_has : (text line word : List ℕ) → IsLine text line → Has line word → has text word ≡ true
+line_has text line word at (a, b, is) =
     let part = joined_part 10 (text_lines text) line at in
-    let there : Has text word = (
-      part.0 ++ take place line,
-      drop 5 (drop place line) ++ part.1,
-      sym (join_with_byte-slice_split 10 text) ∙ (part.2 ∙ word_of_part part.0 line part.1 (take place line) (drop 5 (drop place line)) word whole),
-    ) in
-    let both : false ≡ true = sym none ∙ (has_iff text word).1 there in
+    (has_iff text word).1 (part.0 ++ a, b ++ part.1, sym (join_with_byte-slice_split 10 text) ∙ (part.2 ∙ word_of_part part.0 line part.1 a b word is))
+
+-- the beginning of what follows a place is in the line
+begins_in_line : (line : List ℕ) (place : ℕ) → starts_with nat_eq (drop place line) (codes "__ha") ≡ true → Has line (codes "__ha")
+begins_in_line line place first =
+    let word = codes "__ha" in
+    let front : take 4 (drop place line) ≡ word = sym ((bytes_eq-Decides word (take 4 (drop place line))).0 first) in (
+      take place line,
+      drop 4 (drop place line),
+      sym (take-append-drop place line) ∙ ap (λ rest. take place line ++ rest) (sym (take-append-drop 4 (drop place line)) ∙ ap (λ w. w ++ drop 4 (drop place line)) front),
+    )
+
+-- the end of an identifier is in the line, and what it begins with
+ends_in_line : (line : List ℕ) (place : ℕ) (word more : List ℕ) → ends_with nat_eq (word_of (drop place line)) (word ++ more) ≡ true → Has line word
+ends_in_line line place word more is =
+    let after = drop place line in
+    let n = run_length is_word_byte after in
+    let ended = (ends_decided (word_of after) (word ++ more) true (sym is)).0 refl in (
+      take place line ++ ended.0,
+      more ++ drop n after,
+      sym (take-append-drop place line)
+          ∙ (ap (λ rest. take place line ++ rest) (sym (take-append-drop n after) ∙ (ap (λ w. w ++ drop n after) ended.1 ∙ (append_assoc ended.0 (word ++ more) (drop n after) ∙ ap (λ rest. ended.0 ++ rest) (append_assoc word more (drop n after)))))
+          ∙ sym (append_assoc (take place line) ended.0 (word ++ (more ++ drop n after)))),
+    )
+
+-- a text in which a line has a test may have one
+pub no_test : (text line : List ℕ) (place : ℕ) → may_have_test text ≡ false → IsLine text line → is_test line place ≡ true → ⊥
+no_test text line place none at is =
+    let after = drop place line in
+    let word = word_of after in
+    let begins = has text (codes "__ha") in
+    let small = has text (codes "as_include") in
+    let large = has text (codes "HAS_INCLUDE") in
+    let embeds = has text (codes "as_embed") in
+    let may : may_have_test text ≡ true = elim (or_cases _ (is_test_name word) (and_first (is_test_word after) _ (and_first (begins_word line place) _ is))) [
+      | inl a ↦ or_left begins _ (line_has text line (codes "__ha") at (begins_in_line line place (and_first (starts_with nat_eq after (codes "__ha")) _ a)))
+      | inr b ↦ elim (or_cases (ends_with nat_eq word (codes "as_include")) _ b) [
+        | inl c ↦ or_right begins _ (or_left small _ (line_has text line (codes "as_include") at (ends_in_line line place (codes "as_include") [] c)))
+        | inr d ↦ elim (or_cases (ends_with nat_eq word (codes "HAS_INCLUDE")) _ d) [
+          | inl e ↦ or_right begins _ (or_right small _ (or_left large embeds (line_has text line (codes "HAS_INCLUDE") at (ends_in_line line place (codes "HAS_INCLUDE") [] e))))
+          | inr f ↦ elim (or_cases (ends_with nat_eq word (codes "as_include_next")) _ f) [
+            | inl g ↦ or_right begins _ (or_left small _ (line_has text line (codes "as_include") at (ends_in_line line place (codes "as_include") (codes "_next") g)))
+            | inr h ↦ or_right begins _ (or_right small _ (or_right large embeds (line_has text line (codes "as_embed") at (ends_in_line line place (codes "as_embed") [] h))))
+          ]
+        ]
+      ]
+    ] in
+    let both : false ≡ true = sym none ∙ may in
     cc

@@ -1,14 +1,12 @@
 -- The names that lines and arguments include.
-use Rattle.std.proofs.Common.{◌≡◌, ◌≢◌, ◌∙◌, ℕ, suc, ◌+◌, ◌<◌, ◌≤◌, ◌⊎◌, inl, inr, Bool, true, false, List, [], ◌∷◌, ◌++◌, Option, Some, None, Bor, IsTrue, codes, drop, get_or, length, map, refl, slice_get, sym, ap, subst, take, arith}
+use Rattle.std.proofs.Common.{◌≡◌, ◌≢◌, ◌∙◌, ℕ, suc, ◌+◌, ◌<◌, ◌⊎◌, inl, inr, Bool, true, List, [], ◌∷◌, ◌++◌, Some, None, codes, drop, get_or, length, refl, slice_get, sym, ap, subst, take, arith}
 use Rattle.std.specs.BTreeSet.{BTreeSet}
 use Rattle.std.specs.Global.{Vec}
-use Rattle.std.specs.Option.{MatchOption}
-use Rattle.std.specs.Prelude.{Contains}
 use Rattle.std.proofs.Math.Seq.{drop-cons, take-append_seam}
 use Rattle.std.proofs.lemmas.List.{append_cancel_left, append-nil, get_or_at, get_or_default, length-append, take-append-drop}
 use Rattle.cck_cache_text.specs.Included.{IncludesHeader, Includes, IsAfter, IsClosedBy, IsGiven, IsGivenAt, IsGivenTo, IsHeader, IsIncludedBy}
 use Rattle.cck_cache_text.specs.SearchList.{text_lines}
-use Rattle.cck_cache_text.specs.Sets.{Adds, IsSetOf, has_key}
+use Rattle.cck_cache_text.specs.Sets.{Adds, IsSetOf}
 use Rattle.cck_cache_text.proofs.LeftLemmas.{no_key}
 use Rattle.cck_cache_text.proofs.SetLemmas.{Below, adds_as, adds_both, adds_nothing}
 

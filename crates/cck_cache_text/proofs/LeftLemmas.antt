@@ -1,5 +1,5 @@
 -- The directories that names leave.
-use Rattle.std.proofs.Common.{Ok, Err, Result, ◌≡◌, ◌≢◌, ◌∙◌, ◌↔◌, ℕ, ◌<◌, ◌⊎◌, inl, inr, Bool, true, false, List, [], Some, IsTrue, get_or, length, map, take, drop, codes, refl, sym, ap, subst, arith}
+use Rattle.std.proofs.Common.{Ok, Err, Result, ◌≡◌, ◌≢◌, ◌∙◌, ◌↔◌, ℕ, ◌<◌, inl, inr, Bool, true, false, List, [], IsTrue, get_or, length, map, take, drop, codes, refl, sym, ap, subst, arith}
 use Rattle.std.specs.BTreeSet.{BTreeSet}
 use Rattle.std.specs.Global.{Vec}
 use Rattle.std.specs.List.{list_any}

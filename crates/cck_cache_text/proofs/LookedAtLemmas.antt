@@ -1,11 +1,11 @@
 -- The paths at which headers are looked for.
-use Rattle.std.proofs.Common.{◌≡◌, ◌∙◌, ℕ, ◌<◌, ◌⊎◌, inl, inr, Bool, true, false, List, [], ◌++◌, IsTrue, get_or, length, map, sym, ap, subst, arith}
+use Rattle.std.proofs.Common.{◌≡◌, ◌∙◌, ℕ, ◌⊎◌, inl, inr, Bool, true, false, List, [], ◌++◌, IsTrue, get_or, length, map, sym, ap, subst, arith}
 use Rattle.std.specs.BTreeSet.{BTreeSet}
 use Rattle.std.specs.Global.{Vec}
 use Rattle.cck_markers.specs.Marks.{Mark}
 use Rattle.cck_cache_text.specs.Absent.{path_in}
-use Rattle.cck_cache_text.specs.Included.{AreIncluded, IsHeader}
-use Rattle.cck_cache_text.specs.LookedAt.{IsInPlace, IsLookedAt, IsPathOfHeader, IsUnnamedPath}
+use Rattle.cck_cache_text.specs.Included.{AreIncluded}
+use Rattle.cck_cache_text.specs.LookedAt.{IsInPlace, IsLookedAt, IsUnnamedPath}
 use Rattle.cck_cache_text.specs.Names.{AreNames, is_named, is_place}
 use Rattle.cck_cache_text.specs.Sets.{Adds, IsSetOf, has_key}
 use Rattle.cck_cache_text.specs.TestedPaths.{IsInList, is_absolute}

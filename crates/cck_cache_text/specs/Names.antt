@@ -1,5 +1,5 @@
 -- the files that a preprocessed text names
-use Rattle.std.specs.Prelude.{◌≡◌, ℕ, Bool, false, not, ◌&&◌, ◌||◌, ◌==◌, if◌then◌else◌, List, [], ◌∷◌, length, Option, Some, None, codes, nat_eq, is_some, true}
+use Rattle.std.specs.Prelude.{◌≡◌, ℕ, Bool, false, not, ◌&&◌, ◌||◌, ◌==◌, if◌then◌else◌, List, [], ◌∷◌, length, Option, Some, None, codes, nat_eq, is_some}
 use Rattle.std.specs.List.{list_any, ends_with}
 use Rattle.std.specs.Str.{bytes_eq}
 use Rattle.cck_markers.specs.Marks.{Mark, Name, Refusal, Malformed}

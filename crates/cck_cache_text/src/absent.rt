@@ -8,6 +8,7 @@ ghost use Rattle.cck_cache_rules.specs.Reading.{ReadsBack, byte_lists};
 ghost use Rattle.cck_cache_text.specs.SearchList.{search_fields};
 ghost use Rattle.cck_cache_text.specs.Sets.{Adds, IsSetOf, has_key};
 
+use crate::included::included_in;
 use crate::names::{Named, names_in};
 use crate::search_list::SearchList;
 use std::alloc::{AllocError, Global};
@@ -86,6 +87,25 @@ fn add_in_places(
     Ok(())
 }
 
+// Adds the rest of a name in the directory of each file of the text, if a header in quotes has that name.
+fn add_if_quoted(
+    alloc: Global,
+    paths: &mut BTreeSet<Vec<u8>>,
+    named: &Named,
+    quoted: &BTreeSet<Vec<u8>>,
+    rest: &[u8],
+) -> Result<(), AllocError>
+    ensures { OnOk result (Adds (λ absent. IsTrue (has_key quoted.now rest.now)
+        × ((directory : List ℕ) × IsTrue (has_key named.now.directories directory)
+        × IsBeside (has_key named.now.names) (directory ++ rest.now) absent)) paths.old paths.new) }
+{
+    if !quoted.contains(rest) {
+        return Ok(());
+    }
+    add_in_places(alloc, paths, named, rest)?;
+    Ok(())
+}
+
 // Adds the rest of a name in each of these directories.
 fn add_in(
     alloc: Global,
@@ -111,6 +131,7 @@ fn add_before(
     alloc: Global,
     paths: &mut BTreeSet<Vec<u8>>,
     named: &Named,
+    quoted: &BTreeSet<Vec<u8>>,
     directories: &[Vec<u8>],
     place: usize,
     name: &[u8],
@@ -119,12 +140,13 @@ fn add_before(
     ensures found { IfOk result (λ found.
         IsTrue found ↔ IsInDirectory (map (λ d. d.items) directories.now) name.now place) }
     ensures added { OnOk result (Adds (IsBeforeDirectory (has_key named.now.directories) (has_key named.now.names)
+        (λ rest. IsTrue (has_key quoted.now rest))
         (map (λ d. d.items) directories.now) name.now place) paths.old paths.new) }
 {
     let Some(rest) = within(name, &directories[place]) else {
         return Ok(false);
     };
-    add_in_places(alloc, paths, named, rest)?;
+    add_if_quoted(alloc, paths, named, quoted, rest)?;
     add_in(alloc, paths, named, &directories[..place], rest)?;
     Ok(true)
 }
@@ -134,18 +156,20 @@ fn add_name(
     alloc: Global,
     paths: &mut BTreeSet<Vec<u8>>,
     named: &Named,
+    quoted: &BTreeSet<Vec<u8>>,
     directories: &[Vec<u8>],
     name: &[u8],
 ) -> Result<bool, AllocError>
     ensures found { IfOk result (λ found.
         IsTrue found ↔ IsListed (map (λ d. d.items) directories.now) name.now) }
     ensures added { OnOk result (Adds (IsForName (has_key named.now.directories) (has_key named.now.names)
+        (λ rest. IsTrue (has_key quoted.now rest))
         (map (λ d. d.items) directories.now) name.now) paths.old paths.new) }
 {
     add(paths, joined(alloc, name, b".gch", b"")?)?;
     let mut is_found = false;
     for place in 0..directories.len() {
-        is_found |= add_before(alloc, paths, named, directories, place, name)?;
+        is_found |= add_before(alloc, paths, named, quoted, directories, place, name)?;
     }
     Ok(is_found)
 }
@@ -156,13 +180,15 @@ fn add_names(
     alloc: Global,
     paths: &mut BTreeSet<Vec<u8>>,
     named: &Named,
+    quoted: &BTreeSet<Vec<u8>>,
     directories: &[Vec<u8>],
 ) -> Result<bool, AllocError>
     ensures { IfOk result (AreAdded (has_key named.now.directories) (has_key named.now.names)
-        (has_key named.now.systems) (map (λ d. d.items) directories.now) paths.old paths.new) }
+        (has_key named.now.systems) (λ rest. IsTrue (has_key quoted.now rest))
+        (map (λ d. d.items) directories.now) paths.old paths.new) }
 {
     for name in &named.names {
-        let is_found = add_name(alloc, paths, named, directories, name)?;
+        let is_found = add_name(alloc, paths, named, quoted, directories, name)?;
         if !is_found && named.systems.contains(name.as_slice()) {
             return Ok(false);
         }
@@ -182,25 +208,35 @@ fn set_of(alloc: Global, all: &[Vec<u8>]) -> Result<BTreeSet<Vec<u8>>, AllocErro
 }
 
 /// The paths at which a header that this preprocessed text names would have been found earlier, in
-/// order: for each name in a directory of the list, that name in the directory of each file of the
-/// text, in the working directory and in each directory before it in the list; beside each path and
-/// each name its precompiled header `NAME.gch`; and the directories that the compiler left out of
-/// the list. A path that the text names is not among them, unless it is a precompiled header or was
-/// left out. Paths may be relative to the working directory.
+/// order: for each name in a directory of the list, that name in each directory before it in the list,
+/// and if the text or the arguments include a header of that name in quotes, in the directory of each
+/// file of the text and in the working directory; beside each path and each name its precompiled header
+/// `NAME.gch`; the directories that the compiler left out of the list; and `stdc-predef.h` in each
+/// directory of the list, which gcc includes without a directive, and without a message where there is
+/// none. A path that the text names is not among them, unless it is a precompiled header or was left
+/// out. Paths may be relative to the working directory. What is included is read from the lines that
+/// gcc writes with `-dI`.
 ///
 /// `None` where a system header is in no directory of the list, so that it is not known where it
 /// was looked for. The only error is lack of memory.
+///
+/// Source: "Search Path" of the manual of GCC's preprocessor, and gcc 12.
 pub fn absent_names(
     alloc: Global,
     text: &[u8],
+    arguments: &[Vec<u8>],
     search: &SearchList,
 ) -> Result<Option<BTreeSet<Vec<u8>>>, AllocError>
     ensures { IfOk result (λ found. (marks : List spec.Mark) → Marks true text.now marks
-        → AreAbsentNames marks (search_fields search.now) found) }
+        → AreAbsentNames marks text.now (map (λ a. a.items) arguments.now)
+        (search_fields search.now) found) }
 {
     let named = names_in(alloc, text)?;
+    let included = included_in(alloc, text, arguments)?;
     let mut paths = set_of(alloc, &search.missing)?;
-    if add_names(alloc, &mut paths, &named, &search.directories)? {
+    let listed = &search.directories;
+    add_in(alloc, &mut paths, &named, listed, b"stdc-predef.h")?;
+    if add_names(alloc, &mut paths, &named, &included.quoted, listed)? {
         Ok(Some(paths))
     } else {
         Ok(None)

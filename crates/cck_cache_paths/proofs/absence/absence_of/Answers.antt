@@ -21,7 +21,8 @@ pub returns-in_default-2-clause-absence : goal.returns-in_default-2-clause-absen
 returns-in_default-2-clause-absence g c = record {
   search = search_fields c.in-Some.search;
   is_search = rw c.in-Some.is at c.in_ok-search.ensures;
-  unknown = λ marks are. subst (λ (o : Option (BTreeSet (Vec ℕ))). AreAbsentNames marks (search_fields c.in-Some.search) o) c.in_default-2.is (c.in_ok-names.ensures marks are);
+  unknown = λ marks are. subst (λ (given : List Bytes). AreAbsentNames marks c.args.preprocessed.now.text.now given (search_fields c.in-Some.search) None) (ap lists_of c.deref.ensures.value)
+      (subst (λ (o : Option (BTreeSet (Vec ℕ))). AreAbsentNames marks c.args.preprocessed.now.text.now (lists_of c.deref.result.now) (search_fields c.in-Some.search) o) c.in_default-2.is (c.in_ok-names.ensures marks are));
 }
 
 pub returns-in_default-3-clause-absence : goal.returns-in_default-3-clause-absence
@@ -35,7 +36,8 @@ returns-in_default-3-clause-absence g c =
       search = search;
       is_search = rw c.in-Some.is at c.in_ok-search.ensures;
       doubtful = λ marks are.
-          let named = subst (λ (o : Option (BTreeSet (Vec ℕ))). AreAbsentNames marks search o) c.in-Some-2.is (c.in_ok-names.ensures marks are) in
+          let named = subst (λ (given : List Bytes). AreAbsentNames marks c.args.preprocessed.now.text.now given search (Some c.in-Some-2.names)) (ap lists_of c.deref.ensures.value)
+          (subst (λ (o : Option (BTreeSet (Vec ℕ))). AreAbsentNames marks c.args.preprocessed.now.text.now (lists_of c.deref.result.now) search o) c.in-Some-2.is (c.in_ok-names.ensures marks are)) in
           (found.0, (named.1 found.0).0 found.1, found.2);
     })
 
@@ -70,8 +72,9 @@ returns-clause-absence g c =
     let others : List Test = (searched ++ earlier) ++ map Directory (lists_of left.keys) in
     let others_are : tests_of c.add_directories.new.tests.items ≡ others =
     c.in_ok-add_directories.ensures ∙ ap (λ (tests : List Test). tests ++ map Directory (lists_of left.keys)) first_are in
-    let named : (marks : List Mark) → Marks true c.args.preprocessed.now.text.now marks → AreAbsentNames marks search (Some names) =
-    λ marks are. subst (λ (o : Option (BTreeSet (Vec ℕ))). AreAbsentNames marks search o) c.in-Some-2.is (c.in_ok-names.ensures marks are) in
+    let named : (marks : List Mark) → Marks true c.args.preprocessed.now.text.now marks → AreAbsentNames marks c.args.preprocessed.now.text.now (lists_of c.args.preprocessed.now.request.now.arguments.items) search (Some names) =
+    λ marks are. subst (λ (given : List Bytes). AreAbsentNames marks c.args.preprocessed.now.text.now given search (Some c.in-Some-2.names)) (ap lists_of c.deref.ensures.value)
+    (subst (λ (o : Option (BTreeSet (Vec ℕ))). AreAbsentNames marks c.args.preprocessed.now.text.now (lists_of c.deref.result.now) search o) c.in-Some-2.is (c.in_ok-names.ensures marks are)) in
     let found : AreTestsAt states directory IsName earlier = subst (λ (d : Bytes). AreTestsAt states d IsName earlier) c.as_bytes.ensures.value (rw c.in-Some-3.is at c.in_ok-earlier.ensures.tests) in
     record {
       search = search;
@@ -80,7 +83,7 @@ returns-clause-absence g c =
       searched = searched;
       are_searched = subst (λ (d : Bytes). AreSearched d search searched) c.as_bytes-2.ensures.value (rw c.in-Some-4.is at c.in_ok-searched.ensures.tests);
       earlier = earlier;
-      earlier_are = λ marks are. tests_for_same states directory IsName (IsAbsentName marks search) earlier
+      earlier_are = λ marks are. tests_for_same states directory IsName (IsAbsentName marks c.args.preprocessed.now.text.now (lists_of c.args.preprocessed.now.request.now.arguments.items) search) earlier
           (λ name has. ((named marks are).1 name).0 has) (λ name is. ((named marks are).1 name).1 is) found;
       fronts = lists_of left.keys;
       fronts_are = λ marks are. left_keys directory marks left (subst (λ (d : Bytes). IsSetOf (IsLeft d marks) left) c.as_bytes-3.ensures.value (c.in_ok-left.ensures.left marks are));

@@ -12,7 +12,7 @@ false_true e = cc
 pub loop-place-init : goal.loop-place-init
 loop-place-init c = record {
   found = (λ t. absurd (false_true t), λ w. absurd (omega (arith, w.1)));
-  added = adds_none_below (IsBeforeDirectory (has_key c.args.named.now.directories) (has_key c.args.named.now.names) (map (λ d. d.items) c.args.directories.now) c.args.name.now) c.add.new.paths;
+  added = adds_none_below (IsBeforeDirectory (has_key c.args.named.now.directories) (has_key c.args.named.now.names) (λ rest. IsTrue (has_key c.args.quoted.now rest)) (map (λ d. d.items) c.args.directories.now) c.args.name.now) c.add.new.paths;
 }
 
 pub loop-place-preserved : goal.loop-place-preserved
@@ -20,7 +20,7 @@ loop-place-preserved c =
     let directories = map (λ d. d.items) c.args.directories.now in
     record {
       found = within_more directories c.args.name.now c.loop-place.place c.loop-place.is_found c.in_ok-is_found.field-0 c.loop-place.invariant.found c.in_ok-is_found.ensures.found;
-      added = adds_more (IsBeforeDirectory (has_key c.args.named.now.directories) (has_key c.args.named.now.names) directories c.args.name.now) c.loop-place.place c.add.new.paths c.loop-place.paths c.add_before.new.paths c.loop-place.invariant.added c.in_ok-is_found.ensures.added;
+      added = adds_more (IsBeforeDirectory (has_key c.args.named.now.directories) (has_key c.args.named.now.names) (λ rest. IsTrue (has_key c.args.quoted.now rest)) directories c.args.name.now) c.loop-place.place c.add.new.paths c.loop-place.paths c.add_before.new.paths c.loop-place.invariant.added c.in_ok-is_found.ensures.added;
     }
 
 pub returns-clause-found : goal.returns-clause-found
@@ -33,5 +33,5 @@ pub returns-clause-added : goal.returns-clause-added
 returns-clause-added c =
     let directories = map (λ d. d.items) c.args.directories.now in
     let first : c.in_ok-joined.field-0.items ≡ precompiled c.args.name.now = c.in_ok-joined.ensures ∙ append-nil _ in
-    for_name (has_key c.args.named.now.directories) (has_key c.args.named.now.names) directories c.args.name.now c.in_ok-joined.field-0.items c.loop-place.place c.args.paths.now c.add.new.paths c.loop-place.paths first
+    for_name (has_key c.args.named.now.directories) (has_key c.args.named.now.names) (λ rest. IsTrue (has_key c.args.quoted.now rest)) directories c.args.name.now c.in_ok-joined.field-0.items c.loop-place.place c.args.paths.now c.add.new.paths c.loop-place.paths first
     (omega (arith, length-map c.args.directories.now (λ d. d.items))) c.in_ok-add.ensures c.loop-place.invariant.added

@@ -8,5 +8,5 @@ use Rattle.cck_cache_text.proofs.absent.add_name.Given as goal
 abbrev pub invariant-loop-place : goal.invariant-loop-place
 invariant-loop-place l = record {
   found : IsTrue l.is_found ↔ ((place : ℕ) × (place < l.place) × IsInDirectory (map (λ d. d.items) l.directories) l.name place);
-  added : Adds (Below (IsBeforeDirectory (has_key l.named.directories) (has_key l.named.names) (map (λ d. d.items) l.directories) l.name) l.place) l.initial.paths l.paths;
+  added : Adds (Below (IsBeforeDirectory (has_key l.named.directories) (has_key l.named.names) (λ rest. IsTrue (has_key l.quoted rest)) (map (λ d. d.items) l.directories) l.name) l.place) l.initial.paths l.paths;
 }

@@ -15,7 +15,7 @@ false_true e = cc
 pub loop-name-init : goal.loop-name-init
 loop-name-init c = record {
   listed = λ k lt. absurd (omega arith);
-  added = adds_none_below (AtName (has_key c.args.named.now.directories) (has_key c.args.named.now.names) (map (λ d. d.items) c.args.directories.now) (map (λ k. k.items) c.args.named.now.names.keys)) c.args.paths.now;
+  added = adds_none_below (AtName (has_key c.args.named.now.directories) (has_key c.args.named.now.names) (λ rest. IsTrue (has_key c.args.quoted.now rest)) (map (λ d. d.items) c.args.directories.now) (map (λ k. k.items) c.args.named.now.names.keys)) c.args.paths.now;
 }
 
 pub returns : goal.returns
@@ -25,7 +25,7 @@ returns c =
     let ends = iter_end deref named.names.keys c.loop-name.yielded c.into_iter-name-iterator.result c.loop-name.name-iterator c.next.new.self c.next.result
     c.into_iter-name-iterator.ensures.into_iter_gives.0 c.loop-name.yielded_by c.in-None.is c.next.ensures.steps in (
       all_listed (has_key named.systems) directories named.names (length c.loop-name.yielded) ends.1 c.loop-name.invariant.listed,
-      for_names (has_key named.directories) (has_key named.names) directories named.names (length c.loop-name.yielded) c.args.paths.now c.loop-name.paths ends.1 c.loop-name.invariant.added,
+      for_names (has_key named.directories) (has_key named.names) (λ rest. IsTrue (has_key c.args.quoted.now rest)) directories named.names (length c.loop-name.yielded) c.args.paths.now c.loop-name.paths ends.1 c.loop-name.invariant.added,
     )
 
 pub loop-name-preserved : goal.loop-name-preserved
@@ -47,8 +47,8 @@ loop-name-preserved c =
     ] in
     rw (length_push c.loop-name.yielded c.in-Some.name) (record {
       listed = listed_more (has_key named.systems) directories keys i c.loop-name.invariant.listed here;
-      added = adds_more (AtName (has_key named.directories) (has_key named.names) directories keys) i c.args.paths.now c.loop-name.paths c.add_name.new.paths c.loop-name.invariant.added
-          (subst (λ (n : List ℕ). Adds (IsForName (has_key named.directories) (has_key named.names) directories n) c.loop-name.paths c.add_name.new.paths) same c.in_ok-is_found.ensures.added);
+      added = adds_more (AtName (has_key named.directories) (has_key named.names) (λ rest. IsTrue (has_key c.args.quoted.now rest)) directories keys) i c.args.paths.now c.loop-name.paths c.add_name.new.paths c.loop-name.invariant.added
+          (subst (λ (n : List ℕ). Adds (IsForName (has_key named.directories) (has_key named.names) (λ rest. IsTrue (has_key c.args.quoted.now rest)) directories n) c.loop-name.paths c.add_name.new.paths) same c.in_ok-is_found.ensures.added);
     })
 
 pub returns-then-contains : goal.returns-then-contains

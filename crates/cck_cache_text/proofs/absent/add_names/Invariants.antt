@@ -1,4 +1,4 @@
-use Rattle.std.proofs.Common.{length, map}
+use Rattle.std.proofs.Common.{IsTrue, length, map}
 use Rattle.cck_cache_text.specs.Sets.{Adds, has_key}
 use Rattle.cck_cache_text.proofs.AbsentLemmas.{AtName, ListedBelow}
 use Rattle.cck_cache_text.proofs.SetLemmas.{Below}
@@ -8,5 +8,5 @@ use Rattle.cck_cache_text.proofs.absent.add_names.Given as goal
 abbrev pub invariant-loop-name : goal.invariant-loop-name
 invariant-loop-name l = record {
   listed : ListedBelow (has_key l.named.systems) (map (λ d. d.items) l.directories) (map (λ k. k.items) l.named.names.keys) (length l.yielded);
-  added : Adds (Below (AtName (has_key l.named.directories) (has_key l.named.names) (map (λ d. d.items) l.directories) (map (λ k. k.items) l.named.names.keys)) (length l.yielded)) l.fn.paths l.paths;
+  added : Adds (Below (AtName (has_key l.named.directories) (has_key l.named.names) (λ rest. IsTrue (has_key l.quoted rest)) (map (λ d. d.items) l.directories) (map (λ k. k.items) l.named.names.keys)) (length l.yielded)) l.fn.paths l.paths;
 }

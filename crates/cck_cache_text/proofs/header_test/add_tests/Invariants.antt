@@ -1,4 +1,3 @@
-use Rattle.std.proofs.Common.{◌≡◌}
 use Rattle.cck_cache_text.specs.HeaderTests.{Gains, test_fields}
 use Rattle.cck_cache_text.proofs.HeaderTestLemmas.{IsTestBelow, NoneBlindBelow}
 use Rattle.cck_cache_text.proofs.header_test.add_tests.Given as goal

@@ -1,4 +1,4 @@
-use Rattle.std.proofs.Common.{◌≡◌, Bool, true, false, ◌↔◌, IsTrue, sym, ◌∙◌}
+use Rattle.std.proofs.Common.{◌≡◌, Bool, true, false, IsTrue, sym, ◌∙◌}
 use Rattle.cck_digest.specs.TimeMacros.{has}
 use Rattle.cck_digest.proofs.FinderLemmas.{Has-found}
 use Rattle.cck_digest.proofs.HasLemmas.{has_iff}

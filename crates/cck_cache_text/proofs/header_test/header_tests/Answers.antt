@@ -1,9 +1,8 @@
-use Rattle.std.proofs.Common.{◌≡◌, ◌+◌, ℕ, true, false, Bor, List, [], codes, get_or, length, ◌∙◌, sym, ap, subst, arith, map}
+use Rattle.std.proofs.Common.{◌≡◌, ℕ, true, false, Bor, List, [], get_or, length, ◌∙◌, sym, ap, subst, arith, map}
 use Rattle.std.proofs.lemmas.List.{get_or-map, length-map}
-use Rattle.cck_digest.specs.TimeMacros.{has}
 use Rattle.cck_cache_text.specs.SearchList.{text_lines}
 use Rattle.cck_cache_text.specs.declared.header_test.HeaderTest.{HeaderTest}
-use Rattle.cck_cache_text.specs.HeaderTests.{Gains, GainsLine, TestFields, test_fields}
+use Rattle.cck_cache_text.specs.HeaderTests.{Gains, GainsLine, TestFields, may_have_test, test_fields}
 use Rattle.cck_cache_text.proofs.HeaderTestLemmas.{IsTestAbove, all_lines, gains_none, line_here, line_blind_here, no_test}
 use Rattle.cck_cache_text.proofs.header_test.header_tests.Goals as goal
 
@@ -16,9 +15,9 @@ loop-line-init c = record {
 nothing_in : (items : List HeaderTest) → items ≡ [] → test_fields items ≡ []
 nothing_in items none = ap test_fields none
 
-pub returns-then-not-has : goal.returns-then-not-has
-returns-then-not-has c =
-    let none : has c.args.text.now (codes "__has") ≡ false = sym c.has.ensures ∙ c.if-not-has.true in
+pub returns-then-not-may_have_test : goal.returns-then-not-may_have_test
+returns-then-not-may_have_test c =
+    let none : may_have_test c.args.text.now ≡ false = sym c.may_have_test.ensures ∙ c.if-not-may_have_test.true in
     let empty : length (test_fields c.new-tests.result.items) ≡ 0 = ap length (nothing_in c.new-tests.result.items c.new-tests.ensures.items) in (
       λ line at blind. no_test c.args.text.now line blind.0 none at blind.2,
       λ test. (λ h. absurd (omega (arith, empty, h.1)), λ h. absurd (no_test c.args.text.now h.0 h.2.0 none h.1 h.2.2)),

@@ -1,4 +1,4 @@
-use Rattle.std.proofs.Common.{◌≡◌, ◌+◌, ℕ, sym, arith, subst}
+use Rattle.std.proofs.Common.{◌+◌, ℕ, sym, arith, subst}
 use Rattle.std.specs.BTreeSet.{BTreeSet}
 use Rattle.std.specs.Global.{Vec}
 use Rattle.cck_cache_text.specs.Sets.{Adds}

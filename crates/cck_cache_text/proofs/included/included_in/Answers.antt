@@ -1,4 +1,4 @@
-use Rattle.std.proofs.Common.{◌≡◌, ◌∙◌, true, false, Bor, List, ℕ, ap, map, subst}
+use Rattle.std.proofs.Common.{◌≡◌, ◌∙◌, false, Bor, List, ℕ, ap, map, subst}
 use Rattle.cck_cache_text.specs.Included.{AddsLines, IsIncludedBy}
 use Rattle.cck_cache_text.specs.SearchList.{text_lines}
 use Rattle.cck_cache_text.specs.declared.included.Included.{Included}

@@ -1,7 +1,6 @@
-use Rattle.std.proofs.Common.{◌≡◌, ◌+◌, ℕ, List, ap, sym, arith, subst, take}
+use Rattle.std.proofs.Common.{◌+◌, ℕ, sym, arith, subst}
 use Rattle.std.specs.BTreeSet.{BTreeSet}
 use Rattle.std.specs.Global.{Vec}
-use Rattle.std.specs.Bool.{MatchBool}
 use Rattle.cck_cache_text.specs.Sets.{Adds}
 use Rattle.cck_cache_text.proofs.LeftLemmas.{LeftAt, left_here, whole_way}
 use Rattle.cck_cache_text.proofs.SetLemmas.{Below, adds_more, adds_none_below, adds_nothing}

@@ -1,4 +1,4 @@
-use Rattle.std.proofs.Common.{◌≡◌, ◌-◌, ◌↔◌, Bool, IsTrue, arith, codes, drop, length, sym, subst, take}
+use Rattle.std.proofs.Common.{◌-◌, ◌↔◌, Bool, IsTrue, arith, codes, drop, length, sym, subst, take}
 use Rattle.std.proofs.lemmas.List.{take_rest}
 use Rattle.cck_digest.specs.TimeMacros.{Has}
 use Rattle.cck_digest.proofs.FinderLemmas.{Has-found}

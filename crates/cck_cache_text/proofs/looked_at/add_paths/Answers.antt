@@ -1,7 +1,6 @@
 use Rattle.std.proofs.Common.{◌≡◌, ℕ, true, false, List, map, sym, subst}
 use Rattle.std.specs.BTreeSet.{BTreeSet}
 use Rattle.std.specs.Global.{Vec}
-use Rattle.cck_cache_text.specs.LookedAt.{IsUnnamedPath}
 use Rattle.cck_cache_text.specs.Sets.{Adds, has_key}
 use Rattle.cck_cache_text.specs.TestedPaths.{IsInList, is_absolute}
 use Rattle.cck_cache_text.proofs.LookedAtLemmas.{UnnamedAt, paths_absolute, paths_bracketed, paths_quoted}

@@ -1,4 +1,4 @@
-use Rattle.std.proofs.Common.{◌≡◌, true, false, List, ℕ, ap, map, subst}
+use Rattle.std.proofs.Common.{true, false, List, ℕ, ap, map, subst}
 use Rattle.cck_cache_text.specs.SearchList.{search_fields}
 use Rattle.cck_cache_text.specs.Sets.{Adds, has_key}
 use Rattle.cck_cache_text.proofs.LookedAtLemmas.{ForNames, all_looked_at}

@@ -4,7 +4,7 @@ use Rattle.cck_cache_text.specs.HeaderTests.{TestFields, fields_of, test_fields}
 use Rattle.cck_cache_text.specs.SearchList.{search_fields}
 use Rattle.cck_cache_text.specs.Sets.{Adds}
 use Rattle.cck_cache_text.specs.TestedPaths.{IsPathOfTest}
-use Rattle.cck_cache_text.proofs.SetLemmas.{Below, adds_more, adds_none_below}
+use Rattle.cck_cache_text.proofs.SetLemmas.{adds_more, adds_none_below}
 use Rattle.cck_cache_text.proofs.TestedLemmas.{OfTest, paths_of_tests}
 use Rattle.cck_cache_text.proofs.tested_paths.add_tested_paths.Goals as goal
 

@@ -1,5 +1,4 @@
-use Rattle.std.proofs.Common.{map}
-use Rattle.cck_cache_text.specs.HeaderTests.{fields_of, test_fields}
+use Rattle.cck_cache_text.specs.HeaderTests.{test_fields}
 use Rattle.cck_cache_text.specs.SearchList.{search_fields}
 use Rattle.cck_cache_text.specs.Sets.{Adds}
 use Rattle.cck_cache_text.proofs.SetLemmas.{Below}

@@ -1,6 +1,6 @@
-use Rattle.std.proofs.Common.{◌≡◌, ◌∙◌, inl, inr, false, true, Bor, List, ℕ, ap, arith, length, map, subst, sym, take}
+use Rattle.std.proofs.Common.{◌≡◌, ◌∙◌, inl, inr, false, true, Bor, List, ℕ, ap, arith, map, subst, sym, take}
 use Rattle.std.specs.List.{after_first, before_first, list_any, position_or_len}
-use Rattle.std.proofs.lemmas.List.{length-map, length-take-le, take-map}
+use Rattle.std.proofs.lemmas.List.{length-map, take-map}
 use Rattle.cck_cache_rules.specs.Reading.{AreRead, byte_lists}
 use Rattle.cck_cache_text.specs.SearchList.{begins_list, duplicate_line, ends_list, is_file_line, listed_line, missing_line}
 use Rattle.cck_cache_text.proofs.SearchLemmas.{none_pass, some_passes}
