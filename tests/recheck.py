@@ -6,6 +6,7 @@ Needs gcc and the program (CCK_PROGRAM, by default the one that was proved and b
 import os
 import pathlib
 import pty
+import shutil
 import subprocess
 import sys
 import tempfile
@@ -131,6 +132,23 @@ def right_hits(room):
     yield "none differs", room.count("recheck-differs") == 0
 
 
+def by_link(room):
+    """A link to the wrapper, by either kind, is a compiler's name: the hit by it is compared."""
+    wanted = room.run(["gcc", "-Wall", "-c", "x.c"])
+    room.clean()
+    shutil.copytree(TOP / "bin", room.place / "bin")
+    shutil.copytree(TOP / "lib", room.place / "lib")
+    (room.place / "bin/gcc").hardlink_to(room.place / "bin/cckcc")
+    (room.place / "bin/cc").symlink_to("cckcc")
+    for number, name in enumerate(("gcc", "cc")):
+        for _ in range(2):
+            _, *got = room.run([f"{room.place}/bin/{name}", "-Wall", "-c", "x.c"], CCK_RECHECK="1",
+                               PATH=f"{room.place}/bin:{os.environ['PATH']}")
+            yield f"recheck by a link {name}", got[:2] == list(wanted[1:3]) and got[2]["x.o"] == wanted[3]["x.o"]
+            (room.place / "x.o").unlink()
+        yield f"a hit by the link {name} is compared", room.count("recheck") == number + 1
+
+
 def in_terminal(room):
     """The hit of a call in a terminal is compared too: the messages are coloured."""
     for variable in ("0", "1"):
@@ -185,7 +203,7 @@ def wrong_status(room):
 def main():
     need_program()
     passed, failed = 0, 0
-    for part in (without_cache, right_hits, in_terminal, wrong_hits, wrong_status):
+    for part in (without_cache, right_hits, by_link, in_terminal, wrong_hits, wrong_status):
         with tempfile.TemporaryDirectory() as place:
             for name, is_right in part(Room(place)):
                 passed, failed = passed + bool(is_right), failed + (not is_right)

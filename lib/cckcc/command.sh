@@ -55,12 +55,42 @@ CCK_DEBUG
 END
 }
 
+# Calls the program with these words, and sets `cck_found` to what it prints and `cck_status` to its status. If standard
+# error is a terminal, the seconds that this takes are shown there, from the first one on.
+call() {
+    cck_timer=
+    if [ -t 2 ] && [ "${TERM-dumb}" != dumb ]; then
+        (cck_seconds=0
+        while sleep 1 && kill -0 $$ 2>/dev/null; do
+            cck_seconds=$((cck_seconds + 1))
+            printf '\rcckcc: %s: %d s' "$1" $cck_seconds >&2
+        done) > /dev/null &
+        cck_timer=$!
+    fi
+    cck_found=$("$cck_program" "$@")
+    cck_status=$?
+    if [ -n "$cck_timer" ]; then
+        kill $cck_timer 2>/dev/null
+        wait $cck_timer 2>/dev/null
+        printf '\r\033[K' >&2
+    fi
+    return $cck_status
+}
+
+# Prints what the call printed, and ends with its status.
+print_found() {
+    [ -z "$cck_found" ] || printf '%s\n' "$cck_found" || exit 1
+    exit $cck_status
+}
+
 # Prints what the store has, and the counts: lines, or with --json an object, in which a store without a limit has `null`.
 show_stats() {
-    [ $# -ne 1 ] || exec "$cck_program" stats "$cck_store"
-    [ $# -eq 2 ] && [ "$2" = --json ] || { print_usage >&2; exit 2; }
-    cck_found=$("$cck_program" stats "$cck_store") || { cck_status=$?; echo "$cck_found" >&2; exit $cck_status; }
-    echo "$cck_found" | LC_ALL=C awk '
+    case $#:$2 in
+    1:) call stats "$cck_store"; print_found ;;
+    2:--json) call stats "$cck_store" || print_found >&2 ;;
+    *) print_usage >&2; exit 2 ;;
+    esac
+    printf '%s\n' "$cck_found" | LC_ALL=C awk '
         $1 == "count" { counts = counts (counts == "" ? "" : ", ") "\"" $2 "\": " $3; next }
         NF == 3 { printf "%s\"%s\": {\"files\": %s, \"bytes\": %s}", NR == 1 ? "{" : ", ", $1, $2, $3; next }
         { printf ", \"%s\": %s", $1, $2 == "none" ? "null" : $2 }
@@ -69,12 +99,13 @@ show_stats() {
 
 # Removes what was used longest ago, until the directory keeps its limit, which is the program's to say.
 clean_up() {
-    cck_found=$("$cck_program" stats "$cck_store") || { cck_status=$?; echo "$cck_found"; exit $cck_status; }
-    cck_limit=$(echo "$cck_found" | sed -n 's/^limit //p')
+    call stats "$cck_store" || print_found
+    cck_limit=$(printf '%s\n' "$cck_found" | sed -n 's/^limit //p')
     case $cck_limit in
     none) cck_limit=18446744073709551615 ;;
     esac
-    exec "$cck_program" prune "$cck_store" --max-size "$cck_limit"
+    call prune "$cck_store" --max-size "$cck_limit"
+    print_found
 }
 
 # Whether a word is a size that the program reads: a number, a suffix or none, and less than 10^18 bytes.
@@ -117,7 +148,7 @@ case ${1-} in
 -s|--show-stats) show_stats "$@" ;;
 -z|--zero-stats) exec rm -rf "$cck_store/counts" ;;
 -c|--cleanup) clean_up ;;
--C|--clear) exec "$cck_program" clear "$cck_store" ;;
+-C|--clear) call clear "$cck_store"; print_found ;;
 -p|--show-config) show_config ;;
 -M|--max-size) [ $# -eq 2 ] || { print_usage >&2; exit 2; }; set_max_size "$2" ;;
 --max-size=*) set_max_size "${1#*=}" ;;

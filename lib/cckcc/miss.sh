@@ -39,6 +39,13 @@ locate() {
     cck_located=
 }
 
+# Whether the tools are there that decide what is recorded. It starts no process.
+has_tools() {
+    for cck_tool in awk cat cksum cmp cp grep head ldd mkdir mktemp mv readlink rm sed; do
+        command -v $cck_tool > /dev/null || return 1
+    done
+}
+
 # Where a directory keeps objects.
 cck_keeps=1 cck_failed= cck_unusable=
 if [ -n "$cck_server" ]; then
@@ -56,6 +63,7 @@ cck_reason=
 # A stream that is closed stays closed for the compiler, whose files may take its number.
 { { true 3>&1; } 2>/dev/null && true 3>&2; } || cck_reason=stream
 command -v "$cck_program" > /dev/null || cck_reason=no-program
+has_tools || cck_reason=no-tool
 [ -z "$cck_has_specs" ] || cck_reason=variable
 # The list of directories that the compiler prints has one in each line.
 case $CPATH$C_INCLUDE_PATH in
@@ -110,7 +118,7 @@ make_scratch() {
     [ -z "$cck_scratch" ] || return 0
     cck_scratch=$(make_directory) || return 1
     trap 'rm -rf "$cck_scratch"' EXIT
-    for cck_signal in HUP INT TERM; do trap "end_by $cck_signal" $cck_signal; done
+    for cck_signal in HUP INT PIPE QUIT TERM; do trap "end_by $cck_signal" $cck_signal; done
 }
 
 # Ends by a signal, as the compiler does. A preprocessor in the background ignores that of the terminal.
@@ -156,11 +164,20 @@ has_plain_libraries() {
     esac
 }
 
-# Adds the libraries that the programs load to the programs.
+# Adds the libraries that the programs load to the programs. It fails where they are not known.
 add_loaded() {
-    for cck_library in $(ldd "$cck_driver" "$cck_proper" "$cck_assembler" 2>/dev/null |
-        sed -n 's/^[[:space:]]\(.* => \)\{0,1\}\(\/[^ :]*\) (.*/\2/p' | sort -u); do
-        cck_programs=$cck_programs:$cck_library
+    for cck_next in "$cck_driver" "$cck_proper" "$cck_assembler"; do
+        cck_loaded=$(LC_ALL=C ldd "$cck_next" 2>&1) || case $cck_loaded in
+        *'not a dynamic executable'*) cck_loaded= ;;
+        *) return 1 ;;
+        esac
+        cck_loaded=$(printf '%s\n' "$cck_loaded" | sed -n 's/^[[:space:]]\(.* => \)\{0,1\}\(\/[^ :]*\) (.*/\2/p') || return 1
+        for cck_library in $cck_loaded; do
+            case :$cck_programs: in
+            *:"$cck_library":*) ;;
+            *) cck_programs=$cck_programs:$cck_library ;;
+            esac
+        done
     done
 }
 
@@ -197,10 +214,12 @@ add_searched() {
 }
 
 # Sets `cck_searched` to the directories in which the compiler looks for programs, with colons between them. One that is
-# not there is named by the one above it, which changes when it comes.
+# not there is named by the one above it, which changes when it comes. It fails where they are not known.
 find_searched() {
     cck_searched=${cck_proper%/*}
-    cck_directories=$("$cck_compiler" -print-search-dirs 2>/dev/null | sed -n 's/^programs: =//p'):
+    cck_directories=$("$cck_compiler" -print-search-dirs 2>/dev/null | sed -n 's/^programs: =//p')
+    [ -n "$cck_directories" ] || return 1
+    cck_directories=$cck_directories:
     while [ -n "$cck_directories" ]; do
         cck_directory=${cck_directories%%:*} cck_directories=${cck_directories#*:}
         case $cck_directory in
@@ -218,7 +237,8 @@ find_searched() {
     done
 }
 
-# Asks the compiler for the programs, and keeps them. It fails where there is no temporary directory.
+# Asks the compiler for the programs, and keeps them. It fails where there is no temporary directory. Where a tool fails the
+# compiler is unknown to this call alone.
 find_programs() {
     cck_driver=$(readlink -f "$cck_located" 2>/dev/null)
     cck_proper=$("$cck_compiler" -print-prog-name=cc1 2>/dev/null)
@@ -227,11 +247,11 @@ find_programs() {
     cck_tried=$(make_directory) || return 1
     if is_known && ! reads_specs && has_plain_libraries && says_what_it_read "$cck_assembler" "$cck_tried"; then
         cck_programs=$cck_located:$cck_proper:$cck_assembler
-        add_loaded
+        add_loaded || { cck_programs=-; rm -rf "$cck_tried"; return 0; }
     fi
     rm -rf "$cck_tried"
     name_list
-    find_searched
+    find_searched || { cck_programs=-; return 0; }
     {
         mkdir -p "$cck_store/compilers" &&
             printf '%s%s\n%s\n%s\n' "$cck_context" "$cck_driver" "$cck_searched" "$cck_programs" > "$cck_list.new$$" &&
@@ -474,8 +494,8 @@ find_own() {
     cck_own=${cck_own%/*}/include/
 }
 
-# Writes three lines: `alone` if the text names no file beside the input; why the compiler may read another text than
-# this, or have other names for its files; and what it may read in another way.
+# Writes four lines: `alone` if the text names no file beside the input; why the compiler may read another text than
+# this, or have other names for its files; what it may read in another way; and `end`.
 #
 # A pragma that sets macros of the target is run by the compiler alone. The compiler's own headers set them back, to what
 # the target has. The compiler knows declarations, by which `__has_builtin` is 0. A header that is found in a directory
@@ -517,17 +537,26 @@ judge_text() {
             print reason
             if (reason == "") for (name in projects) if (may_ask(name)) { doubts = doubts " builtins"; break }
             print doubts
+            print "end"
         }' "$cck_scratch/text" < /dev/null
 }
 
 # Whether a file of the project, or an argument, defines or undefines what may be a macro of the target, by a text that
-# has these directives (-dD). A name that ends as that of a guard is none.
+# has these directives (-dD). A name that ends as that of a guard is none. The status is 1 if there is none.
 changes_targets() {
     cck_own=$cck_own LC_ALL=C awk '
         BEGIN { own = "\"" ENVIRON["cck_own"] }
         /^# [0-9]+ "/ { is_other = $3 == "\"<built-in>\"" || index($3, own) == 1 || index($3, "\"/usr/include/") == 1 }
         !is_other && /^#(define|undef) __[A-Za-z0-9_]*__/ && $2 !~ /_[Hh]__/ { found = 1; exit }
         END { exit !found }' "$1"
+}
+
+# Whether no line of these files matches the pattern $1. It fails too where one can't be read.
+lacks() {
+    cck_next=$1
+    shift
+    grep -q -- "$cck_next" "$@" 2>/dev/null
+    [ $? -eq 1 ]
 }
 
 # Writes the text of the call, and why it is not recorded, or an empty line. No entry is made of a text that names no file
@@ -538,7 +567,9 @@ write_text() {
     [ ! -e "$cck_scratch/failed" ] || return
     find_own
     judge_text > "$cck_scratch/judged"
-    { read -r cck_word; read -r cck_refused; read -r cck_doubts; } < "$cck_scratch/judged"
+    cck_word= cck_refused= cck_doubts= cck_end=
+    { read -r cck_word; read -r cck_refused; read -r cck_doubts; read -r cck_end; } < "$cck_scratch/judged"
+    [ "$cck_end" = end ] || cck_refused=other-file
     cck_words=
     if [ "$cck_word" = alone ]; then
         cck_words='-imacros "$cck_store/empty.h"'
@@ -553,18 +584,18 @@ write_text() {
     case $cck_doubts in
     *targets*)
         preprocess macros -dD
-        ! changes_targets "$cck_scratch/macros" || cck_refused=target-pragma
+        changes_targets "$cck_scratch/macros"
+        [ $? -eq 1 ] || cck_refused=target-pragma
         ;;
     esac
-    ! grep -q 'might prevent reproducible builds' "$cck_scratch"/*-search || cck_refused=time-macro
+    lacks 'might prevent reproducible builds' "$cck_scratch"/*-search || cck_refused=time-macro
     echo "$cck_refused" > "$cck_scratch/refused"
 }
 
-# Whether the object has code for another device: its sections have random names.
-has_random_names() {
+# Whether the object has no code for another device: sections for one have random names.
+has_plain_names() {
     case " $* " in
-    *' -fopenmp '*|*' -fopenacc '*) grep -q '\.gnu\.offload_lto_' -- "$cck_out" 2>/dev/null ;;
-    *) return 1 ;;
+    *' -fopenmp '*|*' -fopenacc '*) lacks '\.gnu\.offload_lto_' "$cck_out" ;;
     esac
 }
 
@@ -606,14 +637,10 @@ cck_refused=
 [ -e "$cck_scratch/failed" ] || read -r cck_refused 2> /dev/null < "$cck_scratch/refused" || cck_refused=other-file
 # What an assembler prints there is not kept, nor a message that names a temporary file.
 [ ! -s "$cck_scratch/output" ] || cck_refused=output
-if [ -s "$cck_scratch/messages" ] && grep -q '/cc[A-Za-z0-9]\{6\}\.s' "$cck_scratch/messages"; then
+if [ -s "$cck_scratch/messages" ] && ! lacks '/cc[A-Za-z0-9]\{6\}\.s' "$cck_scratch/messages"; then
     cck_refused=temporary-name
 fi
-# With this option the assembler writes the name of its temporary input into the object.
-case " $* " in
-*' -gno-stabs'*) cck_refused=temporary-name ;;
-esac
-! has_random_names "$@" || cck_refused=offload
+has_plain_names "$@" || cck_refused=offload
 if [ $cck_status -ne 0 ] || [ -e "$cck_scratch/failed" ]; then
     log "not recorded (status $cck_status): $cck_input"
     count not-recorded-status

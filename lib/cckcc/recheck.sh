@@ -1,8 +1,8 @@
 # With CCK_RECHECK: runs a call by the cache, and after a hit by the compiler too, and compares what the two made.
-# bin/cckcc sources this script, with the compiler's words, and has set `cck_compiler`, `cck_program`, `cck_store`, the
-# directory, `cck_server` and `cck_secret`, the address of a server and a password or nothing, and `cck_color`, which is an
-# option of the compiler or nothing. It returns where there is nothing to compare by: a standard stream is closed, or there
-# is no temporary directory.
+# bin/cckcc sources this script, with the compiler's words, and has set `cck_script`, its path, `cck_compiler`,
+# `cck_program`, `cck_store`, the directory, `cck_server` and `cck_secret`, the address of a server and a password or nothing,
+# and `cck_color`, which is an option of the compiler or nothing. It returns where there is nothing to compare by: a standard
+# stream is closed, or there is no temporary directory.
 #
 # The compiler gets the words as they are, since other names of its files would change what it makes. So what the hit
 # wrote is put aside first, and what the call leaves is the compiler's.
@@ -21,11 +21,10 @@ count() { { mkdir -p "$cck_store/counts" && printf . >> "$cck_store/counts/$1"; 
 run_by_cache() {
     true > "$cck_room/log"
     (
-        CCK_RECHECK=0 CCK_DEBUG='' CCK_LOG=$cck_room/log
-        [ -z "$cck_color" ] || CCK_RECHECK=color
-        export CCK_RECHECK CCK_DEBUG CCK_LOG
+        CCK_RECHECK=0 CCK_RECHECK_COLOR=$cck_color CCK_DEBUG='' CCK_LOG=$cck_room/log
+        export CCK_RECHECK CCK_RECHECK_COLOR CCK_DEBUG CCK_LOG
         if [ -n "$cck_server" ]; then export CCK_STORE="$cck_server" REDISCLI_AUTH="$cck_secret"; fi
-        exec "$(readlink -f "$0")" "$cck_compiler" "$@"
+        exec "$cck_wrapper" "$cck_compiler" "$@"
     ) 2> "$cck_room/messages"
 }
 
@@ -76,9 +75,12 @@ end_by() {
 }
 
 { { true 3>&1; } 2>/dev/null && true 3>&2; } || return 0
+# A link that is called as a compiler would take the compiler for an argument.
+cck_wrapper=${cck_script%/*}/../../bin/cckcc
+[ -x "$cck_wrapper" ] || cck_wrapper=$(readlink -f "$0")
 cck_room=$(mktemp -d 2>/dev/null) || return 0
 trap 'rm -rf "$cck_room"' EXIT
-for cck_signal in HUP INT TERM; do trap "end_by $cck_signal" $cck_signal; done
+for cck_signal in HUP INT PIPE QUIT TERM; do trap "end_by $cck_signal" $cck_signal; done
 run_by_cache "$@"
 cck_status=$?
 [ -z "$CCK_LOG" ] || { cat "$cck_room/log" >> "$CCK_LOG"; } 2>/dev/null
