@@ -266,5 +266,47 @@ class Readings(Theme):
             self.content(self.path)
 
 
+class Beside(Theme):
+    """Headers of one name in quotes and in brackets, which come and go beside the files that include them; the header that no
+    directive includes; tests by macros and in groups of a condition."""
+    PLACES = ["work/p.h", "work/a/p.h", "work/a/k/p.h", "work/b/k/p.h", "work/k/p.h", "work/a/q.h", "work/b/q.h", "work/k/q.h"]
+    IMPLICIT = ["work/a/stdc-predef.h", "work/b/stdc-predef.h", "work/stdc-predef.h", "work/b/k/stdc-predef.h"]
+    INCLUDES = ['#include "p.h"', "#include <p.h>", "#include NAME", '#include "k/o.h"', "#include <k/o.h>", '#include "./p.h"',
+                '#include_next "p.h"', '#include "../work/p.h"', '#import "p.h"']
+    NAMES = ["<p.h>", '"p.h"', '"k/../p.h"']
+    TESTS = ["Q_HAS_INCLUDE(<q.h>)", 'Q_HAS_INCLUDE("q.h")', '(defined(__has_include) && __has_include("k/q.h"))',
+             "(0 || (defined __has_include && (__has_include(<k/q.h>))))", "(! Q_HAS_INCLUDE(<q.h>))", "JOIN(__has, _include)(<q.h>)",
+             "JOIN(__, has_include)(<q.h>)", "CALL((__has_include(<q.h>)))"]
+
+    def start(self):
+        project = self.project
+        self.content("work/b/p.h")
+        self.put("work/b/k/o.h", project.pick(['#include "p.h"', "#include <p.h>", "#include NAME"]))
+        lines = [f"#define NAME {project.pick(self.NAMES)}", "#define JOIN(a, b) a ## b", "#define CALL(x) x"]
+        lines += project.pick([["#define Q_HAS_INCLUDE __has_include"], ["#define Q_HAS_INCLUDE __has_include_next"],
+                               ["#ifndef Q_HAS_INCLUDE", "#define Q_HAS_INCLUDE(x) 0", "#endif"]], [3, 1, 1])
+        lines += [project.pick(self.INCLUDES) for _ in range(project.pick([1, 2, 3]))]
+        if project.is_rare(0.5):
+            project.number += 1
+            lines.append(f"#if {project.pick(self.TESTS)}\nint c{project.number};\n#endif")
+        self.include(*lines)
+        directories = project.pick([BOTH, BOTH[::-1], [["-iquote", "a"], ["-Ib"]], [["-Ia"], ["-idirafter", "b"]], [["-I."], ["-Ib"]]])
+        self.give([["-w"]], directories + project.pick([[], [["-isysroot", "none"]]]))
+
+    def content(self, path):
+        self.project.number += 1
+        name = f"G{path.count('/')}_{self.project.number}"
+        self.put(path, f"#ifndef {name}\n#define {name}\nint r{self.project.number};\n#endif")
+
+    def change(self):
+        project = self.project
+        if not self.path or project.is_rare(0.4):
+            self.path = project.pick(self.IMPLICIT if project.is_rare(0.2) else self.PLACES)
+        if self.path in project.tree and project.is_rare(0.6):
+            project.do({"do": "remove", "path": self.path})
+        else:
+            self.content(self.path)
+
+
 # How often a project has a theme.
-THEMES = {Plain: 10, Columns: 2.5, Variables: 1.5, Missing: 1, Base: 1.5, Copies: 1.5, Readings: 1.5}
+THEMES = {Plain: 10, Columns: 2.5, Variables: 1.5, Missing: 1, Base: 1.5, Copies: 1.5, Readings: 1.5, Beside: 2}
