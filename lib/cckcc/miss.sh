@@ -500,16 +500,20 @@ find_own() {
 # A pragma that sets macros of the target is run by the compiler alone. The compiler's own headers set them back, to what
 # the target has. The compiler knows declarations, by which `__has_builtin` is 0. A header that is found in a directory
 # of system headers only later has its shorter name from then on. A file between `<` and `>` is named as what the compiler
-# defines itself. A line directive enters no file.
+# defines itself. A line directive enters no file. A carriage return may end a line, a zero byte a name, and `??/` may be no
+# splice: a file of the project that has one of these has no test for a header.
 judge_text() {
     cck_own=$cck_own LC_ALL=C awk '
-        function may_ask(name, line, letters) {
+        function read_file(name, line, letters, is_odd, tests) {
             while ((getline line < name) > 0) {
+                if (line ~ /\r.|\000|\?\?\/[ \t\r\f\013]*$/) is_odd = 1
                 gsub(/[^A-Za-z_]/, "", line)
                 letters = substr(letters, length(letters) - 10) line
-                if (index(letters, "has_builtin")) return 1
+                if (index(letters, "has_builtin")) asks = 1
+                if (letters ~ /has_inc|has_emb|HAS_INC/) tests = 1
             }
-            return close(name) != 0
+            if (close(name) != 0) asks = 1
+            if (is_odd && tests) reason = "header-test"
         }
         /^# [0-9]+ "/ {
             flags = name = $0
@@ -534,9 +538,9 @@ judge_text() {
         }
         END {
             print found ? "" : "alone"
+            if (reason == "") for (name in projects) read_file(name)
             print reason
-            if (reason == "") for (name in projects) if (may_ask(name)) { doubts = doubts " builtins"; break }
-            print doubts
+            print doubts (asks ? " builtins" : "")
             print "end"
         }' "$cck_scratch/text" < /dev/null
 }
