@@ -557,9 +557,9 @@ changes_targets() {
 
 # Whether no line of these files matches the pattern $1. It fails too where one can't be read.
 lacks() {
-    cck_next=$1
+    cck_pattern=$1
     shift
-    grep -q -- "$cck_next" "$@" 2>/dev/null
+    grep -q -- "$cck_pattern" "$@" 2>/dev/null
     [ $? -eq 1 ]
 }
 
