@@ -62,7 +62,12 @@ pub enum Judged<'a> {
 fn ask_for_file(arguments: &[Vec<u8>]) -> bool
     ensures { IsTrue result ↔ AskForFile (lists_of arguments.now) }
 {
-    arguments.iter().any(|argument| may_ask_for_file(argument))
+    for argument in arguments {
+        if may_ask_for_file(argument) {
+            return true;
+        }
+    }
+    false
 }
 
 // Whether an argument may name a file of arguments of a program that the compiler runs.

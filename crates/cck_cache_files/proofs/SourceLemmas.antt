@@ -5,15 +5,14 @@ use Rattle.std.specs.Global.{Vec}
 use Rattle.std.proofs.lemmas.Bool.{cases_lt}
 use Rattle.std.specs.List.{list_any}
 use Rattle.std.specs.Str.{bytes_eq}
-use Rattle.cck_cache_text.specs.HeaderTests.{AreTests, TestFields}
+use Rattle.cck_cache_text.specs.HeaderTests.{TestFields}
 use Rattle.cck_cache_text.specs.Sets.{Adds, IsSetOf, has_key}
 use Rattle.cck_cache_text.proofs.SetLemmas.{Below, adds_as, adds_more, adds_nothing, has_key_at, key_at}
-use Rattle.cck_cache_text.specs.Splices.{unspliced}
 use Rattle.cck_cache_text.specs.TestedPaths.{IsPathOfTests}
 use Rattle.cck_cache_files.specs.declared.sources.Asked.{Asked}
 use Rattle.cck_cache_files.specs.declared.sources.Asked.TheVariants.{Paths, Unknown, Time}
 use Rattle.cck_digest.specs.declared.error.FileError.{FileError}
-use Rattle.cck_cache_files.specs.Sources.{AreAsked, AsksFor, IsContents, IsPlainSource, IsSourceOf}
+use Rattle.cck_cache_files.specs.Sources.{AreAsked, AreSourceTests, AsksFor, IsContents, IsPlainSource, IsSourceOf}
 use Rattle.cck_files.specs.FileMap.{FileMap}
 use Rattle.cck_path.specs.Bytes.{Bytes}
 
@@ -33,10 +32,10 @@ plain_more files directory names n here before k contents lt is =
     ]
 
 -- a source asks for the paths of its tests
-pub asks_by : (directories : List Bytes) (name contents : Bytes) (tests : List TestFields) (old new : BTreeSet (Vec ℕ)) → AreTests (unspliced contents) (Some tests) → Adds (IsPathOfTests directories name tests) old new → Adds (AsksFor directories name contents) old new
+pub asks_by : (directories : List Bytes) (name contents : Bytes) (tests : List TestFields) (old new : BTreeSet (Vec ℕ)) → AreSourceTests contents (Some tests) → Adds (IsPathOfTests directories name tests) old new → Adds (AsksFor directories name contents) old new
 asks_by directories name contents tests old new are = adds_as (IsPathOfTests directories name tests) (AsksFor directories name contents) old new
     (λ path at. (tests, are, at))
-    (λ path asks. (asks.2.0, (are.1 asks.2.0).1 ((asks.1.1 asks.2.0).0 asks.2.1), asks.2.2))
+    (λ path asks. (asks.2.0, (are.1.1 asks.2.0).1 ((asks.1.1.1 asks.2.0).0 asks.2.1), asks.2.2))
 
 -- the sources of all names
 pub all_asked : (files : FileMap) (directory : Bytes) (directories : List Bytes) (names : BTreeSet (Vec ℕ)) (n : ℕ) (old new : BTreeSet (Vec ℕ)) → n ≡ length names.keys → old.keys ≡ []

@@ -11,7 +11,8 @@ ghost use Rattle.cck_markers.specs.Marks as spec;
 ghost use Rattle.cck_markers.specs.Marks.{Marks};
 
 use cck_cache_text::{
-    SearchList, add_tested_paths, file_names, has_dependency_pragma, header_tests, unspliced,
+    SearchList, add_tested_paths, file_names, has_dependency_pragma, has_doubtful_lines,
+    header_tests, unspliced,
 };
 use cck_digest::{FileError, UtilError};
 use cck_files::{MapFiles, read_contents};
@@ -25,7 +26,8 @@ pub enum Asked {
     /// The headers at these paths: whether there is a file. Paths may be relative to the working
     /// directory.
     Paths(BTreeSet<Vec<u8>>),
-    /// A header whose name is not written out where a source tests for it.
+    /// Headers that are not known: one whose name is not written out where a source tests for it, or any
+    /// of a source of which it is not known where its lines end.
     Unknown,
     /// The time of a file, by a pragma.
     Time,
@@ -35,7 +37,7 @@ pub enum Asked {
 enum SourceVerdict {
     // The paths that were added.
     Paths,
-    // A header whose name is not written out.
+    // Headers that are not known.
     Unknown,
     // The time of a file.
     Time,
@@ -52,6 +54,9 @@ fn add_source(
     ensures { IfOk result
         (SourceAsks (search_fields search.now).directories name.now contents.now paths.old paths.new) }
 {
+    if has_doubtful_lines(contents) {
+        return Ok(SourceVerdict::Unknown);
+    }
     let text = unspliced(alloc, contents)?;
     if has_dependency_pragma(&text) {
         return Ok(SourceVerdict::Time);

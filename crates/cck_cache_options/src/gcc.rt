@@ -1303,7 +1303,7 @@ pub const GCC: &[u8] = b"\
 -fno-diagnostics-show-line-numbers alone message\n\
 -fno-diagnostics-show-option alone message\n\
 -fno-diagnostics-show-path-depths alone message\n\
--fno-dollars-in-identifiers alone text\n\
+-fno-dollars-in-identifiers alone passed-preprocessor-option\n\
 -fno-dse alone code\n\
 -fno-dwarf2-cfi-asm alone code\n\
 -fno-early-inlining alone code\n\

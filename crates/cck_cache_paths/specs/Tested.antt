@@ -3,11 +3,11 @@ use Rattle.std.specs.Prelude.{◌≡◌, true, List, Some, None}
 use Rattle.cck_cache_paths.specs.TestsAt.{AreTestsAt, IsDoubtfulAt}
 use Rattle.cck_cache_paths.specs.declared.tested.Tested.{Tested}
 use Rattle.cck_cache_paths.specs.declared.tested.Tested.TheVariants.{Tests, Refused}
-use Rattle.cck_cache_text.specs.HeaderTests.{AreTests, has_dependency}
+use Rattle.cck_cache_text.specs.HeaderTests.{has_dependency}
 use Rattle.cck_cache_rules.specs.PathTest.{Test, tests_of}
 use Rattle.cck_cache_text.specs.SearchList.{IsSearchList, SearchFields}
 use Rattle.cck_cache_text.specs.Splices.{unspliced}
-use Rattle.cck_cache_files.specs.Sources.{AsksFor, IsPlainSource, IsSource}
+use Rattle.cck_cache_files.specs.Sources.{AreSourceTests, AsksFor, IsPlainSource, IsSource}
 use Rattle.cck_cache_files.specs.declared.path_states.PathStates.{PathStates}
 use Rattle.cck_cache_rules.specs.declared.refusal.Refusal.{Refusal}
 use Rattle.cck_cache_rules.specs.declared.refusal.Refusal.TheVariants.{NoKey, InputChanged, DayChanged, NoSearchList, UnknownHeader, HeaderTest, DependencyPragma, AssemblerInclude, OtherFile, EarlierPath, NamedFile, BaseDirectory}
@@ -40,7 +40,7 @@ HasSource files directory text P = (marks : List Mark) → Marks true text marks
 -- why a compilation is not recorded by what its sources ask for
 abbrev pub IsRefusedBySource : PathStates → FileMap → Bytes → Bytes → Bytes → Refusal → Type 0
 IsRefusedBySource states files directory text printed NoSearchList = IsSearchList printed None
-IsRefusedBySource states files directory text printed HeaderTest = HasSource files directory text (λ contents. AreTests (unspliced contents) None)
+IsRefusedBySource states files directory text printed HeaderTest = HasSource files directory text (λ contents. AreSourceTests contents None)
 IsRefusedBySource states files directory text printed DependencyPragma = HasSource files directory text (λ contents. has_dependency (unspliced contents) ≡ true)
 IsRefusedBySource states files directory text printed EarlierPath = HasDoubtfulTest states files directory text printed
 IsRefusedBySource states files directory text printed NoKey = ⊥

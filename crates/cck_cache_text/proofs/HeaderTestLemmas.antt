@@ -1,6 +1,6 @@
 -- Tests for headers, as they are found place by place and line by line.
-use Rattle.std.proofs.Common.{◌≡◌, ℕ, zero, suc, ◌+◌, ◌<◌, ◌⊎◌, inl, inr, Bool, true, false, List, [], ◌∷◌, ◌++◌, ◌&&◌, codes, nat_eq, take, drop, Some, None, length, get_or, refl, sym, ap, ◌∙◌, arith, subst, append_assoc}
-use Rattle.std.specs.Prelude.{Contains}
+use Rattle.std.proofs.Common.{◌≡◌, ℕ, zero, suc, ◌+◌, ◌-◌, ◌<◌, ◌≤◌, ◌⊎◌, inl, inr, Bool, true, false, ◌==◌, None, List, [], ◌∷◌, ◌++◌, ◌&&◌, codes, nat_eq, take, drop, Some, None, length, get_or, refl, sym, ap, ◌∙◌, arith, subst, append_assoc}
+use Rattle.std.specs.Prelude.{Contains, ◌↔◌}
 use Rattle.std.specs.List.{ends_with, join_with_byte, starts_with}
 use Rattle.std.proofs.lemmas.Bool.{cases_lt, or_cases, or_left, or_right}
 use Rattle.std.proofs.lemmas.List.{append-nil, get_or_default, take-append-drop}
@@ -10,24 +10,24 @@ use Rattle.std.proofs.lemmas.Slice.Eq.{bytes_eq-Decides}
 use Rattle.cck_digest.specs.TimeMacros.{Has, has}
 use Rattle.cck_digest.proofs.HasLemmas.{has_iff}
 use Rattle.cck_cache_text.specs.SearchList.{text_lines}
-use Rattle.cck_cache_text.specs.HeaderTests.{AreTests, Gains, IsBlindIn, IsLine, IsTestIn, TestFields, begins_word, is_test, is_test_name, is_test_word, is_word_byte, may_have_test, tested, word_of}
+use Rattle.cck_cache_text.specs.HeaderTests.{AreTests, Gains, IsBlindLine, IsTestOfLine, TestFields, after_piece, begins_word, depth_after, depth_in, is_test, is_test_name, is_test_word, is_word_byte, may_begin_open, may_have_test, tested, word_of}
 use Rattle.cck_cache_text.specs.Splices.{run_length}
 use Rattle.cck_cache_rules.proofs.ListLemmas.{ends_decided}
 
 -- a test at one of the first places of a line
-abbrev pub IsTestBelow : List ℕ → ℕ → TestFields → Type 0
-IsTestBelow line n test = (place : ℕ) × (place < n) × (is_test line place ≡ true) × (tested line place ≡ Some test)
+abbrev pub IsTestBelow : Bool → List ℕ → ℕ → TestFields → Type 0
+IsTestBelow inside line n test = (place : ℕ) × (place < n) × (is_test inside line place ≡ true) × (tested inside line place ≡ Some test)
 
 -- each test at one of the first places of a line can be judged
-abbrev pub NoneBlindBelow : List ℕ → ℕ → Type 0
-NoneBlindBelow line n = (place : ℕ) → place < n → is_test line place ≡ true → tested line place ≡ None → ⊥
+abbrev pub NoneBlindBelow : Bool → List ℕ → ℕ → Type 0
+NoneBlindBelow inside line n = (place : ℕ) → place < n → is_test inside line place ≡ true → tested inside line place ≡ None → ⊥
 
 -- the same of the first lines
 abbrev pub IsTestAbove : List (List ℕ) → ℕ → TestFields → Type 0
-IsTestAbove lines n test = (k : ℕ) × (k < n) × IsTestIn (get_or lines k []) test
+IsTestAbove lines n test = (k : ℕ) × (k < n) × IsTestOfLine lines k test
 
 abbrev pub NoneBlindAbove : List (List ℕ) → ℕ → Type 0
-NoneBlindAbove lines n = (k : ℕ) → k < n → IsBlindIn (get_or lines k []) → ⊥
+NoneBlindAbove lines n = (k : ℕ) → k < n → IsBlindLine lines k → ⊥
 
 pub gains_none : (P : TestFields → Type 0) (old : List TestFields) → ((test : TestFields) → P test → ⊥) → Gains P old old
 gains_none P old none test = (λ h. inl h, λ h. elim h [ inl a ↦ a | inr b ↦ absurd (none test b) ])
@@ -70,76 +70,107 @@ gains_one old new one e test = (
 -- ---- places
 
 -- a place at which there is no test
-pub none_here : (line : List ℕ) (n : ℕ) (old new : List TestFields) → is_test line n ≡ false → Gains (IsTestBelow line n) old new → Gains (IsTestBelow line (n + 1)) old new
-none_here line n old new none gains = gains_as (IsTestBelow line n) (IsTestBelow line (n + 1)) old new
+pub none_here : (inside : Bool) (line : List ℕ) (n : ℕ) (old new : List TestFields) → is_test inside line n ≡ false → Gains (IsTestBelow inside line n) old new → Gains (IsTestBelow inside line (n + 1)) old new
+none_here inside line n old new none gains = gains_as (IsTestBelow inside line n) (IsTestBelow inside line (n + 1)) old new
     (λ test below. (below.0, omega (arith, below.1), below.2, below.3))
     (λ test more. elim (cases_lt more.0 n) [
       | inl lt ↦ (more.0, lt, more.2, more.3)
-      | inr ge ↦ (let same : more.0 ≡ n = omega (arith, more.1) in let is : is_test line n ≡ true = ap (is_test line) (sym same) ∙ more.2 in absurd (let h : false ≡ true = sym none ∙ is in cc))
+      | inr ge ↦ (let same : more.0 ≡ n = omega (arith, more.1) in let is : is_test inside line n ≡ true = ap (is_test inside line) (sym same) ∙ more.2 in absurd (let h : false ≡ true = sym none ∙ is in cc))
     ]) gains
 
-pub none_blind_here : (line : List ℕ) (n : ℕ) → is_test line n ≡ false → NoneBlindBelow line n → NoneBlindBelow line (n + 1)
-none_blind_here line n none known place lt is blind =
+pub none_blind_here : (inside : Bool) (line : List ℕ) (n : ℕ) → is_test inside line n ≡ false → NoneBlindBelow inside line n → NoneBlindBelow inside line (n + 1)
+none_blind_here inside line n none known place lt is blind =
     elim (cases_lt place n) [
       | inl below ↦ known place below is blind
-      | inr ge ↦ (let same : place ≡ n = omega arith in let now : is_test line n ≡ true = ap (is_test line) (sym same) ∙ is in absurd (let h : false ≡ true = sym none ∙ now in cc))
+      | inr ge ↦ (let same : place ≡ n = omega arith in let now : is_test inside line n ≡ true = ap (is_test inside line) (sym same) ∙ is in absurd (let h : false ≡ true = sym none ∙ now in cc))
     ]
 
 -- a place at which there is one
-pub one_here : (line : List ℕ) (n : ℕ) (old middle new : List TestFields) (one : TestFields) → is_test line n ≡ true → tested line n ≡ Some one → new ≡ middle ++ one ∷ [] → Gains (IsTestBelow line n) old middle → Gains (IsTestBelow line (n + 1)) old new
-one_here line n old middle new one is here e gains = gains_as (λ test. IsTestBelow line n test ⊎ (test ≡ one)) (IsTestBelow line (n + 1)) old new
+pub one_here : (inside : Bool) (line : List ℕ) (n : ℕ) (old middle new : List TestFields) (one : TestFields) → is_test inside line n ≡ true → tested inside line n ≡ Some one → new ≡ middle ++ one ∷ [] → Gains (IsTestBelow inside line n) old middle → Gains (IsTestBelow inside line (n + 1)) old new
+one_here inside line n old middle new one is here e gains = gains_as (λ test. IsTestBelow inside line n test ⊎ (test ≡ one)) (IsTestBelow inside line (n + 1)) old new
     (λ test h. elim h [
       | inl below ↦ (below.0, omega (arith, below.1), below.2, below.3)
       | inr same ↦ (n, omega arith, is, here ∙ ap Some (sym same))
     ])
     (λ test more. elim (cases_lt more.0 n) [
       | inl lt ↦ inl (more.0, lt, more.2, more.3)
-      | inr ge ↦ (let same : more.0 ≡ n = omega (arith, more.1) in let found : Some test ≡ Some one = sym more.3 ∙ (ap (tested line) same ∙ here) in inr (cc))
+      | inr ge ↦ (let same : more.0 ≡ n = omega (arith, more.1) in let found : Some test ≡ Some one = sym more.3 ∙ (ap (tested inside line) same ∙ here) in inr (cc))
     ])
-    (gains_both (IsTestBelow line n) (λ test. test ≡ one) old middle new gains (gains_one middle new one e))
+    (gains_both (IsTestBelow inside line n) (λ test. test ≡ one) old middle new gains (gains_one middle new one e))
 
-pub one_blind_here : (line : List ℕ) (n : ℕ) (one : TestFields) → tested line n ≡ Some one → NoneBlindBelow line n → NoneBlindBelow line (n + 1)
-one_blind_here line n one here known place lt is blind =
+pub one_blind_here : (inside : Bool) (line : List ℕ) (n : ℕ) (one : TestFields) → tested inside line n ≡ Some one → NoneBlindBelow inside line n → NoneBlindBelow inside line (n + 1)
+one_blind_here inside line n one here known place lt is blind =
     elim (cases_lt place n) [
       | inl below ↦ known place below is blind
-      | inr ge ↦ (let same : place ≡ n = omega arith in let found : Some one ≡ None = sym here ∙ (ap (tested line) (sym same) ∙ blind) in cc)
+      | inr ge ↦ (let same : place ≡ n = omega arith in let found : Some one ≡ None = sym here ∙ (ap (tested inside line) (sym same) ∙ blind) in cc)
     ]
 
 -- ---- lines
 
-pub line_here : (lines : List (List ℕ)) (n : ℕ) (line : List ℕ) (old middle new : List TestFields) → line ≡ get_or lines n [] → Gains (IsTestIn line) middle new → Gains (IsTestAbove lines n) old middle → Gains (IsTestAbove lines (n + 1)) old new
-line_here lines n line old middle new at second first = gains_as (λ test. IsTestAbove lines n test ⊎ IsTestIn line test) (IsTestAbove lines (n + 1)) old new
+pub line_here : (lines : List (List ℕ)) (n : ℕ) (old middle new : List TestFields) → Gains (IsTestOfLine lines n) middle new → Gains (IsTestAbove lines n) old middle → Gains (IsTestAbove lines (n + 1)) old new
+line_here lines n old middle new second first = gains_as (λ test. IsTestAbove lines n test ⊎ IsTestOfLine lines n test) (IsTestAbove lines (n + 1)) old new
     (λ test h. elim h [
       | inl above ↦ (above.0, omega (arith, above.1), above.2)
-      | inr here ↦ (n, omega arith, subst (λ (l : List ℕ). IsTestIn l test) at here)
+      | inr here ↦ (n, omega arith, here)
     ])
     (λ test more. elim (cases_lt more.0 n) [
       | inl lt ↦ inl (more.0, lt, more.2)
-      | inr ge ↦ (let same : more.0 ≡ n = omega (arith, more.1) in inr (subst (λ (l : List ℕ). IsTestIn l test) (ap (λ k. get_or lines k []) same ∙ sym at) more.2))
+      | inr ge ↦ (let same : more.0 ≡ n = omega (arith, more.1) in inr (subst (λ (k : ℕ). IsTestOfLine lines k test) same more.2))
     ])
-    (gains_both (IsTestAbove lines n) (IsTestIn line) old middle new first second)
+    (gains_both (IsTestAbove lines n) (IsTestOfLine lines n) old middle new first second)
 
-pub line_blind_here : (lines : List (List ℕ)) (n : ℕ) (line : List ℕ) → line ≡ get_or lines n [] → (IsBlindIn line → ⊥) → NoneBlindAbove lines n → NoneBlindAbove lines (n + 1)
-line_blind_here lines n line at none known k lt blind =
+pub line_blind_here : (lines : List (List ℕ)) (n : ℕ) → (IsBlindLine lines n → ⊥) → NoneBlindAbove lines n → NoneBlindAbove lines (n + 1)
+line_blind_here lines n none known k lt blind =
     elim (cases_lt k n) [
       | inl below ↦ known k below blind
-      | inr ge ↦ (let same : k ≡ n = omega arith in none (subst IsBlindIn (ap (λ i. get_or lines i []) same ∙ sym at) blind))
+      | inr ge ↦ (let same : k ≡ n = omega arith in none (subst (IsBlindLine lines) same blind))
     ]
 
 -- each line was looked at
 pub all_lines : (text : List ℕ) (lines : List (List ℕ)) (n : ℕ) (new : List TestFields) → lines ≡ text_lines text → n ≡ length lines → NoneBlindAbove lines n → Gains (IsTestAbove lines n) [] new → AreTests text (Some new)
-all_lines text lines n new is end known gains = (
-  λ line at blind. (let here = subst (λ (all : List (List ℕ)). Contains all line) (sym is) at in
-      known here.0 (omega (arith, here.1, end)) (subst IsBlindIn (sym here.2 ∙ get_or_default lines here.0 line [] here.1) blind)),
+all_lines text lines n new is end known gains = subst (λ (all : List (List ℕ)). ((k : ℕ) → k < length all → IsBlindLine all k → ⊥) × ((test : TestFields) → Contains new test ↔ ((k : ℕ) × (k < length all) × IsTestOfLine all k test))) is (
+  λ k lt blind. known k (omega (arith, lt, end)) blind,
   λ test. (
     λ h. elim ((gains test).0 h) [
       | inl none ↦ absurd (omega (arith, none.1))
-      | inr above ↦ (get_or lines above.0 [], subst (λ (all : List (List ℕ)). Contains all (get_or lines above.0 [])) is (above.0, omega (arith, above.1, end), get_or_default lines above.0 (get_or lines above.0 []) [] (omega (arith, above.1, end))), above.2)
+      | inr above ↦ (above.0, omega (arith, end, above.1), above.2)
     ],
-    λ h. let here = subst (λ (all : List (List ℕ)). Contains all h.0) (sym is) h.1 in
-        (gains test).1 (inr (here.0, omega (arith, here.1, end), subst (λ (l : List ℕ). IsTestIn l test) (sym here.2 ∙ get_or_default lines here.0 h.0 [] here.1) h.2)),
+    λ h. (gains test).1 (inr (h.0, omega (arith, h.1, end), h.2)),
   ),
 )
+
+-- ---- the pieces of a condition
+
+-- a piece opens one parenthesis at most
+pub depth_bound : (byte depth next : ℕ) → depth_after byte depth ≡ Some next → next ≤ depth + 1
+depth_bound byte depth next is = go (byte == 40) refl
+  where
+    open_or_close : (b : Bool) → (byte == 41) ≡ b → (byte == 40) ≡ false → next ≤ depth + 1
+    open_or_close true closes other = closed (depth == 0) refl
+      where
+        closed : (b : Bool) → (depth == 0) ≡ b → next ≤ depth + 1
+        closed true none = (let h : None ≡ Some next = sym (rw other (rw closes (rw none refl))) ∙ is in cc)
+        closed false some = (let h : Some (depth - 1) ≡ Some next = sym (rw other (rw closes (rw some refl))) ∙ is in let same : depth - 1 ≡ next = cc in omega (arith, same))
+    open_or_close false stays other = (let h : Some depth ≡ Some next = sym (rw other (rw stays refl)) ∙ is in let same : depth ≡ next = cc in omega (arith, same))
+
+    go : (b : Bool) → (byte == 40) ≡ b → next ≤ depth + 1
+    go true opens = (let h : Some (depth + 1) ≡ Some next = sym (rw opens refl) ∙ is in let same : depth + 1 ≡ next = cc in omega (arith, same))
+    go false other = open_or_close (byte == 41) refl other
+
+pub depth_ended : (n depth : ℕ) (text : List ℕ) → (length text == 0) ≡ true → depth_in n depth text ≡ Some depth
+depth_ended zero depth text none = rw none refl
+depth_ended (suc n) depth text none = rw none refl
+
+pub depth_refused : (n depth : ℕ) (text : List ℕ) → (length text == 0) ≡ false → depth_after (get_or text 0 0) depth ≡ None → depth_in n depth text ≡ None
+depth_refused zero depth text some refused = rw some refl
+depth_refused (suc n) depth text some refused = rw some (rw refused refl)
+
+pub depth_unknown : (n depth next : ℕ) (text : List ℕ) → (length text == 0) ≡ false → depth_after (get_or text 0 0) depth ≡ Some next → after_piece text ≡ None → depth_in n depth text ≡ None
+depth_unknown zero depth next text some is unknown = rw some refl
+depth_unknown (suc n) depth next text some is unknown = rw some (rw is (rw unknown refl))
+
+pub depth_more : (n depth next : ℕ) (text rest : List ℕ) → (length text == 0) ≡ false → depth_after (get_or text 0 0) depth ≡ Some next → after_piece text ≡ Some rest → depth_in (suc n) depth text ≡ depth_in n next rest
+depth_more n depth next text rest some is first = rw some (rw is (rw first refl))
 
 -- ---- a text without `__has`
 
@@ -166,7 +197,7 @@ word_of_part front part back a b word is =
     ∙ (ap (λ p. front ++ p) (append_assoc a (word ++ b) back ∙ ap (λ p. a ++ p) (append_assoc word b back)) ∙ sym (append_assoc front a (word ++ (b ++ back))))
 
 -- a word of a line is in the text
-line_has : (text line word : List ℕ) → IsLine text line → Has line word → has text word ≡ true
+line_has : (text line word : List ℕ) → Contains (text_lines text) line → Has line word → has text word ≡ true
 line_has text line word at (a, b, is) =
     let part = joined_part 10 (text_lines text) line at in
     (has_iff text word).1 (part.0 ++ a, b ++ part.1, sym (join_with_byte-slice_split 10 text) ∙ (part.2 ∙ word_of_part part.0 line part.1 a b word is))
@@ -195,8 +226,8 @@ ends_in_line line place word more is =
     )
 
 -- a text in which a line has a test may have one
-pub no_test : (text line : List ℕ) (place : ℕ) → may_have_test text ≡ false → IsLine text line → is_test line place ≡ true → ⊥
-no_test text line place none at is =
+no_test_in : (text line : List ℕ) (inside : Bool) (place : ℕ) → may_have_test text ≡ false → Contains (text_lines text) line → is_test inside line place ≡ true → ⊥
+no_test_in text line inside place none at is =
     let after = drop place line in
     let word = word_of after in
     let begins = has text (codes "__ha") in
@@ -218,3 +249,8 @@ no_test text line place none at is =
     ] in
     let both : false ≡ true = sym none ∙ may in
     cc
+
+pub no_test : (text : List ℕ) (n place : ℕ) → may_have_test text ≡ false → n < length (text_lines text) → is_test (may_begin_open (text_lines text) n) (get_or (text_lines text) n []) place ≡ true → ⊥
+no_test text n place none lt =
+    let lines = text_lines text in
+    no_test_in text (get_or lines n []) (may_begin_open lines n) place none (n, lt, get_or_default lines n (get_or lines n []) [] lt)

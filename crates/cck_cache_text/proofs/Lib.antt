@@ -1,5 +1,6 @@
 pub mod AbsentLemmas
 pub mod EqualityLemmas
+mod HeaderTestExamples
 pub mod HeaderTestLemmas
 mod IncludedExamples
 pub mod IncludedLemmas

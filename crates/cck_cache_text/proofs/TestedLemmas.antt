@@ -6,12 +6,12 @@ use Rattle.std.proofs.lemmas.List.{get_or_default}
 use Rattle.cck_cache_text.specs.Absent.{path_in}
 use Rattle.cck_cache_text.specs.HeaderTests.{TestFields}
 use Rattle.cck_cache_text.specs.Sets.{Adds}
-use Rattle.cck_cache_text.specs.TestedPaths.{IsBesideFile, IsInList, IsPathOfTest, IsPathOfTests, is_absolute}
+use Rattle.cck_cache_text.specs.TestedPaths.{IsBesideFile, IsEither, IsEitherInList, IsPathOfTest, IsPathOfTests, is_absolute}
 use Rattle.cck_cache_text.proofs.SetLemmas.{Below, adds_as, adds_both}
 
 -- what is added in the directory at a place of a list
 abbrev pub InList : List (List ℕ) → List ℕ → ℕ → List ℕ → Type 0
-InList directories name place path = path ≡ path_in (get_or directories place []) name
+InList directories name place path = IsEither (path_in (get_or directories place []) name) path
 
 -- what is added for the test at a place
 abbrev pub OfTest : List (List ℕ) → List ℕ → List TestFields → ℕ → List ℕ → Type 0
@@ -22,19 +22,19 @@ false_true e = cc
 
 module _ (directories : List (List ℕ)) (file : List ℕ) (test : TestFields) (old new : BTreeSet (Vec ℕ)) where
   -- an absolute name
-  pub paths_absolute : is_absolute test.name ≡ true → Adds (λ q. q ≡ test.name) old new → Adds (IsPathOfTest directories file test) old new
-  paths_absolute is adds = adds_as (λ q. q ≡ test.name) (IsPathOfTest directories file test) old new (λ q e. inl (is, e)) from adds
+  pub paths_absolute : is_absolute test.name ≡ true → Adds (IsEither test.name) old new → Adds (IsPathOfTest directories file test) old new
+  paths_absolute is adds = adds_as (IsEither test.name) (IsPathOfTest directories file test) old new (λ q e. inl (is, e)) from adds
     where
-      from : (q : List ℕ) → IsPathOfTest directories file test q → q ≡ test.name
+      from : (q : List ℕ) → IsPathOfTest directories file test q → IsEither test.name q
       from q (inl e) = e.1
       from q (inr e) = absurd (false_true (sym e.0 ∙ is))
 
   -- another name
-  pub paths_relative : (middle : BTreeSet (Vec ℕ)) → is_absolute test.name ≡ false → Adds (IsBesideFile file test) old middle → Adds (IsInList directories test.name) middle new → Adds (IsPathOfTest directories file test) old new
+  pub paths_relative : (middle : BTreeSet (Vec ℕ)) → is_absolute test.name ≡ false → Adds (IsBesideFile file test) old middle → Adds (IsEitherInList directories test.name) middle new → Adds (IsPathOfTest directories file test) old new
   paths_relative middle is first second =
-      adds_as (λ q. IsBesideFile file test q ⊎ IsInList directories test.name q) (IsPathOfTest directories file test) old new (λ q e. inr (is, e)) from (adds_both (IsBesideFile file test) (IsInList directories test.name) old middle new first second)
+      adds_as (λ q. IsBesideFile file test q ⊎ IsEitherInList directories test.name q) (IsPathOfTest directories file test) old new (λ q e. inr (is, e)) from (adds_both (IsBesideFile file test) (IsEitherInList directories test.name) old middle new first second)
     where
-      from : (q : List ℕ) → IsPathOfTest directories file test q → IsBesideFile file test q ⊎ IsInList directories test.name q
+      from : (q : List ℕ) → IsPathOfTest directories file test q → IsBesideFile file test q ⊎ IsEitherInList directories test.name q
       from q (inl e) = absurd (false_true (sym is ∙ e.0))
       from q (inr e) = e.1
 

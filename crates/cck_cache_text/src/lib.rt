@@ -37,5 +37,5 @@ pub use looked_at::looked_at_paths;
 pub use names::{directory_of, file_names, system_names};
 pub use read_files::{assembles_alone, opens_named_alone};
 pub use search_list::SearchList;
-pub use splices::unspliced;
+pub use splices::{has_doubtful_lines, unspliced};
 pub use tested_paths::add_tested_paths;

@@ -3,7 +3,7 @@ ghost use Rattle.std.specs.Prelude.{◌≡◌, IfOk, OnOk, map};
 ghost use Rattle.cck_cache_text.specs.HeaderTests.{fields_of, test_fields};
 ghost use Rattle.cck_cache_text.specs.Sets.{Adds};
 ghost use Rattle.cck_cache_text.specs.SearchList.{search_fields};
-ghost use Rattle.cck_cache_text.specs.TestedPaths.{IsBesideFile, IsInList, IsPathOfTest, IsPathOfTests};
+ghost use Rattle.cck_cache_text.specs.TestedPaths.{IsBesideFile, IsEither, IsEitherInList, IsPathOfTest, IsPathOfTests};
 
 use crate::absent::{add, joined, path_in};
 use crate::header_test::HeaderTest;
@@ -12,22 +12,31 @@ use crate::search_list::SearchList;
 use std::alloc::{AllocError, Global};
 use std::collections::BTreeSet;
 
-// Adds the path of a name in each of these directories.
+// Adds a path and its precompiled header.
+fn add_either(alloc: Global, paths: &mut BTreeSet<Vec<u8>>, path: Vec<u8>) -> Result<(), AllocError>
+    ensures { OnOk result (Adds (IsEither path.items) paths.old paths.new) }
+{
+    add(paths, joined(alloc, &path, b".gch", b"")?)?;
+    add(paths, path)?;
+    Ok(())
+}
+
+// Adds the paths of a name in each of these directories.
 fn add_in_list(
     alloc: Global,
     paths: &mut BTreeSet<Vec<u8>>,
     directories: &[Vec<u8>],
     name: &[u8],
 ) -> Result<(), AllocError>
-    ensures { OnOk result (Adds (IsInList (map (λ d. d.items) directories.now) name.now) paths.old paths.new) }
+    ensures { OnOk result (Adds (IsEitherInList (map (λ d. d.items) directories.now) name.now) paths.old paths.new) }
 {
     for directory in directories {
-        add(paths, path_in(alloc, directory, name)?)?;
+        add_either(alloc, paths, path_in(alloc, directory, name)?)?;
     }
     Ok(())
 }
 
-// Adds the path of a name in quotes in the directory of a file.
+// Adds the paths of a name in quotes in the directory of a file.
 fn add_beside(
     alloc: Global,
     paths: &mut BTreeSet<Vec<u8>>,
@@ -37,7 +46,8 @@ fn add_beside(
     ensures { OnOk result (Adds (IsBesideFile file.now (fields_of test.now)) paths.old paths.new) }
 {
     if test.is_quoted {
-        add(paths, joined(alloc, directory_of(file), &test.name, b"")?)?;
+        let path = joined(alloc, directory_of(file), &test.name, b"")?;
+        add_either(alloc, paths, path)?;
     }
     Ok(())
 }
@@ -54,7 +64,7 @@ fn add_paths(
         paths.old paths.new) }
 {
     if test.name.starts_with(b"/") {
-        add(paths, joined(alloc, &test.name, b"", b"")?)?;
+        add_either(alloc, paths, joined(alloc, &test.name, b"", b"")?)?;
         return Ok(());
     }
     add_beside(alloc, paths, file, test)?;
@@ -64,7 +74,8 @@ fn add_paths(
 
 /// Adds the paths at which a preprocessor looks for the headers that a file tests for: an absolute name
 /// itself; else a name in quotes in the directory of the file, and each name in each directory of the
-/// list. Paths may be relative to the working directory.
+/// list; and beside each its precompiled header, `NAME.gch`. Paths may be relative to the working
+/// directory.
 ///
 /// The only error is lack of memory.
 ///

@@ -3,7 +3,7 @@ use Rattle.std.specs.Global.{Vec}
 use Rattle.std.specs.Map.Iter.{deref}
 use Rattle.std.proofs.lemmas.List.{length_push}
 use Rattle.std.proofs.lemmas.Map.Iter.{iter_end}
-use Rattle.cck_cache_text.specs.HeaderTests.{AreTests, has_dependency}
+use Rattle.cck_cache_text.specs.HeaderTests.{has_dependency}
 use Rattle.cck_cache_text.specs.SearchList.{search_fields}
 use Rattle.cck_cache_text.specs.Sets.{Adds}
 use Rattle.cck_cache_text.specs.Splices.{unspliced}
@@ -11,7 +11,7 @@ use Rattle.cck_cache_text.proofs.SetLemmas.{adds_none_below, has_key_at, set_tur
 use Rattle.cck_files.proofs.CallsLemmas.{keeps_all, keeps_itself}
 use Rattle.cck_files.specs.FileMap.{FileMap}
 use Rattle.cck_path.specs.Bytes.{Bytes}
-use Rattle.cck_cache_files.specs.Sources.{AsksFor, IsContents, IsPlainSource, SourceAsks}
+use Rattle.cck_cache_files.specs.Sources.{AreSourceTests, AsksFor, IsContents, IsPlainSource, SourceAsks}
 use Rattle.cck_cache_files.specs.declared.sources.SourceVerdict.TheVariants as verdict
 use Rattle.cck_cache_files.proofs.SourceLemmas.{AsksAt, all_asked, asks_here, asks_none, plain_here, plain_none}
 use Rattle.cck_cache_files.proofs.sources.asked_of.Goals as goal
@@ -100,8 +100,8 @@ returns-in-Unknown-clause-asked c =
     in
     let name_is : c.deref-in-loop-name.result.now ≡ get_or names i [] = c.deref-in-loop-name.ensures.value ∙ sym turn.1 in
     let contents_is : c.deref-in-loop-name-2.result.now ≡ contents = c.deref-in-loop-name-2.ensures.value in
-    let asks : AreTests (unspliced c.deref-in-loop-name-2.result.now) None = rw c.in-Unknown.is at c.in_ok-verdict.ensures in
-    (get_or names i [], contents, (has_key_at keys i turn.0, here), subst (λ (b : Bytes). AreTests (unspliced b) None) contents_is asks)
+    let asks : AreSourceTests c.deref-in-loop-name-2.result.now None = rw c.in-Unknown.is at c.in_ok-verdict.ensures in
+    (get_or names i [], contents, (has_key_at keys i turn.0, here), subst (λ (b : Bytes). AreSourceTests b None) contents_is asks)
 
 pub returns-in-Time-clause-asked : goal.returns-in-Time-clause-asked
 returns-in-Time-clause-asked c =

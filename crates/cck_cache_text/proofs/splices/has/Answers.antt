@@ -2,7 +2,7 @@ use Rattle.std.proofs.Common.{◌≡◌, Bool, true, false, IsTrue, sym, ◌∙�
 use Rattle.cck_digest.specs.TimeMacros.{has}
 use Rattle.cck_digest.proofs.FinderLemmas.{Has-found}
 use Rattle.cck_digest.proofs.HasLemmas.{has_iff}
-use Rattle.cck_cache_text.proofs.header_test.has.Goals as goal
+use Rattle.cck_cache_text.proofs.splices.has.Goals as goal
 
 -- two tests that are true at the same time
 same_tests : (a b : Bool) → (IsTrue a → IsTrue b) → (IsTrue b → IsTrue a) → a ≡ b
