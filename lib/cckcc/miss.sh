@@ -494,26 +494,53 @@ find_own() {
     cck_own=${cck_own%/*}/include/
 }
 
+# The part of `judge_text` that reads a file of the project. It looks for the name of a test, or for a beginning of one, also
+# over the ends of lines; for builtin functions of x86; and for what may be a line marker. A file of a device is not read.
+cck_reading='
+    BEGIN {
+        blank = "[ \t\r\f\013]"
+        comment = "/[*]([^*]|[*]+[^*/])*"
+        gap = "(" blank "|" comment "[*]+/)*"
+        marker = "^(.*[*]/)?" gap "(#|%:|[?][?]=)" gap "([0-9]|\\\\" blank "*$|" comment "[*]*$)"
+    }
+    function read_file(name, file, line, letters) {
+        file = name ~ /^\// ? name : "./" name
+        if (name ~ /^\/dev\//) asks = 1
+        else while ((getline line < file) > 0) {
+            if (line ~ marker) marks = 1
+            if (line ~ /(^|[^A-Za-z0-9_$])__ha(s(_(b(u(i(l(ti?)?)?)?)?)?)?)?([^A-Za-z0-9_$]|$)/) asks = 1
+            if (index(line, "ia32")) targets = 1
+            gsub(/[^A-Za-z_]/, "", line)
+            letters = substr(letters, length(letters) - 10) line
+            if (index(letters, "as_builtin")) asks = 1
+            if (index(letters, "_Pragma")) pragmas = 1
+            if (letters ~ /as_inc|as_emb|HAS_INC/) tests = 1
+        }
+        if (close(file) != 0) asks = 1
+    }'
+
 # Writes four lines: `alone` if the text names no file beside the input; why the compiler may read another text than
-# this, or have other names for its files; what it may read in another way; and `end`.
+# this, or have other names for its files; what it may read in another way; and `end`. The word is `pragma` or `1` if the
+# call has OpenMP or OpenACC, with a pragma in an argument or without.
 #
 # A pragma that sets macros of the target is run by the compiler alone. The compiler's own headers set them back, to what
-# the target has. The compiler knows declarations, by which `__has_builtin` is 0. A header that is found in a directory
-# of system headers only later has its shorter name from then on. A file between `<` and `>` is named as what the compiler
-# defines itself. A line directive enters no file. A carriage return may end a line, a zero byte a name, and `??/` may be no
-# splice: a file of the project that has one of these has no test for a header.
+# the target has, and include none of the project. The compiler knows declarations, by which `__has_builtin` is 0, and more
+# builtin functions of the target after an attribute. A header that is found in a directory of system headers only later has
+# its shorter name from then on. A file between `<` and `>` is named as what the compiler defines itself. A line directive
+# enters no file; a marker in a source, or in a raw string over lines, is not told from one of gcc. With OpenMP or OpenACC the
+# compiler expands macros in a pragma, which `_Pragma` may make of any line.
 judge_text() {
-    cck_own=$cck_own LC_ALL=C awk '
-        function read_file(name, line, letters, is_odd, tests) {
-            while ((getline line < name) > 0) {
-                if (line ~ /\r.|\000|\?\?\/[ \t\r\f\013]*$/) is_odd = 1
-                gsub(/[^A-Za-z_]/, "", line)
-                letters = substr(letters, length(letters) - 10) line
-                if (index(letters, "has_builtin")) asks = 1
-                if (letters ~ /has_inc|has_emb|HAS_INC/) tests = 1
+    cck_own=$cck_own cck_extended=$1 LC_ALL=C awk "$cck_reading"'
+        index($0, "R\"") {
+            line = $0
+            while (match(line, /(^|[^A-Za-z0-9_])(u8|u|U|L)?R"[^ ()\\\t"]*\(/)) {
+                begun = substr(line, RSTART, RLENGTH - 1)
+                line = substr(line, RSTART + RLENGTH)
+                sub(/.*R"/, "", begun)
+                end = index(line, ")" begun "\"")
+                if (end == 0) { marks = 1; break }
+                line = substr(line, end + 1)
             }
-            if (close(name) != 0) asks = 1
-            if (is_odd && tests) reason = "header-test"
         }
         /^# [0-9]+ "/ {
             flags = name = $0
@@ -521,9 +548,11 @@ judge_text() {
             sub(/^# [0-9]+ "/, "", name)
             name = substr(name, 1, length(name) - length(flags) - 1)
             is_system = flags ~ / 3/
-            is_own = index(name, ENVIRON["cck_own"]) == 1
+            is_own = index(name, ENVIRON["cck_own"]) == 1 && name !~ /\/\.\.\//
+            is_of_project = !is_own && (index(name, "/usr/include/") != 1 || name ~ /\/\.\.\//)
             if (flags ~ /^ 1/) {
                 found = 1
+                if (owns[depth] && is_of_project) reason = "target-pragma"
                 owns[++depth] = is_own
                 if (name in systems && systems[name] != is_system) reason = "other-file"
                 systems[name] = is_system
@@ -531,7 +560,7 @@ judge_text() {
             if (flags ~ /^ 2/ && depth > 0) depth--
             if (name ~ /^<.*>$/) {
                 if ($2 != 0 || name !~ /^<(built-in|command-line)>$/) reason = "other-file"
-            } else if (name !~ /\/\/$/ && !is_own && index(name, "/usr/include/") != 1) projects[name]
+            } else if (name !~ /\/\/$/ && is_of_project) projects[name]
         }
         /^[ \t]*#[ \t]*pragma[ \t]+GCC[ \t]+(target|optimize|pop_options|reset_options)/ {
             if (owns[depth]) doubts = " targets"; else reason = "target-pragma"
@@ -539,6 +568,9 @@ judge_text() {
         END {
             print found ? "" : "alone"
             if (reason == "") for (name in projects) read_file(name)
+            if (marks && doubts != "") reason = "target-pragma"
+            if (asks && targets) reason = "other-file"
+            if (tests && ENVIRON["cck_extended"] != "" && (pragmas || ENVIRON["cck_extended"] ~ /pragma/)) reason = "header-test"
             print reason
             print doubts (asks ? " builtins" : "")
             print "end"
@@ -550,9 +582,32 @@ judge_text() {
 changes_targets() {
     cck_own=$cck_own LC_ALL=C awk '
         BEGIN { own = "\"" ENVIRON["cck_own"] }
-        /^# [0-9]+ "/ { is_other = $3 == "\"<built-in>\"" || index($3, own) == 1 || index($3, "\"/usr/include/") == 1 }
+        /^# [0-9]+ "/ {
+            is_other = $3 == "\"<built-in>\"" || index($3, own) == 1 || index($3, "\"/usr/include/") == 1
+            if ($3 ~ /\/\.\.\//) is_other = 0
+        }
         !is_other && /^#(define|undef) __[A-Za-z0-9_]*__/ && $2 !~ /_[Hh]__/ { found = 1; exit }
         END { exit !found }' "$1"
+}
+
+# Whether the compilation declares a builtin function, which `__has_builtin` then denies: the compiler lists the functions
+# that it declares, and the preprocessor is asked for each word of the list, as where there are no builtin functions of C.
+# It warns of a builtin function that is declared as something else. The status is 1 if there is none.
+declares_builtin() {
+    eval "LC_ALL=C \"\$cck_compiler\" $cck_preprocessed" \
+        '-fsyntax-only -aux-info "$cck_scratch/declared"' < /dev/null > "$cck_scratch/declaring" 2>&1 || return 2
+    LC_ALL=C awk '{
+        $0 = substr($0, index($0, "*/") + 2)
+        while (match($0, /[A-Za-z_][A-Za-z0-9_]*/)) {
+            word = substr($0, RSTART, RLENGTH)
+            $0 = substr($0, RSTART + RLENGTH)
+            if (!(word in words)) printf "#if __has_builtin(%s)\ncck builtin %s\n#endif\n", word, word
+            words[word]
+        }
+    }' "$cck_scratch/declared" > "$cck_scratch/asked.h" || return 2
+    preprocess asked '-fno-builtin -include "$cck_scratch/asked.h"'
+    lacks '^cck builtin ' "$cck_scratch/asked" && lacks 'declared as non-function' "$cck_scratch/declaring" || return 0
+    return 1
 }
 
 # Whether no line of these files matches the pattern $1. It fails too where one can't be read.
@@ -570,7 +625,12 @@ write_text() {
     preprocess text ''
     [ ! -e "$cck_scratch/failed" ] || return
     find_own
-    judge_text > "$cck_scratch/judged"
+    cck_extended=
+    case $cck_preprocessed in
+    *-fopenmp*Pragma*|*-fopenacc*Pragma*|*Pragma*-fopenmp*|*Pragma*-fopenacc*) cck_extended=pragma ;;
+    *-fopenmp*|*-fopenacc*) cck_extended=1 ;;
+    esac
+    judge_text "$cck_extended" > "$cck_scratch/judged"
     cck_word= cck_refused= cck_doubts= cck_end=
     { read -r cck_word; read -r cck_refused; read -r cck_doubts; read -r cck_end; } < "$cck_scratch/judged"
     [ "$cck_end" = end ] || cck_refused=other-file
@@ -580,9 +640,11 @@ write_text() {
         preprocess text "$cck_words"
     fi
     case $cck_doubts:$cck_preprocessed in
-    *builtins:*|*:*has_builtin*)
+    *builtins:*|*:*as_builtin*|*:*__ha*)
         preprocess other "$cck_words -fno-builtin"
         cmp -s "$cck_scratch/text" "$cck_scratch/other" || cck_refused=other-file
+        declares_builtin
+        [ $? -eq 1 ] || cck_refused=other-file
         ;;
     esac
     case $cck_doubts in
