@@ -8,8 +8,14 @@ BODIES = ["int c@n(int a) {@s return a << @k; }", "int c@n;@s int d@n = @k;", "i
           "long c@n(int a, long b) { return @s(a + @k) * b; }"]
 CONDITIONS = ['__has_include("t.h")', "__has_include(<t.h>)", "__has_include_next(<t.h>)", '__has_include_next("t.h")',
               '__has_include("c/t.h")', "__has_include(<c/t.h>)", '! __has_include("t.h")', '__has_include("../b/t.h")',
-              '__has_include(<t.h>) && __has_include("c/t.h")', 'defined M0 || __has_include("t.h")']
-TESTED = ["work/a/t.h", "work/b/t.h", "work/inc/t.h", "work/src/t.h", "work/t.h", "work/a/c/t.h"]
+              '__has_include(<t.h>) && __has_include("c/t.h")', 'defined M0 || __has_include("t.h")',
+              "0 /* ( */ || __has_include(<t.h>)", 'LEVEL > 4 || __has_include("t.h")',
+              "(LEVEL >= 7 && 1) || (!defined(M0) && __has_include(<t.h>)) // t", 'TEST_HAS_INCLUDE("t.h")',
+              "SAME(__has_include(<t.h>))", "LEVEL < 4 && SAME(1) && TEST_HAS_INCLUDE(<c/t.h>)"]
+# What they stand for. As the name of a header has `t`, an argument has another header's name.
+MACROS = ("#undef TEST_HAS_INCLUDE\n#define TEST_HAS_INCLUDE __has_include\n#undef SAME\n#define SAME(x) x\n"
+          "#undef t\n#define t other\n")
+TESTED = ["work/a/other.h", "work/a/t.h", "work/b/t.h", "work/inc/t.h", "work/src/t.h", "work/t.h", "work/a/c/t.h"]
 # Options with which columns show.
 SHOWING = [[["-g"]], [["-g"], ["-O2"]], [["-g3"], ["-Og"]], [["-fsanitize=undefined"]], [["-Wall", "-Wextra"]]]
 BOTH = [["-Ia"], ["-Ib"]]
@@ -55,7 +61,9 @@ class Theme:
         project.number += 1
         body = project.pick(BODIES).replace("@n", str(project.number)).replace("@k", str(project.chance.randrange(1, 10)))
         line = f"#line {1000 + 20 * project.number}"
-        return (f"#if {project.pick(CONDITIONS)}\n{line}\n{body.replace('@s', '   ')}\n#else\n{line}\n{body.replace('@s', '')}\n"
+        condition = project.pick(CONDITIONS)
+        macros = MACROS if "SAME" in condition or "TEST" in condition else ""
+        return (f"{macros}#if {condition}\n{line}\n{body.replace('@s', '   ')}\n#else\n{line}\n{body.replace('@s', '')}\n"
                 f"#endif\n{line}9")
 
     def tested(self):
@@ -232,8 +240,10 @@ class Copies(Theme):
 class Readings(Theme):
     """Conditions that the compiler may read in another way than its preprocessor, and names between `<` and `>`."""
     BEFORE = ["int abs(int);", "int abs(int);", '#pragma GCC target("avx2")', '#pragma GCC optimize("O2")',
-              '_Pragma("GCC target(\\"avx2\\")")', "#include <immintrin.h>", "#include <stdlib.h>"]
+              '_Pragma("GCC target(\\"avx2\\")")', "#include <immintrin.h>", "#include <stdlib.h>", "int __builtin_abs(int);",
+              '__attribute__((target("avx2"))) int attributed(void) { return 0; }']
     CONDITIONS = ["__has_builtin(abs)", "! __has_builtin(abs)", "ASKS(abs)", "! ASKS(abs)", "ASKS(__builtin_abs)",
+                  "! __has_builtin(__builtin_abs)", "__has_builtin(__builtin_ia32_pabsb256)", "JOIN(__has_b, uiltin)(abs)",
                   "__has_\\\nbuiltin(labs)", "defined __AVX2__", "! defined __AVX2__", "defined __OPTIMIZE__",
                   "SAME(\\\n__LINE__) % 2", "! (SAME(\\\n__LINE__) % 2)"]
     PLACES = ["work/a/r.h", "work/b/r.h", "work/r.h", "work/<d>/r.h", "work/<r.h>", "work/b/k/r.h", "work/a/<r.h", "work/a/k"]
@@ -244,7 +254,7 @@ class Readings(Theme):
         project = self.project
         for path in project.chance.sample(self.PLACES, 4):
             self.content(path)
-        lines = ["#define ASKS(x) __has_builtin(x)", "#define SAME(x) x"] + project.chance.sample(self.BEFORE, project.pick([0, 1, 1, 2]))
+        lines = ["#define ASKS(x) __has_builtin(x)", "#define SAME(x) x", "#define JOIN(a, b) a ## b"] + project.chance.sample(self.BEFORE, project.pick([0, 1, 1, 2]))
         for _ in range(project.pick([1, 2])):
             lines.append(f"#if {project.pick(self.CONDITIONS)}\n{project.pick(self.INCLUDES)}\n#endif")
         project.number += 1
