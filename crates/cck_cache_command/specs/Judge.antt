@@ -7,7 +7,7 @@ use Rattle.cck_cache_command.specs.declared.judge.Judged.TheVariants.{Asks, Pass
 use Rattle.cck_cache_command.specs.declared.judge.Passed.{Passed}
 use Rattle.cck_cache_command.specs.declared.judge.Passed.TheVariants.{Variable, Programs, Compiler, Arguments, HeaderTest, ResponseFile, Path, Output}
 use Rattle.cck_cache_command.specs.Response.{MayNameArguments}
-use Rattle.cck_cache_text.specs.HeaderTests.{MayAskForFile}
+use Rattle.cck_cache_text.specs.Argument.{MayAskForFile}
 use Rattle.cck_cache_options.specs.Call.{Asked, asks, call_of, parse, passed}
 use Rattle.cck_cache_options.specs.Reason.{reason_name}
 use Rattle.cck_cache_options.specs.Table.{Entry}

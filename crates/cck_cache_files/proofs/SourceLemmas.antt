@@ -5,7 +5,7 @@ use Rattle.std.specs.Global.{Vec}
 use Rattle.std.proofs.lemmas.Bool.{cases_lt}
 use Rattle.std.specs.List.{list_any}
 use Rattle.std.specs.Str.{bytes_eq}
-use Rattle.cck_cache_text.specs.HeaderTests.{TestFields}
+use Rattle.cck_cache_text.specs.TestName.{TestFields}
 use Rattle.cck_cache_text.specs.Sets.{Adds, IsSetOf, has_key}
 use Rattle.cck_cache_text.proofs.SetLemmas.{Below, adds_as, adds_more, adds_nothing, has_key_at, key_at}
 use Rattle.cck_cache_text.specs.TestedPaths.{IsPathOfTests}

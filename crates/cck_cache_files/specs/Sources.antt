@@ -2,7 +2,9 @@
 use Rattle.std.specs.Prelude.{◌≡◌, ◌⊎◌, ℕ, true, false, List, Option, Some, None, Ok, Err, IsTrue}
 use Rattle.std.specs.BTreeSet.{BTreeSet}
 use Rattle.std.specs.Global.{Vec}
-use Rattle.cck_cache_text.specs.HeaderTests.{AreTests, TestFields, has_dependency}
+use Rattle.cck_cache_text.specs.DependencyPragma.{has_dependency}
+use Rattle.cck_cache_text.specs.HeaderTests.{AreTests}
+use Rattle.cck_cache_text.specs.TestName.{TestFields}
 use Rattle.cck_cache_text.specs.Names.{is_named}
 use Rattle.cck_cache_text.specs.Sets.{Adds, IsSetOf}
 use Rattle.cck_cache_text.specs.Splices.{has_doubtful_lines, unspliced}

@@ -3,7 +3,7 @@ use Rattle.std.specs.Prelude.{◌≡◌, true, List, Some, None}
 use Rattle.cck_cache_paths.specs.TestsAt.{AreTestsAt, IsDoubtfulAt}
 use Rattle.cck_cache_paths.specs.declared.tested.Tested.{Tested}
 use Rattle.cck_cache_paths.specs.declared.tested.Tested.TheVariants.{Tests, Refused}
-use Rattle.cck_cache_text.specs.HeaderTests.{has_dependency}
+use Rattle.cck_cache_text.specs.DependencyPragma.{has_dependency}
 use Rattle.cck_cache_rules.specs.PathTest.{Test, tests_of}
 use Rattle.cck_cache_text.specs.SearchList.{IsSearchList, SearchFields}
 use Rattle.cck_cache_text.specs.Splices.{unspliced}

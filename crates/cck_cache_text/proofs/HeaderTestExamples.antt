@@ -1,7 +1,10 @@
 -- The definitions of tests for headers, at literal values.
 use Rattle.std.proofs.Common.{◌≡◌, true, false, Some, None, codes, refl}
 use Rattle.cck_cache_text.specs.SearchList.{text_lines}
-use Rattle.cck_cache_text.specs.HeaderTests.{after_piece, is_alias, is_defined, is_known, is_no_test, is_passed_over, is_read, is_test, may_be_open, may_begin_open, name_in, tested}
+use Rattle.cck_cache_text.specs.Condition.{after_piece, is_known, is_read}
+use Rattle.cck_cache_text.specs.HeaderTests.{is_no_test, is_passed_over, is_test, may_be_open, may_begin_open, tested}
+use Rattle.cck_cache_text.specs.TestMacro.{is_alias, is_defined}
+use Rattle.cck_cache_text.specs.TestName.{name_in}
 
 -- ---- conditions
 

@@ -10,7 +10,10 @@ use Rattle.std.proofs.lemmas.Slice.Eq.{bytes_eq-Decides}
 use Rattle.cck_digest.specs.TimeMacros.{Has, has}
 use Rattle.cck_digest.proofs.HasLemmas.{has_iff}
 use Rattle.cck_cache_text.specs.SearchList.{text_lines}
-use Rattle.cck_cache_text.specs.HeaderTests.{AreTests, Gains, IsBlindLine, IsTestOfLine, TestFields, after_piece, begins_word, depth_after, depth_in, is_test, is_test_name, is_test_word, is_word_byte, may_begin_open, may_have_test, tested, word_of}
+use Rattle.cck_cache_text.specs.Condition.{after_piece, depth_after, depth_in}
+use Rattle.cck_cache_text.specs.HeaderTests.{AreTests, Gains, IsBlindLine, IsTestOfLine, begins_word, is_test, may_begin_open, tested}
+use Rattle.cck_cache_text.specs.Identifier.{is_word_byte, word_of}
+use Rattle.cck_cache_text.specs.TestName.{TestFields, is_test_name, is_test_word, may_have_test}
 use Rattle.cck_cache_text.specs.Splices.{run_length}
 use Rattle.cck_cache_rules.proofs.ListLemmas.{ends_decided}
 

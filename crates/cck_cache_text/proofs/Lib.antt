@@ -1,4 +1,5 @@
 pub mod AbsentLemmas
+pub mod CommentLemmas
 pub mod EqualityLemmas
 mod HeaderTestExamples
 pub mod HeaderTestLemmas

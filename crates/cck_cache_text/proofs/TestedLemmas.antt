@@ -4,7 +4,7 @@ use Rattle.std.specs.BTreeSet.{BTreeSet}
 use Rattle.std.specs.Global.{Vec}
 use Rattle.std.proofs.lemmas.List.{get_or_default}
 use Rattle.cck_cache_text.specs.Absent.{path_in}
-use Rattle.cck_cache_text.specs.HeaderTests.{TestFields}
+use Rattle.cck_cache_text.specs.TestName.{TestFields}
 use Rattle.cck_cache_text.specs.Sets.{Adds}
 use Rattle.cck_cache_text.specs.TestedPaths.{IsBesideFile, IsEither, IsEitherInList, IsPathOfTest, IsPathOfTests, is_absolute}
 use Rattle.cck_cache_text.proofs.SetLemmas.{Below, adds_as, adds_both}

@@ -1,5 +1,10 @@
 pub mod Absent
+pub mod Argument
+pub mod Condition
+pub mod DependencyPragma
+pub mod Directive
 pub mod HeaderTests
+pub mod Identifier
 pub mod Included
 pub mod Left
 pub mod LookedAt
@@ -9,4 +14,6 @@ pub mod Rule
 pub mod SearchList
 pub mod Sets
 pub mod Splices
+pub mod TestMacro
+pub mod TestName
 pub mod TestedPaths

@@ -2,7 +2,7 @@
 use Rattle.std.specs.Prelude.{◌≡◌, ℕ, ◌<◌, ◌⊎◌, Bool, true, false, List, [], ◌++◌, Contains, codes, get_or, length, nat_eq}
 use Rattle.std.specs.List.{starts_with}
 use Rattle.cck_cache_text.specs.Absent.{path_in, precompiled}
-use Rattle.cck_cache_text.specs.HeaderTests.{TestFields}
+use Rattle.cck_cache_text.specs.TestName.{TestFields}
 use Rattle.cck_cache_text.specs.Names.{directory_of}
 
 -- a path, or its precompiled header, by which a test finds the header too

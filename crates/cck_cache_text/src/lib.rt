@@ -18,7 +18,12 @@
 #![tactic(auto)]
 
 mod absent;
+mod argument;
+mod condition;
+mod dependency_pragma;
+mod directive;
 mod header_test;
+mod identifier;
 mod included;
 pub mod laws;
 mod left;
@@ -28,10 +33,14 @@ mod read_files;
 mod rule;
 mod search_list;
 mod splices;
+mod test_macro;
+mod test_name;
 mod tested_paths;
 
 pub use absent::absent_names;
-pub use header_test::{HeaderTest, has_dependency_pragma, header_tests, may_ask_for_file};
+pub use argument::may_ask_for_file;
+pub use dependency_pragma::has_dependency_pragma;
+pub use header_test::{HeaderTest, header_tests};
 pub use left::{add_left, left_directories};
 pub use looked_at::looked_at_paths;
 pub use names::{directory_of, file_names, system_names};

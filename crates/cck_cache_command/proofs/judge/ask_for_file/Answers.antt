@@ -3,7 +3,7 @@ use Rattle.std.specs.Global.{Vec}
 use Rattle.std.proofs.lemmas.Bool.{cases_lt}
 use Rattle.std.proofs.lemmas.List.{get_or_default}
 use Rattle.cck_cache_rules.proofs.ListLemmas.{any_decided}
-use Rattle.cck_cache_text.specs.HeaderTests.{MayAskForFile}
+use Rattle.cck_cache_text.specs.Argument.{MayAskForFile}
 use Rattle.cck_cache_command.proofs.judge.ask_for_file.Goals as goal
 
 false_true : false ≡ true → ⊥

@@ -1,6 +1,6 @@
 use Rattle.std.proofs.Common.{ℕ, ◌<◌, get_or}
 use Rattle.std.specs.Global.{Vec}
-use Rattle.cck_cache_text.specs.HeaderTests.{MayAskForFile}
+use Rattle.cck_cache_text.specs.Argument.{MayAskForFile}
 use Rattle.cck_cache_command.proofs.judge.ask_for_file.Given as goal
 
 -- none of the arguments so far may

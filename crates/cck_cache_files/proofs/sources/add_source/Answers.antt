@@ -1,5 +1,7 @@
 use Rattle.std.proofs.Common.{◌≡◌, ◌∙◌, inl, inr, false, List, Some, None, sym, ap, subst}
-use Rattle.cck_cache_text.specs.HeaderTests.{AreTests, TestFields, has_dependency, test_fields}
+use Rattle.cck_cache_text.specs.DependencyPragma.{has_dependency}
+use Rattle.cck_cache_text.specs.HeaderTests.{AreTests, test_fields}
+use Rattle.cck_cache_text.specs.TestName.{TestFields}
 use Rattle.cck_cache_text.specs.SearchList.{search_fields}
 use Rattle.cck_cache_text.specs.Sets.{Adds}
 use Rattle.cck_cache_text.specs.Splices.{unspliced}

@@ -2,7 +2,8 @@ use Rattle.std.proofs.Common.{◌≡◌, ℕ, true, false, List, [], ◌∷◌, 
 use Rattle.std.specs.Option.{option_map}
 use Rattle.std.proofs.lemmas.List.{map-append}
 use Rattle.cck_cache_text.specs.declared.header_test.HeaderTest.{HeaderTest}
-use Rattle.cck_cache_text.specs.HeaderTests.{Gains, TestFields, fields_of, is_test, lent_fields, test_fields, tested}
+use Rattle.cck_cache_text.specs.HeaderTests.{Gains, fields_of, is_test, test_fields, tested}
+use Rattle.cck_cache_text.specs.TestName.{TestFields, lent_fields}
 use Rattle.cck_cache_text.proofs.HeaderTestLemmas.{IsTestBelow, gains_none, none_here, none_blind_here, one_here, one_blind_here}
 use Rattle.cck_cache_text.proofs.header_test.add_tests.Goals as goal
 

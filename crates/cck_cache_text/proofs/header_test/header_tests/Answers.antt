@@ -2,7 +2,8 @@ use Rattle.std.proofs.Common.{◌≡◌, ℕ, suc, ◌+◌, ◌<◌, Bool, true,
 use Rattle.std.proofs.lemmas.List.{get_or-map, length-map}
 use Rattle.cck_cache_text.specs.SearchList.{text_lines}
 use Rattle.cck_cache_text.specs.declared.header_test.HeaderTest.{HeaderTest}
-use Rattle.cck_cache_text.specs.HeaderTests.{Gains, GainsLine, IsBlindIn, IsBlindLine, TestFields, may_be_open, may_begin_open, may_have_test, test_fields}
+use Rattle.cck_cache_text.specs.HeaderTests.{Gains, GainsLine, IsBlindIn, IsBlindLine, may_be_open, may_begin_open, test_fields}
+use Rattle.cck_cache_text.specs.TestName.{TestFields, may_have_test}
 use Rattle.cck_cache_text.proofs.HeaderTestLemmas.{IsTestAbove, all_lines, gains_none, line_here, line_blind_here, no_test}
 use Rattle.cck_cache_text.proofs.header_test.header_tests.Goals as goal
 

@@ -1,6 +1,6 @@
 use Rattle.std.proofs.Common.{◌≡◌, length}
-use Rattle.cck_cache_text.specs.HeaderTests.{after_comment}
-use Rattle.cck_cache_text.proofs.header_test.after_comment.Given as goal
+use Rattle.cck_cache_text.specs.Condition.{after_comment}
+use Rattle.cck_cache_text.proofs.condition.after_comment.Given as goal
 
 -- the comment ends in what is left
 abbrev pub invariant-loop-rest : goal.invariant-loop-rest

@@ -1,5 +1,5 @@
 use Rattle.std.proofs.Common.{◌≡◌, true, false, ◌∙◌, below_more}
-use Rattle.cck_cache_text.proofs.header_test.may_ask_for_file.Goals as goal
+use Rattle.cck_cache_text.proofs.argument.may_ask_for_file.Goals as goal
 
 false_true : false ≡ true → ⊥
 false_true e = cc

@@ -2,8 +2,8 @@ use Rattle.std.proofs.Common.{◌≡◌, true, codes, rules, tests, sym, ◌∙�
 use Rattle.std.proofs.lemmas.Iterator.Search.{any_from_yields_List}
 use Rattle.std.proofs.lemmas.Iterator.Splits.{YieldsList-from_slice_split}
 use Rattle.cck_digest.specs.TimeMacros.{has}
-use Rattle.cck_cache_text.specs.HeaderTests.{is_dependency_line}
-use Rattle.cck_cache_text.proofs.header_test.has_dependency_pragma.Goals as goal
+use Rattle.cck_cache_text.specs.DependencyPragma.{is_dependency_line}
+use Rattle.cck_cache_text.proofs.dependency_pragma.has_dependency_pragma.Goals as goal
 
 pub returns-then-has : goal.returns-then-has
 returns-then-has c =

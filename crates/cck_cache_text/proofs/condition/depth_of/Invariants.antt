@@ -1,6 +1,6 @@
 use Rattle.std.proofs.Common.{◌≡◌, ◌≤◌, ◌-◌, length}
-use Rattle.cck_cache_text.specs.HeaderTests.{depth_in, depth_of}
-use Rattle.cck_cache_text.proofs.header_test.depth_of.Given as goal
+use Rattle.cck_cache_text.specs.Condition.{depth_in, depth_of}
+use Rattle.cck_cache_text.proofs.condition.depth_of.Given as goal
 
 -- the depth after all is that after what is left
 abbrev pub invariant-loop : goal.invariant-loop

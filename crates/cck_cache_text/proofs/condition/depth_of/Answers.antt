@@ -1,8 +1,8 @@
 use Rattle.std.proofs.Common.{◌≡◌, ◌∙◌, ℕ, suc, ◌+◌, ◌-◌, None, Some, List, Bor, get_or, length, ap, sym, arith}
 use Rattle.std.specs.Option.{option_map}
-use Rattle.cck_cache_text.specs.HeaderTests.{after_piece, depth_after, depth_in}
+use Rattle.cck_cache_text.specs.Condition.{after_piece, depth_after, depth_in}
 use Rattle.cck_cache_text.proofs.HeaderTestLemmas.{depth_bound, depth_ended, depth_more, depth_refused, depth_unknown}
-use Rattle.cck_cache_text.proofs.header_test.depth_of.Goals as goal
+use Rattle.cck_cache_text.proofs.condition.depth_of.Goals as goal
 
 pub returns-then-is_empty : goal.returns-then-is_empty
 returns-then-is_empty c = sym (depth_ended (length c.args.text.now - c.loop.counter) c.loop.depth c.loop.rest.now (sym c.is_empty.ensures ∙ c.if-is_empty.true)) ∙ c.loop.invariant.depth

@@ -2,8 +2,9 @@ use Rattle.std.proofs.Common.{◌≡◌, true, rules, tests}
 use Rattle.std.specs.Prelude.{is_some}
 use Rattle.std.proofs.lemmas.Iterator.{YieldsList-from_slice}
 use Rattle.std.proofs.lemmas.Iterator.Search.{all_from_yields_List}
-use Rattle.cck_cache_text.specs.HeaderTests.{condition_of, is_plain_byte}
-use Rattle.cck_cache_text.proofs.header_test.is_plain_front.Goals as goal
+use Rattle.cck_cache_text.specs.Condition.{is_plain_byte}
+use Rattle.cck_cache_text.specs.Directive.{condition_of}
+use Rattle.cck_cache_text.proofs.condition.is_plain_front.Goals as goal
 
 pub returns-then-is_some : goal.returns-then-is_some
 returns-then-is_some c =

@@ -1,6 +1,6 @@
 use Rattle.std.proofs.Common.{◌≡◌, length}
-use Rattle.cck_cache_text.specs.HeaderTests.{has_dependency_word}
-use Rattle.cck_cache_text.proofs.header_test.has_dependency_word.Given as goal
+use Rattle.cck_cache_text.specs.DependencyPragma.{has_dependency_word}
+use Rattle.cck_cache_text.proofs.dependency_pragma.has_dependency_word.Given as goal
 
 -- the line has such a word if what is left has one
 abbrev pub invariant-loop-rest : goal.invariant-loop-rest

@@ -1,8 +1,8 @@
 use Rattle.std.proofs.Common.{◌≡◌, true, false, nat_lt, length, rules, tests}
 use Rattle.std.proofs.lemmas.Iterator.{YieldsList-from_slice}
 use Rattle.std.proofs.lemmas.Iterator.Search.{all_from_yields_List}
-use Rattle.cck_cache_text.specs.HeaderTests.{has_comment, is_name_byte}
-use Rattle.cck_cache_text.proofs.header_test.is_plain_name.Goals as goal
+use Rattle.cck_cache_text.specs.TestName.{has_comment, is_name_byte}
+use Rattle.cck_cache_text.proofs.test_name.is_plain_name.Goals as goal
 
 pub returns-then-not-has_comment : goal.returns-then-not-has_comment
 returns-then-not-has_comment c =

@@ -1,6 +1,6 @@
 use Rattle.std.proofs.Common.{◌≡◌, ℕ, ◌<◌, true, drop}
-use Rattle.cck_cache_text.specs.HeaderTests.{is_test_word}
-use Rattle.cck_cache_text.proofs.header_test.may_ask_for_file.Given as goal
+use Rattle.cck_cache_text.specs.TestName.{is_test_word}
+use Rattle.cck_cache_text.proofs.argument.may_ask_for_file.Given as goal
 
 -- no name begins at the places so far
 abbrev pub invariant-loop-place : goal.invariant-loop-place

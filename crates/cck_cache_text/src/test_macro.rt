@@ -1,0 +1,116 @@
+//! Macros whose names are read as those of tests.
+ghost use Rattle.std.specs.Prelude.{◌≡◌, false};
+ghost use Rattle.std.specs.Option.{option_map, option_map_or};
+ghost use Rattle.cck_cache_text.specs.Splices.{run_length};
+ghost use Rattle.cck_cache_text.specs.TestMacro.{after_parameters, defines_judged, is_alias, is_defined, is_number, is_number_byte, is_parameter_byte, is_plain_definition, is_plain_macro, is_test_alone};
+
+use crate::condition::is_finished;
+use crate::directive::directive_words;
+use crate::identifier::{after_blanks, is_word_byte, rest_of_word, stripped, word_of};
+use crate::splices::is_blank;
+use crate::test_name::{is_include_word, is_judged_word};
+
+// Whether a byte is one of the parameters of a macro.
+fn is_parameter_byte(byte: u8) -> bool
+    ensures { result ≡ is_parameter_byte byte }
+{
+    is_word_byte(byte) || is_blank(byte) || matches!(byte, b',' | b'.')
+}
+
+// The number of such bytes at the front of a text.
+fn parameters_length(text: &[u8]) -> usize
+    ensures { result ≡ run_length is_parameter_byte text.now }
+{
+    text.iter()
+        .take_while(|byte| is_parameter_byte(**byte))
+        .count()
+}
+
+// What follows the parameters of a macro, after a parenthesis.
+fn after_parameters(text: &[u8]) -> Option<&[u8]>
+    ensures { option_map (λ rest. rest.now) result ≡ after_parameters text.now }
+{
+    stripped(&text[parameters_length(text).min(text.len())..], b')')
+}
+
+// Whether a byte is one of a number, or a blank.
+fn is_number_byte(byte: u8) -> bool
+    ensures { result ≡ is_number_byte byte }
+{
+    byte.is_ascii_digit() || is_blank(byte)
+}
+
+// The number of such bytes at the front of a text.
+fn number_length(text: &[u8]) -> usize
+    ensures { result ≡ run_length is_number_byte text.now }
+{
+    text.iter()
+        .take_while(|byte| is_number_byte(**byte))
+        .count()
+}
+
+// Whether a macro stands for no more than a number.
+fn is_number(text: &[u8]) -> bool
+    ensures { result ≡ is_number text.now }
+{
+    is_finished(&text[number_length(text).min(text.len())..])
+}
+
+// Whether a macro stands for the name of a test alone.
+fn is_test_alone(text: &[u8]) -> bool
+    ensures { result ≡ is_test_alone text.now }
+{
+    is_include_word(word_of(text)) && is_finished(rest_of_word(text))
+}
+
+// Whether a macro with parameters, of which this follows the parenthesis, stands for a number.
+fn is_number_of_parameters(inner: &[u8]) -> bool
+    ensures { result ≡ option_map_or is_number (after_parameters inner.now) false }
+{
+    match after_parameters(inner) {
+        Some(body) => is_number(body),
+        None => false,
+    }
+}
+
+// Whether a macro of which this follows the name opens no parenthesis, and calls no other: it stands for
+// a number, with parameters or without, or for the name of a test.
+fn is_plain_macro(text: &[u8]) -> bool
+    ensures { result ≡ is_plain_macro text.now }
+{
+    match stripped(text, b'(') {
+        Some(inner) => is_number_of_parameters(inner),
+        None => is_number(text) || is_test_alone(after_blanks(text)),
+    }
+}
+
+// Whether the name here is read as one of a test, and so are its uses, or it is not.
+fn is_plain_definition(after: &[u8]) -> bool
+    ensures { result ≡ is_plain_definition after.now }
+{
+    !is_judged_word(word_of(after)) || is_plain_macro(rest_of_word(after))
+}
+
+// Whether the name between these texts is the one that a directive undefines, or defines as such a
+// macro.
+pub fn is_defined(before: &[u8], after: &[u8]) -> bool
+    ensures { result ≡ is_defined before.now after.now }
+{
+    let words = directive_words(before);
+    words == b"undef".as_slice() || (words == b"define".as_slice() && is_plain_definition(after))
+}
+
+// Whether what follows `define` is such a name alone, without parameters.
+fn defines_judged(words: &[u8]) -> bool
+    ensures { result ≡ defines_judged words.now }
+{
+    let name = after_blanks(&words[words.len().min(6)..]);
+    word_of(words) == b"define".as_slice() && word_of(name) == name && is_judged_word(name)
+}
+
+// Whether the name of a test is all that a macro of such a name stands for.
+pub fn is_alias(before: &[u8], after: &[u8]) -> bool
+    ensures { result ≡ is_alias before.now after.now }
+{
+    is_test_alone(after) && defines_judged(directive_words(before))
+}
