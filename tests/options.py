@@ -31,7 +31,7 @@ LISTS = (
 # Options that gcc takes and prints in no list.
 HIDDEN = ("-I-",)
 # The classes of options that the preprocessor is given, and that of options that it is not given for its warnings.
-PREPROCESSED = ("text", "code", "message", "directory")
+PREPROCESSED = ("text", "definition", "code", "message", "directory")
 SILENCING = "compiler-message"
 # Values that are tried with each option that has one.
 VALUES = ("0", "1", "20", "x", "always", "none")

@@ -148,7 +148,7 @@ case ${1-} in
 -s|--show-stats) show_stats "$@" ;;
 -z|--zero-stats) exec rm -rf "$cck_store/counts" ;;
 -c|--cleanup) clean_up ;;
--C|--clear) call clear "$cck_store"; print_found ;;
+-C|--clear) rm -rf "$cck_store/inputs"; call clear "$cck_store"; print_found ;;
 -p|--show-config) show_config ;;
 -M|--max-size) [ $# -eq 2 ] || { print_usage >&2; exit 2; }; set_max_size "$2" ;;
 --max-size=*) set_max_size "${1#*=}" ;;

@@ -1,4 +1,4 @@
-# What bin/cckcc does with a call that is no hit of a directory: a compilation that is recorded, a call that is not
+# What bin/cckcc does with a call that is not a hit of a directory: a compilation that is recorded, a call that is not
 # cached, the first call of a compiler, and each call with a server. bin/cckcc sources this script, and has set
 # `cck_compiler`, `cck_program`, `cck_store`, `cck_server`, the address of a server or nothing, `cck_color`, which is an
 # option of the compiler or nothing, and `cck_found`, what the program printed of the call, if it was called. The words
@@ -41,7 +41,7 @@ locate() {
 
 # Whether the tools are there that decide what is recorded. It starts no process.
 has_tools() {
-    for cck_tool in awk cat cksum cmp cp grep head ldd mkdir mktemp mv readlink rm sed; do
+    for cck_tool in awk cat cksum cmp cp grep head ldd mkdir mktemp mv readlink rm sed sha256sum; do
         command -v $cck_tool > /dev/null || return 1
     done
 }
@@ -64,7 +64,7 @@ cck_reason=
 { { true 3>&1; } 2>/dev/null && true 3>&2; } || cck_reason=stream
 command -v "$cck_program" > /dev/null || cck_reason=no-program
 has_tools || cck_reason=no-tool
-[ -z "$cck_has_specs" ] || cck_reason=variable
+[ -z "$cck_has_specs${GLIBC_TUNABLES+set}" ] || cck_reason=variable
 # The list of directories that the compiler prints has one in each line.
 case $CPATH$C_INCLUDE_PATH in
 *"$cck_newline"*) cck_reason=variable ;;
@@ -105,10 +105,10 @@ pass_on() {
 }
 
 # A new directory for files, whose path has no space: a compiler takes what is after one for a target
-# (SUNPRO_DEPENDENCIES).
+# (SUNPRO_DEPENDENCIES). It is absolute: awk takes other names of files with `=` for variables.
 make_directory() {
     case $TMPDIR in
-    *[[:space:]]*) mktemp -d /tmp/cckcc.XXXXXX 2>/dev/null ;;
+    *[[:space:]]*|[!/]*) mktemp -d /tmp/cckcc.XXXXXX 2>/dev/null ;;
     *) mktemp -d "${TMPDIR:-/tmp}/cckcc.XXXXXX" 2>/dev/null ;;
     esac
 }
@@ -164,12 +164,18 @@ has_plain_libraries() {
     esac
 }
 
-# Adds the libraries that the programs load to the programs. It fails where they are not known.
+# Adds the libraries that the programs load to the programs, and the file that names some for all programs. It fails where
+# they are not known.
 add_loaded() {
+    [ ! -e /etc/ld.so.preload ] || cck_programs=$cck_programs:/etc/ld.so.preload
     for cck_next in "$cck_driver" "$cck_proper" "$cck_assembler"; do
         cck_loaded=$(LC_ALL=C ldd "$cck_next" 2>&1) || case $cck_loaded in
         *'not a dynamic executable'*) cck_loaded= ;;
         *) return 1 ;;
+        esac
+        # A library that is to be loaded into each program and can't be: each one says so.
+        case $cck_loaded in
+        *'ERROR: ld.so: '*) return 1 ;;
         esac
         cck_loaded=$(printf '%s\n' "$cck_loaded" | sed -n 's/^[[:space:]]\(.* => \)\{0,1\}\(\/[^ :]*\) (.*/\2/p') || return 1
         for cck_library in $cck_loaded; do
@@ -267,11 +273,12 @@ fields() {
     [ "$4" != object ] || cck_object=$5
 }
 
-# Sets the paths of a call, and the programs that it runs.
-paths() { cck_input=$1 cck_out=$2 cck_dependencies=$3 cck_programs=$4; }
+# Sets the paths of a call, the programs that it runs, and how the text shows macros: all (-dD), or those that are used
+# (-dU).
+paths() { cck_input=$1 cck_out=$2 cck_dependencies=$3 cck_programs=$4 cck_macros=$5; }
 
-# Divides what `look` or `preprocessor-key` printed: a line with the answer, one with the paths and programs of the call,
-# and one with the arguments of the preprocessor. The last two are quoted for a shell.
+# Divides what `look` or `preprocessor-key` printed: a line with the answer, one for `paths`, and one with the arguments of
+# the preprocessor. The last two are quoted for a shell.
 divide() {
     cck_preprocessed=${cck_found#*"$cck_newline"} cck_found=${cck_found%%"$cck_newline"*}
     eval "paths ${cck_preprocessed%%"$cck_newline"*}"
@@ -291,10 +298,13 @@ compile() {
     fi
 }
 
+# Sets `cck_place` to the directory of the store for a file of the kind $1 and the key $2.
+find_place() { cck_place=$cck_store/$1/${2%"${2#??}"}; }
+
 # Keeps the file $3 in the directory, under the kind $1 and the key $2.
 keep() {
     [ -n "$cck_keeps" ] || return 0
-    cck_place=$cck_store/$1/${2%"${2#??}"}
+    find_place "$1" "$2"
     { mkdir -p "$cck_place" && cp "$3" "$cck_place/$2.new$$" && mv "$cck_place/$2.new$$" "$cck_place/$2"; } 2>/dev/null
 }
 
@@ -310,7 +320,7 @@ unpack() {
 
 # Takes the object of the name $1 from the server.
 take_object() {
-    cck_sought=$1
+    cck_sought="$cck_sought $1 "
     get object "$1" "$cck_scratch/object" || return 1
     unpack "$1" "$cck_scratch/object" || { count server-damaged; return 1; }
     keep objects "$1" "$cck_scratch/object"
@@ -367,11 +377,12 @@ take_text_from_server() {
     count server-hit-text
 }
 
-# Takes the object of the text, which other base directories share, from the directory. The words are those of `record`.
+# Takes the object of the text, which other arguments or base directories share, from the directory. The words are those
+# of `record`.
 take_text_from_directory() {
-    cck_place=$cck_store/objects/${cck_object%"${cck_object#??}"}/$cck_object
-    [ -e "$cck_place" ] || return 1
-    unpack "$cck_object" "$cck_place" || return 1
+    find_place objects "$cck_object"
+    [ -e "$cck_place/$cck_object" ] || return 1
+    unpack "$cck_object" "$cck_place/$cck_object" || return 1
     record "$@" > "$cck_scratch/reply"
     count hit-text
 }
@@ -402,19 +413,33 @@ shares_text() {
     esac
 }
 
-# With a base directory: sets `cck_noted` to the path of an empty file. If it is there, the directory may have an object
-# of an input with the contents of this one.
-name_input() {
-    cck_noted=
-    if [ -z "$CCK_BASEDIR" ] || ! shares_text; then return 0; fi
-    cck_noted=$(cksum < "$cck_input" 2>/dev/null) || { cck_noted=; return 0; }
-    cck_noted=$cck_store/inputs/${cck_noted%% *}-${cck_noted#* }
+# Sets `cck_mark` to the path of a file for this input, with the sum of an input of this name of which the store has an
+# object. It may be that of other arguments or, with a base directory, of another directory.
+name_mark() {
+    cck_mark=
+    [ -z "$CCK_BASEDIR" ] || shares_text || return 0
+    case $cck_input in
+    /*) cck_above=${cck_input%/*} ;;
+    */*) cck_above=$PWD/${cck_input%/*} ;;
+    *) cck_above=$PWD ;;
+    esac
+    [ -z "$CCK_BASEDIR" ] || cck_above=${cck_above#"$CCK_BASEDIR"}
+    cck_mark=$cck_store/inputs/${cck_above##*/}-${cck_input##*/}
+}
+
+# Whether the directory may have the object of the text. Where the call has an entry, a header has changed, and with it the
+# name of the object, but for what another directory has.
+may_have_text() {
+    [ -n "$cck_mark" ] && [ -e "$cck_mark" ] || return 1
+    find_place entries "$cck_key"
+    [ -n "$CCK_BASEDIR" ] || [ ! -e "$cck_place/$cck_key" ] || return 1
+    cksum < "$cck_input" > "$cck_scratch/sum" 2>/dev/null && cmp -s "$cck_scratch/sum" "$cck_mark"
 }
 
 # Writes that file.
-note_input() {
-    if [ -z "$cck_noted" ] || [ -e "$cck_noted" ]; then return; fi
-    { mkdir -p "$cck_store/inputs" && true > "$cck_noted"; } 2>/dev/null
+write_mark() {
+    [ -n "$cck_mark" ] && [ -s "$cck_scratch/sum" ] || return 0
+    { mkdir -p "$cck_store/inputs" && cp "$cck_scratch/sum" "$cck_mark"; } 2>/dev/null
 }
 
 # Has the program look for the call's object, or where no directory keeps objects make its key.
@@ -478,13 +503,13 @@ fi
 
 # Preprocesses the input of the call into the file $1, with these further words of a shell. The list of directories is
 # read in the locale C. The preprocessor warns of each time macro that it expands, however that is spelled and wherever it
-# is: what a text shows of the time is in no key. Extensions are no errors in system headers. It names these as they are
+# is: what a text shows of the time is in no key. Extensions are not errors in system headers. It names these as they are
 # looked for, and not by a shorter path that links lead to: a header that the compiler names so is not recorded. It also
-# writes each directive that includes a header (-dI), since it may pass over a copy of a header that was read. What is on
-# standard input is for the compiler.
+# writes each directive that includes a header (-dI), since it may pass over a copy of a header that was read, and the
+# definitions of macros, since the key of an object has no -D and -U. What is on standard input is for the compiler.
 preprocess() {
     eval "LC_ALL=C \"\$cck_compiler\" $cck_preprocessed" \
-        '-Wdate-time -Wsystem-headers -Wno-error -Wno-pedantic -fno-canonical-system-headers' "$2" \
+        '-Wdate-time -Wsystem-headers -Wno-error -Wno-pedantic -fno-canonical-system-headers' "$cck_macros $2" \
         '-dI -E -v -o "$cck_scratch/$1"' < /dev/null 2> "$cck_scratch/$1-search" || true > "$cck_scratch/failed"
 }
 
@@ -494,8 +519,9 @@ find_own() {
     cck_own=${cck_own%/*}/include/
 }
 
-# The part of `judge_text` that reads a file of the project. It looks for the name of a test, or for a beginning of one, also
-# over the ends of lines; for builtin functions of x86; and for what may be a line marker. A file of a device is not read.
+# Functions of `judge_text`. The first two read a file of the project, without its splices. They look for the name of a test,
+# or for a beginning of one; for builtin functions of x86; for pragmas that save macros; and for what may be a line marker. A
+# file of a device is not read. The third one says whether a raw string goes on in the next line.
 cck_reading='
     BEGIN {
         blank = "[ \t\r\f\013]"
@@ -503,78 +529,120 @@ cck_reading='
         gap = "(" blank "|" comment "[*]+/)*"
         marker = "^(.*[*]/)?" gap "(#|%:|[?][?]=)" gap "([0-9]|\\\\" blank "*$|" comment "[*]*$)"
     }
-    function read_file(name, file, line, letters) {
+    function read_line(line, whole) {
+        whole = line
+        if (line ~ marker) marks = 1
+        if (line ~ /(^|[^A-Za-z0-9_$])__ha(s(_(b(u(i(l(ti?)?)?)?)?)?)?)?([^A-Za-z0-9_$]|$)/) asks = 1
+        if (line ~ /ia32|a32_|builtin_ia3?([^A-Za-z0-9_]|$)/) targets = 1
+        if (match(line, /__ha|as_inc|as_emb|HAS_INC/) && substr(line, 1, RSTART - 1) !~ /#|%:|[?][?]=/) tests = 1
+        gsub(/[^A-Za-z_]/, "", line)
+        letters = substr(letters, length(letters) - 10) line
+        if (index(letters, "as_builtin")) asks = 1
+        if (letters !~ /[hp]_macro/) return
+        saves = 1
+        if (whole ~ /^[ \t]*#[ \t]*pragma[ \t]+(push|pop)_macro[(]"[a-z]+"[)][ \t]*$/) letters = ""
+        else if (index(whole, "(")) hides = 1
+    }
+    function read_file(name, file, line, held, is_later) {
         file = name ~ /^\// ? name : "./" name
+        letters = ""
         if (name ~ /^\/dev\//) asks = 1
         else while ((getline line < file) > 0) {
-            if (line ~ marker) marks = 1
-            if (line ~ /(^|[^A-Za-z0-9_$])__ha(s(_(b(u(i(l(ti?)?)?)?)?)?)?)?([^A-Za-z0-9_$]|$)/) asks = 1
-            if (index(line, "ia32")) targets = 1
-            gsub(/[^A-Za-z_]/, "", line)
-            letters = substr(letters, length(letters) - 10) line
-            if (index(letters, "as_builtin")) asks = 1
-            if (index(letters, "_Pragma")) pragmas = 1
-            if (letters ~ /as_inc|as_emb|HAS_INC/) tests = 1
+            if (!is_later++) sub(/^\357\273\277/, "", line)
+            if (sub(/\\[ \t\r\f\013]*$/, "", line)) held = held line
+            else { read_line(held line); held = "" }
         }
+        read_line(held)
         if (close(file) != 0) asks = 1
+    }
+    function goes_on(line, begun, place) {
+        while (match(line, /(^|[^A-Za-z0-9_])(u8|u|U|L)?R"[^ ()\\\t"]*\(/)) {
+            begun = substr(line, RSTART, RLENGTH - 1)
+            line = substr(line, RSTART + RLENGTH)
+            sub(/.*R"/, "", begun)
+            place = index(line, ")" begun "\"")
+            if (place == 0) return 1
+            line = substr(line, place + length(begun) + 2)
+        }
+        return 0
     }'
 
-# Writes four lines: `alone` if the text names no file beside the input; why the compiler may read another text than
-# this, or have other names for its files; what it may read in another way; and `end`. The word is `pragma` or `1` if the
-# call has OpenMP or OpenACC, with a pragma in an argument or without.
+# What `judge_text` does with the text.
 #
-# A pragma that sets macros of the target is run by the compiler alone. The compiler's own headers set them back, to what
-# the target has, and include none of the project. The compiler knows declarations, by which `__has_builtin` is 0, and more
-# builtin functions of the target after an attribute. A header that is found in a directory of system headers only later has
-# its shorter name from then on. A file between `<` and `>` is named as what the compiler defines itself. A line directive
-# enters no file; a marker in a source, or in a raw string over lines, is not told from one of gcc. With OpenMP or OpenACC the
-# compiler expands macros in a pragma, which `_Pragma` may make of any line.
+# A pragma that sets macros of the target, or attributes that are known, is run by the compiler alone. The compiler's own
+# headers set them back, to what the target has, and include none of the project. The compiler knows declarations, by which
+# `__has_builtin` is 0, and more builtin functions of the target after an attribute, whose names may be pasted. A header
+# that is found in a directory of system headers only later has its shorter name from then on. A file between `<` and `>` is
+# named as what the compiler defines itself. A line directive enters no file; a marker in a source, or in a raw string over
+# lines, is not told from one of gcc. With OpenMP or OpenACC the compiler expands macros in a pragma, which an operator may
+# make of any line.
+cck_judging='
+    index($0, "R\"") && goes_on($0) { marks = 1 }
+    /^# [0-9]+ "/ {
+        flags = name = $0
+        sub(/.*"/, "", flags)
+        sub(/^# [0-9]+ "/, "", name)
+        name = substr(name, 1, length(name) - length(flags) - 1)
+        is_system = flags ~ / 3/
+        is_own = index(name, ENVIRON["cck_own"]) == 1 && name !~ /\/\.\.\//
+        is_of_project = !is_own && (index(name, "/usr/include/") != 1 || name ~ /\/\.\.\//)
+        if (flags ~ /^ 1/) {
+            found = 1
+            if (owns[depth] && is_of_project) reason = "target-pragma"
+            owns[++depth] = is_own
+            if (name in systems && systems[name] != is_system) reason = "other-file"
+            systems[name] = is_system
+        }
+        if (flags ~ /^ 2/ && depth > 0) depth--
+        if (name ~ /^<.*>$/) {
+            if ($2 != 0 || name !~ /^<(built-in|command-line)>$/) reason = "other-file"
+        } else if (name !~ /\/\/$/ && is_of_project) projects[name]
+    }
+    /^[ \t]*#[ \t]*pragma/ { has_pragmas = 1 }
+    /^[ \t]*#[ \t]*pragma[ \t]+GCC[ \t]+diagnostic/ {
+        if ($0 !~ /diagnostic[ \t]+(push|pop|[a-z]+[ \t]+"-W[a-z0-9+=-]+")[ \t]*$/) silences = 1
+        if (/shadow|builtin|-Wall|-Wextra/) silences = 1
+    }
+    /^[ \t]*#[ \t]*pragma[ \t]+(omp|acc)/ { parallel = 1 }
+    /^[ \t]*#[ \t]*pragma[ \t]+GCC[ \t]+diagnostic[ \t]+ignored_attributes/ { reason = "target-pragma" }
+    /^[ \t]*#[ \t]*pragma[ \t]+GCC[ \t]+(target|optimize|pop_options|reset_options)/ {
+        if (owns[depth]) doubts = " targets"; else reason = "target-pragma"
+    }
+    END {
+        print found ? "" : "alone"
+        if (reason == "") for (name in projects) read_file(name)
+        if ((marks || hides) && doubts != "") reason = "target-pragma"
+        if (ENVIRON["cck_targets"] != "") targets = 1
+        if (asks && (targets || silences)) reason = "other-file"
+        if (tests && parallel && ENVIRON["cck_extended"] != "") reason = "header-test"
+        print reason
+        print doubts (asks ? " builtins" : "")
+        print has_pragmas || saves ? "pragmas" : ""
+        print "end"
+    }'
+
+# Writes five lines: `alone` if the text names no file beside the input; why the compiler may read another text than this, or
+# have other names for its files; what it may read in another way; `pragmas` if there are some, which the preprocessor leaves
+# as they are or runs, as those that save macros; and `end`.
 judge_text() {
-    cck_own=$cck_own cck_extended=$1 LC_ALL=C awk "$cck_reading"'
-        index($0, "R\"") {
-            line = $0
-            while (match(line, /(^|[^A-Za-z0-9_])(u8|u|U|L)?R"[^ ()\\\t"]*\(/)) {
-                begun = substr(line, RSTART, RLENGTH - 1)
-                line = substr(line, RSTART + RLENGTH)
-                sub(/.*R"/, "", begun)
-                end = index(line, ")" begun "\"")
-                if (end == 0) { marks = 1; break }
-                line = substr(line, end + 1)
-            }
-        }
-        /^# [0-9]+ "/ {
-            flags = name = $0
-            sub(/.*"/, "", flags)
-            sub(/^# [0-9]+ "/, "", name)
-            name = substr(name, 1, length(name) - length(flags) - 1)
-            is_system = flags ~ / 3/
-            is_own = index(name, ENVIRON["cck_own"]) == 1 && name !~ /\/\.\.\//
-            is_of_project = !is_own && (index(name, "/usr/include/") != 1 || name ~ /\/\.\.\//)
-            if (flags ~ /^ 1/) {
-                found = 1
-                if (owns[depth] && is_of_project) reason = "target-pragma"
-                owns[++depth] = is_own
-                if (name in systems && systems[name] != is_system) reason = "other-file"
-                systems[name] = is_system
-            }
-            if (flags ~ /^ 2/ && depth > 0) depth--
-            if (name ~ /^<.*>$/) {
-                if ($2 != 0 || name !~ /^<(built-in|command-line)>$/) reason = "other-file"
-            } else if (name !~ /\/\/$/ && is_of_project) projects[name]
-        }
-        /^[ \t]*#[ \t]*pragma[ \t]+GCC[ \t]+(target|optimize|pop_options|reset_options)/ {
-            if (owns[depth]) doubts = " targets"; else reason = "target-pragma"
-        }
-        END {
-            print found ? "" : "alone"
-            if (reason == "") for (name in projects) read_file(name)
-            if (marks && doubts != "") reason = "target-pragma"
-            if (asks && targets) reason = "other-file"
-            if (tests && ENVIRON["cck_extended"] != "" && (pragmas || ENVIRON["cck_extended"] ~ /pragma/)) reason = "header-test"
-            print reason
-            print doubts (asks ? " builtins" : "")
-            print "end"
-        }' "$cck_scratch/text" < /dev/null
+    cck_own=$cck_own cck_extended=$cck_extended cck_targets=$cck_targets LC_ALL=C awk "$cck_reading$cck_judging" \
+        "$cck_scratch/text" < /dev/null
+}
+
+# Sets what the arguments say beside the text: `cck_extended` if the call has OpenMP or OpenACC; `cck_targets` if an argument
+# may have the name of a builtin function of x86; and `cck_hidden` to why the compiler may read another text. The driver
+# hands no parameter to the preprocessor, and two are in macros.
+judge_arguments() {
+    cck_extended= cck_targets= cck_hidden=
+    case $cck_preprocessed in
+    *-fopenmp*|*-fopenacc*) cck_extended=1 ;;
+    esac
+    case $cck_preprocessed in
+    *a32*|*builtin_ia*) cck_targets=1 ;;
+    esac
+    case $cck_preprocessed in
+    *structive-interference-size*) cck_hidden=other-file ;;
+    esac
 }
 
 # Whether a file of the project, or an argument, defines or undefines what may be a macro of the target, by a text that
@@ -586,27 +654,34 @@ changes_targets() {
             is_other = $3 == "\"<built-in>\"" || index($3, own) == 1 || index($3, "\"/usr/include/") == 1
             if ($3 ~ /\/\.\.\//) is_other = 0
         }
-        !is_other && /^#(define|undef) __[A-Za-z0-9_]*__/ && $2 !~ /_[Hh]__/ { found = 1; exit }
+        !is_other && /^#(define|undef) __[A-Za-z0-9_]*__/ && $2 !~ /^[A-Za-z0-9_]*_[Hh]__$/ { found = 1; exit }
         END { exit !found }' "$1"
 }
 
 # Whether the compilation declares a builtin function, which `__has_builtin` then denies: the compiler lists the functions
-# that it declares, and the preprocessor is asked for each word of the list, as where there are no builtin functions of C.
-# It warns of a builtin function that is declared as something else. The status is 1 if there is none.
+# that it declares, and the preprocessor is asked for each word of the list, and for each word of the text that begins with
+# two underscores and is not called, as where there are no builtin functions of C. The compiler warns of a builtin function
+# that is declared as something else. The status is 1 if there is none.
 declares_builtin() {
     eval "LC_ALL=C \"\$cck_compiler\" $cck_preprocessed" \
-        '-fsyntax-only -aux-info "$cck_scratch/declared"' < /dev/null > "$cck_scratch/declaring" 2>&1 || return 2
-    LC_ALL=C awk '{
-        $0 = substr($0, index($0, "*/") + 2)
-        while (match($0, /[A-Za-z_][A-Za-z0-9_]*/)) {
-            word = substr($0, RSTART, RLENGTH)
-            $0 = substr($0, RSTART + RLENGTH)
-            if (!(word in words)) printf "#if __has_builtin(%s)\ncck builtin %s\n#endif\n", word, word
-            words[word]
-        }
-    }' "$cck_scratch/declared" > "$cck_scratch/asked.h" || return 2
+        '-Wshadow -Wsystem-headers -Wno-error -fsyntax-only -aux-info "$cck_scratch/declared"' \
+        < /dev/null > "$cck_scratch/declaring" 2>&1 || return 2
+    LC_ALL=C awk '
+        !is_text { $0 = substr($0, index($0, "*/") + 2) }
+        is_text && /^#/ { next }
+        is_text { gsub(/__malloc__ ?[(][^()]*[)]/, "") }
+        {
+            while (match($0, /[A-Za-z_][A-Za-z0-9_]*/)) {
+                word = substr($0, RSTART, RLENGTH)
+                $0 = substr($0, RSTART + RLENGTH)
+                if (word in words || (is_text && (word !~ /^__/ || /^[ \t]*[(]/))) continue
+                printf "#if __has_builtin(%s)\n\"builtin\"\n#endif\n", word
+                words[word]
+            }
+        }' "$cck_scratch/declared" is_text=1 "$cck_scratch/text" > "$cck_scratch/asked.h" || return 2
     preprocess asked '-fno-builtin -include "$cck_scratch/asked.h"'
-    lacks '^cck builtin ' "$cck_scratch/asked" && lacks 'declared as non-function' "$cck_scratch/declaring" || return 0
+    lacks '^"builtin"' "$cck_scratch/asked" || return 0
+    lacks 'declared as non-function\|shadows a built-in' "$cck_scratch/declaring" || return 0
     return 1
 }
 
@@ -618,44 +693,115 @@ lacks() {
     [ $? -eq 1 ]
 }
 
-# Writes the text of the call, and why it is not recorded, or an empty line. No entry is made of a text that names no file
-# beside the input: such a text names an empty one. Where `__has_builtin` may ask for a function, the text has to be the
-# same if there is none.
+# Writes the definitions of the words of a call, a line each.
+list_definitions() {
+    cck_is_value=
+    for cck_argument do
+        case $cck_is_value:$cck_argument in
+        1:*|:-[DU]*) printf '%s\n' "$cck_argument" ;;
+        esac
+        case $cck_argument in
+        -[DU]) cck_is_value=1 ;;
+        *) cck_is_value= ;;
+        esac
+    done
+}
+
+# Has the text show all macros of the call. The preprocessor leaves out comments and blanks of definitions, which messages may
+# depend on: so the text also has a digest of them, in a name that is undefined.
+show_all_macros() {
+    cck_digest=$(list_definitions "$@" | sha256sum)
+    cck_macros="-dD -U__cck_definitions_${cck_digest%% *}"
+    [ ${#cck_digest} -ge 64 ] || true > "$cck_scratch/failed"
+}
+
+# Whether nothing but the text depends on the macros of the call, where it shows those that are used. The compiler expands
+# macros in pragmas that the preprocessor leaves as they are, pragmas that save macros hide uses, and messages may name others.
+depends_on_used_macros() { [ -z "$cck_pragmas" ] && lacks 'warning: ' "$cck_scratch/text-search"; }
+
+# Refuses the text where `__has_builtin` may ask for a function, unless it is the same if there is none, and none is declared.
+judge_builtins() {
+    case $cck_doubts:$cck_preprocessed in
+    *builtins*:*|*:*as_builtin*|*:*__ha*) ;;
+    *) return ;;
+    esac
+    preprocess other "$cck_words -fno-builtin"
+    cmp -s "$cck_scratch/text" "$cck_scratch/other" || cck_refused=other-file
+    declares_builtin
+    [ $? -eq 1 ] || cck_refused=other-file
+}
+
+# Refuses the text where a header of the compiler sets macros of the target, if the project or an argument does too.
+judge_targets() {
+    case $cck_doubts in
+    *targets*) ;;
+    *) return ;;
+    esac
+    preprocess macros -dD
+    changes_targets "$cck_scratch/macros"
+    [ $? -eq 1 ] || cck_refused=target-pragma
+}
+
+# Writes the text of the call, and two lines: why it is not recorded, or nothing, and how the text shows macros. No entry is
+# made of a text that names no file beside the input: such a text names an empty one. The words are those of the call.
 write_text() {
+    [ "$cck_macros" != -dD ] || show_all_macros "$@"
+    [ -z "$cck_mark" ] || [ -e "$cck_scratch/sum" ] || cksum < "$cck_input" > "$cck_scratch/sum"
     preprocess text ''
     [ ! -e "$cck_scratch/failed" ] || return
     find_own
-    cck_extended=
-    case $cck_preprocessed in
-    *-fopenmp*Pragma*|*-fopenacc*Pragma*|*Pragma*-fopenmp*|*Pragma*-fopenacc*) cck_extended=pragma ;;
-    *-fopenmp*|*-fopenacc*) cck_extended=1 ;;
-    esac
-    judge_text "$cck_extended" > "$cck_scratch/judged"
-    cck_word= cck_refused= cck_doubts= cck_end=
-    { read -r cck_word; read -r cck_refused; read -r cck_doubts; read -r cck_end; } < "$cck_scratch/judged"
+    judge_arguments
+    judge_text > "$cck_scratch/judged"
+    cck_word= cck_refused= cck_doubts= cck_pragmas= cck_end=
+    {
+        read -r cck_word
+        read -r cck_refused
+        read -r cck_doubts
+        read -r cck_pragmas
+        read -r cck_end
+    } < "$cck_scratch/judged"
+    if [ "$cck_macros" = -dU ] && ! depends_on_used_macros; then
+        cck_macros=-dD
+        write_text "$@"
+        return
+    fi
+    cck_refused=${cck_refused:-$cck_hidden}
     [ "$cck_end" = end ] || cck_refused=other-file
     cck_words=
     if [ "$cck_word" = alone ]; then
         cck_words='-imacros "$cck_store/empty.h"'
         preprocess text "$cck_words"
     fi
-    case $cck_doubts:$cck_preprocessed in
-    *builtins:*|*:*as_builtin*|*:*__ha*)
-        preprocess other "$cck_words -fno-builtin"
-        cmp -s "$cck_scratch/text" "$cck_scratch/other" || cck_refused=other-file
-        declares_builtin
-        [ $? -eq 1 ] || cck_refused=other-file
-        ;;
-    esac
-    case $cck_doubts in
-    *targets*)
-        preprocess macros -dD
-        changes_targets "$cck_scratch/macros"
-        [ $? -eq 1 ] || cck_refused=target-pragma
-        ;;
-    esac
+    judge_builtins
+    judge_targets
     lacks 'might prevent reproducible builds' "$cck_scratch"/*-search || cck_refused=time-macro
-    echo "$cck_refused" > "$cck_scratch/refused"
+    printf '%s\n' "$cck_refused" "$cck_macros" > "$cck_scratch/refused"
+}
+
+# Looks for the object of the text, and ends if it is there. One with messages is kept under the name that a text with all
+# macros gives: that text is `all` from then on, and `cck_refused_all` says why it is not recorded.
+find_text() {
+    if [ -e "$cck_scratch/failed" ] || [ -n "$cck_refused" ]; then return; fi
+    [ -z "$cck_server$CCK_BASEDIR" ] || shares_text || return
+    look_for_text "$@"
+    [ "$cck_macros" = -dU ] || return
+    mv "$cck_scratch/text" "$cck_scratch/used" 2>/dev/null
+    cck_macros=-dD
+    write_text "$@" 2>/dev/null
+    if [ ! -e "$cck_scratch/failed" ] && [ -z "$cck_refused" ]; then look_for_text "$@"; fi
+    { mv "$cck_scratch/text" "$cck_scratch/all"; mv "$cck_scratch/used" "$cck_scratch/text"; } 2>/dev/null
+    cck_macros=-dU cck_refused_all=$cck_refused cck_refused=
+}
+
+# Takes the text with all macros: messages may name some that are not used. The words are those of the call.
+take_all_macros() {
+    cck_macros=-dD
+    if [ -e "$cck_scratch/all" ]; then
+        mv "$cck_scratch/all" "$cck_scratch/text"
+        cck_refused=$cck_refused_all
+    else
+        write_text "$@"
+    fi
 }
 
 # Whether the object has no code for another device: sections for one have random names.
@@ -685,22 +831,27 @@ make_scratch || { cck_found='no scratch'; pass_on "$@"; }
 cck_entry_out=
 [ -z "$cck_server" ] || cck_entry_out=$cck_scratch/entry
 # The preprocessor runs beside the compiler, unless the object of its text may be there.
-name_input
-if [ -n "$cck_server" ] || [ -e "$cck_noted" ]; then
-    write_text 2>/dev/null
-    if [ ! -e "$cck_scratch/failed" ] && [ -z "$cck_refused" ] && shares_text; then look_for_text "$@"; fi
+name_mark
+if [ -n "$cck_server" ] || may_have_text; then
+    write_text "$@" 2>/dev/null
+    find_text "$@"
 else
-    write_text 2>/dev/null &
+    write_text "$@" 2>/dev/null &
     cck_text=$!
 fi
 compile "$@" > "$cck_scratch/output" 2> "$cck_scratch/messages"
 cck_status=$?
-[ ! -s "$cck_scratch/output" ] || cat "$cck_scratch/output"
+# The assembler writes standard output at its end.
 [ ! -s "$cck_scratch/messages" ] || cat "$cck_scratch/messages" >&2
+[ ! -s "$cck_scratch/output" ] || cat "$cck_scratch/output"
 wait
 cck_text=
 cck_refused=
-[ -e "$cck_scratch/failed" ] || read -r cck_refused 2> /dev/null < "$cck_scratch/refused" || cck_refused=other-file
+[ -e "$cck_scratch/failed" ] || { read -r cck_refused && read -r cck_macros; } 2> /dev/null < "$cck_scratch/refused" ||
+    cck_refused=other-file
+if [ -s "$cck_scratch/messages" ] && [ "$cck_status:$cck_refused:$cck_macros" = 0::-dU ]; then
+    take_all_macros "$@" 2>/dev/null
+fi
 # What an assembler prints there is not kept, nor a message that names a temporary file.
 [ ! -s "$cck_scratch/output" ] || cck_refused=output
 if [ -s "$cck_scratch/messages" ] && ! lacks '/cc[A-Za-z0-9]\{6\}\.s' "$cck_scratch/messages"; then
@@ -726,7 +877,7 @@ log "$cck_found $cck_input"
 case $cck_found in
 recorded*)
     cck_object=${cck_found#recorded }
-    if [ -n "$cck_server" ]; then send; else note_input; fi
+    if [ -n "$cck_server" ]; then send; else write_mark; fi
     ;;
 refused*) ;;
 *) count record-error ;;

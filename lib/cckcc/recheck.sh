@@ -37,7 +37,7 @@ find_paths() {
     [ -n "$cck_found" ] && eval "paths $cck_found"
 }
 
-# Takes the words of that line: the input, the object, the dependency file or nothing, and the programs.
+# Takes the words of that line: the input, the object, the dependency file or nothing, and more.
 paths() { cck_out=$2 cck_dependencies=$3; }
 
 # Puts aside what the hit wrote. A dependency file that is there is written in place by the compiler. The command `:` would

@@ -260,7 +260,10 @@ writes() {
 
 # Whether the server has the object $1 that this call did not ask for. One that is damaged was asked for.
 has_object() {
-    if [ "$1" = "$cck_sought" ] || ! writes || ! is_up; then return 1; fi
+    case $cck_sought in
+    *" $1 "*) return 1 ;;
+    esac
+    if ! writes || ! is_up; then return 1; fi
     "has_$cck_protocol" object "$1" || return 1
     count server-had-object
 }

@@ -40,8 +40,11 @@ pub struct Request<'a> {
     pub directory: &'a str,
     /// The input, as the call has it.
     pub input: &'a str,
-    /// The arguments that count in keys.
+    /// The arguments that count in keys, but for those that define or undefine macros.
     pub arguments: Vec<Vec<u8>>,
+    /// Those that define or undefine macros. They count in the preprocessor key, and in the key of an object by
+    /// the text, which shows the macros.
+    pub definitions: Vec<Vec<u8>>,
     /// The store directory that keeps the digests of the programs' contents, if the programs count
     /// by their contents.
     pub digests: Option<&'a str>,

@@ -1,13 +1,8 @@
--- one more argument, and the lines for a shell
-use Rattle.std.proofs.Common.{◌≡◌, ℕ, ◌+◌, ◌<◌, List, [], ◌∷◌, ◌++◌, ap, sym, ◌∙◌, length, map, get_or, take, append_assoc}
+-- the lines for a shell
+use Rattle.std.proofs.Common.{◌≡◌, ℕ, List, [], ◌∷◌, ◌++◌, ap, sym, ◌∙◌, append_assoc}
 use Rattle.std.proofs.lemmas.Grind.{flat_map-append}
-use Rattle.std.proofs.lemmas.List.{append-nil, map_more}
+use Rattle.std.proofs.lemmas.List.{append-nil}
 use Rattle.cck_cache_options.specs.Quote.{command, quoted_and_space}
-
-pub mapped_more : {X Y : Type 0} (f : X → Y) (xs : List X) (i : ℕ) (d : X) (start before after : List Y) → i < length xs
-    → before ≡ start ++ map f (take i xs) → after ≡ before ++ f (get_or xs i d) ∷ [] → after ≡ start ++ map f (take (i + 1) xs)
-mapped_more f xs i d start before after lt so more =
-    more ∙ ap (λ l. l ++ f (get_or xs i d) ∷ []) so ∙ append_assoc start (map f (take i xs)) (f (get_or xs i d) ∷ []) ∙ ap (λ l. start ++ l) (sym (map_more f xs i d lt))
 
 -- the words, then one more, a line feed, and another line
 pub line_and_more : (words : List (List ℕ)) (word other : List ℕ) (a b c d e : List ℕ) → a ≡ command words → b ≡ a ++ quoted_and_space word → c ≡ b ++ 10 ∷ [] → d ≡ c ++ other → e ≡ d ++ 10 ∷ []

@@ -1,7 +1,6 @@
 -- the files that an entry names
-use Rattle.std.proofs.Common.{◌≡◌, ◌∙◌, ◌<◌, ℕ, inl, inr, List, ◌∷◌, [], ◌++◌, map, sym, ap, append_assoc, subst}
+use Rattle.std.proofs.Common.{◌≡◌, ◌∙◌, inl, inr, List, ◌∷◌, [], ◌++◌, sym, ap, append_assoc, subst}
 use Rattle.std.proofs.lemmas.List.Elements.{Contains-append_left, Contains-push}
-use Rattle.std.proofs.lemmas.List.{get_or-map, length-map}
 use Rattle.std.specs.List.{Contains}
 use Rattle.cck_cache_files.proofs.SnapshotLemmas.{calm_all, grows_more}
 use Rattle.cck_cache_files.specs.Snapshot.{IsPart, SnapshotGrows, StaysCalm}

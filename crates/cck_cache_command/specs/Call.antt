@@ -1,11 +1,14 @@
 -- the compilation that a call of a compiler asks for, and the paths of its files
-use Rattle.std.specs.Prelude.{◌≡◌, ◌++◌, ◌∷◌, ◌⊎◌, [], cond, not, ◌&&◌, List, Bool, true, false, Option, Some, None, IfSome, IsUtf8, codes, map, string_bytes}
+use Rattle.std.specs.Prelude.{◌≡◌, ◌++◌, ◌∷◌, ◌⊎◌, [], cond, not, ◌&&◌, List, Bool, true, false, Option, Some, None, IfSome, IsUtf8, codes, flat_map, string_bytes}
 use Rattle.std.specs.Option.{option_map}
 use Rattle.cck_cache_command.specs.declared.call.CallPaths.{CallPaths}
 use Rattle.cck_cache_options.specs.Call.{Asked}
 use Rattle.cck_cache_options.specs.Paths.{IsDependencyPath, IsObjectPath}
 use Rattle.cck_cache_options.specs.Quote.{command, preprocessor_command}
+use Rattle.cck_cache_options.specs.Definition.{is_definition, macro_option}
 use Rattle.cck_cache_options.specs.declared.call.Call.{Call}
+use Rattle.cck_cache_options.specs.declared.call.Keyed.{Keyed}
+use Rattle.cck_cache_options.specs.declared.table.Class.{Class}
 use Rattle.cck_cache_arguments.specs.declared.request.CompilerCall.{CompilerCall}
 use Rattle.cck_cache_arguments.specs.declared.request.Request.{Request}
 use Rattle.cck_path.specs.Bytes.{Bytes, lists_of}
@@ -14,9 +17,21 @@ use Rattle.cck_path.specs.Bytes.{Bytes, lists_of}
 abbrev pub target_arguments : Bool → Bool → Bytes → List Bytes
 target_arguments depends targets output = cond (depends && not targets) (codes "-MQ" ∷ output ∷ []) []
 
--- the arguments that count in keys
+-- an option of this class is one of those that define or undefine macros, or one of the others
+abbrev pub is_among : Bool → Class → Bool
+is_among true class = is_definition class
+is_among false class = not (is_definition class)
+
+abbrev pub one_among : Bool → Keyed → List Bytes
+one_among defines one = cond (is_among defines one.class) (one.argument.now ∷ []) []
+
+-- the arguments that define or undefine macros
+abbrev pub definitions_of : Call → List Bytes
+definitions_of asked = flat_map (one_among true) asked.keyed.items
+
+-- the other arguments that count in keys
 abbrev pub counted_arguments : Call → Bytes → List Bytes
-counted_arguments asked output = map (λ k. k.argument.now) asked.keyed.items ++ target_arguments asked.depends asked.targets output
+counted_arguments asked output = flat_map (one_among false) asked.keyed.items ++ target_arguments asked.depends asked.targets output
 
 -- the compilation of a call that runs these programs: that of its input and its directory, by those of its arguments that count
 pub record IsCallRequest (call : CompilerCall) (programs : Bytes) (asked : Call) (paths : CallPaths) (request : Request) : Type 0 where
@@ -24,6 +39,7 @@ pub record IsCallRequest (call : CompilerCall) (programs : Bytes) (asked : Call)
   pub directory : request.directory ≡ call.directory
   pub input : request.input ≡ paths.input
   pub arguments : lists_of request.arguments.items ≡ counted_arguments asked (string_bytes paths.output)
+  pub definitions : lists_of request.definitions.items ≡ definitions_of asked
   pub digests : request.digests ≡ call.digests
   pub base : request.base ≡ call.base
 
@@ -75,10 +91,10 @@ abbrev pub bytes_or_none : Option Bytes → Bytes
 bytes_or_none None = []
 bytes_or_none (Some bytes) = bytes
 
--- the paths of a call, that of no dependency file empty
-abbrev pub call_paths : CallPaths → List Bytes
-call_paths paths = paths.input.now ∷ string_bytes paths.output ∷ bytes_or_none (option_map string_bytes paths.dependencies) ∷ []
+-- the paths of a call, that of no dependency file empty, and the programs that it runs
+abbrev pub call_paths : CallPaths → Bytes → List Bytes
+call_paths paths programs = paths.input.now ∷ string_bytes paths.output ∷ bytes_or_none (option_map string_bytes paths.dependencies) ∷ programs ∷ []
 
--- what a shell is given of a call: a line with the paths and the programs, and one with the arguments of the preprocessor
+-- what a shell is given of a call: a line with these and the option by which the preprocessor shows macros, and one with the arguments of the preprocessor
 abbrev pub call_lines : Asked → CallPaths → Bytes → Bytes
-call_lines call paths programs = command (call_paths paths ++ programs ∷ []) ++ 10 ∷ preprocessor_command call.keyed ++ 10 ∷ []
+call_lines call paths programs = command (call_paths paths programs ++ macro_option call.keyed ∷ []) ++ 10 ∷ preprocessor_command call.keyed ++ 10 ∷ []

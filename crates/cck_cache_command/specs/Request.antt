@@ -48,9 +48,9 @@ AreKeyed words locale arguments = (base : Option Bytes) × BaseOf words base × 
 abbrev pub gcc : External
 gcc = record { kind = Gcc; plusplus = false; version = None; assembler_digest = None }
 
--- a command line of C with this input and these arguments
-abbrev pub gcc_arguments : Bytes → List Bytes → Arguments
-gcc_arguments input arguments = record (only_input input C) { common_args = arguments }
+-- a command line of C with this input, these definitions of macros, of which the text shows those that count, and these other arguments
+abbrev pub gcc_arguments : Bytes → List Bytes → List Bytes → Arguments
+gcc_arguments input definitions arguments = record (only_input input C) { preprocessor_args = definitions; common_args = arguments }
 
 -- The compilation of a request. The digest of its programs is what the system says of them, or that of their contents.
 pub record IsHasher (environment : Environment) (request : Request) (hasher : CCompilerHasher ExternalCompiler) : Type 0 where
@@ -58,7 +58,7 @@ pub record IsHasher (environment : Environment) (request : Request) (hasher : CC
   pub executable : hasher.executable.items ≡ []
   pub arguments : List Bytes
   pub keyed : AreKeyed (request_words request) environment.locale.items arguments
-  pub parsed : arguments_of hasher.parsed_args ≡ gcc_arguments request.input.now arguments
+  pub parsed : arguments_of hasher.parsed_args ≡ gcc_arguments request.input.now (lists_of request.definitions.items) arguments
 
 -- the request over a snapshot, at this time and with these base directories
 pub record IsRequest (environment : Environment) (request : Request) (time : Moment) (bases : List Bytes) (asked : SnapshotRequest) : Type 0 where

@@ -1,7 +1,7 @@
 //! The compilation that a call of a compiler asks for, and the paths of its files.
-ghost use Rattle.std.specs.Prelude.{◌≡◌, ◌++◌, IfOk, IsUtf8, MatchOption, OnOk, map, string_bytes};
+ghost use Rattle.std.specs.Prelude.{◌≡◌, ◌++◌, IfOk, IsUtf8, MatchOption, OnOk, flat_map, string_bytes};
 ghost use Rattle.std.specs.Option.{option_map};
-ghost use Rattle.cck_cache_command.specs.Call.{AreDependencies, ArePaths, AreTexts, AreUtf8, HasNoPaths, IsCallRequest, IsOutput, call_lines, call_paths, counted_arguments};
+ghost use Rattle.cck_cache_command.specs.Call.{AreDependencies, ArePaths, AreTexts, AreUtf8, HasNoPaths, IsCallRequest, IsOutput, call_lines, call_paths, counted_arguments, definitions_of, is_among, one_among};
 ghost use Rattle.cck_cache_options.specs.Quote.{command};
 ghost use Rattle.cck_cache_options.specs.Call.{call_of};
 ghost use Rattle.cck_path.specs.Bytes.{lists_of};
@@ -10,7 +10,8 @@ use crate::request::push_argument;
 use anyhow::Result;
 use cck_cache_arguments::{CompilerCall, Request};
 use cck_cache_options::{
-    Call, Keyed, dependency_path, object_path, push_preprocessor_arguments, push_word,
+    Call, Class, Keyed, dependency_path, is_definition, macro_option, object_path,
+    push_preprocessor_arguments, push_word,
 };
 use std::alloc::{AllocError, Global};
 use std::io::Write;
@@ -102,18 +103,59 @@ pub fn paths_of<'a>(alloc: Global, asked: &Call<'a>) -> Result<Option<CallPaths<
     Ok(texts_of(input, output, dependencies))
 }
 
-// Appends copies of arguments.
-fn push_keyed(alloc: Global, all: &mut Vec<Vec<u8>>, keyed: &[Keyed<'_>]) -> Result<(), AllocError>
-    ensures { OnOk result
-        (lists_of all.new.items ≡ lists_of all.old.items ++ map (λ k. k.argument.now) keyed.now) }
+// Whether an option of this class is one of those that define or undefine macros, or one of the others.
+fn is_among(defines: bool, class: Class) -> bool
+    ensures { result ≡ is_among defines class }
 {
-    for one in keyed {
+    if defines {
+        is_definition(class)
+    } else {
+        !is_definition(class)
+    }
+}
+
+// Appends a copy of an argument, if its option is among these.
+fn push_one(
+    alloc: Global,
+    all: &mut Vec<Vec<u8>>,
+    defines: bool,
+    one: &Keyed<'_>,
+) -> Result<(), AllocError>
+    ensures { OnOk result
+        (lists_of all.new.items ≡ lists_of all.old.items ++ one_among defines one.now) }
+{
+    if is_among(defines, one.class) {
         push_argument(alloc, all, b"", one.argument)?;
     }
     Ok(())
 }
 
-// The arguments of a call that count in keys. The path of the object is the target of the rule in a
+// Appends copies of the arguments that define or undefine macros, or of the others.
+fn push_keyed(
+    alloc: Global,
+    all: &mut Vec<Vec<u8>>,
+    defines: bool,
+    keyed: &[Keyed<'_>],
+) -> Result<(), AllocError>
+    ensures { OnOk result
+        (lists_of all.new.items ≡ lists_of all.old.items ++ flat_map (one_among defines) keyed.now) }
+{
+    for one in keyed {
+        push_one(alloc, all, defines, one)?;
+    }
+    Ok(())
+}
+
+// The arguments of a call that define or undefine macros.
+fn definitions_of(alloc: Global, asked: &Call<'_>) -> Result<Vec<Vec<u8>>, AllocError>
+    ensures { IfOk result (λ all. lists_of all.items ≡ definitions_of asked.now) }
+{
+    let mut all = Vec::new(alloc);
+    push_keyed(alloc, &mut all, true, &asked.keyed)?;
+    Ok(all)
+}
+
+// The other arguments of a call that count in keys. The path of the object is the target of the rule in a
 // dependency file, where no option says another one.
 fn counted_arguments(
     alloc: Global,
@@ -124,7 +166,7 @@ fn counted_arguments(
         lists_of all.items ≡ counted_arguments asked.now (string_bytes paths.now.output)) }
 {
     let mut all = Vec::new(alloc);
-    push_keyed(alloc, &mut all, &asked.keyed)?;
+    push_keyed(alloc, &mut all, false, &asked.keyed)?;
     if asked.depends && !asked.targets {
         push_argument(alloc, &mut all, b"-MQ", b"")?;
         push_argument(alloc, &mut all, b"", paths.output.as_bytes())?;
@@ -149,14 +191,17 @@ pub fn request_of<'a>(
         directory: call.directory,
         input: paths.input,
         arguments: counted_arguments(alloc, asked, paths)?,
+        definitions: definitions_of(alloc, asked)?,
         digests: call.digests,
         base: call.base,
     })
 }
 
-// Appends the paths of a call as words for a shell. That of no dependency file is empty.
-fn push_paths(words: &mut Vec<u8>, paths: &CallPaths<'_>) -> Result<(), AllocError>
-    ensures { OnOk result (words.new.items ≡ words.old.items ++ command (call_paths paths.now)) }
+// Appends the paths of a call, and of the programs that it runs, as words for a shell. That of no dependency
+// file is empty.
+fn push_paths(words: &mut Vec<u8>, paths: &CallPaths<'_>, programs: &str) -> Result<(), AllocError>
+    ensures { OnOk result
+        (words.new.items ≡ words.old.items ++ command (call_paths paths.now programs.now)) }
 {
     let dependencies = match &paths.dependencies {
         Some(path) => path.as_str(),
@@ -164,11 +209,12 @@ fn push_paths(words: &mut Vec<u8>, paths: &CallPaths<'_>) -> Result<(), AllocErr
     };
     push_word(words, paths.input.as_bytes())?;
     push_word(words, paths.output.as_bytes())?;
-    push_word(words, dependencies.as_bytes())
+    push_word(words, dependencies.as_bytes())?;
+    push_word(words, programs.as_bytes())
 }
 
-// The lines of a call for a shell: one with its paths and its programs, and one with the arguments of the
-// preprocessor.
+// The lines of a call for a shell: one with its paths, its programs and the option by which the preprocessor
+// shows macros, and one with the arguments of the preprocessor.
 fn call_lines(
     alloc: Global,
     asked: &Call<'_>,
@@ -179,16 +225,17 @@ fn call_lines(
         lines.items ≡ call_lines (call_of asked.now) paths.now programs.now) }
 {
     let mut lines = Vec::new(alloc);
-    push_paths(&mut lines, paths)?;
-    push_word(&mut lines, programs.as_bytes())?;
+    push_paths(&mut lines, paths, programs)?;
+    push_word(&mut lines, macro_option(&asked.keyed))?;
     lines.push(b'\n')?;
     push_preprocessor_arguments(&mut lines, &asked.keyed)?;
     lines.push(b'\n')?;
     Ok(lines)
 }
 
-/// Prints the paths of a call and the programs that it runs, and the arguments that the preprocessor has,
-/// a line for each. A shell reads them back. Where no dependency file is written its path is empty.
+/// Prints the paths of a call, the programs that it runs and the option by which the preprocessor shows
+/// macros on one line, and the arguments that the preprocessor has on another. A shell reads them back. Where
+/// no dependency file is written its path is empty.
 ///
 /// The error is of a failed write, or lack of memory.
 pub fn print_call<W: Write>(

@@ -32,10 +32,9 @@ const LOCALE: [&str; 10] = [
     "COLUMNS",
 ];
 
-// The variables with which a call is passed on, if one is set, even to nothing. By these the compiler finds its
-// programs and directories, its libraries theirs, and the dynamic linker further ones; or the compiler
-// writes further files, compiles twice, or writes its messages otherwise.
-const PASSED: [&str; 11] = [
+// The variables with which a call is passed on, if one is set, even to nothing. By these, other programs, directories
+// or libraries are found, further files are written, the compiler compiles twice, or messages differ.
+const PASSED: [&str; 15] = [
     "GCC_EXEC_PREFIX",
     "COMPILER_PATH",
     "GCC_ROOT",
@@ -47,6 +46,10 @@ const PASSED: [&str; 11] = [
     "LOCPATH",
     "OUTPUT_CHARSET",
     "LD_AUDIT",
+    "LD_DEBUG",
+    "LD_HWCAP_MASK",
+    "LD_PROFILE",
+    "GLIBC_TUNABLES",
 ];
 
 // The variables by which programs and the libraries that they load are found.
@@ -61,7 +64,8 @@ pub struct Environment<'a> {
     pub zone: TimeZone<'a>,
     /// The variables that keys depend on, in a fixed order.
     pub variables: Vec<(Vec<u8>, Vec<u8>)>,
-    /// The variables that messages depend on, those of the locale among them, a line each.
+    /// The variables that messages depend on, those of the locale among them, each with a zero byte after
+    /// it.
     pub locale: Vec<u8>,
     /// Whether a look-up reads each file that an entry names, whatever its status is.
     pub reads_all: bool,
@@ -122,7 +126,7 @@ pub fn variables<R: Env + AllocGlobal>(rt: &R) -> Result<Vec<(Vec<u8>, Vec<u8>)>
     Ok(found)
 }
 
-/// The variables that messages depend on and that are set, a line each.
+/// The variables that messages depend on and that are set, each with a zero byte after it, which no value has.
 ///
 /// The error is of a variable that is not UTF-8, or lack of memory.
 pub fn locale<R: Env + AllocGlobal>(rt: &R) -> Result<Vec<u8>> {
@@ -132,7 +136,7 @@ pub fn locale<R: Env + AllocGlobal>(rt: &R) -> Result<Vec<u8>> {
             all.extend_from_slice(name.as_bytes())?;
             all.push(b'=')?;
             all.extend_from_slice(value.as_bytes())?;
-            all.push(b'\n')?;
+            all.push(b'\0')?;
         }
     }
     Ok(all)

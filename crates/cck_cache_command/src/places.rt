@@ -19,9 +19,24 @@ fn is_free<R: Files>(rt: &R, input: &Metadata, path: &str, least: u64) -> bool {
     }
 }
 
-/// Whether the files of a compilation may be put at their paths, and are two files. `-` is standard
-/// output. The assembler removes an object that is there, unless it is empty: that it writes to.
-/// `false` where the input can't be looked at.
+// The descriptor of standard error, as the system names it.
+const STANDARD_ERROR: &str = "/proc/self/fd/2";
+
+// Whether standard error may be the file at a path. A compiler writes its messages there before the rule, which takes
+// their place.
+fn may_be_standard_error<R: Files>(rt: &R, path: &str) -> bool {
+    let Ok(found) = fs::metadata(rt, path) else {
+        return false;
+    };
+    match fs::metadata(rt, STANDARD_ERROR) {
+        Ok(stream) => found.dev() == stream.dev() && found.ino() == stream.ino(),
+        Err(_) => true,
+    }
+}
+
+/// Whether the files of a compilation may be put at their paths: they are two files, and standard error is not
+/// written to the dependency file. `-` is standard output. The assembler removes an object that is there, unless it
+/// is empty: that it writes to. `false` where the input can't be looked at.
 pub fn are_free<R: Files>(rt: &R, paths: &CallPaths<'_>) -> bool {
     let Ok(input) = fs::metadata(rt, paths.input) else {
         return false;
@@ -33,7 +48,10 @@ pub fn are_free<R: Files>(rt: &R, paths: &CallPaths<'_>) -> bool {
     match &paths.dependencies {
         Some(path) => {
             let path = path.as_str();
-            path != "-" && path != output && is_free(rt, &input, path, 0)
+            path != "-"
+                && path != output
+                && is_free(rt, &input, path, 0)
+                && !may_be_standard_error(rt, path)
         }
         None => true,
     }

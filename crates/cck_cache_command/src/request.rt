@@ -23,7 +23,8 @@ use cck_util::{Language, Sha256State};
 use std::alloc::{AllocError, Global};
 use std::rt::Files;
 
-/// The words of a request that its base directory depends on.
+/// The words of a request that its base directory depends on. Definitions of macros are none: the text shows those
+/// that count.
 pub fn base_words<'a>(request: &'a Request<'_>) -> Words<'a>
     ensures { word_lists result ≡ request_words request.now }
 {
@@ -52,8 +53,8 @@ pub fn push_argument(
     Ok(())
 }
 
-// A copy of the arguments, and after them the working directory and the locale. Debug information
-// has the working directory, so it is part of each key. What is portable has its base directory
+// A copy of the arguments that define no macros, and after them the working directory and the locale. Debug
+// information has the working directory, so it is part of each key. What is portable has its base directory
 // there too, which its key is without.
 fn keyed_arguments(
     alloc: Global,
@@ -72,11 +73,18 @@ fn keyed_arguments(
     Ok(all)
 }
 
-// A parsed command line with this input and these arguments, and nothing else.
-fn parsed(alloc: Global, input: Vec<u8>, common_args: Vec<Vec<u8>>) -> ParsedArguments
-    ensures { arguments_of result ≡ gcc_arguments input.items (lists_of common_args.items) }
+// A parsed command line with this input, these definitions of macros and these arguments, and nothing else.
+fn parsed(
+    alloc: Global,
+    input: Vec<u8>,
+    definitions: Vec<Vec<u8>>,
+    common_args: Vec<Vec<u8>>,
+) -> ParsedArguments
+    ensures { arguments_of result
+        ≡ gcc_arguments input.items (lists_of definitions.items) (lists_of common_args.items) }
 {
     let mut arguments = ParsedArguments::new(alloc, input, Language::C);
+    arguments.preprocessor_args = definitions;
     arguments.common_args = common_args;
     arguments
 }
@@ -110,6 +118,7 @@ pub fn hasher_of<R: Files + AllocGlobal>(
 {
     let alloc = rt.alloc();
     let input = request.input.as_bytes().to_vec(alloc)?;
+    let definitions = copy_lists(alloc, &request.definitions)?;
     let arguments = keyed_arguments(alloc, environment, request)?;
     Ok(CCompilerHasher {
         compiler: ExternalCompiler {
@@ -120,7 +129,7 @@ pub fn hasher_of<R: Files + AllocGlobal>(
         },
         executable: Vec::new(alloc),
         executable_digest: digest_of(rt, environment, request)?,
-        parsed_args: parsed(alloc, input, arguments),
+        parsed_args: parsed(alloc, input, definitions, arguments),
     })
 }
 

@@ -18,8 +18,9 @@ use std::io::ErrorKind;
 use std::os::unix::fs::MetadataExt;
 use std::rt::Files;
 
-// The list of the libraries of the system, by which the dynamic linker finds them.
-const LIBRARIES: &str = "/etc/ld.so.cache";
+// The list of the libraries of the system, by which the dynamic linker finds them, and that of libraries that it
+// loads into each program.
+const LIBRARIES: [&str; 2] = ["/etc/ld.so.cache", "/etc/ld.so.preload"];
 
 // The program that compilers call as assembler.
 const ASSEMBLER: &str = "as";
@@ -275,12 +276,22 @@ fn are_older<R: Files>(rt: &R, directories: &str, since: Timestamp) -> bool {
     true
 }
 
-// Whether the system's list of libraries was not changed at this time or later. A system may have none.
-fn has_old_libraries<R: Files>(rt: &R, since: Timestamp) -> bool {
-    match fs::metadata(rt, LIBRARIES) {
+// Whether a list of libraries was not changed at this time or later. A system may have none.
+fn is_old_list<R: Files>(rt: &R, path: &str, since: Timestamp) -> bool {
+    match fs::metadata(rt, path) {
         Ok(found) => is_old(&found, since),
         Err(error) => error.kind() == ErrorKind::NotFound,
     }
+}
+
+// The same of all lists of the system.
+fn has_old_libraries<R: Files>(rt: &R, since: Timestamp) -> bool {
+    for path in LIBRARIES {
+        if !is_old_list(rt, path, since) {
+            return false;
+        }
+    }
+    true
 }
 
 // Whether a path leads to the file with this status.
@@ -292,7 +303,7 @@ fn leads_to<R: Files>(rt: &R, path: &str, status: &Metadata) -> bool {
 }
 
 // Whether what a list says of a compiler with this status still holds: the compiler is the same file, and
-// neither it, nor a directory in which it looks for programs, nor the system's list of libraries changed
+// neither it, nor a directory in which it looks for programs, nor a list of the system's libraries changed
 // since the list was written.
 fn is_current<R: Files>(rt: &R, listed: &Listed<'_>, status: &Metadata, since: Timestamp) -> bool {
     leads_to(rt, listed.file, status)

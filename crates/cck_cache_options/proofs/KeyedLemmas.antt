@@ -9,7 +9,7 @@ use Rattle.cck_cache_options.specs.declared.table.Cause.TheVariants.{Preprocesso
 use Rattle.cck_cache_options.specs.declared.table.Form.{Form}
 use Rattle.cck_cache_options.specs.declared.table.Form.TheVariants.{Alone, Joined, Separate, Either, Equals}
 use Rattle.cck_cache_options.specs.declared.table.Class.{Class}
-use Rattle.cck_cache_options.specs.declared.table.Class.TheVariants.{Text, Code, Message, CompilerMessage, Directory, Nothing, Compile, Output, Dependencies, Rule, Target, DependencyFile, PreprocessorDependencyFile, Passed}
+use Rattle.cck_cache_options.specs.declared.table.Class.TheVariants.{Text, Definition, Code, Message, CompilerMessage, Directory, Nothing, Compile, Output, Dependencies, Rule, Target, DependencyFile, PreprocessorDependencyFile, Passed}
 use Rattle.cck_cache_options.specs.Table.{Entry, after_name, has_bytes, longest}
 use Rattle.cck_cache_options.specs.Call.{Asked, KeyedArgument, State, advance, flag, go, has_comma, is_keyed, is_source, keep, nothing_asked, on_argument, on_dash, on_equals, on_found, on_input, on_known, on_option, on_rest, on_value, refused, start, step, step_unless, stop, take, with_dependency_file, with_input, with_output, with_preprocessor_file}
 use Rattle.cck_cache_options.specs.Laws.{AreInOrder, KeyedInOrder}
@@ -52,6 +52,7 @@ preprocessor_file_same call (Some other) value = tt
 
 take_same : (call : Asked) (class : Class) (value : List ℕ) → Same call (take call class value)
 take_same call Text value = refl
+take_same call Definition value = refl
 take_same call Code value = refl
 take_same call Message value = refl
 take_same call CompilerMessage value = refl
@@ -69,6 +70,7 @@ take_same call (Passed cause) value = tt
 
 flag_same : (call : Asked) (class : Class) → Same call (flag call class)
 flag_same call Text = refl
+flag_same call Definition = refl
 flag_same call Code = refl
 flag_same call Message = refl
 flag_same call CompilerMessage = refl

@@ -10,7 +10,7 @@ use Rattle.cck_cache_options.specs.declared.table.Cause.TheVariants.{Preprocesso
 use Rattle.cck_cache_options.specs.declared.table.Form.{Form}
 use Rattle.cck_cache_options.specs.declared.table.Form.TheVariants.{Alone, Joined, Separate, Either, Equals}
 use Rattle.cck_cache_options.specs.declared.table.Class.{Class}
-use Rattle.cck_cache_options.specs.declared.table.Class.TheVariants.{Text, Code, Message, CompilerMessage, Directory, Nothing, Compile, Output, Dependencies, Rule, Target, DependencyFile, PreprocessorDependencyFile, Passed}
+use Rattle.cck_cache_options.specs.declared.table.Class.TheVariants.{Text, Definition, Code, Message, CompilerMessage, Directory, Nothing, Compile, Output, Dependencies, Rule, Target, DependencyFile, PreprocessorDependencyFile, Passed}
 use Rattle.cck_cache_options.specs.Table.{Entry, after_name, form_fits, longest, rest_fits}
 use Rattle.cck_cache_options.specs.Call.{Asked, KeyedArgument, State, advance, flag, go, has_comma, is_source, keep, nothing_asked, on_dash, on_equals, on_found, on_input, on_known, on_rest, start, step, stop, take, take_preprocessor_file, with_dependency_file, with_input, with_output, with_preprocessor_file}
 use Rattle.cck_cache_options.specs.Laws.{IsLongest}
@@ -66,6 +66,7 @@ took_preprocessor_file call value c w e = by_comma (has_comma value) refl e
 
 took : (call : Asked) (class : Class) (value : List ℕ) (c : Asked) (w : Option Class) → take call class value ≡ go c w → Took call class value c w
 took call Text value c w e = let s = same call c None w e in record { idle = s.waiting; is = s.call; free = tt }
+took call Definition value c w e = let s = same call c None w e in record { idle = s.waiting; is = s.call; free = tt }
 took call Code value c w e = let s = same call c None w e in record { idle = s.waiting; is = s.call; free = tt }
 took call Message value c w e = let s = same call c None w e in record { idle = s.waiting; is = s.call; free = tt }
 took call CompilerMessage value c w e = let s = same call c None w e in record { idle = s.waiting; is = s.call; free = tt }
@@ -87,6 +88,7 @@ record Flagged (call : Asked) (class : Class) (c : Asked) (w : Option Class) : T
 
 flagged : (call : Asked) (class : Class) (c : Asked) (w : Option Class) → flag call class ≡ go c w → Flagged call class c w
 flagged call Text c w e = let s = same call c None w e in record { idle = s.waiting; is = s.call; free = tt }
+flagged call Definition c w e = let s = same call c None w e in record { idle = s.waiting; is = s.call; free = tt }
 flagged call Code c w e = let s = same call c None w e in record { idle = s.waiting; is = s.call; free = tt }
 flagged call Message c w e = let s = same call c None w e in record { idle = s.waiting; is = s.call; free = tt }
 flagged call CompilerMessage c w e = let s = same call c None w e in record { idle = s.waiting; is = s.call; free = tt }
@@ -104,6 +106,7 @@ flagged call (Passed cause) c w e = never _ c w e
 -- what counts in a key decides nothing of this
 free_kept : (call : Asked) (keyed : List KeyedArgument) (class : Class) (value : List ℕ) → TakesValue (record call { keyed = keyed }) class value → TakesValue call class value
 free_kept call keyed Text value f = tt
+free_kept call keyed Definition value f = tt
 free_kept call keyed Code value f = tt
 free_kept call keyed Message value f = tt
 free_kept call keyed CompilerMessage value f = tt

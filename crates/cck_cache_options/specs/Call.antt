@@ -12,7 +12,7 @@ use Rattle.cck_cache_options.specs.declared.reason.Reason.{Reason}
 use Rattle.cck_cache_options.specs.declared.reason.Reason.TheVariants.{ResponseFile, EmptyArgument, ControlCharacter, UnknownOption, PassedOption, MissingValue, OtherInput, TwoInputs, NoInput, TwoOutputs, TwoDependencyFiles, DependencyOptions, NotCompiling}
 use Rattle.cck_cache_options.specs.declared.table.Cause.TheVariants.{PreprocessorOption}
 use Rattle.cck_cache_options.specs.declared.table.Class.{Class}
-use Rattle.cck_cache_options.specs.declared.table.Class.TheVariants.{Text, Code, Message, CompilerMessage, Directory, Nothing, Compile, Output, Dependencies, Rule, Target, DependencyFile, PreprocessorDependencyFile, Passed}
+use Rattle.cck_cache_options.specs.declared.table.Class.TheVariants.{Text, Definition, Code, Message, CompilerMessage, Directory, Nothing, Compile, Output, Dependencies, Rule, Target, DependencyFile, PreprocessorDependencyFile, Passed}
 use Rattle.cck_cache_options.specs.declared.table.Form.{Form}
 use Rattle.cck_cache_options.specs.declared.table.Form.TheVariants.{Alone, Joined, Separate, Either, Equals}
 use Rattle.cck_cache_options.specs.Table.{Entry, after_name, has_bytes, is_empty, longest}
@@ -72,6 +72,7 @@ outcome_of (PassedOn reason) = passed reason
 -- the arguments of options of this class count in a key: all but the paths of what is written, and those of no effect
 abbrev pub is_keyed : Class → Bool
 is_keyed Text = true
+is_keyed Definition = true
 is_keyed Code = true
 is_keyed Message = true
 is_keyed CompilerMessage = true
@@ -89,6 +90,7 @@ is_keyed (Passed cause) = false
 -- they count in a key, and are neither of a dependency file nor of the compiler's messages alone
 abbrev pub is_preprocessed : Class → Bool
 is_preprocessed Text = true
+is_preprocessed Definition = true
 is_preprocessed Code = true
 is_preprocessed Message = true
 is_preprocessed CompilerMessage = false
@@ -137,6 +139,7 @@ take_preprocessor_file call value = cond (has_comma value) (stop (PassedOption P
 -- the value of an option of this class
 abbrev pub take : Asked → Class → List ℕ → State
 take call Text value = go call None
+take call Definition value = go call None
 take call Code value = go call None
 take call Message value = go call None
 take call CompilerMessage value = go call None
@@ -154,6 +157,7 @@ take call (Passed cause) value = stop (PassedOption cause)
 -- an option without a value
 abbrev pub flag : Asked → Class → State
 flag call Text = go call None
+flag call Definition = go call None
 flag call Code = go call None
 flag call Message = go call None
 flag call CompilerMessage = go call None

@@ -1,4 +1,5 @@
 pub mod Call
+pub mod Definition
 pub mod Laws
 pub mod Parts
 pub mod Paths

@@ -3,7 +3,7 @@ use Rattle.std.specs.Prelude.{◌≡◌, ◌≢◌, ◌⊎◌, ℕ, true, false,
 use Rattle.std.specs.List.{starts_with}
 use Rattle.cck_cache_options.specs.declared.table.Form.TheVariants.{Alone, Joined, Separate, Either, Equals}
 use Rattle.cck_cache_options.specs.declared.table.Class.{Class}
-use Rattle.cck_cache_options.specs.declared.table.Class.TheVariants.{Text, Code, Message, CompilerMessage, Directory, Nothing, Compile, Output, Dependencies, Rule, Target, DependencyFile, PreprocessorDependencyFile, Passed}
+use Rattle.cck_cache_options.specs.declared.table.Class.TheVariants.{Text, Definition, Code, Message, CompilerMessage, Directory, Nothing, Compile, Output, Dependencies, Rule, Target, DependencyFile, PreprocessorDependencyFile, Passed}
 use Rattle.cck_cache_options.specs.Table.{Entry}
 use Rattle.cck_cache_options.specs.Call.{Asked, asks, has_comma, is_contrary, is_source, keep, parse, start}
 use Rattle.cck_cache_options.specs.Laws.{IsLongest}
@@ -27,6 +27,7 @@ written (apart option value) = option.name ∷ value ∷ []
 -- what a value says of a call
 abbrev pub with_value : Asked → Class → List ℕ → Asked
 with_value call Text value = call
+with_value call Definition value = call
 with_value call Code value = call
 with_value call Message value = call
 with_value call CompilerMessage value = call
@@ -44,6 +45,7 @@ with_value call (Passed cause) value = call
 -- what an option without a value says
 abbrev pub with_flag : Asked → Class → Asked
 with_flag call Text = call
+with_flag call Definition = call
 with_flag call Code = call
 with_flag call Message = call
 with_flag call CompilerMessage = call
@@ -69,6 +71,7 @@ with_part call (apart option value) = with_value (keep (keep call option.class o
 -- preprocessor with a comma.
 abbrev pub TakesValue : Asked → Class → List ℕ → Type 0
 TakesValue call Text value = Unit {0}
+TakesValue call Definition value = Unit {0}
 TakesValue call Code value = Unit {0}
 TakesValue call Message value = Unit {0}
 TakesValue call CompilerMessage value = Unit {0}
@@ -85,6 +88,7 @@ TakesValue call (Passed cause) value = ⊥
 
 abbrev pub TakesFlag : Class → Type 0
 TakesFlag Text = Unit {0}
+TakesFlag Definition = Unit {0}
 TakesFlag Code = Unit {0}
 TakesFlag Message = Unit {0}
 TakesFlag CompilerMessage = Unit {0}

@@ -67,6 +67,7 @@ fn is_keyed(class: Class) -> bool
 {
     match class {
         Class::Text
+        | Class::Definition
         | Class::Code
         | Class::Message
         | Class::CompilerMessage
@@ -90,7 +91,7 @@ pub(crate) fn is_preprocessed(class: Class) -> bool
     ensures { result ≡ is_preprocessed class }
 {
     match class {
-        Class::Text | Class::Code | Class::Message | Class::Directory => true,
+        Class::Text | Class::Definition | Class::Code | Class::Message | Class::Directory => true,
         Class::CompilerMessage
         | Class::Dependencies
         | Class::Rule

@@ -10,8 +10,8 @@ pub const GCC: &[u8] = b"\
 -isystem either directory\n\
 -isystem-after either passed-preprocessor-option\n\
 -idirafter either directory\n\
--D either text\n\
--U either text\n\
+-D either definition\n\
+-U either definition\n\
 -A either text\n\
 -include either text\n\
 -include-pch either passed-precompiled\n\
@@ -214,7 +214,9 @@ pub const GCC: &[u8] = b"\
 -fdiagnostics-urls equals message\n\
 -femit-struct-debug-detailed equals code\n\
 -fexcess-precision equals code\n\
--fexec-charset equals text\n\
+-fexec-charset equals passed-preprocessor-option\n\
+-fexec-charset=UTF-8 alone text\n\
+-fexec-charset=utf-8 alone text\n\
 -ffile-prefix-map equals code\n\
 -ffp-contract equals code\n\
 -fgnat-encodings equals code\n\
@@ -259,7 +261,11 @@ pub const GCC: &[u8] = b"\
 -ftrivial-auto-var-init equals code\n\
 -fvect-cost-model equals code\n\
 -fvisibility equals code\n\
--fwide-exec-charset equals text\n\
+-fwide-exec-charset equals passed-preprocessor-option\n\
+-fwide-exec-charset=UTF-16BE alone text\n\
+-fwide-exec-charset=UTF-16LE alone text\n\
+-fwide-exec-charset=UTF-32BE alone text\n\
+-fwide-exec-charset=UTF-32LE alone text\n\
 -fzero-call-used-regs equals code\n\
 -gvariable-location-views equals code\n\
 -gz equals code\n\

@@ -7,10 +7,13 @@
 //! - [`parse`] reads the arguments of a call by the rows of a table.
 //! - [`push_word`] appends an argument as a POSIX shell reads it back, and
 //!   [`push_preprocessor_arguments`] those of a call that the preprocessor has.
+//! - [`is_definition`] says which arguments define macros, and [`macro_option`] how the preprocessor shows
+//!   them.
 //! - [`object_path`] and [`dependency_path`] are the paths that gcc chooses where a call says none.
 #![tactic(auto)]
 
 mod call;
+mod definition;
 mod gcc;
 pub mod laws;
 mod paths;
@@ -20,6 +23,7 @@ mod runs;
 mod table;
 
 pub use call::{Call, Keyed, Parsed, parse};
+pub use definition::{is_definition, macro_option};
 pub use gcc::GCC;
 pub use paths::{dependency_path, object_path};
 pub use quote::{push_preprocessor_arguments, push_word};

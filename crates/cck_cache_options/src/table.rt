@@ -54,6 +54,8 @@ pub enum Cause {
 pub enum Class {
     /// The preprocessed text.
     Text,
+    /// A macro, which it defines or undefines before the text.
+    Definition,
     /// The code.
     Code,
     /// The messages.
@@ -162,6 +164,8 @@ fn kept_class_named(name: &[u8]) -> Option<Class>
 {
     if name == b"text".as_slice() {
         Some(Class::Text)
+    } else if name == b"definition".as_slice() {
+        Some(Class::Definition)
     } else if name == b"code".as_slice() {
         Some(Class::Code)
     } else if name == b"message".as_slice() {

@@ -1,4 +1,4 @@
-use Rattle.std.proofs.Common.{◌∙◌, Option, IfSome, String, refl, subst}
+use Rattle.std.proofs.Common.{Option, IfSome, String, refl, subst}
 use Rattle.std.proofs.lemmas.Result.{IfOk-weaker}
 use Rattle.std.specs.declared.alloc.Global.{Global}
 use Rattle.cck_cache_rules.specs.Files.{entry_fields}
