@@ -158,8 +158,8 @@ def removed(project):
         if not project.build():
             return f"state {state}: another output"
     words = project.logged()
-    changed = SOURCES // 2  # those that include the header, once in each of the two states
-    return None if words["hit"] == 4 * SOURCES - 2 * changed else f"the others: {dict(words)}"
+    changed = SOURCES // 2  # those that include the header: once where the file is damaged, and not where it is gone
+    return None if words["hit"] == 4 * SOURCES - changed else f"the others: {dict(words)}"
 
 
 def two_checkouts(project):
@@ -181,7 +181,22 @@ def two_checkouts(project):
     return None if same and words["recorded"] == SOURCES // 2 else f"a comment: {same}, {dict(words)}"
 
 
-TESTS = (two_branches, many_states, at_once, removed, two_checkouts)
+def definitions(project):
+    """A macro that no file uses, of several values: each object is found by its text, and then by its entry."""
+    project.switch(0)
+    if not project.build():
+        return "another output"
+    project.logged()
+    for value in range(3):
+        project.options = [f"-DNONE={value}"]
+        for turn in ("first", "second"):
+            same, words = project.build(), project.logged()
+            if not same or words["hit"] != SOURCES or (words["look"] != 0) != (turn == "first"):
+                return f"value {value}, {turn} build: {same}, {dict(words)}"
+    return None
+
+
+TESTS = (two_branches, many_states, at_once, removed, two_checkouts, definitions)
 
 
 def main():

@@ -255,7 +255,7 @@ def http_faults(test, server):
         done = test.compile(f"http: {fault}", "one", "a", test.machine(), **faulty.variables(), **changes)
         test.check(f"http: {fault}", (way_of(done), done.counts[event] > 0), ("recorded", True))
         if event == "server-status-403":
-            test.check("http: 403 may be of one request", done.counts[event], 3)
+            test.check("http: 403 may be of one request", done.counts[event], 4)
     followed = [path for _, path, _ in faulty.server.requests if path.startswith("/followed")]
     test.check("http: redirections", followed, [])
     faulty.stop()

@@ -64,6 +64,10 @@ SNIPPETS = r"""
 0.6 any #pragma message "note @k"
 0.8 any #warning said @k
 0.6 any #pragma pack(2)
+0.8 any #pragma pack(P@m)\nstruct { char a; int b@m; } p@n;\n#pragma pack()
+0.4 any _Pragma("pack(P@m)") struct { char a; int b@m; } p@n;
+0.4 any #pragma GCC diagnostic ignored_attributes "vendor::a@m"
+0.6 any #if __has_c_attribute(vendor::a@m)\nint h@n = @k;\n#endif
 0.4 any #ident "by @k"
 1 any const char *n@n = __FILE__;
 0.8 any const char *n@n = __BASE_FILE__;
@@ -106,7 +110,8 @@ OPTIONS = r"""
 2 alone -fdiagnostics-color=always -fdiagnostics-color -fmessage-length=40 -fdiagnostics-urls=always
 2 alone -fdiagnostics-show-location=once -fdiagnostics-generate-patch -fmax-errors=1 -ftabstop=4
 6 joined -D M0=7 M1 M2=3 M3=__LINE__ E1=0 M4=__FILE__ N2="g.h"
-3 separate -D M0=7 M1 M2=3
+4 joined -D P0=1 P0=2 P1=4 M5=3 NONE NONE=1 NONE="@k" NONE(a)=a
+3 separate -D M0=7 M1 M2=3 NONE=2
 2 joined -U M0 M1 M2
 0.7 joined -D @words @defs
 0.7 joined -I @words

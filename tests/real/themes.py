@@ -12,7 +12,7 @@ CONDITIONS = ['__has_include("t.h")', "__has_include(<t.h>)", "__has_include_nex
               "0 /* ( */ || __has_include(<t.h>)", 'LEVEL > 4 || __has_include("t.h")',
               "(LEVEL >= 7 && 1) || (!defined(M0) && __has_include(<t.h>)) // t", 'TEST_HAS_INCLUDE("t.h")',
               "SAME(__has_include(<t.h>))", "LEVEL < 4 && SAME(1) && TEST_HAS_INCLUDE(<c/t.h>)"]
-# What they stand for. As the name of a header has `t`, an argument has another header's name.
+# The macros of these conditions. `t` is one too, so that a test in an argument looks for another header.
 MACROS = ("#undef TEST_HAS_INCLUDE\n#define TEST_HAS_INCLUDE __has_include\n#undef SAME\n#define SAME(x) x\n"
           "#undef t\n#define t other\n")
 TESTED = ["work/a/other.h", "work/a/t.h", "work/b/t.h", "work/inc/t.h", "work/src/t.h", "work/t.h", "work/a/c/t.h"]
