@@ -108,6 +108,15 @@ clean_up() {
     print_found
 }
 
+# Empties the directory. The program makes a store of one that is not yet one: what is called `inputs` there stays.
+clear_store() {
+    cck_was_store=
+    [ ! -f "$cck_store/VERSION" ] || cck_was_store=1
+    call clear "$cck_store"
+    if [ -n "$cck_was_store" ] && [ "$cck_status" -eq 0 ]; then rm -rf "$cck_store/inputs"; fi
+    print_found
+}
+
 # Whether a word is a size that the program reads: a number, a suffix or none, and less than 10^18 bytes.
 is_size() {
     cck_digits=${1%%[!0-9]*}
@@ -148,7 +157,7 @@ case ${1-} in
 -s|--show-stats) show_stats "$@" ;;
 -z|--zero-stats) exec rm -rf "$cck_store/counts" ;;
 -c|--cleanup) clean_up ;;
--C|--clear) rm -rf "$cck_store/inputs"; call clear "$cck_store"; print_found ;;
+-C|--clear) clear_store ;;
 -p|--show-config) show_config ;;
 -M|--max-size) [ $# -eq 2 ] || { print_usage >&2; exit 2; }; set_max_size "$2" ;;
 --max-size=*) set_max_size "${1#*=}" ;;
