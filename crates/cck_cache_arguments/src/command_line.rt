@@ -241,6 +241,24 @@ fn clear_command<'a>(alloc: Global) -> Result<Command<'a>, AllocError> {
     with_store(alloc, command)
 }
 
+// The command `verify`.
+fn verify_command<'a>(alloc: Global) -> Result<Command<'a>, AllocError> {
+    let command = Command::new(alloc, "verify").about(
+        "Tests all entries and objects, and removes those that are damaged",
+    );
+    with_store(alloc, command)
+}
+
+// The command `inspect`.
+fn inspect_command<'a>(alloc: Global) -> Result<Command<'a>, AllocError> {
+    let command = Command::new(alloc, "inspect").about("Prints what files of a store say");
+    with_store(alloc, command)?.arg(
+        Arg::new(alloc, "WORD").required(true).help(
+            "A preprocessor key, the name of an object, or a path with a slash",
+        ),
+    )
+}
+
 // The command `why`.
 fn why_command<'a>(alloc: Global) -> Result<Command<'a>, AllocError> {
     let command = Command::new(alloc, "why").about(
@@ -264,7 +282,9 @@ fn with_store_commands<'a>(alloc: Global, program: Command<'a>) -> Result<Comman
         .subcommand(unpack_command(alloc)?)?
         .subcommand(stats_command(alloc)?)?
         .subcommand(prune_command(alloc)?)?
-        .subcommand(clear_command(alloc)?)
+        .subcommand(clear_command(alloc)?)?
+        .subcommand(verify_command(alloc)?)?
+        .subcommand(inspect_command(alloc)?)
 }
 
 /// The whole command line.

@@ -146,6 +146,18 @@ pub enum Task<'a> {
         /// The path of the store.
         store: &'a str,
     },
+    /// A test of all entries and objects.
+    Verify {
+        /// The path of the store.
+        store: &'a str,
+    },
+    /// What files of a store say.
+    Inspect {
+        /// The path of the store.
+        store: &'a str,
+        /// A preprocessor key, the name of an object, or the path of a file.
+        word: &'a str,
+    },
 }
 
 // Where the parts of an object file are written, in the words of `unpack`.
@@ -279,6 +291,11 @@ fn store_task<'a>(name: &str, matches: &ArgMatches<'a>) -> Option<Task<'a>> {
             max_size: max_size_of(matches)?,
         }),
         "clear" => Some(Task::Clear { store }),
+        "verify" => Some(Task::Verify { store }),
+        "inspect" => Some(Task::Inspect {
+            store,
+            word: matches.get_str("WORD")?,
+        }),
         "unpack" => Some(Task::Unpack {
             store,
             packed: packed_of(matches)?,
@@ -293,7 +310,9 @@ fn task_in<'a>(alloc: Global, matches: &ArgMatches<'a>) -> Result<Option<Task<'a
         return Ok(None);
     };
     match name {
-        "stats" | "prune" | "clear" | "unpack" => Ok(store_task(name, command)),
+        "stats" | "prune" | "clear" | "verify" | "inspect" | "unpack" => {
+            Ok(store_task(name, command))
+        }
         _ => call_task(alloc, name, command),
     }
 }

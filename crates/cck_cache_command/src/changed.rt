@@ -6,12 +6,12 @@ ghost use Rattle.cck_files.specs.FileDigest.{digest_text_at};
 ghost use Rattle.cck_path.specs.Path.{components};
 ghost use Rattle.sha2.specs.Sha256.{sha256};
 
-use crate::included::entry_view;
 use anyhow::Result;
 use cck_cache_rules::may_have_digest;
+use cck_cache_store::entry_view;
 use cck_digest::{Digest, UtilError};
 use cck_entry::ResultRef;
-use cck_files::{DigestFiles, MapFiles};
+use cck_files::{DigestFiles, Files, MapFiles};
 use cck_util::Sha256State;
 use std::alloc::{AllocError, Global};
 
@@ -24,12 +24,16 @@ pub struct Changed {
     pub digest: String,
 }
 
-// The hex digest of what a snapshot has at a path. `None` where it has nothing there.
+// The hex digest of what a snapshot has at a path. `None` where it has nothing there: it has only files whose status is not
+// known, and to look first is less than a buffer for each other one.
 fn digest_in(alloc: Global, files: &mut MapFiles, path: &[u8]) -> Result<Option<String>, UtilError>
     ensures found { IfOk result (λ found. IfSome found (λ digest.
         digest_text_at sha256 files.old.files (components path.now) ≡ Some (string_bytes digest))) }
     ensures kept { files.new.files ≡ files.old.files }
 {
+    if files.metadata(path).is_err() {
+        return Ok(None);
+    }
     match Digest::<Sha256State>::file(alloc, files, path) {
         Ok(digest) => Ok(Some(digest)),
         Err(UtilError::Memory) => Err(UtilError::Memory),

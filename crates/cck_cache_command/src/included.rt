@@ -1,33 +1,14 @@
-//! The entry of a look-up, and the files that it names.
-ghost use Rattle.std.specs.Prelude.{IfOk, MatchOption, OnOk};
+//! The files that the entry of a look-up names.
+ghost use Rattle.std.specs.Prelude.{OnOk};
 ghost use Rattle.cck_cache_command.specs.Included.{IsIncludeOf, IsIncluded};
 ghost use Rattle.cck_cache_files.specs.Snapshot.{SnapshotGrows};
-ghost use Rattle.cck_entry.specs.Entry.{Entry, EntryText};
 ghost use Rattle.cck_entry.specs.Lent.{result_lent};
 
-use anyhow::Result;
 use cck_cache_files::add_included;
 use cck_digest::UtilError;
-use cck_entry::{EntryView, Error, Metadata, PathMap, ResultRef};
+use cck_entry::{EntryView, Metadata, PathMap, ResultRef};
 use cck_files::MapFiles;
-use std::alloc::Global;
 use std::rt::Files;
-
-/// The entry whose text these bytes are. `None` where they are the text of none.
-///
-/// The only error is lack of memory.
-pub fn entry_view(alloc: Global, bytes: &[u8]) -> Result<Option<EntryView<'_>>>
-    ensures { IfOk result (λ view. MatchOption view ((e : Entry) → EntryText e bytes.now → ⊥) (λ e. EntryText e bytes.now)) }
-{
-    if bytes.is_empty() {
-        return Ok(None);
-    }
-    match EntryView::read(alloc, bytes) {
-        Ok(view) => Ok(Some(view)),
-        Err(Error::Deserialization | Error::UnknownFormat(_)) => Ok(None),
-        Err(error) => Err(error.into()),
-    }
-}
 
 // Adds what a look-up needs of the files that a result included.
 fn add_includes<R: Files + AllocGlobal>(

@@ -7,7 +7,7 @@ ghost use Rattle.cck_cache_rules.specs.PathTest.{tests_of};
 
 use crate::changed::{Changed, changed_in, may_match};
 use crate::environment::Environment;
-use crate::included::{add_entry_files, entry_view};
+use crate::included::add_entry_files;
 use crate::input::input_snapshot;
 use crate::naming::name_of;
 use crate::outputs::has_outputs;
@@ -19,6 +19,7 @@ use cck_cache_files::{
     ENTRY_FILES, Kind, StoreDirectory, entry_name, first_failing, unchanged_statuses,
 };
 use cck_cache_rules::{EntryFile, ObjectFile, PathStatus, entry_in, object_in};
+use cck_cache_store::entry_view;
 use cck_files::MapFiles;
 use cck_path::Timestamp;
 use cck_snapshot::{SnapshotRequest, look_up, preprocessor_key};

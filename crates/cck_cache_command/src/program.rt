@@ -3,15 +3,12 @@ use crate::call::{CallPaths, print_call, request_of};
 use crate::environment::Environment;
 use crate::input::input_snapshot;
 use crate::judge::{Judged, Passed, judge};
-use crate::limit::limit_shares;
 use crate::look::{Found, Missed, NO_KEY, look};
 use crate::outputs::write_outputs;
 use crate::places::are_free;
 use crate::programs::{Named, programs_of};
-use crate::prune::{clear, prune};
 use crate::record::{Outcome, record};
 use crate::request::request_key;
-use crate::stats::print_stats;
 use crate::store::store_in;
 use crate::unpack::unpack;
 use crate::why::print_why;
@@ -21,6 +18,9 @@ use cck_cache_arguments::{
 };
 use cck_cache_files::{Kind, StoreDirectory, entry_name};
 use cck_cache_options::{Call, GCC, rows_of};
+use cck_cache_store::{
+    clear_store, limit_shares, print_files, print_stats, prune_store, verify_store,
+};
 use cck_path::Timestamp;
 use clap::Error;
 use clap::error::ErrorKind;
@@ -210,8 +210,18 @@ fn limit_store<R: Files + AllocGlobal + Clone + Drop>(
     compilation: &Compilation<'_>,
     object_name: &str,
 ) {
+    let Some(limit) = environment.max_size else {
+        return;
+    };
     if compilation.entry_out.is_none() && compilation.object_out.is_none() {
-        let _ = limit_shares(rt, environment, store, object_name, compilation.key);
+        let _ = limit_shares(
+            rt,
+            environment.now,
+            limit,
+            store,
+            object_name,
+            compilation.key,
+        );
     }
 }
 
@@ -251,7 +261,7 @@ fn run_stats<R: Files + AllocGlobal + Clone + Drop, W: Write>(
     writer: &mut W,
 ) -> Result<u8> {
     let store = store_in(rt, environment, store)?;
-    print_stats(rt, environment, &store, writer)?;
+    print_stats(rt, environment.max_size, &store, writer)?;
     Ok(DONE)
 }
 
@@ -264,7 +274,7 @@ fn run_prune<R: Files + AllocGlobal + Clone + Drop, W: Write>(
     writer: &mut W,
 ) -> Result<u8> {
     let store = store_in(rt, environment, store)?;
-    prune(rt, environment, &store, max_size, writer)?;
+    prune_store(rt, environment.now, &store, max_size, writer)?;
     Ok(DONE)
 }
 
@@ -276,7 +286,32 @@ fn run_clear<R: Files + AllocGlobal + Clone + Drop, W: Write>(
     writer: &mut W,
 ) -> Result<u8> {
     let store = store_in(rt, environment, store)?;
-    clear(rt, &store, writer)?;
+    clear_store(rt, &store, writer)?;
+    Ok(DONE)
+}
+
+// Tests the files of a store.
+fn run_verify<R: Files + AllocGlobal + Clone + Drop, W: Write>(
+    rt: &R,
+    environment: &Environment<'_>,
+    store: &str,
+    writer: &mut W,
+) -> Result<u8> {
+    let store = store_in(rt, environment, store)?;
+    verify_store(rt, &store, writer)?;
+    Ok(DONE)
+}
+
+// Prints what files of a store say.
+fn run_inspect<R: Files + AllocGlobal, W: Write>(
+    rt: &R,
+    environment: &Environment<'_>,
+    store: &str,
+    word: &str,
+    writer: &mut W,
+) -> Result<u8> {
+    let store = store_in(rt, environment, store)?;
+    print_files(rt, &store, word, writer)?;
     Ok(DONE)
 }
 
@@ -418,6 +453,8 @@ fn run_task<R: Files + AllocGlobal + Clone + Drop, I: Read, W: Write, E: Write>(
         Task::Stats { store } => run_stats(rt, environment, store, writer),
         Task::Prune { store, max_size } => run_prune(rt, environment, store, *max_size, writer),
         Task::Clear { store } => run_clear(rt, environment, store, writer),
+        Task::Verify { store } => run_verify(rt, environment, store, writer),
+        Task::Inspect { store, word } => run_inspect(rt, environment, store, word, writer),
     }
 }
 

@@ -1,6 +1,6 @@
 //! Says why a look-up misses.
 use crate::environment::Environment;
-use crate::included::{add_entry_files, entry_view};
+use crate::included::add_entry_files;
 use crate::input::input_snapshot;
 use crate::look::{Kept, NO_KEY, read_entry};
 use crate::request::request_key;
@@ -8,6 +8,7 @@ use anyhow::{Result, bail};
 use cck_cache_arguments::Request;
 use cck_cache_files::{ENTRY_FILES, Kind, StoreDirectory, entry_name, first_failing};
 use cck_cache_rules::{EntryFile, PathTest};
+use cck_cache_store::entry_view;
 use cck_entry::{PathMap, ResultRef};
 use cck_files::MapFiles;
 use cck_include::{JudgeContext, KnownFiles, include_matches};

@@ -10,6 +10,7 @@
 //!   files.
 //! - [`find`] looks a word up in a table. [`number`], [`bytes_of`], [`words_of`] and [`moment_of`]
 //!   read the parts of a line.
+//! - [`run_value_file`] runs the cases of calls on bytes, paths, texts, times, digests, readers and keys.
 //! - [`FailReader`] and [`FailWriter`] fail at the calls that [`Failures`] gives.
 //!
 //! These functions have no contracts. Only tests use them, and a fault in them shows as a
@@ -28,6 +29,7 @@ mod subject;
 mod table;
 mod text;
 mod value;
+mod value_cases;
 
 pub use case_error::CaseError;
 pub use failing::{FailReader, FailWriter, Failures};
@@ -40,3 +42,4 @@ pub use text::{
     byte_of, bytes_of, moment_of, number, optional_moment_of, variables_of, words_of, zone_of,
 };
 pub use value::{Value, end_line, write_cut, write_moment, write_numbers};
+pub use value_cases::run_value_file;

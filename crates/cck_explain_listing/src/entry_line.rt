@@ -22,8 +22,10 @@ fn seconds_text(alloc: Global, seconds: i64) -> Result<String, AllocError>
     Ok(text)
 }
 
-// Appends a time.
-fn push_moment(alloc: Global, lines: &mut Vec<u8>, time: Timestamp) -> Result<(), AllocError>
+/// Appends a time: its seconds, `s`, its nanoseconds, and `ns`.
+///
+/// The only error is lack of memory. What was appended is then unspecified.
+pub fn push_moment(alloc: Global, lines: &mut Vec<u8>, time: Timestamp) -> Result<(), AllocError>
     ensures { OnOk result (lines.new.items ≡ lines.old.items ++ moment_text time) }
 {
     let seconds = seconds_text(alloc, time.seconds())?;

@@ -3,7 +3,7 @@
 //! - [`push_text_cuts`] and [`push_argument_cuts`] list the base directories that are cut out.
 //! - [`entry_listing`] lists an entry of the store, or says why bytes are none.
 //! - [`marker_lines`] lists the line markers of a preprocessed text.
-//! - [`push_escaped`], [`push_quoted`] and [`checksum`] show bytes in such lines.
+//! - [`push_escaped`], [`push_quoted`] and [`checksum`] show bytes in such lines, and [`push_moment`] a time.
 //! - [`laws`] has what is proved of the definitions alone, and what `==` means for the types.
 //!
 //! # Cuts
@@ -40,6 +40,7 @@ mod place;
 
 pub use checksums::checksum;
 pub use cut_line::{push_argument_cuts, push_text_cuts};
+pub use entry_line::push_moment;
 pub use entry_text::{EntryError, entry_listing};
 pub use escape::{push_escaped, push_quoted};
 pub use fault::{Cause, Fault, fault_of};

@@ -34,7 +34,7 @@ fn run_word(rt: &HostRuntime, name: &str) -> io::Result<bool> {
         return print_examples(rt);
     }
     match folder_of(name) {
-        "values" => cck_value_cases::run_file(rt, name),
+        "values" => cck_cases::run_value_file(rt, name),
         "files" => cck_file_cases::run_file(rt, name),
         "walks" => cck_file_cases::run_walk_file(rt, name),
         "calls" => cck_call_cases::run_file(rt, name),
