@@ -4,8 +4,8 @@
 
 print_usage() {
     echo 'usage: cckcc COMPILER ARG..'
-    echo '       cckcc --show-stats [--json] | --zero-stats | --cleanup | --clear | --version | --help'
-    echo '       cckcc --show-config | --max-size SIZE'
+    echo '       cckcc --show-stats [--json] | --zero-stats | --cleanup | --clear | --verify | --version | --help'
+    echo '       cckcc --show-config | --max-size SIZE | --inspect FILE|KEY'
 }
 
 # Sets CCK_STORE to the address of the server as it may be shown: `***` is in the place of a password.
@@ -83,10 +83,67 @@ print_found() {
     exit $cck_status
 }
 
-# Prints what the store has, and the counts: lines, or with --json an object, in which a store without a limit has `null`.
+# Prints what `stats` printed as a table. Of the compilations that could be found some were, directly, by their texts or at a
+# server; the others were recorded or not. A rate is of these.
+print_table() {
+    cck_zeroed=$cck_store/zeroed
+    [ -f "$cck_zeroed" ] || cck_zeroed=$cck_store/VERSION
+    cck_since=$(date -r "$cck_zeroed" '+%Y-%m-%d %H:%M' 2>/dev/null)
+    printf '%s\n' "$cck_found" | cck_store=$cck_store cck_since=$cck_since LC_ALL=C awk '
+        function line(name, value) { printf "%-24s %s\n", name, value }
+        function size(bytes, unit) {
+            for (unit = 1; bytes >= 999.95 && unit < 5; unit++) bytes /= 1000
+            return unit == 1 ? sprintf("%.0f bytes", bytes) : sprintf("%.1f %s", bytes, substr("  kBMBGBTB", 2 * unit - 1, 2))
+        }
+        function sum(pattern, name, all) {
+            for (name in counts) if (name ~ pattern) all += counts[name]
+            return all + 0
+        }
+        function list(pattern, begun, name, best) {
+            while (1) {
+                best = ""
+                for (name in counts) if (name ~ pattern && !(name in listed))
+                    if (best == "" || counts[name] > counts[best] || (counts[name] == counts[best] && name < best)) best = name
+                if (best == "") return
+                listed[best]
+                name = best
+                sub(begun, "", name)
+                line("  " name, sprintf("%.0f", counts[best]))
+            }
+        }
+        $1 == "count" { counts[$2] = $3; next }
+        NF == 3 { files[$1] = $2; next }
+        { values[$1] = $2 }
+        END {
+            found = "^(server-)?hit(-text)?$"
+            missed = "^(recorded|refused-.*|not-recorded-.*|record-error)$"
+            passed = "^(passed-.*|no-key)$"
+            hits = sum(found)
+            all = hits + sum(missed)
+            line("store", ENVIRON["cck_store"])
+            if (ENVIRON["cck_since"] != "") line("since", ENVIRON["cck_since"])
+            line("hits", sprintf("%.0f of %.0f", hits, all) (all ? sprintf(" (%.1f %%)", 100 * hits / all) : ""))
+            list(found)
+            line("misses", sprintf("%.0f", all - hits))
+            list(missed)
+            line("passed on", sprintf("%.0f", sum(passed)))
+            list(passed, "^passed-")
+            listed["miss"]
+            listed["unpacked"]
+            if (sum("^server-") > sum("^server-hit")) { line("server", ""); list("^server-") }
+            for (name in counts) if (!(name in listed)) others = 1
+            if (others) { line("others", ""); list("") }
+            limit = values["limit"] == "none" ? "no limit" : size(values["limit"])
+            line("size", size(values["size"]) " of " limit)
+            line("  entries", files["entries"] + 0)
+            line("  objects", files["objects"] + 0)
+        }'
+}
+
+# Prints what the store has, and the counts: a table, or with --json an object, in which a store without a limit has `null`.
 show_stats() {
     case $#:$2 in
-    1:) call stats "$cck_store"; print_found ;;
+    1:) call stats "$cck_store" || print_found; print_table; exit ;;
     2:--json) call stats "$cck_store" || print_found >&2 ;;
     *) print_usage >&2; exit 2 ;;
     esac
@@ -108,12 +165,32 @@ clean_up() {
     print_found
 }
 
+# Resets the counts, and notes when.
+zero_stats() {
+    [ $# -eq 1 ] || { print_usage >&2; exit 2; }
+    rm -rf "$cck_store/counts" || exit 1
+    if [ -f "$cck_store/VERSION" ]; then true > "$cck_store/zeroed" || exit 1; fi
+    exit 0
+}
+
 # Empties the directory. The program makes a store of one that is not yet one: what is called `inputs` there stays.
 clear_store() {
     cck_was_store=
     [ ! -f "$cck_store/VERSION" ] || cck_was_store=1
     call clear "$cck_store"
     if [ -n "$cck_was_store" ] && [ "$cck_status" -eq 0 ]; then rm -rf "$cck_store/inputs"; fi
+    print_found
+}
+
+# Prints what the word names: a file, or the files of a key or of the name of an object. The program takes a word with a slash
+# for a path.
+inspect() {
+    [ $# -eq 2 ] || { print_usage >&2; exit 2; }
+    case $2 in
+    */*) ;;
+    *) [ ! -f "$2" ] || set -- "$1" "./$2" ;;
+    esac
+    call inspect "$cck_store" "$2" || print_found >&2
     print_found
 }
 
@@ -155,9 +232,11 @@ set_max_size() {
 case ${1-} in
 -V|--version) exec "$cck_program" --version ;;
 -s|--show-stats) show_stats "$@" ;;
--z|--zero-stats) exec rm -rf "$cck_store/counts" ;;
+-z|--zero-stats) zero_stats "$@" ;;
 -c|--cleanup) clean_up ;;
 -C|--clear) clear_store ;;
+-v|--verify) [ $# -eq 1 ] || { print_usage >&2; exit 2; }; call verify "$cck_store"; print_found ;;
+-i|--inspect) inspect "$@" ;;
 -p|--show-config) show_config ;;
 -M|--max-size) [ $# -eq 2 ] || { print_usage >&2; exit 2; }; set_max_size "$2" ;;
 --max-size=*) set_max_size "${1#*=}" ;;

@@ -105,11 +105,12 @@ pass_on() {
 }
 
 # A new directory for files, whose path has no space: a compiler takes what is after one for a target
-# (SUNPRO_DEPENDENCIES). It is absolute: awk takes other names of files with `=` for variables.
+# (SUNPRO_DEPENDENCIES). It is absolute: awk takes other names of files with `=` for variables. The shell of this function
+# becomes the program that makes it.
 make_directory() {
     case $TMPDIR in
-    *[[:space:]]*|[!/]*) mktemp -d /tmp/cckcc.XXXXXX 2>/dev/null ;;
-    *) mktemp -d "${TMPDIR:-/tmp}/cckcc.XXXXXX" 2>/dev/null ;;
+    *[[:space:]]*|[!/]*) exec mktemp -d /tmp/cckcc.XXXXXX 2>/dev/null ;;
+    *) exec mktemp -d "${TMPDIR:-/tmp}/cckcc.XXXXXX" 2>/dev/null ;;
     esac
 }
 
@@ -355,9 +356,10 @@ look_at_server() {
     fi
 }
 
-# Records what was made of the text. The words are options of `record`, and those of the request.
+# Records what was made of the text. The words are options of `record`, and those of the request. The shell of this function
+# becomes the program.
 record() {
-    "$cck_program" record "$cck_store" --since="$cck_since" --preprocessor-key="$cck_key" \
+    exec "$cck_program" record "$cck_store" --since="$cck_since" --preprocessor-key="$cck_key" \
         --search="$cck_scratch/text-search" "$@" 2>/dev/null < "$cck_scratch/text"
 }
 
@@ -383,7 +385,7 @@ take_text_from_directory() {
     find_place objects "$cck_object"
     [ -e "$cck_place/$cck_object" ] || return 1
     unpack "$cck_object" "$cck_place/$cck_object" || return 1
-    record "$@" > "$cck_scratch/reply"
+    cck_found=$(record "$@")
     count hit-text
 }
 
@@ -439,7 +441,8 @@ may_have_text() {
 # Writes that file.
 write_mark() {
     [ -n "$cck_mark" ] && [ -s "$cck_scratch/sum" ] || return 0
-    { mkdir -p "$cck_store/inputs" && cp "$cck_scratch/sum" "$cck_mark"; } 2>/dev/null
+    read -r cck_sum < "$cck_scratch/sum"
+    { [ -d "$cck_store/inputs" ] || mkdir -p "$cck_store/inputs"; printf '%s\n' "$cck_sum" > "$cck_mark"; } 2>/dev/null
 }
 
 # Has the program look for the call's object, or where no directory keeps objects make its key.
@@ -531,7 +534,7 @@ cck_reading='
     }
     function read_line(line, whole) {
         whole = line
-        if (line ~ marker) marks = 1
+        if (line ~ /#|%:|[?][?]=/ && line ~ marker) marks = 1
         if (line ~ /(^|[^A-Za-z0-9_$])__ha(s(_(b(u(i(l(ti?)?)?)?)?)?)?)?([^A-Za-z0-9_$]|$)/) asks = 1
         if (line ~ /ia32|a32_|builtin_ia3?([^A-Za-z0-9_]|$)/) targets = 1
         if (match(line, /__ha|as_inc|as_emb|HAS_INC/) && substr(line, 1, RSTART - 1) !~ /#|%:|[?][?]=/) tests = 1
@@ -567,7 +570,7 @@ cck_reading='
         return 0
     }'
 
-# What `judge_text` does with the text.
+# What `judge_text` does with what the preprocessor printed on standard error, and with the text.
 #
 # A pragma that sets macros of the target, or attributes that are known, is run by the compiler alone. The compiler's own
 # headers set them back, to what the target has, and include none of the project. The compiler knows declarations, by which
@@ -575,9 +578,16 @@ cck_reading='
 # that is found in a directory of system headers only later has its shorter name from then on. A file between `<` and `>` is
 # named as what the compiler defines itself. A line directive enters no file; a marker in a source, or in a raw string over
 # lines, is not told from one of gcc. With OpenMP or OpenACC the compiler expands macros in a pragma, which an operator may
-# make of any line.
+# make of any line. In a pragma of diagnostics it expands none; one that turns a warning on may warn of a macro that the
+# text does not show.
 cck_judging='
+    !is_text {
+        if (/warning: /) warns = 1
+        if (/might prevent reproducible builds/) shows_time = 1
+        next
+    }
     index($0, "R\"") && goes_on($0) { marks = 1 }
+    !/^[ \t]*#/ { next }
     /^# [0-9]+ "/ {
         flags = name = $0
         sub(/.*"/, "", flags)
@@ -598,7 +608,8 @@ cck_judging='
             if ($2 != 0 || name !~ /^<(built-in|command-line)>$/) reason = "other-file"
         } else if (name !~ /\/\/$/ && is_of_project) projects[name]
     }
-    /^[ \t]*#[ \t]*pragma/ { has_pragmas = 1 }
+    !/^[ \t]*#[ \t]*pragma/ { next }
+    !/^[ \t]*#[ \t]*pragma[ \t]+GCC[ \t]+diagnostic[ \t]+(push|pop|ignored[ \t]+"-W[a-z0-9+=-]+")[ \t]*$/ { has_pragmas = 1 }
     /^[ \t]*#[ \t]*pragma[ \t]+GCC[ \t]+diagnostic/ {
         if ($0 !~ /diagnostic[ \t]+(push|pop|[a-z]+[ \t]+"-W[a-z0-9+=-]+")[ \t]*$/) silences = 1
         if (/shadow|builtin|-Wall|-Wextra/) silences = 1
@@ -615,18 +626,19 @@ cck_judging='
         if (ENVIRON["cck_targets"] != "") targets = 1
         if (asks && (targets || silences)) reason = "other-file"
         if (tests && parallel && ENVIRON["cck_extended"] != "") reason = "header-test"
-        print reason
+        print shows_time ? "time-macro" : reason
         print doubts (asks ? " builtins" : "")
-        print has_pragmas || saves ? "pragmas" : ""
+        print warns || has_pragmas || saves ? "all" : ""
         print "end"
     }'
 
 # Writes five lines: `alone` if the text names no file beside the input; why the compiler may read another text than this, or
-# have other names for its files; what it may read in another way; `pragmas` if there are some, which the preprocessor leaves
-# as they are or runs, as those that save macros; and `end`.
+# have other names for its files; what it may read in another way; `all` if more may depend on macros than the text, where it
+# shows those that are used; and `end`. The compiler expands macros in pragmas that the preprocessor leaves as they are,
+# pragmas that save macros hide uses, and warnings may name others.
 judge_text() {
     cck_own=$cck_own cck_extended=$cck_extended cck_targets=$cck_targets LC_ALL=C awk "$cck_reading$cck_judging" \
-        "$cck_scratch/text" < /dev/null
+        "$cck_scratch/text-search" is_text=1 "$cck_scratch/text" < /dev/null
 }
 
 # Sets what the arguments say beside the text: `cck_extended` if the call has OpenMP or OpenACC; `cck_targets` if an argument
@@ -715,10 +727,6 @@ show_all_macros() {
     [ ${#cck_digest} -ge 64 ] || true > "$cck_scratch/failed"
 }
 
-# Whether nothing but the text depends on the macros of the call, where it shows those that are used. The compiler expands
-# macros in pragmas that the preprocessor leaves as they are, pragmas that save macros hide uses, and messages may name others.
-depends_on_used_macros() { [ -z "$cck_pragmas" ] && lacks 'warning: ' "$cck_scratch/text-search"; }
-
 # Refuses the text where `__has_builtin` may ask for a function, unless it is the same if there is none, and none is declared.
 judge_builtins() {
     case $cck_doubts:$cck_preprocessed in
@@ -752,15 +760,15 @@ write_text() {
     find_own
     judge_arguments
     judge_text > "$cck_scratch/judged"
-    cck_word= cck_refused= cck_doubts= cck_pragmas= cck_end=
+    cck_word= cck_refused= cck_doubts= cck_needs= cck_end=
     {
         read -r cck_word
         read -r cck_refused
         read -r cck_doubts
-        read -r cck_pragmas
+        read -r cck_needs
         read -r cck_end
     } < "$cck_scratch/judged"
-    if [ "$cck_macros" = -dU ] && ! depends_on_used_macros; then
+    if [ "$cck_macros" = -dU ] && [ -n "$cck_needs" ]; then
         cck_macros=-dD
         write_text "$@"
         return
@@ -774,7 +782,6 @@ write_text() {
     fi
     judge_builtins
     judge_targets
-    lacks 'might prevent reproducible builds' "$cck_scratch"/*-search || cck_refused=time-macro
     printf '%s\n' "$cck_refused" "$cck_macros" > "$cck_scratch/refused"
 }
 
