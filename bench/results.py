@@ -1,5 +1,5 @@
 #!/usr/bin/env python3
-"""A look-up that finds the last of 1, 8 and 16 entry files of a preprocessor key: milliseconds, the least of 50 runs, and
+"""A look-up that finds the last of 1, 10 and 16 entry files of a preprocessor key: milliseconds, the least of 50 runs, and
 instructions, if valgrind is there. All results include the same 200 headers, of which one has other contents in each.
 Needs gcc and the program (CCK_PROGRAM, by default the one that was proved and built here)."""
 import os
@@ -14,7 +14,7 @@ sys.path.insert(0, os.path.join(os.path.dirname(os.path.abspath(__file__)), ".."
 from calls import PAUSE, PROGRAM, WRAPPER, need_program  # noqa: E402
 
 HEADERS = 200
-NUMBERS = (1, 8, 16)
+NUMBERS = (1, 10, 16)
 CALL = ["gcc", "-O1", "-c", "x.c", "-o", "x.o"]
 
 

@@ -23,7 +23,7 @@ esac
 """
 # `after` is what the file has after the words, if this is not what it had.
 Case = collections.namedtuple("Case", "name file variables words status output messages after", defaults=[None])
-SHOW, STATS, COMPILE = "cckcc --show-config", "cckcc --show-stats", "cckcc gcc -c x.c"
+SHOW, CALL, COMPILE = "cckcc --show-config", "cckcc --verify", "cckcc gcc -c x.c"
 NO_SIZE = "size=none read=none store=none"
 
 # Of --show-config the wanted lines are some of those that are printed.
@@ -113,21 +113,21 @@ def cases():
         yield Case(f"the address {address}", None, {"CCK_STORE": address}, SHOW, 0, [f"(environment) CCK_STORE = {shown}"], "")
         yield Case(f"the line {address}", f"CCK_STORE = {address}\n", {}, SHOW, 0, [f"({FILE}:1) CCK_STORE = {shown}"], "")
     for name, file, message in WRONG:
-        for words in (STATS, SHOW, "cckcc"):
+        for words in (CALL, SHOW, "cckcc"):
             yield Case(f"{name}, {words}", file, {}, words, 2, "", f"cckcc: {FILE}:{message}\n")
         for words in (COMPILE, "gcc -c x.c"):
             yield Case(f"{name}, {words}", file, {}, words, 0, "", f"cckcc: {FILE}:{message}\n")
     yield from size_cases()
-    yield Case("the size and the reading", "CCK_MAXSIZE = 1G\nCCK_READ = 1\nCCK_STORE = /s\n", {}, STATS, 0,
-               "stats /s size=1G read=1 store=none\n", "")
-    yield Case("they are in the environment", "CCK_MAXSIZE = 1G\n", {"CCK_MAXSIZE": "2G"}, STATS, 0,
-               "stats @/home/.cache/cck size=2G read=none store=none\n", "")
+    yield Case("the size and the reading", "CCK_MAXSIZE = 1G\nCCK_READ = 1\nCCK_STORE = /s\n", {}, CALL, 0,
+               "verify /s size=1G read=1 store=none\n", "")
+    yield Case("they are in the environment", "CCK_MAXSIZE = 1G\n", {"CCK_MAXSIZE": "2G"}, CALL, 0,
+               "verify @/home/.cache/cck size=2G read=none store=none\n", "")
     yield Case("the store", "CCK_STORE = @/a b\n", {}, "cckcc --clear", 0, f"clear @/a b {NO_SIZE}\n", "")
-    yield Case("the directory beside a server", "CCK_STORE = redis://h\nCCK_DIR = /d\n", {}, STATS, 0,
-               f"stats /d {NO_SIZE}\n", "")
+    yield Case("the directory beside a server", "CCK_STORE = redis://h\nCCK_DIR = /d\n", {}, CALL, 0,
+               f"verify /d {NO_SIZE}\n", "")
     yield Case("a compilation", "CCK_STORE = @/s\nCCK_LOG = @/log\n", {}, COMPILE, 0, "", "")
-    yield Case("the program", "CCK_PROGRAM = /bin/echo\nCCK_STORE = /s\n", {"CCK_PROGRAM": None}, STATS, 0,
-               "stats /s\n", "")
+    yield Case("the program", "CCK_PROGRAM = /bin/echo\nCCK_STORE = /s\n", {"CCK_PROGRAM": None}, CALL, 0,
+               "verify /s\n", "")
 
 
 def judge(case, room):

@@ -61,13 +61,25 @@ gcc -c x.c
 gcc -c x.c
 check 'a hit by the link' "$(sed -n 's/^cckcc: \([a-z]*\).*/\1/p' "$room/log" | tr '\n' ' ')" 'look why recorded hit '
 check 'the compiler by the link' "$(gcc -dumpversion)" "$("$compiler" -dumpversion)"
-check 'the statistics' "$(cckcc --show-stats | grep '^count hit')" 'count hit 1'
+check 'the statistics' "$(cckcc --show-stats | sed 's/  */ /g; /^since/d; /^size/s/.* of/size of/')" "store $CCK_STORE
+hits 1 of 2 (50.0 %)
+ hit 1
+misses 1
+ recorded 1
+passed on 1
+ mode 1
+size of 5.0 GB
+ entries 1
+ objects 1"
 check 'the statistics as JSON' "$(cckcc --show-stats --json | python3 -c 'import json, sys
 found = json.load(sys.stdin)
 print(found["objects"]["files"], found["limit"], found["counts"]["hit"])')" '1 5000000000 1'
 check 'no limit as JSON' "$(CCK_MAXSIZE=0 cckcc -s --json | grep -o '"limit": null')" '"limit": null'
 cckcc --zero-stats
-check 'no statistics' "$(cckcc -s | grep '^count')" ''
+check 'no statistics' "$(cckcc -s | sed -n 's/  */ /g; /^[hmp]/p')" 'hits 0 of 0
+misses 0
+passed on 0'
+check 'since when' "$(cckcc -s | grep -c "^since  *$(date -r "$CCK_STORE/zeroed" '+%Y-%m-%d %H:%M')$")" 1
 check 'a store within its limit' "$(cckcc --cleanup | sed 's/,.*//')" 'removed 0 files'
 check 'a store without a limit' "$(CCK_MAXSIZE=0 cckcc -c | sed 's/,.*//')" 'removed 0 files'
 cckcc --max-size 100 >/dev/null
@@ -80,7 +92,7 @@ mkdir -p "$room/configuration/cck"
 echo "CCK_STORE = $room/other store" >"$room/configuration/cck/config"
 gcc -c x.c
 (unset CCK_STORE; gcc -c x.c; gcc -c x.c)
-check 'a hit with a configuration file' "$(CCK_STORE=$room/other\ store cckcc -s | grep '^count hit')" 'count hit 1'
+check 'a hit with a configuration file' "$(CCK_STORE=$room/other\ store cckcc -s | grep '^hits' | sed 's/  */ /')" 'hits 1 of 2 (50.0 %)'
 rm -r "$room/configuration"
 cckcc --unknown 2>/dev/null
 check 'an unknown option' $? 2
