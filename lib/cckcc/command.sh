@@ -83,61 +83,64 @@ print_found() {
     exit $cck_status
 }
 
-# Prints what `stats` printed as a table. Of the compilations that could be found some were, directly, by their texts or at a
-# server; the others were recorded or not. A rate is of these.
+# Makes a table of what `stats` printed. Of the compilations that could be found some were, directly, by their texts or at a
+# server; the others were recorded or not. The rate is of these.
+cck_table='
+    function line(name, value) { printf "%-24s %s\n", name, value }
+    function size(bytes, unit) {
+        for (unit = 1; bytes >= 999.95 && unit < 5; unit++) bytes /= 1000
+        return unit == 1 ? sprintf("%.0f bytes", bytes) : sprintf("%.1f %s", bytes, substr("  kBMBGBTB", 2 * unit - 1, 2))
+    }
+    function sum(pattern, name, all) {
+        for (name in counts) if (name ~ pattern) all += counts[name]
+        return all + 0
+    }
+    function list(pattern, begun, name, best) {
+        while (1) {
+            best = ""
+            for (name in counts) if (name ~ pattern && !(name in listed))
+                if (best == "" || counts[name] > counts[best] || (counts[name] == counts[best] && name < best)) best = name
+            if (best == "") return
+            listed[best]
+            name = best
+            sub(begun, "", name)
+            line("  " name, sprintf("%.0f", counts[best]))
+        }
+    }
+    $1 == "count" { counts[$2] = $3; next }
+    NF == 3 { files[$1] = $2; next }
+    { values[$1] = $2 }
+    END {
+        found = "^(server-)?hit(-text)?$"
+        missed = "^(recorded|refused-.*|not-recorded-.*|record-error)$"
+        passed = "^(passed-.*|no-key)$"
+        hits = sum(found)
+        all = hits + sum(missed)
+        line("store", ENVIRON["cck_store"])
+        if (ENVIRON["cck_since"] != "") line("since", ENVIRON["cck_since"])
+        line("hits", sprintf("%.0f of %.0f", hits, all) (all ? sprintf(" (%.1f %%)", 100 * hits / all) : ""))
+        list(found)
+        line("misses", sprintf("%.0f", all - hits))
+        list(missed)
+        line("passed on", sprintf("%.0f", sum(passed)))
+        list(passed, "^passed-")
+        listed["miss"]
+        listed["unpacked"]
+        if (sum("^server-") > sum("^server-hit")) { line("server", ""); list("^server-") }
+        for (name in counts) if (!(name in listed)) others = 1
+        if (others) { line("others", ""); list("") }
+        limit = values["limit"] == "none" ? "no limit" : size(values["limit"])
+        line("size", size(values["size"]) " of " limit)
+        line("  entries", files["entries"] + 0)
+        line("  objects", files["objects"] + 0)
+    }'
+
+# Prints this table.
 print_table() {
     cck_zeroed=$cck_store/zeroed
     [ -f "$cck_zeroed" ] || cck_zeroed=$cck_store/VERSION
     cck_since=$(date -r "$cck_zeroed" '+%Y-%m-%d %H:%M' 2>/dev/null)
-    printf '%s\n' "$cck_found" | cck_store=$cck_store cck_since=$cck_since LC_ALL=C awk '
-        function line(name, value) { printf "%-24s %s\n", name, value }
-        function size(bytes, unit) {
-            for (unit = 1; bytes >= 999.95 && unit < 5; unit++) bytes /= 1000
-            return unit == 1 ? sprintf("%.0f bytes", bytes) : sprintf("%.1f %s", bytes, substr("  kBMBGBTB", 2 * unit - 1, 2))
-        }
-        function sum(pattern, name, all) {
-            for (name in counts) if (name ~ pattern) all += counts[name]
-            return all + 0
-        }
-        function list(pattern, begun, name, best) {
-            while (1) {
-                best = ""
-                for (name in counts) if (name ~ pattern && !(name in listed))
-                    if (best == "" || counts[name] > counts[best] || (counts[name] == counts[best] && name < best)) best = name
-                if (best == "") return
-                listed[best]
-                name = best
-                sub(begun, "", name)
-                line("  " name, sprintf("%.0f", counts[best]))
-            }
-        }
-        $1 == "count" { counts[$2] = $3; next }
-        NF == 3 { files[$1] = $2; next }
-        { values[$1] = $2 }
-        END {
-            found = "^(server-)?hit(-text)?$"
-            missed = "^(recorded|refused-.*|not-recorded-.*|record-error)$"
-            passed = "^(passed-.*|no-key)$"
-            hits = sum(found)
-            all = hits + sum(missed)
-            line("store", ENVIRON["cck_store"])
-            if (ENVIRON["cck_since"] != "") line("since", ENVIRON["cck_since"])
-            line("hits", sprintf("%.0f of %.0f", hits, all) (all ? sprintf(" (%.1f %%)", 100 * hits / all) : ""))
-            list(found)
-            line("misses", sprintf("%.0f", all - hits))
-            list(missed)
-            line("passed on", sprintf("%.0f", sum(passed)))
-            list(passed, "^passed-")
-            listed["miss"]
-            listed["unpacked"]
-            if (sum("^server-") > sum("^server-hit")) { line("server", ""); list("^server-") }
-            for (name in counts) if (!(name in listed)) others = 1
-            if (others) { line("others", ""); list("") }
-            limit = values["limit"] == "none" ? "no limit" : size(values["limit"])
-            line("size", size(values["size"]) " of " limit)
-            line("  entries", files["entries"] + 0)
-            line("  objects", files["objects"] + 0)
-        }'
+    printf '%s\n' "$cck_found" | cck_store=$cck_store cck_since=$cck_since LC_ALL=C awk "$cck_table"
 }
 
 # Prints what the store has, and the counts: a table, or with --json an object, in which a store without a limit has `null`.
