@@ -2,7 +2,9 @@
 """A table of calls, tests/real/cases.txt: what the wrapper does in each, and that all its outputs (status, what is
 printed, files with their modes) are the plain compiler's. Where ccache is installed its outputs are compared too,
 and reported. A case that is known to escape is reported too, and does not fail. Run by hand; needs gcc and the program
-(CCK_PROGRAM, by default the one that was proved and built here). The last line is `real_cases: N passed, M failed`."""
+(CCK_PROGRAM, by default the one that was proved and built here). With --compiler g++ all inputs are in C++, and the
+outputs alone are compared: the verdicts of the table are those of gcc. The last line is
+`real_cases: N passed, M failed`."""
 import argparse
 import concurrent.futures
 import os
@@ -63,11 +65,11 @@ def do(items, place, variables):
 class Case:
     """One case in a room: what was not right of its calls."""
 
-    def __init__(self, room, fields, tools, with_ccache):
+    def __init__(self, room, fields, compiler, tools, with_ccache):
         _, files, self.line, change, again, right = fields
         self.room, self.wrong, self.verdicts, self.with_ccache, self.others = room, [], [], with_ccache, []
-        self.escapes = False
-        self.variables = {**room.variables, **tools, "CC": COMPILER, "CACHED": f"{WRAPPER} {COMPILER}"}
+        self.escapes, self.compiler = False, compiler
+        self.variables = {**room.variables, **tools, "CC": compiler, "CACHED": f"{WRAPPER} {compiler}"}
         second, _, last = right.rpartition(", ")
         self.act(files)
         self.call("first", None)
@@ -91,20 +93,22 @@ class Case:
     def words(self, compiler):
         """The call by a compiler, as a line of a shell."""
         line = unescape(self.line)
+        if "$CXX" in line:
+            return ["sh", "-c", line.replace("$CXX", compiler.removesuffix(COMPILER).removesuffix("g++") + "g++")]
         return ["sh", "-c", line.replace("$CC", compiler) if "$CC" in line else f"{compiler} {line}"]
 
     def call(self, name, right):
         """Makes a call by the plain compiler and by the wrapper, and keeps what was not right."""
-        judged = self.room.judge((self.words(COMPILER), "w", {}, 0o022), self.words(f"{WRAPPER} {COMPILER}"))
+        judged = self.room.judge((self.words(self.compiler), "w", {}, 0o022), self.words(f"{WRAPPER} {self.compiler}"))
         self.verdicts.append(judged.verdict)
         if right == "escapes":
             self.escapes = bool(judged.differing)
         elif judged.differing:
             self.wrong.append(f"{name} ({judged.verdict}): {', '.join(judged.differing)}")
-        elif right and judged.verdict not in right.split("/"):
+        elif right and self.compiler == COMPILER and judged.verdict not in right.split("/"):
             self.wrong.append(f"{name} is {judged.verdict}, not {right}")
         if self.with_ccache:
-            other = self.room.run(self.words(f"ccache {COMPILER}"), "w", {}, 0o022)
+            other = self.room.run(self.words(f"ccache {self.compiler}"), "w", {}, 0o022)
             self.others = difference(judged.wanted, other)
 
 
@@ -117,11 +121,11 @@ def build(directory):
     return {"STUB": directory + "/stub", "WHOLE": directory + "/whole.so"}
 
 
-def run(case, tools, with_ccache):
+def run(case, compiler, tools, with_ccache):
     """Runs a case in a room of its own."""
     directory = tempfile.mkdtemp(prefix="cck-")
     try:
-        return Case(Room(directory), case, tools, with_ccache)
+        return Case(Room(directory), case, compiler, tools, with_ccache)
     finally:
         shutil.rmtree(directory, ignore_errors=True)
 
@@ -129,6 +133,7 @@ def run(case, tools, with_ccache):
 def arguments():
     parser = argparse.ArgumentParser(description=__doc__)
     parser.add_argument("names", nargs="*", help="parts of the names of cases, by default all")
+    parser.add_argument("--compiler", default=COMPILER)
     parser.add_argument("--jobs", type=int, default=1, help="cases side by side")
     return parser.parse_args()
 
@@ -141,21 +146,24 @@ def main():
         if not set(case[5].replace(", ", "/").split("/")) <= set(VERDICTS):
             sys.exit(f"{TABLE}: no verdict: {case[5]}")
     with_ccache = shutil.which("ccache")
-    failed = others = escaped = 0
+    failed = others = escaped = hits = 0
     with tempfile.TemporaryDirectory(prefix="cck-") as directory, concurrent.futures.ThreadPoolExecutor(
             options.jobs) as pool:
         tools = build(directory)
-        for case, done in zip(chosen, pool.map(lambda case: run(case, tools, with_ccache), chosen)):
+        for case, done in zip(chosen, pool.map(
+                lambda case: run(case, options.compiler, tools, with_ccache), chosen)):
             failed += bool(done.wrong)
             others += bool(done.others)
             escaped += done.escapes
+            hits += done.verdicts.count("hit")
             said = f"FAILED: {case[0]}: {'; '.join(done.wrong)}"
             said = said if done.wrong else f"{case[0]}: {', '.join(done.verdicts)}{' (escapes)' * done.escapes}"
             print(said + (f" [ccache: {', '.join(done.others)}]" if done.others else ""), flush=True)
     if with_ccache:
-        print(f"ccache: {others} with another output than {COMPILER}'s")
+        print(f"ccache: {others} with another output than {options.compiler}'s")
     if escaped:
         print(f"known to escape: {escaped}")
+    print(f"hits: {hits}")
     print(f"real_cases: {len(chosen) - failed - escaped} passed, {failed} failed")
     sys.exit(1 if failed else 0)
 

@@ -66,7 +66,7 @@ command -v "$cck_program" > /dev/null || cck_reason=no-program
 has_tools || cck_reason=no-tool
 [ -z "$cck_has_specs${GLIBC_TUNABLES+set}" ] || cck_reason=variable
 # The list of directories that the compiler prints has one in each line.
-case $CPATH$C_INCLUDE_PATH in
+case $CPATH$C_INCLUDE_PATH$CPLUS_INCLUDE_PATH in
 *"$cck_newline"*) cck_reason=variable ;;
 esac
 locate as
@@ -135,12 +135,11 @@ says_what_it_read() {
     "$1" --MD "$2/read" -o "$2/object" /dev/null 2>/dev/null && [ -s "$2/read" ]
 }
 
-# Whether the table of options is the compiler's: it is gcc 12 for C. A script, or a program of another name that links
-# lead to, as ccache, may call a compiler with more options, or keep objects itself.
+# Whether the table of options is the compiler's: it is gcc 12. A script, or a program of another name that links lead to,
+# as ccache, may call a compiler with more options, or keep objects itself.
 is_known() {
-    case ${cck_compiler##*/}:${cck_driver##*/} in
-    *++*) return 1 ;;
-    *:*gcc*) ;;
+    case ${cck_driver##*/} in
+    *gcc*|*g++*) ;;
     *) return 1 ;;
     esac
     case $("$cck_compiler" -dumpversion 2>/dev/null) in
@@ -169,7 +168,7 @@ has_plain_libraries() {
 # they are not known.
 add_loaded() {
     [ ! -e /etc/ld.so.preload ] || cck_programs=$cck_programs:/etc/ld.so.preload
-    for cck_next in "$cck_driver" "$cck_proper" "$cck_assembler"; do
+    for cck_next in "$cck_driver" "$cck_proper" "$cck_assembler" $cck_plusplus; do
         cck_loaded=$(LC_ALL=C ldd "$cck_next" 2>&1) || case $cck_loaded in
         *'not a dynamic executable'*) cck_loaded= ;;
         *) return 1 ;;
@@ -244,16 +243,34 @@ find_searched() {
     done
 }
 
+# Sets `cck_proper` to the program that makes assembler code of a source in C, which is that for C++ if the compiler takes the
+# source for one in C++, and `cck_plusplus` to that for C++, or to nothing if there is none. $1 is a directory.
+find_proper() {
+    cck_proper=$("$cck_compiler" -print-prog-name=cc1 2>/dev/null)
+    cck_plusplus=$("$cck_compiler" -print-prog-name=cc1plus 2>/dev/null)
+    true > "$1/empty.c"
+    case $(LC_ALL=C "$cck_compiler" '-###' -c "$1/empty.c" -o "$1/empty.o" 2>&1) in
+    *" $cck_plusplus "*) cck_proper=$cck_plusplus ;;
+    *" $cck_proper "*) ;;
+    *) cck_proper= ;;
+    esac
+    case $cck_plusplus in
+    *[!A-Za-z0-9_/.+-]*) cck_proper= ;;
+    /*) ;;
+    *) cck_plusplus= ;;
+    esac
+}
+
 # Asks the compiler for the programs, and keeps them. It fails where there is no temporary directory. Where a tool fails the
 # compiler is unknown to this call alone.
 find_programs() {
     cck_driver=$(readlink -f "$cck_located" 2>/dev/null)
-    cck_proper=$("$cck_compiler" -print-prog-name=cc1 2>/dev/null)
     cck_assembler=$(command -v "$("$cck_compiler" -print-prog-name=as 2>/dev/null)")
     cck_programs=-
     cck_tried=$(make_directory) || return 1
+    find_proper "$cck_tried"
     if is_known && ! reads_specs && has_plain_libraries && says_what_it_read "$cck_assembler" "$cck_tried"; then
-        cck_programs=$cck_located:$cck_proper:$cck_assembler
+        cck_programs=$cck_located:$cck_proper:$cck_assembler${cck_plusplus:+:$cck_plusplus}
         add_loaded || { cck_programs=-; rm -rf "$cck_tried"; return 0; }
     fi
     rm -rf "$cck_tried"
@@ -409,7 +426,7 @@ look_for_text() {
 # Whether the object of the text may be that of another directory. Where the call names directories of system headers,
 # gcc may name a header by its real path, if that is shorter, so that two directories differ.
 shares_text() {
-    [ -z "$C_INCLUDE_PATH" ] || return 1
+    [ -z "$C_INCLUDE_PATH$CPLUS_INCLUDE_PATH" ] || return 1
     case $cck_preprocessed in
     *-isystem*|*-idirafter*|*-isysroot*) return 1 ;;
     esac
@@ -524,7 +541,8 @@ find_own() {
 
 # Functions of `judge_text`. The first two read a file of the project, without its splices. They look for the name of a test,
 # or for a beginning of one; for builtin functions of x86; for pragmas that save macros; and for what may be a line marker. A
-# file of a device is not read. The third one says whether a raw string goes on in the next line.
+# file of a device is not read. The next two are for macros that stand for a test for a header: where one is used, a word of the
+# header's name may be a macro too, which the text then shows. The last one says whether a raw string goes on in the next line.
 cck_reading='
     BEGIN {
         blank = "[ \t\r\f\013]"
@@ -558,6 +576,21 @@ cck_reading='
         read_line(held)
         if (close(file) != 0) asks = 1
     }
+    function add_words(line) {
+        while (match(line, /[A-Za-z_$\200-\377][A-Za-z0-9_$\200-\377]*/)) {
+            expanded[substr(line, RSTART, RLENGTH)]
+            line = substr(line, RSTART + RLENGTH)
+        }
+    }
+    function is_macro(file, line, word) {
+        while ((getline line < file) > 0) {
+            if (line !~ /^#define /) continue
+            word = substr(line, 9)
+            sub(/[( ].*/, "", word)
+            if (word in expanded) return 1
+        }
+        return close(file) != 0
+    }
     function goes_on(line, begun, place) {
         while (match(line, /(^|[^A-Za-z0-9_])(u8|u|U|L)?R"[^ ()\\\t"]*\(/)) {
             begun = substr(line, RSTART, RLENGTH - 1)
@@ -588,6 +621,11 @@ cck_judging='
     }
     index($0, "R\"") && goes_on($0) { marks = 1 }
     !/^[ \t]*#/ { next }
+    /^#define [^ (]+ *__has_include(_next)? *\( *</ {
+        add_words(substr($0, index($0, "<")))
+        stands = 1
+    }
+    /^#define struct[ (]/ { reason = "header-test" }
     /^# [0-9]+ "/ {
         flags = name = $0
         sub(/.*"/, "", flags)
@@ -626,6 +664,7 @@ cck_judging='
         if (ENVIRON["cck_targets"] != "") targets = 1
         if (asks && (targets || silences)) reason = "other-file"
         if (tests && parallel && ENVIRON["cck_extended"] != "") reason = "header-test"
+        if (stands && is_macro(FILENAME)) reason = "header-test"
         print shows_time ? "time-macro" : reason
         print doubts (asks ? " builtins" : "")
         print warns || has_pragmas || saves ? "all" : ""
@@ -673,11 +712,11 @@ changes_targets() {
 # Whether the compilation declares a builtin function, which `__has_builtin` then denies: the compiler lists the functions
 # that it declares, and the preprocessor is asked for each word of the list, and for each word of the text that begins with
 # two underscores and is not called, as where there are no builtin functions of C. The compiler warns of a builtin function
-# that is declared as something else. The status is 1 if there is none.
+# that is declared as something else. The status is 1 if there is none. In C++ there is no list.
 declares_builtin() {
     eval "LC_ALL=C \"\$cck_compiler\" $cck_preprocessed" \
         '-Wshadow -Wsystem-headers -Wno-error -fsyntax-only -aux-info "$cck_scratch/declared"' \
-        < /dev/null > "$cck_scratch/declaring" 2>&1 || return 2
+        < /dev/null > "$cck_scratch/declaring" 2>&1 && [ -s "$cck_scratch/declared" ] || return 2
     LC_ALL=C awk '
         !is_text { $0 = substr($0, index($0, "*/") + 2) }
         is_text && /^#/ { next }

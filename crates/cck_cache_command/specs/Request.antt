@@ -1,5 +1,6 @@
 -- requests as requests over snapshots
-use Rattle.std.specs.Prelude.{◌≡◌, List, [], ◌∷◌, ◌++◌, false, Option, Some, None, codes}
+use Rattle.std.specs.Prelude.{◌≡◌, ℕ, Bool, ◌==◌, ◌||◌, nat_eq, List, [], ◌∷◌, ◌++◌, Option, Some, None, codes, string_bytes, if◌then◌else◌}
+use Rattle.std.specs.List.{after_first, before_first, ends_with}
 use Rattle.std.specs.Option.{option_map}
 use Rattle.c_cache_keys.specs.Keys.{preprocessor_key_of}
 use Rattle.c_cache_keys.specs.Opening.{IsPreprocessorKey}
@@ -10,6 +11,7 @@ use Rattle.cck_cache_rules.specs.Base.{BaseOf, WordLists}
 use Rattle.cck_cache_command.specs.Input.{IsInput}
 use Rattle.cck_cache_command.specs.declared.environment.Environment.{Environment}
 use Rattle.cck_cache_arguments.specs.declared.request.Request.{Request}
+use Rattle.cck_cache_options.specs.Call.{is_cplusplus}
 use Rattle.cck_compiler.specs.Arguments.{Arguments, only_input}
 use Rattle.cck_compiler.specs.Seen.{arguments_of}
 use Rattle.cck_compiler.specs.declared.compiler.CCompilerKind.TheVariants.{Gcc}
@@ -21,7 +23,8 @@ use Rattle.cck_snapshot.specs.Requests.{call_for, world_for}
 use Rattle.cck_snapshot.specs.declared.compiler.ExternalCompiler.{ExternalCompiler}
 use Rattle.cck_snapshot.specs.declared.requests.SnapshotRequest.{SnapshotRequest}
 use Rattle.cck_include.specs.Config.{activated}
-use Rattle.cck_util.specs.declared.language.Language.TheVariants.{C}
+use Rattle.cck_util.specs.declared.language.Language.{Language}
+use Rattle.cck_util.specs.declared.language.Language.TheVariants.{C, Cxx}
 use Rattle.sha2.specs.Sha256.{sha256}
 
 -- the words that the base directory depends on
@@ -44,21 +47,33 @@ keyed_arguments words locale base =
 abbrev pub AreKeyed : WordLists → Bytes → List Bytes → Type 0
 AreKeyed words locale arguments = (base : Option Bytes) × BaseOf words base × (arguments ≡ keyed_arguments words locale base)
 
--- gcc, whose version and assembler are part of the digest of its programs
-abbrev pub gcc : External
-gcc = record { kind = Gcc; plusplus = false; version = None; assembler_digest = None }
+abbrev pub is_colon : ℕ → Bool
+is_colon byte = byte == 58
 
--- a command line of C with this input, these definitions of macros, of which the text shows those that count, and these other arguments
-abbrev pub gcc_arguments : Bytes → List Bytes → List Bytes → Arguments
-gcc_arguments input definitions arguments = record (only_input input C) { preprocessor_args = definitions; common_args = arguments }
+-- a compiler takes a source in C for one in C++: the second of its programs, which have colons between them, is that for C++
+abbrev pub is_plusplus : Bytes → Bool
+is_plusplus programs = ends_with nat_eq (before_first is_colon (after_first is_colon programs)) (codes "/cc1plus")
+
+-- the language of an input, by the compiler and by its name
+abbrev pub language_of : Request → Language
+language_of request = if is_plusplus (string_bytes request.compiler) || is_cplusplus request.input.now then Cxx else C
+
+-- gcc, whose version and assembler are part of the digest of its programs
+abbrev pub gcc : Bool → External
+gcc plusplus = record { kind = Gcc; plusplus = plusplus; version = None; assembler_digest = None }
+
+-- a command line with this input of this language, these definitions of macros, of which the text shows those that count, and these other arguments
+abbrev pub gcc_arguments : Bytes → Language → List Bytes → List Bytes → Arguments
+gcc_arguments input language definitions arguments =
+    record (only_input input language) { preprocessor_args = definitions; common_args = arguments }
 
 -- The compilation of a request. The digest of its programs is what the system says of them, or that of their contents.
 pub record IsHasher (environment : Environment) (request : Request) (hasher : CCompilerHasher ExternalCompiler) : Type 0 where
-  pub compiler : external_of hasher.compiler ≡ gcc
+  pub compiler : external_of hasher.compiler ≡ gcc (is_plusplus (string_bytes request.compiler))
   pub executable : hasher.executable.items ≡ []
   pub arguments : List Bytes
   pub keyed : AreKeyed (request_words request) environment.locale.items arguments
-  pub parsed : arguments_of hasher.parsed_args ≡ gcc_arguments request.input.now (lists_of request.definitions.items) arguments
+  pub parsed : arguments_of hasher.parsed_args ≡ gcc_arguments request.input.now (language_of request) (lists_of request.definitions.items) arguments
 
 -- the request over a snapshot, at this time and with these base directories
 pub record IsRequest (environment : Environment) (request : Request) (time : Moment) (bases : List Bytes) (asked : SnapshotRequest) : Type 0 where

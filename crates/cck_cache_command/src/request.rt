@@ -1,9 +1,10 @@
 //! The compilation of a request.
 ghost use Rattle.std.specs.Prelude.{◌≡◌, ◌++◌, ◌∷◌, [], Bool, IfOk, OnOk, string_bytes};
+ghost use Rattle.std.specs.List.{before_first};
 ghost use Rattle.std.specs.Option.{option_map};
 ghost use Rattle.cck_cache_rules.specs.Base.{word_lists};
 ghost use Rattle.cck_cache_command.specs.Input.{IsInput};
-ghost use Rattle.cck_cache_command.specs.Request.{AreKeyed, HasPreprocessorKey, IsHasher, IsRequest, gcc_arguments, request_words};
+ghost use Rattle.cck_cache_command.specs.Request.{AreKeyed, HasPreprocessorKey, IsHasher, IsRequest, gcc_arguments, is_colon, is_plusplus, language_of, request_words};
 ghost use Rattle.cck_cache_arguments.specs.declared.request.Request as words;
 ghost use Rattle.cck_compiler.specs.Seen.{arguments_of};
 ghost use Rattle.cck_path.specs.Bytes.{lists_of};
@@ -14,6 +15,7 @@ use anyhow::{Context, Result};
 use c_cache_keys::{CCompilerHasher, CCompilerKind, ParsedArguments};
 use cck_cache_arguments::Request;
 use cck_cache_files::{compiler_digest, shared_compiler_digest};
+use cck_cache_options::is_cplusplus;
 use cck_cache_rules::{Words, base_of};
 use cck_compiler::copy_lists;
 use cck_files::MapFiles;
@@ -73,17 +75,50 @@ fn keyed_arguments(
     Ok(all)
 }
 
-// A parsed command line with this input, these definitions of macros and these arguments, and nothing else.
+// What is before the first colon of a text, or all.
+fn before_colon(text: &str) -> &str
+    ensures { result.now ≡ before_first is_colon text.now }
+{
+    match text.split_once(':') {
+        Some((front, _)) => front,
+        None => text,
+    }
+}
+
+// Whether the compiler with these programs takes a source in C for one in C++.
+fn is_plusplus(programs: &str) -> bool
+    ensures { result ≡ is_plusplus programs.now }
+{
+    match programs.split_once(':') {
+        Some((_, rest)) => before_colon(rest).ends_with("/cc1plus"),
+        None => false,
+    }
+}
+
+// The language of the input of a request.
+fn language_of(request: &Request<'_>) -> Language
+    ensures { result ≡ language_of request.now }
+{
+    if is_plusplus(request.compiler.as_str()) || is_cplusplus(request.input.as_bytes()) {
+        Language::Cxx
+    } else {
+        Language::C
+    }
+}
+
+// A parsed command line with this input of this language, these definitions of macros and these arguments, and
+// nothing else.
 fn parsed(
     alloc: Global,
     input: Vec<u8>,
+    language: Language,
     definitions: Vec<Vec<u8>>,
     common_args: Vec<Vec<u8>>,
 ) -> ParsedArguments
     ensures { arguments_of result
-        ≡ gcc_arguments input.items (lists_of definitions.items) (lists_of common_args.items) }
+        ≡ gcc_arguments input.items language (lists_of definitions.items) (lists_of common_args.items) }
 {
-    let mut arguments = ParsedArguments::new(alloc, input, Language::C);
+    let mut arguments = ParsedArguments::new(alloc, input, language);
     arguments.preprocessor_args = definitions;
     arguments.common_args = common_args;
     arguments
@@ -123,13 +158,13 @@ pub fn hasher_of<R: Files + AllocGlobal>(
     Ok(CCompilerHasher {
         compiler: ExternalCompiler {
             kind: CCompilerKind::Gcc,
-            plusplus: false,
+            plusplus: is_plusplus(request.compiler.as_str()),
             version: None,
             assembler_digest: None,
         },
         executable: Vec::new(alloc),
         executable_digest: digest_of(rt, environment, request)?,
-        parsed_args: parsed(alloc, input, definitions, arguments),
+        parsed_args: parsed(alloc, input, language_of(request), definitions, arguments),
     })
 }
 

@@ -191,11 +191,25 @@ abbrev pub with_input : Asked → Option (List ℕ) → List ℕ → State
 with_input call None argument = go (record (keep call Text argument) { input = Some argument }) None
 with_input call (Some other) argument = stop TwoInputs
 
--- whether a compiler takes a file of this name for a source in C: it ends in `.c` and is longer
-abbrev pub is_source : List ℕ → Bool
-is_source name = ends_with nat_eq (drop 1 name) (codes ".c")
+-- a compiler takes a file of this name for a source in C: it ends in `.c` and is longer
+abbrev pub is_c : List ℕ → Bool
+is_c name = ends_with nat_eq (drop 1 name) (codes ".c")
 
--- an argument that is no option and no value: a source in C
+-- a text ends in a suffix of C++
+abbrev pub ends_in_cplusplus : List ℕ → Bool
+ends_in_cplusplus text =
+    ends_with nat_eq text (codes ".cc") || (ends_with nat_eq text (codes ".cp") || (ends_with nat_eq text (codes ".cxx")
+    || (ends_with nat_eq text (codes ".cpp") || (ends_with nat_eq text (codes ".CPP") || (ends_with nat_eq text (codes ".c++")
+    || ends_with nat_eq text (codes ".C"))))))
+
+-- a compiler takes a file of this name for a source in C++: it ends in such a suffix and is longer
+abbrev pub is_cplusplus : List ℕ → Bool
+is_cplusplus name = ends_in_cplusplus (drop 1 name)
+
+abbrev pub is_source : List ℕ → Bool
+is_source name = is_c name || is_cplusplus name
+
+-- an argument that is no option and no value: a source in C or C++
 abbrev pub on_input : Asked → List ℕ → State
 on_input call argument = cond (is_source argument) (with_input call call.input argument) (stop OtherInput)
 

@@ -3,7 +3,7 @@ ghost use Rattle.std.specs.Prelude.{◌≡◌, IfOk, map};
 ghost use Rattle.std.specs.Option.{option_map};
 ghost use Rattle.cck_cache_options.specs.Runs.{AreRuns, runs_entries};
 ghost use Rattle.cck_cache_options.specs.Table.{entries};
-ghost use Rattle.cck_cache_options.specs.Call.{advance, call_of, conclude, finish, flag, is_contrary, is_keyed, is_preprocessed, is_source, keep, next_of, nothing_asked, on_argument, on_dash, on_input, on_option, on_value, outcome_of, parse, refused, step, take, take_dependency_file, take_output, take_preprocessor_file};
+ghost use Rattle.cck_cache_options.specs.Call.{advance, call_of, conclude, ends_in_cplusplus, finish, flag, is_c, is_contrary, is_cplusplus, is_keyed, is_preprocessed, is_source, keep, next_of, nothing_asked, on_argument, on_dash, on_input, on_option, on_value, outcome_of, parse, refused, step, take, take_dependency_file, take_output, take_preprocessor_file};
 
 use crate::reason::Reason;
 use crate::runs::{Runs, longest, runs_of};
@@ -217,13 +217,46 @@ fn on_option<'a>(
 }
 
 // Whether the compiler takes a file of this name for a source in C: it ends in `.c` and is longer.
-fn is_source(name: &[u8]) -> bool
-    ensures { result ≡ is_source name.now }
+fn is_c(name: &[u8]) -> bool
+    ensures { result ≡ is_c name.now }
 {
     match name.split_first() {
         Some((_, rest)) => rest.ends_with(b".c"),
         None => false,
     }
+}
+
+// Whether a text ends in a suffix by which the compiler takes a file for a source in C++.
+fn ends_in_cplusplus(text: &[u8]) -> bool
+    ensures { result ≡ ends_in_cplusplus text.now }
+{
+    text.ends_with(b".cc")
+        || text.ends_with(b".cp")
+        || text.ends_with(b".cxx")
+        || text.ends_with(b".cpp")
+        || text.ends_with(b".CPP")
+        || text.ends_with(b".c++")
+        || text.ends_with(b".C")
+}
+
+/// Whether the compiler takes a file of this name for a source in C++: it ends in one of the suffixes of
+/// C++ and is longer.
+///
+/// Source: "Options Controlling the Kind of Output" of the manual of GCC.
+pub fn is_cplusplus(name: &[u8]) -> bool
+    ensures { result ≡ is_cplusplus name.now }
+{
+    match name.split_first() {
+        Some((_, rest)) => ends_in_cplusplus(rest),
+        None => false,
+    }
+}
+
+// Whether the compiler takes a file of this name for a source in C or C++.
+fn is_source(name: &[u8]) -> bool
+    ensures { result ≡ is_source name.now }
+{
+    is_c(name) || is_cplusplus(name)
 }
 
 // The state after an argument that is no option and no value. The text may show the path of the input,

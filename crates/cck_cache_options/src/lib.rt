@@ -4,7 +4,8 @@
 //! the reading with a reason: the call then goes to the compiler as it came.
 //!
 //! - [`rows_of`] reads a table of options from its text, and [`GCC`] is that of gcc.
-//! - [`parse`] reads the arguments of a call by the rows of a table.
+//! - [`parse`] reads the arguments of a call by the rows of a table, and [`is_cplusplus`] says which inputs
+//!   are in C++.
 //! - [`push_word`] appends an argument as a POSIX shell reads it back, and
 //!   [`push_preprocessor_arguments`] those of a call that the preprocessor has.
 //! - [`is_definition`] says which arguments define macros, and [`macro_option`] how the preprocessor shows
@@ -22,7 +23,7 @@ mod reason;
 mod runs;
 mod table;
 
-pub use call::{Call, Keyed, Parsed, parse};
+pub use call::{Call, Keyed, Parsed, is_cplusplus, parse};
 pub use definition::{is_definition, macro_option};
 pub use gcc::GCC;
 pub use paths::{dependency_path, object_path};

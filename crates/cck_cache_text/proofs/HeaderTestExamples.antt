@@ -3,7 +3,7 @@ use Rattle.std.proofs.Common.{◌≡◌, true, false, Some, None, codes, refl}
 use Rattle.cck_cache_text.specs.SearchList.{text_lines}
 use Rattle.cck_cache_text.specs.Condition.{after_piece, is_known, is_read}
 use Rattle.cck_cache_text.specs.HeaderTests.{is_no_test, is_passed_over, is_test, may_be_open, may_begin_open, tested}
-use Rattle.cck_cache_text.specs.TestMacro.{is_alias, is_defined}
+use Rattle.cck_cache_text.specs.TestMacro.{is_alias, is_defined, macro_test, names_class}
 use Rattle.cck_cache_text.specs.TestName.{name_in}
 
 -- ---- conditions
@@ -117,6 +117,40 @@ alias = refl
 no_alias : is_alias (codes "#define X_HAS_INCLUDE(x) ") (codes "__has_include(x)") ≡ false
 no_alias = refl
 
+-- ---- macros that stand for a test
+
+stands_for_a_test : macro_test (codes "# define T ") (codes "__has_include ( <a/b.h> ) // c") ≡ None
+stands_for_a_test = refl
+
+stands_for_it_alone : macro_test (codes "# define T ") (codes "__has_include ( <a/b.h> ) /* c */") ≡ Some (record { name = codes "a/b.h"; is_quoted = false })
+stands_for_it_alone = refl
+
+stands_for_more : macro_test (codes "#define T ") (codes "__has_include(<a.h>) && A") ≡ None
+stands_for_more = refl
+
+in_quotes_there : macro_test (codes "#define T ") (codes "__has_include(\"a.h\")") ≡ None
+in_quotes_there = refl
+
+with_a_parameter : macro_test (codes "#define T(x) ") (codes "__has_include(<a.h>)") ≡ None
+with_a_parameter = refl
+
+without_a_name : macro_test (codes "#define ") (codes "__has_include(<a.h>)") ≡ None
+without_a_name = refl
+
+by_another_macro : macro_test (codes "#define T ") (codes "X_HAS_INCLUDE(<a.h>)") ≡ None
+by_another_macro = refl
+
+-- ---- names of classes
+
+name_of_a_class : names_class (codes "#define M(x) template<typename T> struct ") ≡ true
+name_of_a_class = refl
+
+name_after_another_word : names_class (codes "#define M(x) struct ") ≡ false
+name_after_another_word = refl
+
+name_in_a_condition : names_class (codes "#if 1 > struct ") ≡ false
+name_in_a_condition = refl
+
 -- ---- lines
 
 in_a_comment : may_begin_open (text_lines (codes "/* a\nb\n*/ c\nd")) 2 ≡ true
@@ -140,6 +174,9 @@ known = refl
 
 is_one : is_test false (codes "#if __has_include(<g.h>)") 4 ≡ true
 is_one = refl
+
+defined_as_a_test : tested false (codes "#define T __has_include(<g.h>)") 10 ≡ Some (record { name = codes "g.h"; is_quoted = false })
+defined_as_a_test = refl
 
 blind : tested false (codes "#if F(__has_include(<g.h>))") 6 ≡ None
 blind = refl

@@ -6,7 +6,7 @@ use Rattle.cck_cache_text.specs.TestName.{TestFields, is_judged_word, is_test_wo
 use Rattle.cck_cache_text.specs.Identifier.{ends_in_word, is_start, rest_of_word, word_of}
 use Rattle.cck_cache_text.specs.Directive.{asks_for_definition, is_harmless}
 use Rattle.cck_cache_text.specs.Condition.{is_read}
-use Rattle.cck_cache_text.specs.TestMacro.{is_alias, is_defined}
+use Rattle.cck_cache_text.specs.TestMacro.{is_alias, is_defined, macro_test, names_class}
 use Rattle.cck_cache_text.specs.SearchList.{text_lines}
 use Rattle.cck_cache_text.specs.Splices.{before_blanks}
 use Rattle.cck_cache_text.specs.declared.header_test.HeaderTest.{HeaderTest}
@@ -29,9 +29,9 @@ ends_defined inside line front = ends_in_word front (codes "defined") && is_read
 abbrev pub is_operand : Bool → List ℕ → ℕ → Bool
 is_operand inside line place = asks_for_definition (take place line) || ends_defined inside line (before_parenthesis (before_blanks (take place line)))
 
--- what is between these texts on a line is harmless, or is defined, or stands for a test in a macro
+-- what is between these texts on a line is harmless, or is defined, or stands for a test in a macro, or is a part of the name of a class
 abbrev pub is_passed_over : List ℕ → List ℕ → Bool
-is_passed_over before after = is_harmless before || (is_defined before after || is_alias before after)
+is_passed_over before after = is_harmless before || (is_defined before after || (is_alias before after || names_class before))
 
 -- at this place of a line an identifier begins that is a name of a test, or a part of one
 abbrev pub begins_word : List ℕ → ℕ → Bool
@@ -47,7 +47,9 @@ is_test inside line place = begins_word line place && not (is_no_test inside lin
 
 -- the header whose name is written out at this place of a line
 abbrev pub tested : Bool → List ℕ → ℕ → Option TestFields
-tested inside line place = if is_judged_word (word_of (drop place line)) && is_read inside line place then name_in (rest_of_word (drop place line)) else None
+tested inside line place =
+    if is_judged_word (word_of (drop place line)) && is_read inside line place then name_in (rest_of_word (drop place line))
+    else macro_test (take place line) (drop place line)
 
 -- a line has a test for this header
 abbrev pub IsTestIn : Bool → List ℕ → TestFields → Type 0

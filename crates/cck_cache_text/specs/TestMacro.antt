@@ -1,13 +1,14 @@
 -- macros whose names are read as those of tests
-use Rattle.std.specs.Prelude.{ℕ, Bool, false, not, ◌&&◌, ◌||◌, ◌==◌, List, drop, Option, codes}
+use Rattle.std.specs.Prelude.{ℕ, Bool, false, not, ◌&&◌, ◌||◌, ◌==◌, ◌-◌, nat_eq, nat_lt, List, length, take, drop, Option, Some, None, option_and_then, codes, if◌then◌else◌}
 use Rattle.std.specs.Char.{is_ascii_digit}
+use Rattle.std.specs.List.{ends_with}
 use Rattle.std.specs.Option.{option_map_or}
 use Rattle.std.specs.Str.{bytes_eq}
-use Rattle.cck_cache_text.specs.Identifier.{after_blanks, is_word_byte, rest_of_word, stripped, word_of}
-use Rattle.cck_cache_text.specs.Directive.{directive_words}
-use Rattle.cck_cache_text.specs.TestName.{is_include_word, is_judged_word}
-use Rattle.cck_cache_text.specs.Condition.{is_finished}
-use Rattle.cck_cache_text.specs.Splices.{is_blank, run_length}
+use Rattle.cck_cache_text.specs.Identifier.{after_blanks, ends_in_word, is_word_byte, rest_of_word, stripped, word_of}
+use Rattle.cck_cache_text.specs.Directive.{directive, directive_words}
+use Rattle.cck_cache_text.specs.TestName.{TestFields, is_include_word, is_judged_word, name_in}
+use Rattle.cck_cache_text.specs.Condition.{after_parenthesis, is_finished}
+use Rattle.cck_cache_text.specs.Splices.{before_blanks, is_blank, run_length}
 
 -- a byte of the parameters of a macro
 abbrev pub is_parameter_byte : ℕ → Bool
@@ -45,12 +46,36 @@ is_defined before after =
     let words = directive_words before in
     bytes_eq words (codes "undef") || (bytes_eq words (codes "define") && is_plain_definition after)
 
--- what follows `define` is a name of a test, or of a macro for one, alone and without parameters
-abbrev pub defines_judged : List ℕ → Bool
-defines_judged words =
+-- what follows `define` is no more than a name, without parameters
+abbrev pub defines_name : List ℕ → Bool
+defines_name words =
     let name = after_blanks (drop 6 words) in
-    bytes_eq (word_of words) (codes "define") && (bytes_eq (word_of name) name && is_judged_word name)
+    bytes_eq (word_of words) (codes "define") && (bytes_eq (word_of name) name && nat_lt 0 (length name))
+
+-- the same, and the name is one of a test, or of a macro for one
+abbrev pub defines_judged : List ℕ → Bool
+defines_judged words = defines_name words && is_judged_word (after_blanks (drop 6 words))
 
 -- The name of a test is all that a macro of such a name stands for: each use of the macro is read as a test.
 abbrev pub is_alias : List ℕ → List ℕ → Bool
 is_alias before after = is_test_alone after && defines_judged (directive_words before)
+
+-- the test, if the name of the header is in brackets
+abbrev pub in_brackets : Option TestFields → Option TestFields
+in_brackets found = option_and_then (λ test. if test.is_quoted then None else Some test) found
+
+-- a directive defines a macro that is no more than a test for a header
+abbrev pub stands_for_test : List ℕ → List ℕ → Bool
+stands_for_test before after =
+    is_include_word (word_of after) && (defines_name (directive_words before) && is_finished (after_parenthesis (rest_of_word after)))
+
+-- The test for a name in brackets for which a macro stands, and for no more. Where the macro is used, a word of the name may be a macro.
+abbrev pub macro_test : List ℕ → List ℕ → Option TestFields
+macro_test before after = if stands_for_test before after then in_brackets (name_in (rest_of_word after)) else None
+
+-- A definition names a class after this, which ends in `> struct`: a condition with that is an error, where `struct` is not a macro.
+abbrev pub names_class : List ℕ → Bool
+names_class before =
+    let front = before_blanks before in
+    bytes_eq (directive before) (codes "define")
+    && (ends_in_word front (codes "struct") && ends_with nat_eq (before_blanks (take (length front - 6) front)) (codes ">"))

@@ -80,7 +80,7 @@ fn is_apart(text: &[u8]) -> bool
 }
 
 // What follows the first closing parenthesis.
-fn after_parenthesis(text: &[u8]) -> &[u8]
+pub fn after_parenthesis(text: &[u8]) -> &[u8]
     ensures { result.now ≡ after_parenthesis text.now }
 {
     &text[length_before(text, b')').saturating_add(1).min(text.len())..]

@@ -25,7 +25,7 @@ pub fn asks_for_definition(before: &[u8]) -> bool
 }
 
 // The name of the directive of a line. Empty where the line has none, or where a comment ends in it.
-fn directive(before: &[u8]) -> &[u8]
+pub fn directive(before: &[u8]) -> &[u8]
     ensures { result.now ≡ directive before.now }
 {
     if has(before, b"*/") {

@@ -9,7 +9,7 @@ use crate::directive::{asks_for_definition, is_harmless};
 use crate::identifier::{ends_in_word, is_start, rest_of_word, word_of};
 use crate::search_list::text_lines;
 use crate::splices::before_blanks;
-use crate::test_macro::{is_alias, is_defined};
+use crate::test_macro::{is_alias, is_defined, macro_test, names_class};
 use crate::test_name::{is_judged_word, is_test_word_at, may_have_test, name_in};
 use std::alloc::{AllocError, Global};
 
@@ -51,11 +51,14 @@ fn is_operand(is_open: bool, line: &[u8], place: usize) -> bool
 }
 
 // Whether what is between these texts on a line is harmless, or is defined, or stands for a test in a
-// macro.
+// macro, or is a part of the name of a class.
 fn is_passed_over(before: &[u8], after: &[u8]) -> bool
     ensures { result ≡ is_passed_over before.now after.now }
 {
-    is_harmless(before) || is_defined(before, after) || is_alias(before, after)
+    is_harmless(before)
+        || is_defined(before, after)
+        || is_alias(before, after)
+        || names_class(before)
 }
 
 // Whether an identifier begins at this place of a line that is a name of a test, or a part of one.
@@ -91,7 +94,7 @@ fn tested(is_open: bool, line: &[u8], place: usize) -> Option<(&[u8], bool)>
     if is_judged_word(word_of(after)) && is_read(is_open, line, place) {
         name_in(rest_of_word(after))
     } else {
-        None
+        macro_test(&line[..place], after)
     }
 }
 

@@ -1,14 +1,16 @@
 //! Macros whose names are read as those of tests.
-ghost use Rattle.std.specs.Prelude.{◌≡◌, false};
+ghost use Rattle.std.specs.Prelude.{◌≡◌, drop, false};
 ghost use Rattle.std.specs.Option.{option_map, option_map_or};
 ghost use Rattle.cck_cache_text.specs.Splices.{run_length};
-ghost use Rattle.cck_cache_text.specs.TestMacro.{after_parameters, defines_judged, is_alias, is_defined, is_number, is_number_byte, is_parameter_byte, is_plain_definition, is_plain_macro, is_test_alone};
+ghost use Rattle.cck_cache_text.specs.Identifier.{after_blanks};
+ghost use Rattle.cck_cache_text.specs.TestMacro.{after_parameters, defines_judged, defines_name, is_alias, is_defined, is_number, is_number_byte, is_parameter_byte, is_plain_definition, is_plain_macro, is_test_alone, macro_test, names_class, stands_for_test};
+ghost use Rattle.cck_cache_text.specs.TestName.{lent_fields};
 
-use crate::condition::is_finished;
-use crate::directive::directive_words;
-use crate::identifier::{after_blanks, is_word_byte, rest_of_word, stripped, word_of};
-use crate::splices::is_blank;
-use crate::test_name::{is_include_word, is_judged_word};
+use crate::condition::{after_parenthesis, is_finished};
+use crate::directive::{directive, directive_words};
+use crate::identifier::{after_blanks, ends_in_word, is_word_byte, rest_of_word, stripped, word_of};
+use crate::splices::{before_blanks, is_blank};
+use crate::test_name::{is_include_word, is_judged_word, name_in};
 
 // Whether a byte is one of the parameters of a macro.
 fn is_parameter_byte(byte: u8) -> bool
@@ -100,12 +102,26 @@ pub fn is_defined(before: &[u8], after: &[u8]) -> bool
     words == b"undef".as_slice() || (words == b"define".as_slice() && is_plain_definition(after))
 }
 
-// Whether what follows `define` is such a name alone, without parameters.
+// What follows the name of the directive `define`, and blanks.
+fn defined_name(words: &[u8]) -> &[u8]
+    ensures { result.now ≡ after_blanks (drop 6 words.now) }
+{
+    after_blanks(&words[words.len().min(6)..])
+}
+
+// Whether what follows `define` is no more than a name, without parameters.
+fn defines_name(words: &[u8]) -> bool
+    ensures { result ≡ defines_name words.now }
+{
+    let name = defined_name(words);
+    word_of(words) == b"define".as_slice() && word_of(name) == name && !name.is_empty()
+}
+
+// Whether this name is one of a test, or of a macro for one.
 fn defines_judged(words: &[u8]) -> bool
     ensures { result ≡ defines_judged words.now }
 {
-    let name = after_blanks(&words[words.len().min(6)..]);
-    word_of(words) == b"define".as_slice() && word_of(name) == name && is_judged_word(name)
+    defines_name(words) && is_judged_word(defined_name(words))
 }
 
 // Whether the name of a test is all that a macro of such a name stands for.
@@ -113,4 +129,38 @@ pub fn is_alias(before: &[u8], after: &[u8]) -> bool
     ensures { result ≡ is_alias before.now after.now }
 {
     is_test_alone(after) && defines_judged(directive_words(before))
+}
+
+// Whether a directive between these texts defines a macro that is no more than a test for a header.
+fn stands_for_test(before: &[u8], after: &[u8]) -> bool
+    ensures { result ≡ stands_for_test before.now after.now }
+{
+    is_include_word(word_of(after))
+        && defines_name(directive_words(before))
+        && is_finished(after_parenthesis(rest_of_word(after)))
+}
+
+// The test for a name in brackets for which a macro stands, and for no more. Where the macro is used, a
+// word of the name may be a macro.
+pub fn macro_test<'a>(before: &[u8], after: &'a [u8]) -> Option<(&'a [u8], bool)>
+    ensures { option_map lent_fields result ≡ macro_test before.now after.now }
+{
+    if !stands_for_test(before, after) {
+        return None;
+    }
+    match name_in(rest_of_word(after)) {
+        Some((name, false)) => Some((name, false)),
+        _ => None,
+    }
+}
+
+// Whether a definition names a class after this text, which ends in `> struct`: a condition with that is an
+// error, where `struct` is not a macro.
+pub fn names_class(before: &[u8]) -> bool
+    ensures { result ≡ names_class before.now }
+{
+    let front = before_blanks(before);
+    directive(before) == b"define".as_slice()
+        && ends_in_word(front, b"struct")
+        && before_blanks(&front[..front.len().saturating_sub(6)]).ends_with(b">")
 }
