@@ -1,8 +1,8 @@
 # What bin/cckcc does with a call that is not a hit of a directory: a compilation that is recorded, a call that is not
 # cached, the first call of a compiler, and each call with a server. bin/cckcc sources this script, and has set
-# `cck_compiler`, `cck_program`, `cck_store`, `cck_server`, the address of a server or nothing, `cck_color`, which is an
-# option of the compiler or nothing, and `cck_found`, what the program printed of the call, if it was called. The words
-# are the compiler's arguments.
+# `cck_compiler`, `cck_program`, `cck_store`, `cck_server`, the address of a server or nothing, `cck_digests`, the
+# directory of the compilers' digests or nothing, `cck_color`, which is an option of the compiler or nothing, and
+# `cck_found`, what the program printed of the call, if it was called. The words are the compiler's arguments.
 
 # Appends a line to the log. A limit of the size of files ends no call: the signal is left to the compiler.
 log() { [ -z "$CCK_LOG" ] || (trap '' XFSZ; echo "cckcc: $*" >> "$CCK_LOG") 2>/dev/null; }
@@ -41,7 +41,7 @@ locate() {
 
 # Whether the tools are there that decide what is recorded. It starts no process.
 has_tools() {
-    for cck_tool in awk cat cksum cmp cp grep head ldd mkdir mktemp mv readlink rm sed sha256sum; do
+    for cck_tool in awk cat cksum cmp cp grep head ldd mkdir mktemp mv readlink rm sed sha256sum stat touch; do
         command -v $cck_tool > /dev/null || return 1
     done
 }
@@ -198,7 +198,8 @@ reads_specs() {
 # The programs that a compilation runs, and what they load, are kept in a list in the store, for each compiler, PATH and
 # what is found in it, and variables of libraries. The program reads it, and tests whether it counts
 # (crates/cck_cache_files/src/programs.rt). It has the lines of the context, the file that the compiler is, which a link
-# leads to, the directories in which it looks for programs, and the programs, or `-` if the compiler is not known.
+# leads to, the paths on which this depends, the programs, or `-` if the compiler is not known, and what the system says of
+# these paths: that of another machine says something else.
 cck_context=$cck_located$cck_newline$cck_assembler$cck_newline$PATH$cck_newline
 cck_context=$cck_context$LD_LIBRARY_PATH$cck_newline$LD_PRELOAD$cck_newline
 
@@ -219,13 +220,14 @@ add_searched() {
     done
 }
 
-# Sets `cck_searched` to the directories in which the compiler looks for programs, with colons between them. One that is
-# not there is named by the one above it, which changes when it comes. It fails where they are not known.
+# Sets `cck_searched` to the directories in which the compiler looks for programs, and for a file of specs, which may be
+# beside libraries, with colons between them. One that is not there is named by the one above it, which changes when it
+# comes. It fails where they are not known.
 find_searched() {
     cck_searched=${cck_proper%/*}
-    cck_directories=$("$cck_compiler" -print-search-dirs 2>/dev/null | sed -n 's/^programs: =//p')
+    cck_directories=$("$cck_compiler" -print-search-dirs 2>/dev/null | sed -n 's/^\(programs\|libraries\): =//p')
     [ -n "$cck_directories" ] || return 1
-    cck_directories=$cck_directories:
+    cck_directories=${cck_directories%%"$cck_newline"*}:${cck_directories#*"$cck_newline"}:
     while [ -n "$cck_directories" ]; do
         cck_directory=${cck_directories%%:*} cck_directories=${cck_directories#*:}
         case $cck_directory in
@@ -244,12 +246,12 @@ find_searched() {
 }
 
 # Sets `cck_proper` to the program that makes assembler code of a source in C, which is that for C++ if the compiler takes the
-# source for one in C++, and `cck_plusplus` to that for C++, or to nothing if there is none. $1 is a directory.
+# source for one in C++, and `cck_plusplus` to that for C++, or to nothing if there is none.
 find_proper() {
     cck_proper=$("$cck_compiler" -print-prog-name=cc1 2>/dev/null)
     cck_plusplus=$("$cck_compiler" -print-prog-name=cc1plus 2>/dev/null)
-    true > "$1/empty.c"
-    case $(LC_ALL=C "$cck_compiler" '-###' -c "$1/empty.c" -o "$1/empty.o" 2>&1) in
+    true > "$cck_tried/empty.c"
+    case $(LC_ALL=C "$cck_compiler" '-###' -c "$cck_tried/empty.c" -o "$cck_tried/empty.o" 2>&1) in
     *" $cck_plusplus "*) cck_proper=$cck_plusplus ;;
     *" $cck_proper "*) ;;
     *) cck_proper= ;;
@@ -261,28 +263,55 @@ find_proper() {
     esac
 }
 
-# Asks the compiler for the programs, and keeps them. It fails where there is no temporary directory. Where a tool fails the
-# compiler is unknown to this call alone.
-find_programs() {
+# Prints a line of what the system says of each of the paths `cck_tested` at which there is something, as the program does:
+# device, inode, size and both times, the nanoseconds without zeros in front.
+list_statuses() {
+    set --
+    cck_directories=$cck_tested:
+    while [ -n "$cck_directories" ]; do
+        set -- "$@" "${cck_directories%%:*}"
+        cck_directories=${cck_directories#*:}
+    done
+    LC_ALL=C stat -L -c '%n %d %i %s %.9Y %.9Z' -- "$@" |
+        sed 's/\.0*\([0-9][0-9]*\) \([0-9]*\)\.0*\([0-9][0-9]*\)$/.\1 \2.\3/'
+}
+
+# Writes the list. Its time is that at which the compiler was first asked: it does not count if a path changed since then.
+write_list() {
+    cck_tested=/etc/ld.so.cache:/etc/ld.so.preload
+    [ "$cck_programs" = - ] || cck_tested=$cck_searched:$cck_tested
+    cck_tested=$cck_driver:$cck_tested
+    {
+        mkdir -p "$cck_store/compilers" &&
+            {
+                printf '%s%s\n%s\n%s\n' "$cck_context" "$cck_driver" "$cck_tested" "$cck_programs"
+                list_statuses
+            } > "$cck_list.new$$" &&
+            touch -r "$cck_tried/asked" "$cck_list.new$$" && mv "$cck_list.new$$" "$cck_list"
+        [ -e "$cck_store/empty.h" ] || true > "$cck_store/empty.h"
+    } 2>/dev/null
+}
+
+# Asks the compiler for the programs, and keeps them. Where a tool fails the compiler is unknown to this call alone.
+ask_compiler() {
     cck_driver=$(readlink -f "$cck_located" 2>/dev/null)
     cck_assembler=$(command -v "$("$cck_compiler" -print-prog-name=as 2>/dev/null)")
     cck_programs=-
-    cck_tried=$(make_directory) || return 1
-    find_proper "$cck_tried"
+    find_proper
     if is_known && ! reads_specs && has_plain_libraries && says_what_it_read "$cck_assembler" "$cck_tried"; then
         cck_programs=$cck_located:$cck_proper:$cck_assembler${cck_plusplus:+:$cck_plusplus}
-        add_loaded || { cck_programs=-; rm -rf "$cck_tried"; return 0; }
+        add_loaded || { cck_programs=-; return; }
     fi
-    rm -rf "$cck_tried"
     name_list
-    find_searched || { cck_programs=-; return 0; }
-    {
-        mkdir -p "$cck_store/compilers" &&
-            printf '%s%s\n%s\n%s\n' "$cck_context" "$cck_driver" "$cck_searched" "$cck_programs" > "$cck_list.new$$" &&
-            mv "$cck_list.new$$" "$cck_list"
-        [ -e "$cck_store/empty.h" ] || true > "$cck_store/empty.h"
-    } 2>/dev/null
-    return 0
+    if find_searched; then write_list; else cck_programs=-; fi
+}
+
+# Sets the programs. It fails where there is no temporary directory.
+find_programs() {
+    cck_tried=$(make_directory) || return 1
+    true > "$cck_tried/asked"
+    ask_compiler
+    rm -rf "$cck_tried"
 }
 
 # Sets the fields of the line `miss PKEY STAMP [object NAME]` that `look` printed.
@@ -474,7 +503,7 @@ look_up() {
 # From here on the words are those of a call for cck_cache. The first one says which programs the compiler runs.
 set -- --directory="$PWD" -- $cck_color "$@"
 [ -z "$CCK_BASEDIR" ] || set -- --base="$CCK_BASEDIR" "$@"
-[ -z "$cck_server" ] || set -- --digests="$cck_store" "$@"
+[ -z "$cck_digests" ] || set -- --digests="$cck_digests" "$@"
 set -- --driver="$cck_compiler" "$@"
 cck_scratch= cck_text=
 if [ -n "$cck_server" ]; then

@@ -11,7 +11,7 @@ use Rattle.std.proofs.lemmas.Fmt.{decimal_by_steps, decimal_injective}
 use Rattle.std.proofs.Math.Seq.{get_or-append_seam}
 use Rattle.std.proofs.lemmas.List.{append_cancel_left, get_or-append_right, get_or_append_left, take-append-drop}
 use Rattle.std.proofs.lemmas.Str.Pattern.{IsSplitOnceResult, NoCharPasses-char, contains_char, drop_at_char, split_parts}
-use Rattle.cck_cache_files.specs.Programs.{AreLines, HasLines, IsLastPart, IsLine, Lacks, StartsLine, lines_text, list_path}
+use Rattle.cck_cache_files.specs.Programs.{AreLines, HasLines, IsLastPart, IsLine, Lacks, StartsLine, lines_before, list_path}
 
 -- ---- bytes
 
@@ -54,18 +54,19 @@ line_by_contains text false h =
     (λ _ k l e. false≢true (all k l e), λ _. refl)
 
 -- what follows the first lines of a list
-pub after_first : (first text rest : List ℕ) (lines : List (List ℕ)) → (n : ℕ) × FindsTextPrefix first text (Some n) × (rest ≡ drop n text) × (length rest + n ≡ length text)
-    → HasLines first text lines → rest ≡ lines_text lines
-after_first first text rest lines found has =
-    append_cancel_left first rest (lines_text lines) (ap (λ t. first ++ t) found.2 ∙ sym found.1.1 ∙ has.text_is)
+pub after_first : (first text rest end : List ℕ) (lines : List (List ℕ)) → (n : ℕ) × FindsTextPrefix first text (Some n) × (rest ≡ drop n text) × (length rest + n ≡ length text)
+    → HasLines first text lines end → rest ≡ lines_before lines end
+after_first first text rest end lines found has =
+    append_cancel_left first rest (lines_before lines end) (ap (λ t. first ++ t) found.2 ∙ sym found.1.1 ∙ has.text_is)
 
 -- what follows the next one
-pub after_line : (text line rest first : List ℕ) (lines : List (List ℕ)) → StartsLine text line rest → AreLines (first ∷ lines) → text ≡ lines_text (first ∷ lines) → rest ≡ lines_text lines
-after_line text line rest first lines starts are e = (one_line line first rest (lines_text lines) starts.line_is are.0 (sym starts.text_is ∙ e)).1
+pub after_line : (text line rest first end : List ℕ) (lines : List (List ℕ)) → StartsLine text line rest → AreLines (first ∷ lines) → text ≡ lines_before (first ∷ lines) end
+    → rest ≡ lines_before lines end
+after_line text line rest first end lines starts are e = (one_line line first rest (lines_before lines end) starts.line_is are.0 (sym starts.text_is ∙ e)).1
 
 -- lines start with the first one
-pub lines_start : (text first : List ℕ) (lines : List (List ℕ)) → AreLines (first ∷ lines) → text ≡ lines_text (first ∷ lines) → StartsLine text first (lines_text lines)
-lines_start text first lines are e = record { line_is = are.0; text_is = e }
+pub lines_start : (text first end : List ℕ) (lines : List (List ℕ)) → AreLines (first ∷ lines) → text ≡ lines_before (first ∷ lines) end → StartsLine text first (lines_before lines end)
+lines_start text first end lines are e = record { line_is = are.0; text_is = e }
 
 -- ---- paths
 

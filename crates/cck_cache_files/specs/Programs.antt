@@ -1,7 +1,9 @@
 -- the programs of a compiler that a store keeps
 use Rattle.std.specs.Prelude.{◌≡◌, ◌≢◌, ◌==◌, ◌⊎◌, ◌<◌, ◌^◌, ℕ, List, [], ◌∷◌, ◌++◌, Bool, true, false, not, cond, Option, Some, None, EachIndex, slice_index, length, bit_and, codes, map, string_bytes}
 use Rattle.std.specs.Fmt.{decimal}
-use Rattle.std.specs.List.{slice_split}
+use Rattle.std.specs.List.{AllZip, slice_split}
+use Rattle.cck_digest.specs.Stream.{concatenation}
+use Rattle.cck_cache_files.specs.Compiler.{IsStatusLine}
 use Rattle.cck_cache_files.specs.declared.programs.Listed.{Listed}
 use Rattle.cck_cache_files.specs.declared.programs.SearchVariables.{SearchVariables}
 
@@ -80,16 +82,29 @@ pub record StartsLine (text line rest : List ℕ) : Type 0 where
   pub line_is : IsLine line
   pub text_is : text ≡ line ++ 10 ∷ rest
 
--- a text is these lines after the first ones
-pub record HasLines (first text : List ℕ) (lines : List (List ℕ)) : Type 0 where
-  pub lines_are : AreLines lines
-  pub text_is : text ≡ first ++ lines_text lines
+-- lines, each with its line feed, before a text
+abbrev pub lines_before : List (List ℕ) → List ℕ → List ℕ
+lines_before [] rest = rest
+lines_before (line ∷ lines) rest = line ++ 10 ∷ lines_before lines rest
 
--- A list with these first lines has three more: the file that the compiler is, the directories in which it looks for programs, and the programs. No other text is
--- one.
+-- a text is these lines after the first ones, before the rest
+pub record HasLines (first text : List ℕ) (lines : List (List ℕ)) (rest : List ℕ) : Type 0 where
+  pub lines_are : AreLines lines
+  pub text_is : text ≡ first ++ lines_before lines rest
+
+-- A list with these first lines has three more: the file that the compiler is, the paths on which the list depends, and the programs. What the system said of the
+-- paths is the rest. No other text is one.
 abbrev pub IsListRead : List ℕ → List ℕ → Option Listed → Type 0
-IsListRead first text None = (file directories programs : List ℕ) → HasLines first text (file ∷ directories ∷ programs ∷ []) → ⊥
-IsListRead first text (Some listed) = HasLines first text (listed.file.now ∷ listed.directories.now ∷ listed.programs.now ∷ [])
+IsListRead first text None = (file paths programs statuses : List ℕ) → HasLines first text (file ∷ paths ∷ programs ∷ []) statuses → ⊥
+IsListRead first text (Some listed) = HasLines first text (listed.file.now ∷ listed.paths.now ∷ listed.programs.now ∷ []) listed.statuses.now
+
+-- what a list has of a path: the line of its status, or nothing
+abbrev pub IsKeptLine : List ℕ → List ℕ → Type 0
+IsKeptLine path line = IsStatusLine path line ⊎ (line ≡ [])
+
+-- what a list has of these paths, which have colons between them
+abbrev pub AreKept : List ℕ → List ℕ → Type 0
+AreKept paths text = (lines : List (List ℕ)) × AllZip IsKeptLine (slice_split (λ b. b == 58) paths) lines × (text ≡ concatenation lines)
 
 -- in one store two lists have one path only if their names and lengths are the same
 abbrev pub ListPathsDiffer : Type 0

@@ -47,16 +47,24 @@ fn instant_text(alloc: Global, seconds: i64, nanoseconds: i64) -> Result<String,
     Ok(format!(in alloc; "{seconds}.{nanoseconds}")?)
 }
 
-// The line of a program and of what the system says of it.
-fn status_line<R: Files + AllocGlobal>(rt: &R, path: &str) -> io::Result<String>
+/// The line of a path and of what the system says of what is there.
+///
+/// The only error is lack of memory.
+pub fn line_of(alloc: Global, path: &str, found: &fs::Metadata) -> Result<String, AllocError>
     ensures { IfOk result (λ line. IsStatusLine path.now (string_bytes line)) }
 {
-    let alloc = rt.alloc();
-    let found = fs::metadata(rt, path)?;
     let place = place_text(alloc, found.dev(), found.ino(), found.size())?;
     let modified = instant_text(alloc, found.mtime(), found.mtime_nsec())?;
     let changed = instant_text(alloc, found.ctime(), found.ctime_nsec())?;
     Ok(format!(in alloc; "{path} {place} {modified} {changed}\n")?)
+}
+
+// The line of a program and of what the system says of it.
+fn status_line<R: Files + AllocGlobal>(rt: &R, path: &str) -> io::Result<String>
+    ensures { IfOk result (λ line. IsStatusLine path.now (string_bytes line)) }
+{
+    let found = fs::metadata(rt, path)?;
+    Ok(line_of(rt.alloc(), path, &found)?)
 }
 
 // The line of a program and of the hex digest of its contents.

@@ -3,12 +3,15 @@
 //! Which programs a compiler runs and what they load is asked of the compiler once, by the wrapper, and
 //! kept in a list. Its lines are the path of the compiler, that of the assembler, `PATH`,
 //! `LD_LIBRARY_PATH` and `LD_PRELOAD`, which say for which calls it counts; the file that the compiler is,
-//! to which links lead; the directories in which it looks for programs and a file of specs, with colons between
-//! them; and the programs.
-ghost use Rattle.std.specs.Prelude.{◌≡◌, ◌↔◌, IfOk, IsTrue, List, MatchOption, map, string_bytes, ℕ};
+//! to which links lead; the paths on which the rest depends, with colons between them: that file, the
+//! directories in which the compiler looks for programs and a file of specs, and the system's lists of
+//! libraries; the programs; and what the system said of each of these paths, in a line. A store may come from
+//! another machine: there these lines are others.
+ghost use Rattle.std.specs.Prelude.{◌≡◌, ◌++◌, ◌↔◌, IfOk, IsTrue, List, MatchOption, OnOk, map, string_bytes, ℕ};
 ghost use Rattle.std.specs.Option.{option_map};
-ghost use Rattle.cck_cache_files.specs.Programs.{ArePlaces, IsContext, IsLastPart, IsLine, IsListPath, IsListRead, StartsLine, absolute, may_execute, place_in};
+ghost use Rattle.cck_cache_files.specs.Programs.{AreKept, ArePlaces, IsContext, IsKeptLine, IsLastPart, IsLine, IsListPath, IsListRead, StartsLine, absolute, may_execute, place_in};
 
+use crate::compiler::line_of;
 use crate::times::{changed, changed_before, modified};
 use cck_path::Timestamp;
 use std::alloc::{AllocError, Global};
@@ -17,10 +20,6 @@ use std::fs::Metadata;
 use std::io::ErrorKind;
 use std::os::unix::fs::MetadataExt;
 use std::rt::Files;
-
-// The list of the libraries of the system, by which the dynamic linker finds them, and that of libraries that it
-// loads into each program.
-const LIBRARIES: [&str; 2] = ["/etc/ld.so.cache", "/etc/ld.so.preload"];
 
 // The program that compilers call as assembler.
 const ASSEMBLER: &str = "as";
@@ -75,10 +74,12 @@ enum Located {
 struct Listed<'a> {
     // The file that the compiler is.
     file: &'a str,
-    // The directories in which it looks for programs and a file of specs, with colons between them.
-    directories: &'a str,
+    // The paths on which the list depends, with colons between them.
+    paths: &'a str,
     // The programs.
     programs: &'a str,
+    // What the system said of the paths.
+    statuses: &'a str,
 }
 
 // A path that is relative to a directory.
@@ -207,15 +208,13 @@ fn read_list<'a>(context: &str, text: &'a str) -> Option<Listed<'a>>
 {
     let rest = text.strip_prefix(context)?;
     let (file, rest) = first_line(rest)?;
-    let (directories, rest) = first_line(rest)?;
-    let (programs, rest) = first_line(rest)?;
-    if !rest.is_empty() {
-        return None;
-    }
+    let (paths, rest) = first_line(rest)?;
+    let (programs, statuses) = first_line(rest)?;
     Some(Listed {
         file,
-        directories,
+        paths,
         programs,
+        statuses,
     })
 }
 
@@ -253,45 +252,46 @@ fn locate<R: Files + AllocGlobal>(
     Ok(Located::Nowhere)
 }
 
-// Whether what was found last changed before this time, by both of its times: a program sets that of modification.
-fn is_old(found: &Metadata, since: Timestamp) -> bool {
-    changed_before(modified(found), changed(found), since)
-}
-
-// Whether what is at a path last changed before this time. What is not there, or can't be looked at, did not.
-fn is_older<R: Files>(rt: &R, path: &str, since: Timestamp) -> bool {
-    match fs::metadata(rt, path) {
-        Ok(found) => is_old(&found, since),
-        Err(_) => false,
+// Adds the line of what the system says of what is at a path, if there is something. Whether that is known, and
+// last changed before this time, by both of its times: a program sets that of modification.
+fn add_status<R: Files + AllocGlobal>(
+    rt: &R,
+    lines: &mut String,
+    path: &str,
+    since: Timestamp,
+) -> Result<bool, AllocError>
+    ensures { IfOk result (λ is_known. IsTrue is_known →
+        (line : List ℕ) × IsKeptLine path.now line × (string_bytes lines.new ≡ string_bytes lines.old ++ line)) }
+{
+    let found = match fs::metadata(rt, path) {
+        Ok(found) => found,
+        Err(error) => return Ok(error.kind() == ErrorKind::NotFound),
+    };
+    if !changed_before(modified(&found), changed(&found), since) {
+        return Ok(false);
     }
+    let line = line_of(rt.alloc(), path, &found)?;
+    lines.push_str(line.as_str())?;
+    Ok(true)
 }
 
-// Whether none of these directories, with colons between them, changed at this time or later.
-fn are_older<R: Files>(rt: &R, directories: &str, since: Timestamp) -> bool {
-    for directory in directories.split(':') {
-        if !is_older(rt, directory, since) {
-            return false;
+// Whether the system says this of what is at these paths, with colons between them, and all that is there last changed
+// before this time.
+fn are_kept<R: Files + AllocGlobal>(
+    rt: &R,
+    paths: &str,
+    statuses: &str,
+    since: Timestamp,
+) -> Result<bool, AllocError>
+    ensures { IfOk result (λ are. IsTrue are → AreKept paths.now statuses.now) }
+{
+    let mut lines = String::new(rt.alloc());
+    for path in paths.split(':') {
+        if !add_status(rt, &mut lines, path, since)? {
+            return Ok(false);
         }
     }
-    true
-}
-
-// Whether a list of libraries was not changed at this time or later. A system may have none.
-fn is_old_list<R: Files>(rt: &R, path: &str, since: Timestamp) -> bool {
-    match fs::metadata(rt, path) {
-        Ok(found) => is_old(&found, since),
-        Err(error) => error.kind() == ErrorKind::NotFound,
-    }
-}
-
-// The same of all lists of the system.
-fn has_old_libraries<R: Files>(rt: &R, since: Timestamp) -> bool {
-    for path in LIBRARIES {
-        if !is_old_list(rt, path, since) {
-            return false;
-        }
-    }
-    true
+    Ok(lines.as_str() == statuses)
 }
 
 // Whether a path leads to the file with this status.
@@ -300,16 +300,6 @@ fn leads_to<R: Files>(rt: &R, path: &str, status: &Metadata) -> bool {
         Ok(found) => found.dev() == status.dev() && found.ino() == status.ino(),
         Err(_) => false,
     }
-}
-
-// Whether what a list says of a compiler with this status still holds: the compiler is the same file, and
-// neither it, nor a directory in which it looks for programs, nor a list of the system's libraries changed
-// since the list was written.
-fn is_current<R: Files>(rt: &R, listed: &Listed<'_>, status: &Metadata, since: Timestamp) -> bool {
-    leads_to(rt, listed.file, status)
-        && is_old(status, since)
-        && (listed.programs == UNKNOWN || are_older(rt, listed.directories, since))
-        && has_old_libraries(rt, since)
 }
 
 // What the list at a path keeps, if its first lines are these and it still holds for a compiler with this
@@ -332,7 +322,7 @@ fn kept_in<R: Files + AllocGlobal>(
     let Some(listed) = read_list(context, text) else {
         return Ok(KeptPrograms::Nothing);
     };
-    if !is_current(rt, &listed, status, since) {
+    if !leads_to(rt, listed.file, status) || !are_kept(rt, listed.paths, listed.statuses, since)? {
         return Ok(KeptPrograms::Nothing);
     }
     match listed.programs {
@@ -344,9 +334,9 @@ fn kept_in<R: Files + AllocGlobal>(
 
 /// What a store keeps of the programs of a compiler, which is called by this name in this working
 /// directory and with these variables. What is kept counts only if it was kept for the same compiler, the
-/// same assembler and the same variables, and the compiler is still the same file; and only if since then
-/// neither the compiler, nor a directory in which it looks for programs, nor the system's list of libraries
-/// changed.
+/// same assembler and the same variables, and the compiler is still the same file; and only if the system
+/// says of the compiler, of each directory in which it looks for programs, and of the lists of libraries what
+/// it said then, and none of them changed since then.
 ///
 /// The only error is lack of memory.
 pub fn kept_programs<R: Files + AllocGlobal>(

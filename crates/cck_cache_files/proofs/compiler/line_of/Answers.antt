@@ -1,9 +1,9 @@
 use Rattle.std.proofs.Common.{◌∷◌, ◌++◌, ◌∙◌, [], List, ℕ, ap, string_bytes, of_z, to_z, w64}
 use Rattle.cck_cache_files.specs.Compiler.{place_text, instant_text}
-use Rattle.cck_cache_files.proofs.compiler.status_line.Goals as goal
+use Rattle.cck_cache_files.proofs.compiler.line_of.Goals as goal
 
 pub returns : goal.returns
-returns g c =
+returns c =
     let path = c.args.path.now in
     let place = place_text c.dev.result c.ino.result c.size.result in
     let modified = instant_text (to_z w64 (of_z w64 c.mtime.result)) (to_z w64 (of_z w64 c.mtime_nsec.result)) in (
