@@ -1,12 +1,12 @@
 #!/usr/bin/env python3
 """Checks the table of gcc's options, in crates/cck_cache_options/src/gcc.rt, by itself and by the gcc that is
-installed. Run by hand: options.py [--missing]. Needs gcc; the table was made for gcc 12 on x86-64.
+installed. Run by hand: options.py [--missing]. Needs gcc and g++; the table was made for gcc 12 on x86-64.
 
 - Each line has a name, a form and a class that the program knows, and no two have one name and form. A line
   that is spelled wrongly has no row in the program, so that its option is unknown there.
 - An option whose value may be joined to its name is not the beginning of another option: each longer option
   that gcc prints has a row of its own. Otherwise the program would read it as the shorter one with a value.
-- gcc accepts each option without a value that a cached call may have.
+- gcc accepts each option without a value that a cached call may have, for a source in C and for one in C++.
 - With each option that the preprocessor is given, with some values, the warning of a time macro by which the wrapper
   knows one (-Wdate-time) is on one line, if gcc accepts the option; and the class of options with which it is not is
   of no other option.
@@ -36,6 +36,8 @@ SILENCING = "compiler-message"
 # Values that are tried with each option that has one.
 VALUES = ("0", "1", "20", "x", "always", "none")
 WARNING = "might prevent reproducible builds"
+# The suffixes of sources in C and in C++.
+SUFFIXES = (".c", ".cc")
 # What is no option of warnings, after -W.
 NO_WARNINGS = ("a,-L", "l,-x", "p,-w", "p,-MD,small.d")
 
@@ -91,9 +93,9 @@ def longer(rows, names):
                     yield f"{other} would be {name} with a value"
 
 
-def refused(rows):
+def refused(rows, suffix):
     with tempfile.TemporaryDirectory() as room:
-        path = os.path.join(room, "small.c")
+        path = os.path.join(room, "small" + suffix)
         with open(path, "w", encoding="utf-8") as file:
             file.write("int small;\n")
         for row in rows:
@@ -102,7 +104,7 @@ def refused(rows):
                     ["gcc", row[0], "-c", path, "-o", os.path.join(room, "small.o")], capture_output=True
                 )
                 if done.returncode != 0:
-                    yield f"gcc refuses {row[0]}"
+                    yield f"gcc refuses {row[0]} for *{suffix}"
 
 
 def shows_warning(words, path):
@@ -129,17 +131,18 @@ def words_of(row):
     return [[name + ("=" if form == "equals" else "") + value] for value in VALUES]
 
 
-def silenced(rows):
+def silenced(rows, suffix):
     with tempfile.TemporaryDirectory() as room:
-        path = os.path.join(room, "time.c")
+        path = os.path.join(room, "time" + suffix)
         with open(path, "w", encoding="utf-8") as file:
             file.write("const char *time = __TIME__;\n")
         for row in rows:
             if row[2] in PREPROCESSED + (SILENCING,):
                 hiding = [words for words in words_of(row) if shows_warning(words, path) is False]
                 if row[2] != SILENCING:
-                    yield from (f"the warning of a time macro is not on one line with {' '.join(words)}" for words in hiding)
-                elif not hiding and all(has_markers(words, path) for words in words_of(row)):
+                    yield from (f"the warning of a time macro is not on one line with {' '.join(words)} for *{suffix}"
+                                for words in hiding)
+                elif suffix == SUFFIXES[0] and not hiding and all(has_markers(words, path) for words in words_of(row)):
                     yield f"the warning of a time macro and the line markers are as they have to be with {row[0]}"
 
 
@@ -161,8 +164,9 @@ def main():
     if len(names) < 1000:
         faults.append(f"gcc prints only {len(names)} options")
     faults += longer(rows, names)
-    faults += refused(rows)
-    faults += silenced(rows)
+    for suffix in SUFFIXES:
+        faults += refused(rows, suffix)
+        faults += silenced(rows, suffix)
     faults += negated()
     known = {name for name, _, _ in rows}
     missing = sorted(name for name in names if name.rstrip("=") not in known and name.split("=")[0] not in known)

@@ -691,6 +691,7 @@ cck_judging='
         if (reason == "") for (name in projects) read_file(name)
         if ((marks || hides) && doubts != "") reason = "target-pragma"
         if (ENVIRON["cck_targets"] != "") targets = 1
+        if (ENVIRON["cck_parsed"] == "") asks = 0
         if (asks && (targets || silences)) reason = "other-file"
         if (tests && parallel && ENVIRON["cck_extended"] != "") reason = "header-test"
         if (stands && is_macro(FILENAME)) reason = "header-test"
@@ -705,15 +706,29 @@ cck_judging='
 # shows those that are used; and `end`. The compiler expands macros in pragmas that the preprocessor leaves as they are,
 # pragmas that save macros hide uses, and warnings may name others.
 judge_text() {
-    cck_own=$cck_own cck_extended=$cck_extended cck_targets=$cck_targets LC_ALL=C awk "$cck_reading$cck_judging" \
+    cck_own=$cck_own cck_extended=$cck_extended cck_targets=$cck_targets cck_parsed=$cck_parsed LC_ALL=C awk "$cck_reading$cck_judging" \
         "$cck_scratch/text-search" is_text=1 "$cck_scratch/text" < /dev/null
+}
+
+# Whether the input is in C++, by the compiler or by its name.
+is_cplusplus() {
+    cck_next=${cck_programs#*:}
+    case ${cck_next%%:*} in
+    */cc1plus) return 0 ;;
+    esac
+    case $cck_input in
+    *?.cc|*?.cp|*?.cxx|*?.cpp|*?.CPP|*?.c++|*?.C) return 0 ;;
+    esac
+    return 1
 }
 
 # Sets what the arguments say beside the text: `cck_extended` if the call has OpenMP or OpenACC; `cck_targets` if an argument
 # may have the name of a builtin function of x86; and `cck_hidden` to why the compiler may read another text. The driver
-# hands no parameter to the preprocessor, and two are in macros.
+# hands no parameter to the preprocessor, and two are in macros. In C++ the compiler reads the whole text before any
+# declaration counts: no builtin function is declared for the preprocessor (`cck_parsed` is empty).
 judge_arguments() {
-    cck_extended= cck_targets= cck_hidden=
+    cck_extended= cck_targets= cck_hidden= cck_parsed=1
+    ! is_cplusplus || cck_parsed=
     case $cck_preprocessed in
     *-fopenmp*|*-fopenacc*) cck_extended=1 ;;
     esac
@@ -741,11 +756,11 @@ changes_targets() {
 # Whether the compilation declares a builtin function, which `__has_builtin` then denies: the compiler lists the functions
 # that it declares, and the preprocessor is asked for each word of the list, and for each word of the text that begins with
 # two underscores and is not called, as where there are no builtin functions of C. The compiler warns of a builtin function
-# that is declared as something else. The status is 1 if there is none. In C++ there is no list.
+# that is declared as something else. The status is 1 if there is none.
 declares_builtin() {
     eval "LC_ALL=C \"\$cck_compiler\" $cck_preprocessed" \
         '-Wshadow -Wsystem-headers -Wno-error -fsyntax-only -aux-info "$cck_scratch/declared"' \
-        < /dev/null > "$cck_scratch/declaring" 2>&1 && [ -s "$cck_scratch/declared" ] || return 2
+        < /dev/null > "$cck_scratch/declaring" 2>&1 || return 2
     LC_ALL=C awk '
         !is_text { $0 = substr($0, index($0, "*/") + 2) }
         is_text && /^#/ { next }
@@ -797,6 +812,7 @@ show_all_macros() {
 
 # Refuses the text where `__has_builtin` may ask for a function, unless it is the same if there is none, and none is declared.
 judge_builtins() {
+    [ -n "$cck_parsed" ] || return
     case $cck_doubts:$cck_preprocessed in
     *builtins*:*|*:*as_builtin*|*:*__ha*) ;;
     *) return ;;
