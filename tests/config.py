@@ -15,14 +15,15 @@ TOP = pathlib.Path(__file__).resolve().parent.parent
 # `@` is the directory of a case, `%` is `@`, FILE the configuration file. A file of `None` is missing.
 FILE = "@/home/.config/cck/config"
 STAND_IN = """#!/bin/sh
-echo x >> "$HOME/called"
+echo "$*" >> "$HOME/called"
 case $1 in
 look) echo 'passed mode' ;;
 *) echo "$*" "size=${CCK_MAXSIZE-none}" "read=${CCK_READ-none}" "store=${CCK_STORE-none}" ;;
 esac
 """
-# `after` is what the file has after the words, if this is not what it had.
-Case = collections.namedtuple("Case", "name file variables words status output messages after", defaults=[None])
+# `after` is what the file has after the words, if this is not what it had. `digests` are the directories of digests of compilers
+# that the program was given.
+Case = collections.namedtuple("Case", "name file variables words status output messages after digests", defaults=[None, None])
 SHOW, CALL, COMPILE = "cckcc --show-config", "cckcc --verify", "cckcc gcc -c x.c"
 NO_SIZE = "size=none read=none store=none"
 
@@ -48,6 +49,8 @@ SHOWN = [
     ("the variables of servers", "CCK_SECRET_FILE = /f\nCCK_CACERT = /a\nCCK_CERT = /c\nCCK_KEY = /k\nCCK_REMOTE_MODE = read\n"
      "CCK_REMOTE_MAX = 7\n", {}, [f"({FILE}:{line}) CCK_{end}" for line, end in enumerate(
          ("SECRET_FILE = /f", "CACERT = /a", "CERT = /c", "KEY = /k", "REMOTE_MODE = read", "REMOTE_MAX = 7"), 1)]),
+    ("how a compiler counts", "CCK_COMPILER_CHECK = mtime\n", {}, [f"({FILE}:1) CCK_COMPILER_CHECK = mtime"]),
+    ("its default", None, {}, ["(default) CCK_COMPILER_CHECK = content"]),
     ("their defaults", None, {}, ["(default) CCK_REMOTE_MODE = write", "(default) CCK_REMOTE_MAX = 100000000",
                                   "(default) CCK_SECRET_FILE = "]),
 ]
@@ -67,6 +70,16 @@ ADDRESSES = [
     ("redis:u:PW%h", "redis:***%h"),
     ("redis://u%h:1", "redis://u%h:1"),
     ("http://h:1/", "http://h:1/"),
+]
+# How the compiler counts, and the directory of its digest: none by times.
+CHECKS = [
+    ("by contents", None, {}, ["@/home/.cache/cck"]),
+    ("by contents, in the store", None, {"CCK_COMPILER_CHECK": "content", "CCK_STORE": "@/s"}, ["@/s"]),
+    ("by times", None, {"CCK_COMPILER_CHECK": "mtime"}, []),
+    ("by times, in the file", "CCK_COMPILER_CHECK = mtime\n", {}, []),
+    ("the environment before the file", "CCK_COMPILER_CHECK = mtime\n", {"CCK_COMPILER_CHECK": "content"}, ["@/home/.cache/cck"]),
+    ("another value", None, {"CCK_COMPILER_CHECK": "size"}, ["@/home/.cache/cck"]),
+    ("by times, with a server", None, {"CCK_COMPILER_CHECK": "mtime", "CCK_STORE": "redis://h", "CCK_DIR": "@/d"}, ["@/d"]),
 ]
 # What is wrong with a file, and in which line.
 WRONG = [
@@ -126,6 +139,8 @@ def cases():
     yield Case("the directory beside a server", "CCK_STORE = redis://h\nCCK_DIR = /d\n", {}, CALL, 0,
                f"verify /d {NO_SIZE}\n", "")
     yield Case("a compilation", "CCK_STORE = @/s\nCCK_LOG = @/log\n", {}, COMPILE, 0, "", "")
+    for name, file, variables, digests in CHECKS:
+        yield Case(f"the compiler {name}", file, variables, COMPILE, 0, "", "", None, digests)
     yield Case("the program", "CCK_PROGRAM = /bin/echo\nCCK_STORE = /s\n", {"CCK_PROGRAM": None}, CALL, 0,
                "verify /s\n", "")
 
@@ -168,6 +183,10 @@ def judge(case, room):
         yield "no object"
     if "config:" in case.messages and (room / "home/called").exists():
         yield "the program was called"
+    if case.digests is not None:
+        asked = re.findall(r" --digests=(\S*)", (room / "home/called").read_text())
+        if asked != [placed(path) for path in case.digests]:
+            yield f"digests in {asked}"
     if "CCK_LOG" in (case.file or "") and case.words == COMPILE and not (room / "log").exists():
         yield "no log"
 
