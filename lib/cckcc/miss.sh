@@ -640,8 +640,8 @@ cck_reading='
 # that is found in a directory of system headers only later has its shorter name from then on. A file between `<` and `>` is
 # named as what the compiler defines itself. A line directive enters no file; a marker in a source, or in a raw string over
 # lines, is not told from one of gcc. With OpenMP or OpenACC the compiler expands macros in a pragma, which an operator may
-# make of any line. In a pragma of diagnostics it expands none; one that turns a warning on may warn of a macro that the
-# text does not show.
+# make of any line. In a pragma of diagnostics or of visibility it expands none; one that turns a warning on may warn of a
+# macro that the text does not show.
 cck_judging='
     !is_text {
         if (/warning: /) warns = 1
@@ -676,7 +676,10 @@ cck_judging='
         } else if (name !~ /\/\/$/ && is_of_project) projects[name]
     }
     !/^[ \t]*#[ \t]*pragma/ { next }
-    !/^[ \t]*#[ \t]*pragma[ \t]+GCC[ \t]+diagnostic[ \t]+(push|pop|ignored[ \t]+"-W[a-z0-9+=-]+")[ \t]*$/ { has_pragmas = 1 }
+    !/^[ \t]*#[ \t]*pragma[ \t]+GCC[ \t]+diagnostic[ \t]+(push|pop|ignored[ \t]+"-W[a-z0-9+=-]+")[ \t]*$/ &&
+        !/^[ \t]*#[ \t]*pragma[ \t]+GCC[ \t]+visibility[ \t]+(push[(](default|hidden|internal|protected)[)]|pop)[ \t]*$/ {
+        has_pragmas = 1
+    }
     /^[ \t]*#[ \t]*pragma[ \t]+GCC[ \t]+diagnostic/ {
         if ($0 !~ /diagnostic[ \t]+(push|pop|[a-z]+[ \t]+"-W[a-z0-9+=-]+")[ \t]*$/) silences = 1
         if (/shadow|builtin|-Wall|-Wextra/) silences = 1

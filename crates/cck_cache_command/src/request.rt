@@ -1,6 +1,6 @@
 //! The compilation of a request.
 ghost use Rattle.std.specs.Prelude.{◌≡◌, ◌++◌, ◌∷◌, [], Bool, IfOk, OnOk, string_bytes};
-ghost use Rattle.std.specs.List.{before_first};
+ghost use Rattle.std.specs.List.{after_first, before_first};
 ghost use Rattle.std.specs.Option.{option_map};
 ghost use Rattle.cck_cache_rules.specs.Base.{word_lists};
 ghost use Rattle.cck_cache_command.specs.Input.{IsInput};
@@ -85,14 +85,23 @@ fn before_colon(text: &str) -> &str
     }
 }
 
+// What is after the first colon of a text, or nothing.
+fn after_colon(text: &str) -> &str
+    ensures { result.now ≡ after_first is_colon text.now }
+{
+    match text.split_once(':') {
+        Some((_, rest)) => rest,
+        None => "",
+    }
+}
+
 // Whether the compiler with these programs takes a source in C for one in C++.
 fn is_plusplus(programs: &str) -> bool
     ensures { result ≡ is_plusplus programs.now }
 {
-    match programs.split_once(':') {
-        Some((_, rest)) => before_colon(rest).ends_with("/cc1plus"),
-        None => false,
-    }
+    before_colon(after_colon(programs))
+        .as_bytes()
+        .ends_with(b"/cc1plus")
 }
 
 // The language of the input of a request.
