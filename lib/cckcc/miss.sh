@@ -574,6 +574,7 @@ find_own() {
 # header's name may be a macro too, which the text then shows. The last one says whether a raw string goes on in the next line.
 cck_reading='
     BEGIN {
+        is_c = ENVIRON["cck_is_c"] != ""
         blank = "[ \t\r\f\013]"
         comment = "/[*]([^*]|[*]+[^*/])*"
         gap = "(" blank "|" comment "[*]+/)*"
@@ -634,7 +635,7 @@ cck_reading='
 
 # What `judge_text` does with what the preprocessor printed on standard error, and with the text.
 #
-# A pragma that sets macros of the target, or attributes that are known, is run by the compiler alone. The compiler's own
+# In C a pragma that sets macros of the target, or attributes that are known, is run by the compiler alone. The compiler's own
 # headers set them back, to what the target has, and include none of the project. The compiler knows declarations, by which
 # `__has_builtin` is 0, and more builtin functions of the target after an attribute, whose names may be pasted. A header
 # that is found in a directory of system headers only later has its shorter name from then on. A file between `<` and `>` is
@@ -686,7 +687,7 @@ cck_judging='
     }
     /^[ \t]*#[ \t]*pragma[ \t]+(omp|acc)/ { parallel = 1 }
     /^[ \t]*#[ \t]*pragma[ \t]+GCC[ \t]+diagnostic[ \t]+ignored_attributes/ { reason = "target-pragma" }
-    /^[ \t]*#[ \t]*pragma[ \t]+GCC[ \t]+(target|optimize|pop_options|reset_options)/ {
+    is_c && /^[ \t]*#[ \t]*pragma[ \t]+GCC[ \t]+(target|optimize|pop_options|reset_options)/ {
         if (owns[depth]) doubts = " targets"; else reason = "target-pragma"
     }
     END {
@@ -694,7 +695,7 @@ cck_judging='
         if (reason == "") for (name in projects) read_file(name)
         if ((marks || hides) && doubts != "") reason = "target-pragma"
         if (ENVIRON["cck_targets"] != "") targets = 1
-        if (ENVIRON["cck_parsed"] == "") asks = 0
+        if (!is_c) asks = 0
         if (asks && (targets || silences)) reason = "other-file"
         if (tests && parallel && ENVIRON["cck_extended"] != "") reason = "header-test"
         if (stands && is_macro(FILENAME)) reason = "header-test"
@@ -709,7 +710,7 @@ cck_judging='
 # shows those that are used; and `end`. The compiler expands macros in pragmas that the preprocessor leaves as they are,
 # pragmas that save macros hide uses, and warnings may name others.
 judge_text() {
-    cck_own=$cck_own cck_extended=$cck_extended cck_targets=$cck_targets cck_parsed=$cck_parsed LC_ALL=C awk "$cck_reading$cck_judging" \
+    cck_own=$cck_own cck_extended=$cck_extended cck_targets=$cck_targets cck_is_c=$cck_is_c LC_ALL=C awk "$cck_reading$cck_judging" \
         "$cck_scratch/text-search" is_text=1 "$cck_scratch/text" < /dev/null
 }
 
@@ -727,11 +728,11 @@ is_cplusplus() {
 
 # Sets what the arguments say beside the text: `cck_extended` if the call has OpenMP or OpenACC; `cck_targets` if an argument
 # may have the name of a builtin function of x86; and `cck_hidden` to why the compiler may read another text. The driver
-# hands no parameter to the preprocessor, and two are in macros. In C++ the compiler reads the whole text before any
-# declaration counts: no builtin function is declared for the preprocessor (`cck_parsed` is empty).
+# hands no parameter to the preprocessor, and two are in macros. `cck_is_c` is empty in C++, where the compiler preprocesses
+# the whole text before it parses it: no declaration and no pragma of a target counts for the preprocessor.
 judge_arguments() {
-    cck_extended= cck_targets= cck_hidden= cck_parsed=1
-    ! is_cplusplus || cck_parsed=
+    cck_extended= cck_targets= cck_hidden= cck_is_c=1
+    ! is_cplusplus || cck_is_c=
     case $cck_preprocessed in
     *-fopenmp*|*-fopenacc*) cck_extended=1 ;;
     esac
@@ -815,7 +816,7 @@ show_all_macros() {
 
 # Refuses the text where `__has_builtin` may ask for a function, unless it is the same if there is none, and none is declared.
 judge_builtins() {
-    [ -n "$cck_parsed" ] || return
+    [ -n "$cck_is_c" ] || return
     case $cck_doubts:$cck_preprocessed in
     *builtins*:*|*:*as_builtin*|*:*__ha*) ;;
     *) return ;;
