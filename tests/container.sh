@@ -89,9 +89,9 @@ restore first second
 check 'by times' "$(build second CCK_COMPILER_CHECK=mtime)" recorded,recorded,recorded
 check 'by times, once more' "$(build second CCK_COMPILER_CHECK=mtime)" hit,hit,hit
 
-# A file of specs beside the compiler's programs, or beside the libraries: the compiler reads it, and is passed on.
-for place in gcc/x86_64-linux-gnu/12 x86_64-linux-gnu; do
-    specs=$room/second/usr/lib/$place/specs
+# A file of specs beside the compiler's programs, or above them: the compiler reads it, and its calls are passed on.
+for place in x86_64-linux-gnu/12 x86_64-linux-gnu; do
+    specs=$room/second/usr/lib/gcc/$place/specs
     printf '*cc1_options:\n+ -DMARK\n' >"$specs"
     restore first second
     check "a file of specs in $place" "$(build second)" 'passed on (compiler),passed on (compiler),passed on (compiler)'

@@ -79,6 +79,37 @@ make_debian() {
     rm -rf --one-file-system "$room/debian"
     return 1
 }
+
+# The shell commands of an example: of a workflow those of its steps `run`, of a Dockerfile those of its lines RUN, without
+# mounts.
+commands_of() {
+    case $1 in
+    *.yml) awk '/^ *run: \|/ { indent = index($0, "run"); on = 1; next }
+        on && NF && match($0, /[^ ]/) <= indent { on = 0 }
+        on { print substr($0, indent + 2) }' "$1" ;;
+    *) awk '/^RUN / { on = 1; sub(/^RUN /, "") }
+        on { sub(/--mount=[^ ]*/, ""); on = sub(/\\$/, ""); printf "%s%s", $0, on ? "" : "\n" }' "$1" ;;
+    esac
+}
+# Runs the commands of an example in the new Debian, as two runs in new machines with one store, and prints what both found. Each
+# begins without the package and with other times of the project's files.
+run_example() {
+    commands_of "$1" >"$debian/tmp/commands.sh"
+    rm -rf "$debian/root/.cache" "$debian/project"
+    mkdir "$debian/project"
+    echo 'int y(void) { return 0; }' >"$debian/project/y.c"
+    printf '#include <stdio.h>\nint y(void);\nint main(void) { return puts("x") < 0 || y(); }\n' >"$debian/project/x.c"
+    printf 'x: x.o y.o\n\t$(CC) -o $@ $^\n' >"$debian/project/Makefile"
+    for run in 1 2; do
+        cp "$package" "$debian/tmp"
+        chroot "$debian" env -i PATH=/usr/bin:/bin:/usr/sbin:/sbin HOME=/root PACKAGE="file:///tmp/$(basename "$package")" \
+            sh -ec 'cd /project; . /tmp/commands.sh' >"$room/said" 2>&1 || tail -n 5 "$room/said"
+        sed -n 's/^hits *//p' "$room/said"
+        chroot "$debian" dpkg -P cck >/dev/null 2>&1
+        rm -f "$debian"/project/*.o "$debian"/project/x
+        touch "$debian"/project/*
+    done
+}
 if make_debian "${1-}"; then
     where='a chroot' debian=$room/debian
     cp "$package" "$room/first.sh" "$debian/tmp"
@@ -90,6 +121,10 @@ if make_debian "${1-}"; then
     check 'a miss and a hit' "$found" "$wanted"
     check 'nothing is left after its removal' "$(chroot "$debian" sh -c '
         dpkg -P cck >/dev/null 2>&1; find /usr -path "*cck*"')" ''
+    cp /etc/resolv.conf "$debian/etc"
+    for example in github/cckcc.yml docker/Dockerfile; do
+        check "the commands of $example" "$(run_example "$top/examples/$example" | paste -sd ,)" '0 of 2 (0.0 %),2 of 2 (100.0 %)'
+    done
 else
     where='a directory'
     start=$(date +%s.%N)

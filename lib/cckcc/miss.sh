@@ -220,14 +220,13 @@ add_searched() {
     done
 }
 
-# Sets `cck_searched` to the directories in which the compiler looks for programs, and for a file of specs, which may be
-# beside libraries, with colons between them. One that is not there is named by the one above it, which changes when it
-# comes. It fails where they are not known.
+# Sets `cck_searched` to the directories in which the compiler looks for programs, with colons between them. One that is
+# not there is named by the one above it, which changes when it comes. It fails where they are not known.
 find_searched() {
     cck_searched=${cck_proper%/*}
-    cck_directories=$("$cck_compiler" -print-search-dirs 2>/dev/null | sed -n 's/^\(programs\|libraries\): =//p')
+    cck_directories=$("$cck_compiler" -print-search-dirs 2>/dev/null | sed -n 's/^programs: =//p')
     [ -n "$cck_directories" ] || return 1
-    cck_directories=${cck_directories%%"$cck_newline"*}:${cck_directories#*"$cck_newline"}:
+    cck_directories=$cck_directories:
     while [ -n "$cck_directories" ]; do
         cck_directory=${cck_directories%%:*} cck_directories=${cck_directories#*:}
         case $cck_directory in
