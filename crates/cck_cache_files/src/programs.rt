@@ -7,7 +7,7 @@
 //! directories in which the compiler looks for programs and a file of specs, and the system's lists of
 //! libraries; the programs; and what the system said of each of these paths, in a line. A store may come from
 //! another machine: there these lines are others.
-ghost use Rattle.std.specs.Prelude.{◌≡◌, ◌++◌, ◌↔◌, IfOk, IsTrue, List, MatchOption, OnOk, map, string_bytes, ℕ};
+ghost use Rattle.std.specs.Prelude.{◌≡◌, ◌++◌, ◌↔◌, IfOk, IsTrue, List, MatchOption, map, string_bytes, ℕ};
 ghost use Rattle.std.specs.Option.{option_map};
 ghost use Rattle.cck_cache_files.specs.Programs.{AreKept, ArePlaces, IsContext, IsKeptLine, IsLastPart, IsLine, IsListPath, IsListRead, StartsLine, absolute, may_execute, place_in};
 

@@ -1,10 +1,9 @@
-use Rattle.std.proofs.Common.{◌≡◌, ◌∷◌, ◌++◌, ◌∙◌, [], List, ℕ, ap, refl, sym, subst, lit<, string_bytes}
+use Rattle.std.proofs.Common.{◌≡◌, ◌++◌, ◌∙◌, List, ℕ, ap, refl, sym, subst, lit<, string_bytes}
 use Rattle.std.specs.List.{AllZip}
 use Rattle.std.specs.Str.Iter.{split_has_more, split_pattern, split_text}
 use Rattle.std.proofs.lemmas.Iterator.Consumers.{YieldsList-end}
 use Rattle.std.proofs.lemmas.Iterator.Splits.{YieldsList-from_str_split}
 use Rattle.std.proofs.lemmas.Slice.Eq.{bytes_eq-Decides}
-use Rattle.cck_digest.specs.Stream.{concatenation}
 use Rattle.cck_cache_files.specs.Programs.{IsKeptLine}
 use Rattle.cck_cache_files.proofs.CompilerLemmas.{one_more_line}
 use Rattle.cck_cache_files.proofs.programs.are_kept.Goals as goal
