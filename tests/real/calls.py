@@ -1,5 +1,6 @@
 """Calls by the plain compiler and by the wrapper in one directory, with the tree put back after each, and what
 differs in their outputs: the status, what is printed, and the files that a call makes, changes or removes."""
+import atexit
 import collections
 import os
 import re
@@ -8,6 +9,7 @@ import shutil
 import stat
 import subprocess
 import sys
+import tempfile
 import time
 
 from server import Server
@@ -15,6 +17,9 @@ from server import Server
 TOP = os.path.dirname(os.path.dirname(os.path.dirname(os.path.abspath(__file__))))
 WRAPPER = os.environ.get("CCK_WRAPPER", TOP + "/bin/cckcc")
 PROGRAM = os.environ.get("CCK_PROGRAM", TOP + "/crates/cck_cache/out/cck_cache")
+# The digests of compilers, which the stores of all rooms have in common: one takes longer than a call.
+DIGESTS = tempfile.mkdtemp(prefix="cck-digests-")
+atexit.register(shutil.rmtree, DIGESTS, ignore_errors=True)
 # The names of the compiler's temporary files, which differ from call to call.
 TEMPORARY = re.compile(rb"/cc[A-Za-z0-9]{6}(?![A-Za-z0-9])")
 # After this time a file that was written is older than a look-up.
@@ -136,8 +141,10 @@ class Room:
         self.top = os.path.realpath(directory)
         self.root, self.log = f"{self.top}/{tree}", self.top + "/log"
         self.second, self.server = None, server or Server(self.top)
-        for name in (tree, "tmp", "home", "late"):
+        for name in (tree, "tmp", "home", "late", "store"):
             os.makedirs(f"{self.top}/{name}", exist_ok=True)
+        if not os.path.lexists(f"{self.top}/store/digests"):
+            os.symlink(DIGESTS, f"{self.top}/store/digests")
         self.tree, self.known = Tree(self.root), {}
         self.variables = {"PATH": os.environ["PATH"], "HOME": self.top + "/home", "TMPDIR": self.top + "/tmp",
                           "CCK_STORE": self.top + "/store", "CCK_LOG": self.log, "CCK_PROGRAM": PROGRAM,
