@@ -6,8 +6,9 @@ ghost use Rattle.cck_cache_files.specs.ReadOnce.{HasCopies, HasOnce, IsReadOnce,
 ghost use Rattle.cck_files.specs.Calls.{Keeps};
 ghost use Rattle.cck_files.specs.FileState.{IsQuiet, fault_count};
 
+use crate::sources::USUAL_SIZE;
 use cck_digest::{FileError, UtilError};
-use cck_files::{MapFiles, read_contents};
+use cck_files::{MapFiles, read_contents_of_size};
 use memchr::memmem;
 use std::alloc::Global;
 use std::collections::BTreeSet;
@@ -40,7 +41,7 @@ fn compared_contents(
     ensures keeps { IfOk result (λ _. Keeps (λ files. files.files) fault_count IsQuiet files.old files.new) }
     ensures contents { IfOk result (λ contents. IsReadOnce files.old.files (IsTrue is_any) path.now (option_map (λ c. c.items) contents)) }
 {
-    let contents = match read_contents(alloc, files, path) {
+    let contents = match read_contents_of_size(alloc, files, path, USUAL_SIZE) {
         Ok(contents) => contents,
         Err(FileError::NotFound | FileError::OtherKind) => return Ok(None),
         Err(error) => return Err(UtilError::from(error)),

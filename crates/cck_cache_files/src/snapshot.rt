@@ -96,6 +96,12 @@ pub fn add_file<R: Files + AllocGlobal>(
     Ok(())
 }
 
+// What the system says of what is at a path. `None` where that can't be known.
+fn metadata_of<R: Files>(rt: &R, path: &[u8]) -> Option<Metadata> {
+    let path = std::str::from_utf8(path).ok()?;
+    fs::metadata(rt, path).ok()
+}
+
 /// Whether two paths lead to one file. `false` where that can't be known.
 pub fn is_one_file<R: Files>(rt: &R, a: &[u8], b: &[u8]) -> bool
     ensures { a.now ≡ b.now → IsTrue result }
@@ -103,13 +109,13 @@ pub fn is_one_file<R: Files>(rt: &R, a: &[u8], b: &[u8]) -> bool
     if a == b {
         return true;
     }
-    let (Ok(a), Ok(b)) = (std::str::from_utf8(a), std::str::from_utf8(b)) else {
+    let Some(a) = metadata_of(rt, a) else {
         return false;
     };
-    match (fs::metadata(rt, a), fs::metadata(rt, b)) {
-        (Ok(a), Ok(b)) => a.dev() == b.dev() && a.ino() == b.ino(),
-        _ => false,
-    }
+    let Some(b) = metadata_of(rt, b) else {
+        return false;
+    };
+    a.dev() == b.dev() && a.ino() == b.ino()
 }
 
 // Whether no link on the way to a path is in doubt, and there is none where the path is written

@@ -15,10 +15,13 @@ use cck_cache_text::{
     header_tests, unspliced,
 };
 use cck_digest::{FileError, UtilError};
-use cck_files::{MapFiles, read_contents};
+use cck_files::{MapFiles, read_contents_of_size};
 use cck_path::{join_path, normalize_path};
 use std::alloc::{AllocError, Global};
 use std::collections::BTreeSet;
+
+/// The room, in bytes, through which a source is read. Most are shorter, and a longer one is read in several steps.
+pub(crate) const USUAL_SIZE: u64 = 16384;
 
 /// What sources ask for.
 #[derive(Drop)]
@@ -78,7 +81,7 @@ fn contents_at(
     ensures contents { IfOk result (λ found.
         IsContentsAt files.old.files path.now (option_map (λ c. c.items) found)) }
 {
-    match read_contents(alloc, files, path) {
+    match read_contents_of_size(alloc, files, path, USUAL_SIZE) {
         Ok(contents) => Ok(Some(contents)),
         Err(FileError::NotFound) => Ok(None),
         Err(FileError::OtherKind) => Ok(None),
