@@ -3,298 +3,405 @@ use cck_digest::VERSION;
 use clap::{Arg, ArgAction, Command, value_parser};
 use std::alloc::{AllocError, Global};
 
-// The name of an option, that of its value, and its help.
-type OptionWords<'a> = (&'a str, &'a str, &'a str);
+// A command that is put together, or the error if memory was lacking on the way. As each step takes and
+// returns one, none has to give a command back on an error.
+type Building<'a> = Result<Command<'a>, AllocError>;
 
-// When an option has to be given.
+// When an option is given.
 #[derive(Clone, Copy)]
 enum Need<'a> {
     // Always.
     Always,
-    // Never.
+    // Always, and its value is a number.
+    AlwaysNumber,
+    // Never has it to be.
     Never,
-    // Never, but it comes only with the option of this name.
+    // Never has it to be, but it comes only with the option of this name.
     With(&'a str),
+    // Where the option of this name is not, and only there.
+    Without(&'a str),
 }
 
-const OUT: OptionWords<'static> = ("out", "FILE", "Where the object is written");
+// When an option is given, its name, that of its value, and its help.
+type OptionWords<'a> = (Need<'a>, &'a str, &'a str, &'a str);
 
-const DEPENDENCIES: OptionWords<'static> = (
-    "dependencies",
-    "FILE",
-    "Where the dependency file is written",
-);
+// The name of a word that has to be given, and its help.
+type WordWords<'a> = (&'a str, &'a str);
 
-const COMPILER: OptionWords<'static> = (
-    "compiler",
-    "PATHS",
-    "The programs that the compiler runs, with colons between them",
-);
+// A list of options.
+#[derive(Clone, Copy)]
+enum Options {
+    // No option.
+    Empty,
+    // Those of `look`.
+    Look,
+    // Those of `record`.
+    Record,
+    // Those of `unpack`.
+    Unpack,
+    // Those of `prune`.
+    Prune,
+}
 
-const DRIVER: OptionWords<'static> = (
-    "driver",
-    "COMPILER",
-    "The compiler as it is called, whose programs the store keeps; in place of --compiler",
-);
+// A list of words that have to be given.
+#[derive(Clone, Copy)]
+enum Words {
+    // No word.
+    Empty,
+    // A store.
+    Store,
+    // A store, and a file in it.
+    StoreAndFile,
+}
 
-const CALL_REQUIRED: [OptionWords<'static>; 1] = [("directory", "DIR", "The working directory")];
+// A command: its name, what it does, its options and words, and whether the words of a compiler's call
+// come after its own.
+type CommandWords<'a> = (&'a str, &'a str, Options, Words, bool);
 
-const CALL_EXTRA: [OptionWords<'static>; 2] = [
+static STORE: [WordWords<'static>; 1] = [("STORE", "The directory of the store")];
+
+static STORE_AND_FILE: [WordWords<'static>; 2] = [
+    ("STORE", "The directory of the store"),
     (
+        "WORD",
+        "A preprocessor key, the name of an object, or a path with a slash",
+    ),
+];
+
+static CALL: [OptionWords<'static>; 5] = [
+    (
+        Need::Without("driver"),
+        "compiler",
+        "PATHS",
+        "The programs that the compiler runs, with colons between them",
+    ),
+    (
+        Need::Never,
+        "driver",
+        "COMPILER",
+        "The compiler as it is called, whose programs the store keeps; in place of --compiler",
+    ),
+    (Need::Always, "directory", "DIR", "The working directory"),
+    (
+        Need::Never,
         "digests",
         "STORE",
         "Counts the programs by their contents, whose digests this store keeps",
     ),
     (
+        Need::Never,
         "base",
         "DIR",
         "The base directory: an object that does not depend on it is shared with other base directories",
     ),
 ];
 
-const UNPACK_REQUIRED: [OptionWords<'static>; 3] = [
-    ("name", "NAME", "The name of the object"),
-    ("packed", "FILE", "The object file"),
-    OUT,
+static UNPACK: [OptionWords<'static>; 4] = [
+    (Need::Always, "name", "NAME", "The name of the object"),
+    (Need::Always, "packed", "FILE", "The object file"),
+    (Need::Always, "out", "FILE", "Where the object is written"),
+    (
+        Need::Never,
+        "dependencies",
+        "FILE",
+        "Where the dependency file is written",
+    ),
 ];
 
-const UNPACK_EXTRA: [OptionWords<'static>; 1] = [DEPENDENCIES];
-
-const LOOK_EXTRA: [OptionWords<'static>; 1] = [(
+static LOOK: [OptionWords<'static>; 1] = [(
+    Need::Never,
     "entry",
     "FILE",
     "An entry file that is read in place of the store's",
 )];
 
-const RECORD_REQUIRED: [OptionWords<'static>; 3] = [
-    ("since", "STAMP", "The time that the look-up printed"),
+static RECORD: [OptionWords<'static>; 10] = [
     (
+        Need::Always,
+        "since",
+        "STAMP",
+        "The time that the look-up printed",
+    ),
+    (
+        Need::Always,
         "preprocessor-key",
         "PKEY",
         "The preprocessor key that the look-up printed",
     ),
-    ("search", "FILE", "What `-E -v` printed on standard error"),
-];
-
-const COMPILED: OptionWords<'static> = (
-    "compiled",
-    "FILE",
-    "The object that the compiler wrote; without it the entry alone is recorded",
-);
-
-const RECORD_COMPILED: [OptionWords<'static>; 4] = [
     (
+        Need::Always,
+        "search",
+        "FILE",
+        "What `-E -v` printed on standard error",
+    ),
+    (
+        Need::With("messages"),
+        "compiled",
+        "FILE",
+        "The object that the compiler wrote; without it the entry alone is recorded",
+    ),
+    (
+        Need::With("compiled"),
         "messages",
         "FILE",
         "What the compilation printed on standard error",
     ),
     (
+        Need::With("compiled"),
         "dependencies",
         "FILE",
         "The dependency file that the compilation wrote",
     ),
     (
+        Need::With("compiled"),
         "assembled",
         "FILE",
         "The dependency file that the assembler wrote",
     ),
     (
+        Need::With("compiled"),
         "opened",
         "FILE",
         "What the compiler wrote for SUNPRO_DEPENDENCIES, where the compilation wrote no dependency file",
     ),
-];
-
-const RECORD_EXTRA: [OptionWords<'static>; 2] = [
     (
+        Need::Never,
         "entry-out",
         "FILE",
         "Where the entry file is written in place of the store's",
     ),
     (
+        Need::Never,
         "packed-out",
         "FILE",
         "Where the object file is written in place of the store's",
     ),
 ];
 
+static PRUNE: [OptionWords<'static>; 1] = [(
+    Need::AlwaysNumber,
+    "max-size",
+    "BYTES",
+    "The most bytes that the files may have together",
+)];
+
+static COMMANDS: [CommandWords<'static>; 10] = [
+    (
+        "preprocessor-key",
+        "Prints the preprocessor key",
+        Options::Empty,
+        Words::Empty,
+        true,
+    ),
+    (
+        "look",
+        "Writes the object from the store",
+        Options::Look,
+        Words::Store,
+        true,
+    ),
+    (
+        "record",
+        "Records a compilation, whose preprocessed text is read from standard input",
+        Options::Record,
+        Words::Store,
+        true,
+    ),
+    (
+        "why",
+        "Prints which paths keep an entry from matching",
+        Options::Empty,
+        Words::Store,
+        true,
+    ),
+    (
+        "unpack",
+        "Writes the object that an object file has",
+        Options::Unpack,
+        Words::Store,
+        false,
+    ),
+    (
+        "stats",
+        "Prints what a store has, and what was counted",
+        Options::Empty,
+        Words::Store,
+        false,
+    ),
+    (
+        "prune",
+        "Removes the files that were used longest ago",
+        Options::Prune,
+        Words::Store,
+        false,
+    ),
+    (
+        "clear",
+        "Removes all entries and objects",
+        Options::Empty,
+        Words::Store,
+        false,
+    ),
+    (
+        "verify",
+        "Tests all entries and objects, and removes those that are damaged",
+        Options::Empty,
+        Words::Store,
+        false,
+    ),
+    (
+        "inspect",
+        "Prints what files of a store say",
+        Options::Empty,
+        Words::StoreAndFile,
+        false,
+    ),
+];
+
+impl Options {
+    // The options of this list.
+    fn listed(self) -> &'static [OptionWords<'static>] {
+        match self {
+            Self::Empty => &[],
+            Self::Look => &LOOK,
+            Self::Record => &RECORD,
+            Self::Unpack => &UNPACK,
+            Self::Prune => &PRUNE,
+        }
+    }
+}
+
+impl Words {
+    // The words of this list.
+    fn listed(self) -> &'static [WordWords<'static>] {
+        match self {
+            Self::Empty => &[],
+            Self::Store => &STORE,
+            Self::StoreAndFile => &STORE_AND_FILE,
+        }
+    }
+}
+
+// An option that is given where the one of this name is not, and only there.
+fn without<'a>(option: Arg<'a>, other: &'a str) -> Result<Arg<'a>, AllocError> {
+    option.required_unless_present(other)?.conflicts_with(other)
+}
+
+// An option that is given when `need` says.
+fn needed<'a>(option: Arg<'a>, need: Need<'a>) -> Result<Arg<'a>, AllocError> {
+    match need {
+        Need::Always => Ok(option.required(true)),
+        Need::AlwaysNumber => Ok(option.value_parser(value_parser!(u64)).required(true)),
+        Need::Never => Ok(option),
+        Need::With(other) => option.requires_arg(other),
+        Need::Without(other) => without(option, other),
+    }
+}
+
 // An option that takes a value.
-fn option_of<'a>(alloc: Global, words: OptionWords<'a>) -> Arg<'a> {
-    let (name, value, help) = words;
-    Arg::new(alloc, name)
+fn option_of<'a>(alloc: Global, words: OptionWords<'a>) -> Result<Arg<'a>, AllocError> {
+    let (need, name, value, help) = words;
+    let option = Arg::new(alloc, name)
         .long(name)
         .value_name(value)
         .action(ArgAction::Set)
-        .help(help)
+        .help(help);
+    needed(option, need)
+}
+
+// A command with this argument.
+fn with_made<'a>(command: Building<'a>, argument: Arg<'a>) -> Building<'a> {
+    match command {
+        Ok(command) => command.arg(argument),
+        Err(error) => Err(error),
+    }
+}
+
+// A command with this argument, if there was memory for it.
+fn with_argument<'a>(command: Building<'a>, argument: Result<Arg<'a>, AllocError>) -> Building<'a> {
+    match argument {
+        Ok(argument) => with_made(command, argument),
+        Err(error) => Err(error),
+    }
 }
 
 // A command with these options, which take a value each.
 fn with_options<'a>(
     alloc: Global,
-    command: Command<'a>,
+    command: Building<'a>,
     options: &[OptionWords<'a>],
-    need: Need<'a>,
-) -> Result<Command<'a>, AllocError> {
+) -> Building<'a> {
     let mut command = command;
-    for words in options {
-        let option = option_of(alloc, *words);
-        let option = match need {
-            Need::Always => option.required(true),
-            Need::Never => option,
-            Need::With(other) => option.requires_arg(other)?,
-        };
-        command = command.arg(option)?;
+    for option in options {
+        command = with_argument(command, option_of(alloc, *option));
     }
-    Ok(command)
+    command
 }
 
-// A command with the two options for a compiler's programs, of which one has to be given.
-fn with_programs<'a>(alloc: Global, command: Command<'a>) -> Result<Command<'a>, AllocError> {
-    let (driver, _, _) = DRIVER;
-    let compiler = option_of(alloc, COMPILER)
-        .required_unless_present(driver)?
-        .conflicts_with(driver)?;
-    command.arg(compiler)?.arg(option_of(alloc, DRIVER))
+// A command with these words, which have to be given.
+fn with_words<'a>(alloc: Global, command: Building<'a>, words: &[WordWords<'a>]) -> Building<'a> {
+    let mut command = command;
+    for (name, help) in words {
+        let word = Arg::new(alloc, *name).required(true).help(*help);
+        command = with_argument(command, Ok(word));
+    }
+    command
+}
+
+// The compiler's arguments.
+fn arguments<'a>(alloc: Global) -> Arg<'a> {
+    Arg::new(alloc, "ARG")
+        .num_args(0..)
+        .trailing_var_arg(true)
+        .allow_hyphen_values(true)
+        .help("The compiler's arguments")
 }
 
 // A command with the words of a compiler's call after its own.
-fn with_call<'a>(alloc: Global, command: Command<'a>) -> Result<Command<'a>, AllocError> {
-    let command = with_programs(alloc, command)?;
-    let command = with_options(alloc, command, &CALL_REQUIRED, Need::Always)?;
-    let command = with_options(alloc, command, &CALL_EXTRA, Need::Never)?;
-    command.arg(
-        Arg::new(alloc, "ARG")
-            .num_args(0..)
-            .trailing_var_arg(true)
-            .allow_hyphen_values(true)
-            .help("The compiler's arguments"),
-    )
+fn with_call<'a>(alloc: Global, command: Building<'a>) -> Building<'a> {
+    let command = with_options(alloc, command, &CALL);
+    with_argument(command, Ok(arguments(alloc)))
 }
 
-// A command with the word STORE.
-fn with_store<'a>(alloc: Global, command: Command<'a>) -> Result<Command<'a>, AllocError> {
-    command.arg(
-        Arg::new(alloc, "STORE")
-            .required(true)
-            .help("The directory of the store"),
-    )
+// The command of these words.
+fn command_of<'a>(alloc: Global, words: CommandWords<'a>) -> Building<'a> {
+    let (name, about, options, words, has_call) = words;
+    let command = Ok(Command::new(alloc, name).about(about));
+    let command = with_options(alloc, command, options.listed());
+    let command = with_words(alloc, command, words.listed());
+    if has_call {
+        with_call(alloc, command)
+    } else {
+        command
+    }
 }
 
-// The command `preprocessor-key`.
-fn preprocessor_key_command<'a>(alloc: Global) -> Result<Command<'a>, AllocError> {
-    let command = Command::new(alloc, "preprocessor-key").about("Prints the preprocessor key");
-    with_call(alloc, command)
+// A program with this command.
+fn with_ready<'a>(program: Building<'a>, command: Command<'a>) -> Building<'a> {
+    match program {
+        Ok(program) => program.subcommand(command),
+        Err(error) => Err(error),
+    }
 }
 
-// The command `unpack`.
-fn unpack_command<'a>(alloc: Global) -> Result<Command<'a>, AllocError> {
-    let command = Command::new(alloc, "unpack").about("Writes the object that an object file has");
-    let command = with_options(alloc, command, &UNPACK_REQUIRED, Need::Always)?;
-    let command = with_options(alloc, command, &UNPACK_EXTRA, Need::Never)?;
-    with_store(alloc, command)
-}
-
-// The command `look`.
-fn look_command<'a>(alloc: Global) -> Result<Command<'a>, AllocError> {
-    let command = Command::new(alloc, "look").about("Writes the object from the store");
-    let command = with_options(alloc, command, &LOOK_EXTRA, Need::Never)?;
-    with_call(alloc, with_store(alloc, command)?)
-}
-
-// The command `record`.
-fn record_command<'a>(alloc: Global) -> Result<Command<'a>, AllocError> {
-    let command = Command::new(alloc, "record").about(
-        "Records a compilation, whose preprocessed text is read from standard input",
-    );
-    let command = with_options(alloc, command, &RECORD_REQUIRED, Need::Always)?;
-    let command = with_options(alloc, command, &[COMPILED], Need::With("messages"))?;
-    let command = with_options(alloc, command, &RECORD_COMPILED, Need::With("compiled"))?;
-    let command = with_options(alloc, command, &RECORD_EXTRA, Need::Never)?;
-    with_call(alloc, with_store(alloc, command)?)
-}
-
-// The command `stats`.
-fn stats_command<'a>(alloc: Global) -> Result<Command<'a>, AllocError> {
-    let command = Command::new(alloc, "stats").about(
-        "Prints what a store has, and what was counted",
-    );
-    with_store(alloc, command)
-}
-
-// The command `prune`.
-fn prune_command<'a>(alloc: Global) -> Result<Command<'a>, AllocError> {
-    let command = Command::new(alloc, "prune").about(
-        "Removes the files that were used longest ago",
-    );
-    let size = Arg::new(alloc, "max-size")
-        .long("max-size")
-        .value_name("BYTES")
-        .value_parser(value_parser!(u64))
-        .required(true)
-        .help("The most bytes that the files may have together");
-    with_store(alloc, command.arg(size)?)
-}
-
-// The command `clear`.
-fn clear_command<'a>(alloc: Global) -> Result<Command<'a>, AllocError> {
-    let command = Command::new(alloc, "clear").about("Removes all entries and objects");
-    with_store(alloc, command)
-}
-
-// The command `verify`.
-fn verify_command<'a>(alloc: Global) -> Result<Command<'a>, AllocError> {
-    let command = Command::new(alloc, "verify").about(
-        "Tests all entries and objects, and removes those that are damaged",
-    );
-    with_store(alloc, command)
-}
-
-// The command `inspect`.
-fn inspect_command<'a>(alloc: Global) -> Result<Command<'a>, AllocError> {
-    let command = Command::new(alloc, "inspect").about("Prints what files of a store say");
-    with_store(alloc, command)?.arg(
-        Arg::new(alloc, "WORD").required(true).help(
-            "A preprocessor key, the name of an object, or a path with a slash",
-        ),
-    )
-}
-
-// The command `why`.
-fn why_command<'a>(alloc: Global) -> Result<Command<'a>, AllocError> {
-    let command = Command::new(alloc, "why").about(
-        "Prints which paths keep an entry from matching",
-    );
-    with_call(alloc, with_store(alloc, command)?)
-}
-
-// A program with the commands that have the words of a compiler's call.
-fn with_call_commands<'a>(alloc: Global, program: Command<'a>) -> Result<Command<'a>, AllocError> {
-    program
-        .subcommand(preprocessor_key_command(alloc)?)?
-        .subcommand(look_command(alloc)?)?
-        .subcommand(record_command(alloc)?)?
-        .subcommand(why_command(alloc)?)
-}
-
-// A program with the other commands.
-fn with_store_commands<'a>(alloc: Global, program: Command<'a>) -> Result<Command<'a>, AllocError> {
-    program
-        .subcommand(unpack_command(alloc)?)?
-        .subcommand(stats_command(alloc)?)?
-        .subcommand(prune_command(alloc)?)?
-        .subcommand(clear_command(alloc)?)?
-        .subcommand(verify_command(alloc)?)?
-        .subcommand(inspect_command(alloc)?)
+// A program with this command, if there was memory for it.
+fn with_command<'a>(program: Building<'a>, command: Building<'a>) -> Building<'a> {
+    match command {
+        Ok(command) => with_ready(program, command),
+        Err(error) => Err(error),
+    }
 }
 
 /// The whole command line.
 ///
 /// The error is lack of memory.
 pub(crate) fn program<'a>(alloc: Global) -> Result<Command<'a>, AllocError> {
-    let program = Command::new(alloc, "cck_cache")
+    let mut program = Ok(Command::new(alloc, "cck_cache")
         .version(VERSION)
         .about("Keeps the objects of compilations")
-        .subcommand_required(true);
-    let program = with_call_commands(alloc, program)?;
-    with_store_commands(alloc, program)
+        .subcommand_required(true));
+    for words in &COMMANDS {
+        program = with_command(program, command_of(alloc, *words));
+    }
+    program
 }

@@ -9,7 +9,7 @@ use crate::request::{CompilerCall, Request, call_of};
 use crate::stamp::stamp_of;
 use cck_path::Timestamp;
 use clap::error::ErrorKind;
-use clap::{ArgMatches, Error};
+use clap::{ArgMatches, Command, Error};
 use std::alloc::{AllocError, Global};
 
 // What is wrong with a time.
@@ -325,19 +325,50 @@ fn has_wrong_time(matches: &ArgMatches<'_>) -> bool {
     }
 }
 
+// What is found of the words of a command.
+#[derive(Drop)]
+enum Outcome<'a> {
+    // They ask for this.
+    Task(Task<'a>),
+    // They are wrong in this way.
+    Wrong(ErrorKind, &'static str),
+}
+
+// What is found of the words in these matches.
+fn judged<'a>(alloc: Global, matches: &ArgMatches<'a>) -> Result<Outcome<'a>, AllocError> {
+    if has_wrong_time(matches) {
+        return Ok(Outcome::Wrong(ErrorKind::ValueValidation, WRONG_TIME));
+    }
+    Ok(match task_in(alloc, matches)? {
+        Some(task) => Outcome::Task(task),
+        // The parse lets none of these words pass.
+        None => Outcome::Wrong(ErrorKind::MissingRequiredArgument, MISSING),
+    })
+}
+
+// The error for wrong words.
+fn refused<'a>(program: &mut Command<'_>, kind: ErrorKind, text: &str) -> Result<Task<'a>, Error> {
+    Err(program.error(kind, text)?)
+}
+
+// Reads what these words ask for by a command line.
+fn task_by<'a>(
+    alloc: Global,
+    program: &mut Command<'a>,
+    words: &'a [String],
+) -> Result<Task<'a>, Error> {
+    let matches = program.try_get_matches_from_mut(words)?;
+    match judged(alloc, &matches)? {
+        Outcome::Task(task) => Ok(task),
+        Outcome::Wrong(kind, text) => refused(program, kind, text),
+    }
+}
+
 /// Reads what these words ask for. The first is the program's name.
 ///
 /// The error is clap's, with the text to be printed: for wrong words, among them a stamp that is no
 /// time, for `--help` and for `--version`, or for lack of memory.
 pub fn task_of<'a>(alloc: Global, words: &'a [String]) -> Result<Task<'a>, Error> {
     let mut program = program(alloc)?;
-    let matches = program.try_get_matches_from_mut(words)?;
-    if has_wrong_time(&matches) {
-        return Err(program.error(ErrorKind::ValueValidation, WRONG_TIME)?);
-    }
-    match task_in(alloc, &matches)? {
-        Some(task) => Ok(task),
-        // The parse lets none of these words pass.
-        None => Err(program.error(ErrorKind::MissingRequiredArgument, MISSING)?),
-    }
+    task_by(alloc, &mut program, words)
 }

@@ -1,6 +1,7 @@
 //! A table of options, and which of its rows an argument is.
 ghost use Rattle.std.specs.Prelude.{◌≡◌, ◌++◌, IfOk, OnOk, map};
 ghost use Rattle.std.specs.Option.{option_map};
+ghost use Rattle.std.specs.Str.{bytes_eq};
 ghost use Rattle.cck_cache_options.specs.Table.{after_name, better, cause_named, class_named, entries, entries_of_lines, entry, entry_of_line, fits, form_fits, form_named, kept_class_named, listed, split_at, table_of};
 
 use std::alloc::{AllocError, Global};
@@ -139,6 +140,13 @@ pub(crate) fn better<'t>(argument: &[u8], best: Option<Row<'t>>, row: Row<'t>) -
     }
 }
 
+// Whether a name is this one.
+fn is(name: &[u8], other: &[u8]) -> bool
+    ensures { result ≡ bytes_eq name.now other.now }
+{
+    name == other
+}
+
 // The form of this name.
 fn form_named(name: &[u8]) -> Option<Form>
     ensures { result ≡ form_named name.now }
@@ -162,33 +170,33 @@ fn form_named(name: &[u8]) -> Option<Form>
 fn kept_class_named(name: &[u8]) -> Option<Class>
     ensures { result ≡ kept_class_named name.now }
 {
-    if name == b"text".as_slice() {
+    if is(name, b"text") {
         Some(Class::Text)
-    } else if name == b"definition".as_slice() {
+    } else if is(name, b"definition") {
         Some(Class::Definition)
-    } else if name == b"code".as_slice() {
+    } else if is(name, b"code") {
         Some(Class::Code)
-    } else if name == b"message".as_slice() {
+    } else if is(name, b"message") {
         Some(Class::Message)
-    } else if name == b"compiler-message".as_slice() {
+    } else if is(name, b"compiler-message") {
         Some(Class::CompilerMessage)
-    } else if name == b"directory".as_slice() {
+    } else if is(name, b"directory") {
         Some(Class::Directory)
-    } else if name == b"nothing".as_slice() {
+    } else if is(name, b"nothing") {
         Some(Class::Nothing)
-    } else if name == b"compile".as_slice() {
+    } else if is(name, b"compile") {
         Some(Class::Compile)
-    } else if name == b"output".as_slice() {
+    } else if is(name, b"output") {
         Some(Class::Output)
-    } else if name == b"dependencies".as_slice() {
+    } else if is(name, b"dependencies") {
         Some(Class::Dependencies)
-    } else if name == b"rule".as_slice() {
+    } else if is(name, b"rule") {
         Some(Class::Rule)
-    } else if name == b"target".as_slice() {
+    } else if is(name, b"target") {
         Some(Class::Target)
-    } else if name == b"dependency-file".as_slice() {
+    } else if is(name, b"dependency-file") {
         Some(Class::DependencyFile)
-    } else if name == b"preprocessor-dependency-file".as_slice() {
+    } else if is(name, b"preprocessor-dependency-file") {
         Some(Class::PreprocessorDependencyFile)
     } else {
         None
