@@ -151,15 +151,15 @@ fn is(name: &[u8], other: &[u8]) -> bool
 fn form_named(name: &[u8]) -> Option<Form>
     ensures { result ≡ form_named name.now }
 {
-    if name == b"alone".as_slice() {
+    if is(name, b"alone") {
         Some(Form::Alone)
-    } else if name == b"joined".as_slice() {
+    } else if is(name, b"joined") {
         Some(Form::Joined)
-    } else if name == b"separate".as_slice() {
+    } else if is(name, b"separate") {
         Some(Form::Separate)
-    } else if name == b"either".as_slice() {
+    } else if is(name, b"either") {
         Some(Form::Either)
-    } else if name == b"equals".as_slice() {
+    } else if is(name, b"equals") {
         Some(Form::Equals)
     } else {
         None
@@ -207,29 +207,29 @@ fn kept_class_named(name: &[u8]) -> Option<Class>
 fn cause_named(name: &[u8]) -> Option<Cause>
     ensures { result ≡ cause_named name.now }
 {
-    if name == b"passed-mode".as_slice() {
+    if is(name, b"passed-mode") {
         Some(Cause::Mode)
-    } else if name == b"passed-dependencies".as_slice() {
+    } else if is(name, b"passed-dependencies") {
         Some(Cause::DependencyList)
-    } else if name == b"passed-preprocessor-option".as_slice() {
+    } else if is(name, b"passed-preprocessor-option") {
         Some(Cause::PreprocessorOption)
-    } else if name == b"passed-assembler-option".as_slice() {
+    } else if is(name, b"passed-assembler-option") {
         Some(Cause::AssemblerOption)
-    } else if name == b"passed-inputs".as_slice() {
+    } else if is(name, b"passed-inputs") {
         Some(Cause::Inputs)
-    } else if name == b"passed-link-time-optimization".as_slice() {
+    } else if is(name, b"passed-link-time-optimization") {
         Some(Cause::LinkTimeOptimization)
-    } else if name == b"passed-native".as_slice() {
+    } else if is(name, b"passed-native") {
         Some(Cause::Native)
-    } else if name == b"passed-profile".as_slice() {
+    } else if is(name, b"passed-profile") {
         Some(Cause::Profile)
-    } else if name == b"passed-precompiled".as_slice() {
+    } else if is(name, b"passed-precompiled") {
         Some(Cause::Precompiled)
-    } else if name == b"passed-further-output".as_slice() {
+    } else if is(name, b"passed-further-output") {
         Some(Cause::FurtherOutput)
-    } else if name == b"passed-recorded-switches".as_slice() {
+    } else if is(name, b"passed-recorded-switches") {
         Some(Cause::RecordedSwitches)
-    } else if name == b"passed-other-programs".as_slice() {
+    } else if is(name, b"passed-other-programs") {
         Some(Cause::OtherPrograms)
     } else {
         None

@@ -17,43 +17,20 @@ fn bytes_at<R: Files + AllocGlobal>(rt: &R, path: &str) -> io::Result<Option<Vec
     }
 }
 
-// The lines of an entry file at a path.
-fn entry_lines<R: AllocGlobal>(rt: &R, path: &str, file: &EntryFile) -> Result<Vec<u8>> {
-    match entry_file_listing(rt.alloc(), file) {
-        Ok(listing) => Ok(listing),
-        Err(EntryError::Memory) => bail!("out of memory"),
-        Err(EntryError::NotEntry(fault)) => bail!("{path}: {fault}"),
-    }
-}
-
-// The lines of the object file that these bytes are.
-fn object_lines<R: AllocGlobal>(rt: &R, path: &str, bytes: &[u8]) -> Result<Vec<u8>> {
+// The lines of the file that these bytes are.
+fn listing_of<R: AllocGlobal>(rt: &R, path: &str, bytes: &[u8]) -> Result<Vec<u8>> {
     let alloc = rt.alloc();
+    if let Some(file) = EntryFile::read(alloc, bytes)? {
+        return match entry_file_listing(alloc, &file) {
+            Ok(listing) => Ok(listing),
+            Err(EntryError::Memory) => bail!("out of memory"),
+            Err(EntryError::NotEntry(fault)) => bail!("{path}: {fault}"),
+        };
+    }
     match ObjectFile::read(alloc, bytes)? {
         Some(file) => Ok(object_file_listing(alloc, &file)?),
         None => bail!("{path}: not an entry file and not an object file"),
     }
-}
-
-// The lines of the file that these bytes are.
-fn listing_of<R: AllocGlobal>(rt: &R, path: &str, bytes: &[u8]) -> Result<Vec<u8>> {
-    match EntryFile::read(rt.alloc(), bytes)? {
-        Some(file) => entry_lines(rt, path, &file),
-        None => object_lines(rt, path, bytes),
-    }
-}
-
-// Prints the path of a file, and the lines of its bytes.
-fn print_listing<R: AllocGlobal, W: Write>(
-    rt: &R,
-    path: &str,
-    bytes: &[u8],
-    writer: &mut W,
-) -> Result<()> {
-    let listing = listing_of(rt, path, bytes)?;
-    writeln!(writer, "path {path}")?;
-    writer.write_all(&listing)?;
-    Ok(())
 }
 
 // Prints the path of a file, and what the file says. Returns whether there is one.
@@ -65,7 +42,9 @@ fn print_file<R: Files + AllocGlobal, W: Write>(
     let Some(bytes) = bytes_at(rt, path)? else {
         return Ok(false);
     };
-    print_listing(rt, path, &bytes, writer)?;
+    let listing = listing_of(rt, path, &bytes)?;
+    writeln!(writer, "path {path}")?;
+    writer.write_all(&listing)?;
     Ok(true)
 }
 
@@ -85,25 +64,6 @@ fn print_entries<R: Files + AllocGlobal, W: Write>(
     Ok(has_file)
 }
 
-// Prints the store's object file of this name. Returns whether there is one.
-fn print_object<R: Files + AllocGlobal, W: Write>(
-    rt: &R,
-    store: &StoreDirectory,
-    name: &str,
-    writer: &mut W,
-) -> Result<bool> {
-    let path = store.path_of(rt, Kind::Object, name)?;
-    print_file(rt, path.as_str(), writer)
-}
-
-// Prints the file at a path.
-fn print_path<R: Files + AllocGlobal, W: Write>(rt: &R, path: &str, writer: &mut W) -> Result<()> {
-    if !print_file(rt, path, writer)? {
-        bail!("{path}: there is no such file");
-    }
-    Ok(())
-}
-
 /// Prints what files of a store say: `path PATH`, and after it the lines of [`entry_file_listing`] or of
 /// [`object_file_listing`]. They are the file at this path, if the word has a slash; else the entry files of this
 /// preprocessor key, and the entry file and the object file of this name.
@@ -117,10 +77,14 @@ pub fn print_files<R: Files + AllocGlobal, W: Write>(
     writer: &mut W,
 ) -> Result<()> {
     if word.contains('/') {
-        return print_path(rt, word, writer);
+        if !print_file(rt, word, writer)? {
+            bail!("{word}: there is no such file");
+        }
+        return Ok(());
     }
     let has_entry = print_entries(rt, store, word, writer)?;
-    if !print_object(rt, store, word, writer)? && !has_entry {
+    let path = store.path_of(rt, Kind::Object, word)?;
+    if !print_file(rt, path.as_str(), writer)? && !has_entry {
         let directory = store.directory();
         bail!("{directory} has no file of {word}");
     }

@@ -22,46 +22,6 @@ fn print_limit<W: Write>(limit: Option<u64>, writer: &mut W) -> Result<()> {
     Ok(())
 }
 
-// Prints the number and the size of the files of one kind. Returns the size.
-fn print_kind<R: Files + AllocGlobal + Clone + Drop, W: Write>(
-    rt: &R,
-    store: &StoreDirectory,
-    kind: Kind,
-    writer: &mut W,
-) -> Result<u64> {
-    let files = list_files(rt, store, kind)?;
-    let (name, number, size) = (kind.as_str(), files.len(), total_size(&files));
-    writeln!(writer, "{name} {number} {size}")?;
-    Ok(size)
-}
-
-// Prints the size of all files.
-fn print_size<W: Write>(size: u64, writer: &mut W) -> Result<()> {
-    writeln!(writer, "size {size}")?;
-    Ok(())
-}
-
-// Prints a count, whose file has its name.
-fn print_count<W: Write>(path: &str, number: u64, writer: &mut W) -> Result<()> {
-    let name = name_of(path);
-    writeln!(writer, "count {name} {number}")?;
-    Ok(())
-}
-
-// Prints each count, in the order of their names.
-fn print_counts<R: Files + AllocGlobal + Clone + Drop, W: Write>(
-    rt: &R,
-    store: &StoreDirectory,
-    writer: &mut W,
-) -> Result<()> {
-    let mut counts = list_counts(rt, store)?;
-    counts.sort_by(|a, b| a.path.as_str().cmp(b.path.as_str()))?;
-    for count in &counts {
-        print_count(count.path.as_str(), count.size, writer)?;
-    }
-    Ok(())
-}
-
 /// Prints the number and the size in bytes of the files of each kind, the size of all, the limit, and each count.
 ///
 /// The error is of a directory that can't be read, of a failed write, or lack of memory. Some lines may
@@ -72,9 +32,20 @@ pub fn print_stats<R: Files + AllocGlobal + Clone + Drop, W: Write>(
     store: &StoreDirectory,
     writer: &mut W,
 ) -> Result<()> {
-    let entries = print_kind(rt, store, Kind::Entry, writer)?;
-    let objects = print_kind(rt, store, Kind::Object, writer)?;
-    print_size(entries.saturating_add(objects), writer)?;
+    let mut all = 0u64;
+    for kind in [Kind::Entry, Kind::Object] {
+        let files = list_files(rt, store, kind)?;
+        let (name, number, size) = (kind.as_str(), files.len(), total_size(&files));
+        writeln!(writer, "{name} {number} {size}")?;
+        all = all.saturating_add(size);
+    }
+    writeln!(writer, "size {all}")?;
     print_limit(limit, writer)?;
-    print_counts(rt, store, writer)
+    let mut counts = list_counts(rt, store)?;
+    counts.sort_by(|a, b| a.path.as_str().cmp(b.path.as_str()))?;
+    for count in &counts {
+        let (name, number) = (name_of(count.path.as_str()), count.size);
+        writeln!(writer, "count {name} {number}")?;
+    }
+    Ok(())
 }

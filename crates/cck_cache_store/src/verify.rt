@@ -98,32 +98,6 @@ fn is_sound(alloc: Global, kind: Kind, name: &str, bytes: &[u8]) -> Result<bool,
     }
 }
 
-// How a file of this kind and name with these bytes is.
-fn state_by(alloc: Global, kind: Kind, name: &str, bytes: &[u8]) -> Result<State, AllocError> {
-    Ok(if is_sound(alloc, kind, name, bytes)? {
-        State::Sound
-    } else {
-        State::Damaged
-    })
-}
-
-// How the file of this kind and name at a path is.
-fn state_at<R: Files + AllocGlobal>(
-    rt: &R,
-    kind: Kind,
-    name: &str,
-    path: &str,
-) -> Result<State, AllocError> {
-    match fs::read(rt, path) {
-        Ok(bytes) => state_by(rt.alloc(), kind, name, &bytes),
-        Err(error) => match error.kind() {
-            ErrorKind::NotFound => Ok(State::Gone),
-            ErrorKind::OutOfMemory => Err(AllocError),
-            _ => Ok(State::Unread),
-        },
-    }
-}
-
 // How a file of this kind is. One in the directory of another key is damaged.
 fn state_of<R: Files + AllocGlobal>(
     rt: &R,
@@ -133,38 +107,20 @@ fn state_of<R: Files + AllocGlobal>(
 ) -> Result<State, AllocError> {
     let name = name_of(file.path.as_str());
     let place = store.path_of(rt, kind, name)?;
-    if place.as_str() == file.path.as_str() {
-        state_at(rt, kind, name, place.as_str())
+    if place.as_str() != file.path.as_str() {
+        return Ok(State::Damaged);
+    }
+    let bytes = match fs::read(rt, place.as_str()) {
+        Ok(bytes) => bytes,
+        Err(error) if error.kind() == ErrorKind::NotFound => return Ok(State::Gone),
+        Err(error) if error.kind() == ErrorKind::OutOfMemory => return Err(AllocError),
+        Err(_) => return Ok(State::Unread),
+    };
+    Ok(if is_sound(rt.alloc(), kind, name, &bytes)? {
+        State::Sound
     } else {
-        Ok(State::Damaged)
-    }
-}
-
-// Prints what is wrong with a file.
-fn print_fault<W: Write>(word: &str, path: &str, writer: &mut W) -> Result<()> {
-    writeln!(writer, "{word} {path}")?;
-    Ok(())
-}
-
-// What was found after one more file that is as `state` says. One that is damaged is removed.
-fn with_file<R: Files + AllocGlobal>(
-    rt: &R,
-    path: &str,
-    state: State,
-    so_far: Verified,
-) -> Verified {
-    let Verified {
-        tested,
-        removed,
-        left,
-    } = so_far;
-    let is_removed = state == State::Damaged && fs::remove_file(rt, path).is_ok();
-    let is_left = !is_removed && state != State::Sound;
-    Verified {
-        tested: tested.saturating_add(1),
-        removed: removed.saturating_add(u64::from(is_removed)),
-        left: left.saturating_add(u64::from(is_left)),
-    }
+        State::Damaged
+    })
 }
 
 // Tests a file, removes it if it is damaged, and prints what is wrong with it. Returns what was found so far.
@@ -177,45 +133,24 @@ fn verify_file<R: Files + AllocGlobal, W: Write>(
     writer: &mut W,
 ) -> Result<Verified> {
     let path = file.path.as_str();
-    let state = state_of(rt, store, kind, file)?;
-    match state {
-        State::Gone => return Ok(so_far),
-        State::Sound => {}
-        State::Damaged => print_fault("damaged", path, writer)?,
-        State::Unread => print_fault("unread", path, writer)?,
-    }
-    Ok(with_file(rt, path, state, so_far))
-}
-
-// Tests each file of this kind, but for those that are being written. Returns what was found so far.
-fn verify_kind<R: Files + AllocGlobal + Clone + Drop, W: Write>(
-    rt: &R,
-    store: &StoreDirectory,
-    kind: Kind,
-    so_far: Verified,
-    writer: &mut W,
-) -> Result<Verified> {
     let mut verified = so_far;
-    for file in list_files(rt, store, kind)? {
-        if !file.is_new {
-            verified = verify_file(rt, store, kind, &file, verified, writer)?;
+    match state_of(rt, store, kind, file)? {
+        State::Gone => return Ok(verified),
+        State::Sound => {}
+        State::Damaged => {
+            writeln!(writer, "damaged {path}")?;
+            match fs::remove_file(rt, path) {
+                Ok(()) => verified.removed = verified.removed.saturating_add(1),
+                Err(_) => verified.left = verified.left.saturating_add(1),
+            }
+        }
+        State::Unread => {
+            writeln!(writer, "unread {path}")?;
+            verified.left = verified.left.saturating_add(1);
         }
     }
+    verified.tested = verified.tested.saturating_add(1);
     Ok(verified)
-}
-
-// Prints what was found. The error is of a failed write, or of files that are left.
-fn conclude<W: Write>(verified: Verified, writer: &mut W) -> Result<()> {
-    let Verified {
-        tested,
-        removed,
-        left,
-    } = verified;
-    writeln!(writer, "verified {tested} files, removed {removed}")?;
-    if left > 0 {
-        bail!("{left} files are damaged or can't be read");
-    }
-    Ok(())
 }
 
 /// Tests each file of `entries` and `objects`, but for those that are being written, and removes what is damaged: a
@@ -230,12 +165,26 @@ pub fn verify_store<R: Files + AllocGlobal + Clone + Drop, W: Write>(
     store: &StoreDirectory,
     writer: &mut W,
 ) -> Result<()> {
-    let none = Verified {
+    let mut verified = Verified {
         tested: 0,
         removed: 0,
         left: 0,
     };
-    let entries = verify_kind(rt, store, Kind::Entry, none, writer)?;
-    let all = verify_kind(rt, store, Kind::Object, entries, writer)?;
-    conclude(all, writer)
+    for kind in [Kind::Entry, Kind::Object] {
+        for file in list_files(rt, store, kind)? {
+            if !file.is_new {
+                verified = verify_file(rt, store, kind, &file, verified, writer)?;
+            }
+        }
+    }
+    let Verified {
+        tested,
+        removed,
+        left,
+    } = verified;
+    writeln!(writer, "verified {tested} files, removed {removed}")?;
+    if left > 0 {
+        bail!("{left} files are damaged or can't be read");
+    }
+    Ok(())
 }

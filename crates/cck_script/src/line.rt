@@ -1,6 +1,7 @@
 //! One line of a script.
 ghost use Rattle.std.specs.Prelude.{◌≡◌, IfOk};
 ghost use Rattle.std.specs.Option.{option_map};
+ghost use Rattle.std.specs.Str.{bytes_eq};
 ghost use Rattle.cck_path.specs.Bytes.{lists_of};
 ghost use Rattle.cck_script.specs.Lines.{Clear, Compile, Recache, basedir_line, call_line, command_line, ended, file_line, folder_line, gone_line, read, store_line, variable_line, zone_line};
 ghost use Rattle.cck_script.specs.Seen.{line_of, reading_of};
@@ -12,7 +13,7 @@ use cck_path::Timestamp;
 use std::alloc::{AllocError, Global};
 
 /// What a line is.
-#[derive(Debug, Drop)]
+#[derive(Drop)]
 pub(crate) enum Reading {
     /// Wrong: it says nothing.
     Wrong,
@@ -42,6 +43,13 @@ pub(crate) fn read_line(alloc: Global, line: &[u8]) -> Result<Reading, AllocErro
     }
 }
 
+// Whether a word is this one.
+fn is(word: &[u8], other: &[u8]) -> bool
+    ensures { result ≡ bytes_eq word.now other.now }
+{
+    word == other
+}
+
 // What a line of this name says.
 #[tactic(auto, unfolding(crate::specs::Lines::command_line))]
 fn command_line(
@@ -52,34 +60,34 @@ fn command_line(
     ensures { IfOk result (λ found. option_map line_of found
         ≡ command_line name.now (option_map (λ r. r.now) rest.entry)) }
 {
-    if name == b"zone".as_slice() {
+    if is(name, b"zone") {
         return zone_line(alloc, rest);
     }
-    if name == b"basedir".as_slice() {
+    if is(name, b"basedir") {
         return basedir_line(alloc, rest);
     }
-    if name == b"store".as_slice() {
+    if is(name, b"store") {
         return store_line(alloc, rest);
     }
-    if name == b"file".as_slice() {
+    if is(name, b"file") {
         return file_line(alloc, rest);
     }
-    if name == b"dir".as_slice() {
+    if is(name, b"dir") {
         return folder_line(alloc, rest);
     }
-    if name == b"gone".as_slice() {
+    if is(name, b"gone") {
         return gone_line(alloc, rest);
     }
-    if name == b"var".as_slice() {
+    if is(name, b"var") {
         return variable_line(alloc, rest);
     }
-    if name == b"clear".as_slice() {
+    if is(name, b"clear") {
         return Ok(clear_line(rest));
     }
-    if name == b"compile".as_slice() {
+    if is(name, b"compile") {
         return compile_line(alloc, rest);
     }
-    if name == b"recache".as_slice() {
+    if is(name, b"recache") {
         return recache_line(alloc, rest);
     }
     Ok(None)
@@ -130,10 +138,10 @@ fn store_line(alloc: Global, rest: Option<&[u8]>) -> Result<Option<Command>, All
     if taken.rest.is_some() {
         return Ok(None);
     }
-    if kind.word.as_slice() == b"forget".as_slice() {
+    if is(&kind.word, b"forget") {
         return Ok(Some(Command::StoreForget { call }));
     }
-    if kind.word.as_slice() == b"fail".as_slice() {
+    if is(&kind.word, b"fail") {
         return Ok(Some(Command::StoreFail { call }));
     }
     Ok(None)
@@ -226,7 +234,7 @@ fn clear_line(rest: Option<&[u8]>) -> Option<Command>
 }
 
 // A call that a line asks for.
-#[derive(Debug, Drop)]
+#[derive(Drop)]
 struct Asked {
     moment: Timestamp,
     arguments: Vec<Vec<u8>>,
