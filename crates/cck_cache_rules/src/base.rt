@@ -6,7 +6,7 @@ ghost use Rattle.cck_cache_rules.specs.Base.{AllPortable, AskForDebug, BaseOf, H
 use crate::argument::{asks_for_debug, is_portable, maps_debug};
 
 /// The words of a request that its base directory depends on.
-#[derive(Debug, Clone, Copy)]
+#[derive(Clone, Copy)]
 pub struct Words<'a> {
     /// The base directory that was given, if objects are shared between checkouts.
     pub base: Option<&'a str>,

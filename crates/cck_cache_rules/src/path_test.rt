@@ -21,7 +21,7 @@ const PLAIN: &[u8] = b"plain ";
 const REAL: &[u8] = b"real ";
 
 /// What must hold of a path, so that a preprocessor finds what it found.
-#[derive(Debug, Drop, PartialEq, Eq)]
+#[derive(Drop, PartialEq, Eq)]
 pub enum PathTest {
     /// There is nothing at the path.
     Absent(Vec<u8>),

@@ -4,7 +4,7 @@ ghost use Rattle.std.specs.Option.{option_map};
 ghost use Rattle.cck_cache_rules.specs.Refusal.{IsRefusal, refusal_name};
 
 /// Why a compilation is not recorded.
-#[derive(Debug, Clone, Copy, PartialEq, Eq)]
+#[derive(Clone, Copy, PartialEq, Eq)]
 pub enum Refusal {
     /// The input has no preprocessor key.
     NoKey,
@@ -56,7 +56,7 @@ impl Refusal {
 }
 
 /// What is known of a compilation that is to be recorded, before the files of its text are judged.
-#[derive(Debug, Clone, Copy)]
+#[derive(Clone, Copy)]
 pub struct Known<'a> {
     /// The preprocessor key of the input as it is now, if it has one.
     pub found: Option<&'a str>,
