@@ -25,7 +25,7 @@ use std::fs;
 use std::rt::Files;
 
 /// The length of a file of a text, and the second of its last modification.
-#[derive(Debug, Clone, Copy)]
+#[derive(Clone, Copy)]
 pub struct KnownFile {
     length: u64,
     // `None` where it is not known.

@@ -12,7 +12,7 @@ use std::rt::Files;
 use std::{fs, io};
 
 /// A file of a store.
-#[derive(Debug, Drop)]
+#[derive(Drop)]
 pub struct StoredFile {
     /// Its path.
     pub path: String,

@@ -13,7 +13,7 @@ use std::io::ErrorKind;
 use std::rt::Files;
 
 /// What there is at a path.
-#[derive(Debug, Clone, Copy, PartialEq, Eq)]
+#[derive(Clone, Copy, PartialEq, Eq)]
 pub enum PathState {
     /// Nothing, and no file on the way to it.
     Absent,

@@ -22,7 +22,7 @@ use std::fs;
 use std::rt::Files;
 
 /// Tests of the links on the way to files.
-#[derive(Debug, Drop)]
+#[derive(Drop)]
 pub struct LinkTests {
     /// The tests that a file is no link itself.
     pub plain: Vec<PathTest>,

@@ -8,7 +8,7 @@ use std::os::unix::fs::MetadataExt;
 use std::rt::Files;
 
 /// What the system knows a directory by.
-#[derive(Debug, Clone, Copy)]
+#[derive(Clone, Copy)]
 pub struct Identity {
     device: u64,
     inode: u64,

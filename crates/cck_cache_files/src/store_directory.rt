@@ -15,7 +15,7 @@ use std::{fs, io};
 const VERSION: &[u8] = b"cck store 1\n";
 
 /// The kinds of file that a store has.
-#[derive(Debug, Clone, Copy, PartialEq, Eq)]
+#[derive(Clone, Copy, PartialEq, Eq)]
 pub enum Kind {
     /// Entry files, by preprocessor keys.
     Entry,
