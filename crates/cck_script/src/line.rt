@@ -1,7 +1,6 @@
 //! One line of a script.
 ghost use Rattle.std.specs.Prelude.{◌≡◌, IfOk};
 ghost use Rattle.std.specs.Option.{option_map};
-ghost use Rattle.std.specs.Str.{bytes_eq};
 ghost use Rattle.cck_path.specs.Bytes.{lists_of};
 ghost use Rattle.cck_script.specs.Lines.{Clear, Compile, Recache, basedir_line, call_line, command_line, ended, file_line, folder_line, gone_line, read, store_line, variable_line, zone_line};
 ghost use Rattle.cck_script.specs.Seen.{line_of, reading_of};
@@ -13,7 +12,7 @@ use cck_path::Timestamp;
 use std::alloc::{AllocError, Global};
 
 /// What a line is.
-#[derive(Drop)]
+#[derive(Debug, Drop)]
 pub(crate) enum Reading {
     /// Wrong: it says nothing.
     Wrong,
@@ -43,13 +42,6 @@ pub(crate) fn read_line(alloc: Global, line: &[u8]) -> Result<Reading, AllocErro
     }
 }
 
-// Whether a word is this one.
-fn is(word: &[u8], other: &[u8]) -> bool
-    ensures { result ≡ bytes_eq word.now other.now }
-{
-    word == other
-}
-
 // What a line of this name says.
 #[tactic(auto, unfolding(crate::specs::Lines::command_line))]
 fn command_line(
@@ -60,34 +52,34 @@ fn command_line(
     ensures { IfOk result (λ found. option_map line_of found
         ≡ command_line name.now (option_map (λ r. r.now) rest.entry)) }
 {
-    if is(name, b"zone") {
+    if name == b"zone".as_slice() {
         return zone_line(alloc, rest);
     }
-    if is(name, b"basedir") {
+    if name == b"basedir".as_slice() {
         return basedir_line(alloc, rest);
     }
-    if is(name, b"store") {
+    if name == b"store".as_slice() {
         return store_line(alloc, rest);
     }
-    if is(name, b"file") {
+    if name == b"file".as_slice() {
         return file_line(alloc, rest);
     }
-    if is(name, b"dir") {
+    if name == b"dir".as_slice() {
         return folder_line(alloc, rest);
     }
-    if is(name, b"gone") {
+    if name == b"gone".as_slice() {
         return gone_line(alloc, rest);
     }
-    if is(name, b"var") {
+    if name == b"var".as_slice() {
         return variable_line(alloc, rest);
     }
-    if is(name, b"clear") {
+    if name == b"clear".as_slice() {
         return Ok(clear_line(rest));
     }
-    if is(name, b"compile") {
+    if name == b"compile".as_slice() {
         return compile_line(alloc, rest);
     }
-    if is(name, b"recache") {
+    if name == b"recache".as_slice() {
         return recache_line(alloc, rest);
     }
     Ok(None)
@@ -138,10 +130,10 @@ fn store_line(alloc: Global, rest: Option<&[u8]>) -> Result<Option<Command>, All
     if taken.rest.is_some() {
         return Ok(None);
     }
-    if is(&kind.word, b"forget") {
+    if kind.word.as_slice() == b"forget".as_slice() {
         return Ok(Some(Command::StoreForget { call }));
     }
-    if is(&kind.word, b"fail") {
+    if kind.word.as_slice() == b"fail".as_slice() {
         return Ok(Some(Command::StoreFail { call }));
     }
     Ok(None)
@@ -234,7 +226,7 @@ fn clear_line(rest: Option<&[u8]>) -> Option<Command>
 }
 
 // A call that a line asks for.
-#[derive(Drop)]
+#[derive(Debug, Drop)]
 struct Asked {
     moment: Timestamp,
     arguments: Vec<Vec<u8>>,

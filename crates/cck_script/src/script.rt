@@ -12,13 +12,13 @@ use crate::word::cut;
 use std::alloc::{AllocError, Global};
 
 /// A script, read.
-#[derive(Drop)]
+#[derive(Debug, Drop)]
 pub struct Script {
     commands: Vec<Command>,
 }
 
 /// What holds for the whole run of a script, wherever its line is.
-#[derive(Drop)]
+#[derive(Debug, Drop)]
 pub struct RunOptions {
     /// The offset of the zone, in seconds east of UTC: less than a day. It is 0 where no line says
     /// one.
