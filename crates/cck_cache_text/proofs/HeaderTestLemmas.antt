@@ -228,9 +228,9 @@ ends_in_line line place word more is =
           ∙ sym (append_assoc (take place line) ended.0 (word ++ (more ++ drop n after)))),
     )
 
--- a text in which a line has a test may have one
-no_test_in : (text line : List ℕ) (inside : Bool) (place : ℕ) → may_have_test text ≡ false → Contains (text_lines text) line → is_test inside line place ≡ true → ⊥
-no_test_in text line inside place none at is =
+-- a text that has each word of a line that has a test may have one
+no_test_in : (text line : List ℕ) (inside : Bool) (place : ℕ) → may_have_test text ≡ false → ((word : List ℕ) → Has line word → has text word ≡ true) → is_test inside line place ≡ true → ⊥
+no_test_in text line inside place none shows is =
     let after = drop place line in
     let word = word_of after in
     let begins = has text (codes "__ha") in
@@ -238,14 +238,14 @@ no_test_in text line inside place none at is =
     let large = has text (codes "HAS_INCLUDE") in
     let embeds = has text (codes "as_embed") in
     let may : may_have_test text ≡ true = elim (or_cases _ (is_test_name word) (and_first (is_test_word after) _ (and_first (begins_word line place) _ is))) [
-      | inl a ↦ or_left begins _ (line_has text line (codes "__ha") at (begins_in_line line place (and_first (starts_with nat_eq after (codes "__ha")) _ a)))
+      | inl a ↦ or_left begins _ (shows (codes "__ha") (begins_in_line line place (and_first (starts_with nat_eq after (codes "__ha")) _ a)))
       | inr b ↦ elim (or_cases (ends_with nat_eq word (codes "as_include")) _ b) [
-        | inl c ↦ or_right begins _ (or_left small _ (line_has text line (codes "as_include") at (ends_in_line line place (codes "as_include") [] c)))
+        | inl c ↦ or_right begins _ (or_left small _ (shows (codes "as_include") (ends_in_line line place (codes "as_include") [] c)))
         | inr d ↦ elim (or_cases (ends_with nat_eq word (codes "HAS_INCLUDE")) _ d) [
-          | inl e ↦ or_right begins _ (or_right small _ (or_left large embeds (line_has text line (codes "HAS_INCLUDE") at (ends_in_line line place (codes "HAS_INCLUDE") [] e))))
+          | inl e ↦ or_right begins _ (or_right small _ (or_left large embeds (shows (codes "HAS_INCLUDE") (ends_in_line line place (codes "HAS_INCLUDE") [] e))))
           | inr f ↦ elim (or_cases (ends_with nat_eq word (codes "as_include_next")) _ f) [
-            | inl g ↦ or_right begins _ (or_left small _ (line_has text line (codes "as_include") at (ends_in_line line place (codes "as_include") (codes "_next") g)))
-            | inr h ↦ or_right begins _ (or_right small _ (or_right large embeds (line_has text line (codes "as_embed") at (ends_in_line line place (codes "as_embed") [] h))))
+            | inl g ↦ or_right begins _ (or_left small _ (shows (codes "as_include") (ends_in_line line place (codes "as_include") (codes "_next") g)))
+            | inr h ↦ or_right begins _ (or_right small _ (or_right large embeds (shows (codes "as_embed") (ends_in_line line place (codes "as_embed") [] h))))
           ]
         ]
       ]
@@ -256,4 +256,9 @@ no_test_in text line inside place none at is =
 pub no_test : (text : List ℕ) (n place : ℕ) → may_have_test text ≡ false → n < length (text_lines text) → is_test (may_begin_open (text_lines text) n) (get_or (text_lines text) n []) place ≡ true → ⊥
 no_test text n place none lt =
     let lines = text_lines text in
-    no_test_in text (get_or lines n []) (may_begin_open lines n) place none (n, lt, get_or_default lines n (get_or lines n []) [] lt)
+    let line = get_or lines n [] in
+    no_test_in text line (may_begin_open lines n) place none (λ word. line_has text line word (n, lt, get_or_default lines n line [] lt))
+
+-- the same of a line by itself
+pub no_test_of_line : (line : List ℕ) (inside : Bool) (place : ℕ) → may_have_test line ≡ false → is_test inside line place ≡ true → ⊥
+no_test_of_line line inside place none = no_test_in line line inside place none (λ word. (has_iff line word).1)

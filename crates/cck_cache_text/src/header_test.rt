@@ -109,6 +109,9 @@ fn add_tests(
     ensures { IfOk result
         (GainsLine is_open line.now (test_fields tests.old.items) (test_fields tests.new.items)) }
 {
+    if !may_have_test(line) {
+        return Ok(true);
+    }
     for place in 0..line.len() {
         if !is_test(is_open, line, place) {
             continue;

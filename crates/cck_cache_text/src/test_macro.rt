@@ -8,7 +8,9 @@ ghost use Rattle.cck_cache_text.specs.TestName.{lent_fields};
 
 use crate::condition::{after_parenthesis, is_finished};
 use crate::directive::{directive, directive_words};
-use crate::identifier::{after_blanks, ends_in_word, is_word_byte, rest_of_word, stripped, word_of};
+use crate::identifier::{
+    after_blanks, ends_in_word, is_word_byte, rest_of_word, stripped, word_of,
+};
 use crate::splices::{before_blanks, is_blank};
 use crate::test_name::{is_include_word, is_judged_word, name_in};
 

@@ -2,10 +2,18 @@ use Rattle.std.proofs.Common.{◌≡◌, ℕ, true, false, List, [], ◌∷◌, 
 use Rattle.std.specs.Option.{option_map}
 use Rattle.std.proofs.lemmas.List.{map-append}
 use Rattle.cck_cache_text.specs.declared.header_test.HeaderTest.{HeaderTest}
-use Rattle.cck_cache_text.specs.HeaderTests.{Gains, fields_of, is_test, test_fields, tested}
-use Rattle.cck_cache_text.specs.TestName.{TestFields, lent_fields}
-use Rattle.cck_cache_text.proofs.HeaderTestLemmas.{IsTestBelow, gains_none, none_here, none_blind_here, one_here, one_blind_here}
+use Rattle.cck_cache_text.specs.HeaderTests.{Gains, IsTestIn, fields_of, is_test, test_fields, tested}
+use Rattle.cck_cache_text.specs.TestName.{TestFields, lent_fields, may_have_test}
+use Rattle.cck_cache_text.proofs.HeaderTestLemmas.{IsTestBelow, gains_none, no_test_of_line, none_here, none_blind_here, one_here, one_blind_here}
 use Rattle.cck_cache_text.proofs.header_test.add_tests.Goals as goal
+
+pub returns-then-not-may_have_test : goal.returns-then-not-may_have_test
+returns-then-not-may_have_test c =
+    let line = c.args.line.now in
+    let none : may_have_test line ≡ false = sym c.may_have_test.ensures ∙ c.if-not-may_have_test.true in (
+      λ blind. no_test_of_line line c.args.is_open blind.0 none blind.2,
+      gains_none (IsTestIn c.args.is_open line) (test_fields c.args.tests.now.items) (λ test here. no_test_of_line line c.args.is_open here.0 none here.2),
+    )
 
 pub loop-place-init : goal.loop-place-init
 loop-place-init c = record {
