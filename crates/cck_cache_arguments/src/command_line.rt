@@ -396,10 +396,12 @@ fn with_command<'a>(program: Building<'a>, command: Building<'a>) -> Building<'a
 ///
 /// The error is lack of memory.
 pub(crate) fn program<'a>(alloc: Global) -> Result<Command<'a>, AllocError> {
-    let mut program = Ok(Command::new(alloc, "cck_cache")
-        .version(VERSION)
-        .about("Keeps the objects of compilations")
-        .subcommand_required(true));
+    let mut program = Ok(
+        Command::new(alloc, "cck_cache")
+            .version(VERSION)
+            .about("Keeps the objects of compilations")
+            .subcommand_required(true),
+    );
     for words in &COMMANDS {
         program = with_command(program, command_of(alloc, *words));
     }

@@ -132,18 +132,6 @@ fn limit_share<R: Files + AllocGlobal + Clone + Drop>(
     Ok(())
 }
 
-// The paths of the object of this name and of the entry of this key.
-fn written_paths<R: AllocGlobal>(
-    rt: &R,
-    store: &StoreDirectory,
-    object_name: &str,
-    preprocessor_key: &str,
-) -> Result<[String; 2], AllocError> {
-    let object = store.path_of(rt, Kind::Object, object_name)?;
-    let entry = store.path_of(rt, Kind::Entry, preprocessor_key)?;
-    Ok([object, entry])
-}
-
 /// Removes what was used longest ago from the two shares of the store in which the object of this name and the
 /// entry of this key were recorded, where a share has more than its part of `limit`, in bytes. The files of the two
 /// keys are left, and what another process is writing.
@@ -158,7 +146,9 @@ pub fn limit_shares<R: Files + AllocGlobal + Clone + Drop>(
     preprocessor_key: &str,
 ) -> Result<()> {
     let most = limit / SHARES;
-    let written = written_paths(rt, store, object_name, preprocessor_key)?;
+    let mut written = Vec::new(rt.alloc());
+    written.push(store.path_of(rt, Kind::Object, object_name)?)?;
+    written.push(store.path_of(rt, Kind::Entry, preprocessor_key)?)?;
     limit_share(rt, now, store, object_name, &written, most)?;
     if object_name.get(..2) != preprocessor_key.get(..2) {
         limit_share(rt, now, store, preprocessor_key, &written, most)?;
