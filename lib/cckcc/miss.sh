@@ -570,7 +570,8 @@ find_own() {
 # Functions of `judge_text`. The first two read a file of the project, without its splices. They look for the name of a test,
 # or for a beginning of one; for builtin functions of x86; for pragmas that save macros; and for what may be a line marker. A
 # file of a device is not read. The next two are for macros that stand for a test for a header: where one is used, a word of the
-# header's name may be a macro too, which the text then shows. The last one says whether a raw string goes on in the next line.
+# header's name may be a macro too, which the text then shows unless it is one of the compiler, as `__LINE__`, and blanks in the
+# name are others. The last one says whether a raw string goes on in the next line.
 cck_reading='
     BEGIN {
         is_c = ENVIRON["cck_is_c"] != ""
@@ -651,7 +652,9 @@ cck_judging='
     index($0, "R\"") && goes_on($0) { marks = 1 }
     !/^[ \t]*#/ { next }
     /^#define [^ (]+ *__has_include(_next)? *\( *</ {
-        add_words(substr($0, index($0, "<")))
+        name = substr($0, index($0, "<"))
+        if (name ~ /^<([^>]*[^A-Za-z0-9$>\200-\377])?_/ || name ~ /^<[^>]*[ \t]/) reason = "header-test"
+        add_words(name)
         stands = 1
     }
     /^#define struct[ (]/ { reason = "header-test" }
