@@ -1,10 +1,11 @@
 #!/usr/bin/env python3
 """Compiles small projects by each kind of server of a team's store, and compares each object, dependency file and
-message with gcc's: three checkouts, addresses that are not valid, faults of each server, damaged values. No fault may
-end a call, and each is counted. No secret may be an argument of a process, in the log, or in the environment of a
-compiler. Needs gcc, openssl, redis-server, redis-cli, nginx and curl. The program is CCK_PROGRAM, by default the one
-that was proved and built here. DAMAGES is the number of damaged values, 100 by default, and DIGESTS a directory that
-keeps the digests of the compiler's programs for the next run. With names of checks or schemes only these are tried.
+message with gcc's: three checkouts, hits with and without a client, addresses that are not valid, faults of each server,
+damaged values. No fault may end a call, and each is counted. No secret may be an argument of a process, in the log, or in
+the environment of a compiler. Needs gcc, openssl, perl, redis-server, redis-cli, nginx, lighttpd with mod_webdav and curl.
+The program is CCK_PROGRAM, by default the one that was proved and built here. DAMAGES is the number of damaged values,
+100 by default, and DIGESTS a directory that keeps the digests of the compiler's programs for the next run. With names of
+checks or servers only these are tried.
 The last line is `team_servers: N passed, M failed`."""
 import collections
 import glob
@@ -27,14 +28,17 @@ FILES = {
     "src/a.c": '#include "common.h"\nint a(void) { return COMMON; }\n',
     "src/b.c": '#include "common.h"\nint b(int c) { int unused; return c << COMMON; }\n',
     "src/common.h": "#define COMMON 4\n",
+    # A name that is quoted for a shell, and an object that is larger than a pipe holds by default.
+    "src/it's large.c": "char large[300000] = {1};\n",
 }
+SOURCES = ["a", "b", "it's large"]
 # The programs in whose place a script notes the arguments and the environment, and calls the program.
-WATCHED = ["as", "curl", "redis-cli"]
+WATCHED = ["as", "curl", "perl", "redis-cli"]
 WATCH = """#!/bin/sh
 limit=$(ulimit -S -f)
 ulimit -S -f unlimited
 name=${0##*/} here=${0%/*}
-[ "$name" != as ] || env >>"$here/environment"
+case $name in as|perl) env >>"$here/environment" ;; esac
 printf '%s\\n' "$name" "$@" >>"$here/arguments"
 PATH=${PATH#*:}
 ulimit -S -f "$limit"
@@ -54,7 +58,7 @@ class Test:
         self.seed = pathlib.Path(os.environ.get("DIGESTS", self.room / "seed"))
         self.watch()
         self.variables.update(CCK_PROGRAM=program, PATH=f"{self.seed}:{TOP}/bin:{os.environ['PATH']}", CCK_TIMEOUT="10")
-        self.plain, self.logs = {}, ""
+        self.plain, self.logs, self.arguments = {}, "", ""
         for name in ("one", "two", "three"):
             self.add_checkout(name)
         time.sleep(0.1)
@@ -86,7 +90,7 @@ class Test:
         (top / "src").mkdir(parents=True)
         for path, text in FILES.items():
             (top / path).write_text(text)
-        for source in "ab":
+        for source in SOURCES:
             got = subprocess.run(["gcc", *self.words(name, source)], cwd=top / "src", env=self.variables, check=True,
                                  capture_output=True)
             self.plain[name, source] = self.outputs(name, source, got)
@@ -214,6 +218,48 @@ def checkouts(test, server):
             test.check(label, (way_of(done), done.counts["server-failed"]), (wanted, 0))
 
 
+# Variables with which a client asks for a hit too, and not the script for hits alone.
+BY_CLIENT = [{"PERL5OPT": "-MNone"}, {"PERL_UNICODE": "SD"}, {"CCK_TIMEOUT": "10.5"}]
+
+
+def clients(test, server):
+    """A hit starts no client but by TLS, and where the environment is not plain. Each way writes the same."""
+    def hits(label, source, home, by_client, **changes):
+        """A call that hits, in the log and in the counts, and whether a client ran."""
+        label = f"{server.scheme}: {label}, {source}.c"
+        (test.seed / "arguments").write_text("")
+        done = test.compile(label, "one", source, home, **{**server.variables(), **changes})
+        started = (test.seed / "arguments").read_text().split("\n")
+        test.arguments += "\n".join(started)
+        found = way_of(done), done.counts["server-hit"], "perl" in started, bool({"curl", "redis-cli"} & set(started))
+        test.check(label, found, ("hit", 1, not by_client, by_client))
+
+    by_tls = server.scheme in ("rediss", "https")
+    for source in SOURCES:
+        test.compile(f"{server.scheme}: {source}.c is recorded", "one", source, test.machine(), **server.variables())
+        home = test.machine()
+        hits("a hit", source, home, by_tls)
+        directory = home / "kept"
+        shutil.copytree(home / ".cache/cck", directory)
+        variables = {"CCK_DIR": str(directory)}
+        hits("a hit that is kept", source, home, by_tls, **variables)
+        done = test.compile(f"{server.scheme}: {source}.c was kept", "one", source, home,
+                            **{**server.variables(), **variables})
+        test.check(f"{server.scheme}: {source}.c was kept", (way_of(done), done.counts["hit"]), ("hit", 1))
+        for changes in BY_CLIENT:
+            hits(f"a hit with {changes}", source, home, True, **changes)
+    # A server that was slow an hour ago is asked again, and then there is no mark of it.
+    server.pause()
+    test.compile(f"{server.scheme}: a slow server", "one", "a", home, **{**server.variables(), "CCK_TIMEOUT": "1"})
+    server.resume()
+    marks = list(home.glob(".cache/cck/down-*"))
+    test.check(f"{server.scheme}: marks of a slow server", len(marks), 1)
+    os.utime(marks[0], (0, 0))
+    hits("a hit after a mark", "a", home, True)
+    test.check(f"{server.scheme}: the mark", marks[0].exists(), False)
+    hits("a hit without a mark", "a", home, by_tls)
+
+
 def faults(test, server):
     """Faults of a server that has the objects: the call compiles, and each is counted."""
     def fails(label, changes):
@@ -244,7 +290,7 @@ def faults(test, server):
 
 def http_faults(test, server):
     """Faults of an HTTP server: the call compiles, each is counted, and no redirection is followed."""
-    if server.scheme != "http":
+    if server.scheme != "http" or server.name:
         return
     test.compile("http: a value", "one", "a", test.machine(), **server.variables())
     faulty = servers.Faulty(server.values())
@@ -328,6 +374,7 @@ def rechecked(test, server):
 def secrets(test, found):
     """No secret is where another user or the compiler can see it."""
     seen = {name: (test.seed / name).read_text() for name in ("arguments", "environment")}
+    seen["arguments"] += test.arguments
     test.check("arguments were watched", not set(WATCHED).isdisjoint(seen["arguments"].split("\n")), True)
     test.check("the environment was watched", "CCK_PROGRAM=" in seen["environment"], True)
     for name, text in {**seen, "log": test.logs}.items():
@@ -366,8 +413,9 @@ def arguments():
             pass
 
 
-SERVERS = [servers.Redis, servers.RedisByTls, servers.RedisBySocket, servers.Nginx, servers.NginxByTls]
-CHECKS = [checkouts, faults, http_faults, known, modes, damage, rechecked]
+SERVERS = [servers.Redis, servers.RedisByTls, servers.RedisBySocket, servers.Nginx, servers.NginxByTls,
+           servers.Lighttpd]
+CHECKS = [checkouts, clients, faults, http_faults, known, modes, damage, rechecked]
 
 
 def chosen(items, names, name_of):
@@ -380,7 +428,7 @@ def tried(test, names):
     if not names or "addresses" in names:
         addresses(test)
     certificates = servers.Certificates(test.room / "certificates")
-    for kind in chosen(SERVERS, names, lambda kind: kind.scheme):
+    for kind in chosen(SERVERS, names, lambda kind: kind.name or kind.scheme):
         server = kind(test.room, certificates)
         try:
             for check in chosen(CHECKS, names, lambda check: check.__name__):
@@ -396,6 +444,9 @@ def main(names):
         with Processes() as processes:
             subprocess.run(["sh", "-c", "sleep 0.5", servers.SECRETS[0]], check=True)
         test.check("the watch of arguments", bool(processes.found), True)
+        strict = subprocess.run(["perl", "-Mstrict", "-Mwarnings", "-c", str(TOP / "lib/cckcc/server_hit.pl")], check=False,
+                                capture_output=True, text=True)
+        test.check("the script for hits", strict.stderr, f"{TOP}/lib/cckcc/server_hit.pl syntax OK\n")
         with Processes() as processes:
             tried(test, names)
         secrets(test, processes.found)

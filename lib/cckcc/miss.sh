@@ -1,8 +1,9 @@
-# What bin/cckcc does with a call that is not a hit of a directory: a compilation that is recorded, a call that is not
-# cached, the first call of a compiler, and each call with a server. bin/cckcc sources this script, and has set
-# `cck_compiler`, `cck_program`, `cck_store`, `cck_server`, the address of a server or nothing, `cck_digests`, the
-# directory of the compilers' digests or nothing, `cck_color`, which is an option of the compiler or nothing, and
-# `cck_found`, what the program printed of the call, if it was called. The words are the compiler's arguments.
+# What bin/cckcc does with a call that is no hit: a compilation that is recorded, a call that is not cached, the first call
+# of a compiler, and a call by a server that lib/cckcc/server_hit.pl can't ask. bin/cckcc sources this script, and has set
+# `cck_compiler`, `cck_program`, `cck_store`, `cck_server`, the address of a server or nothing, with what lib/cckcc/server.sh
+# sets, `cck_digests`, the directory of the compilers' digests or nothing, `cck_color`, which is an option of the compiler
+# or nothing, and `cck_found`, what the program printed of the call, if it was called. The words are the compiler's
+# arguments.
 
 # Appends a line to the log. A limit of the size of files ends no call: the signal is left to the compiler.
 log() { [ -z "$CCK_LOG" ] || (trap '' XFSZ; echo "cckcc: $*" >> "$CCK_LOG") 2>/dev/null; }
@@ -47,17 +48,17 @@ has_tools() {
 }
 
 # Where a directory keeps objects.
-cck_keeps=1 cck_failed= cck_unusable=
+cck_keeps=1 cck_failed=
 if [ -n "$cck_server" ]; then
-    cck_keeps=$CCK_DIR cck_unusable=script cck_why="can't read server.sh"
-    if find_script server.sh; then
+    cck_keeps=$CCK_DIR
+    if find_script client.sh; then
         . "$cck_script"
-        read_server
+        [ -z "$cck_slow" ] || fail_slow
+    else
+        cck_unusable=script cck_why="can't read client.sh"
     fi
 fi
 
-cck_newline='
-'
 # Why the call is not cached, whatever the program says of it. A reason is a word under which it is counted.
 cck_reason=
 # A stream that is closed stays closed for the compiler, whose files may take its number.
@@ -374,7 +375,7 @@ take_object() {
 
 # Looks for the object of the request at the server, and ends if it is there.
 look_at_server() {
-    if [ -z "$cck_object" ]; then
+    if [ -z "$cck_object$cck_asked" ]; then
         get entry "$cck_key" "$cck_scratch/entry"
         cck_found=$("$cck_program" look "$cck_store" --entry="$cck_scratch/entry" "$@")
         case $cck_found in
@@ -507,7 +508,7 @@ set -- --driver="$cck_compiler" "$@"
 cck_scratch= cck_text=
 if [ -n "$cck_server" ]; then
     make_scratch || cck_keeps=
-    look_up "$@"
+    [ -n "$cck_found" ] || look_up "$@"
 fi
 case $cck_found in
 'passed programs-unknown')
@@ -520,7 +521,7 @@ case $cck_found in
 'passed variable'|'passed compiler') pass_on "$@" ;;
 esac
 if [ -n "$cck_server" ] && [ -z "$cck_scratch" ]; then cck_found='no scratch'; pass_on "$@"; fi
-if [ -n "$cck_keeps" ]; then
+if [ -n "$cck_keeps$cck_asked" ]; then
     case $cck_found in
     hit*) log "$cck_found"; exit 0 ;;
     miss*"$cck_newline"*"$cck_newline"*) divide; fields $cck_found ;;

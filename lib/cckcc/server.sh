@@ -1,4 +1,4 @@
-# The server of a team's store: lib/cckcc/miss.sh sources this script where CCK_STORE is an address, which is
+# The address of a team's store, and hits there: bin/cckcc sources this script where CCK_STORE is an address, which is
 # `cck_server`. The scheme of the address is decided in `read_server` alone, which chooses the functions that read the
 # rest of the address and ask the server. What is asked for, and what is put, does not depend on the scheme.
 
@@ -112,170 +112,87 @@ read_http() {
     esac
 }
 
-# Whether the server may be asked: not after a failure in this call, nor for some seconds after a request of another
-# call took too long.
-is_up() {
-    [ -z "$cck_failed" ] || return 1
-    [ -e "$cck_store/down-$cck_mark" ] || return 0
-    [ -z "$(find "$cck_store/down-$cck_mark" -newermt '-10 seconds' 2>/dev/null)" ] && return 0
-    cck_failed=1
-    note "server: not asked, it was slow some seconds ago"
-    return 1
-}
-
-# Notes and counts a request $1 that failed, for the reason $2.
-fail() {
-    note "server: $1 failed: $2"
-    count server-failed
-    return 1
-}
-
-# Runs a client with these words. It fails if the client does, or says something. It can't write much more than a value
-# may have. A password is in the environment of redis-cli and of `timeout`, which runs it.
-run_client() {
-    cck_said=
-    (
-        trap '' XFSZ
-        ulimit -S -f $((cck_max / 512 + 1)) 2>/dev/null
-        if [ "$cck_protocol" = redis ] && [ -n "$cck_secret" ]; then export REDISCLI_AUTH="$cck_secret"; fi
-        exec timeout "${CCK_TIMEOUT:-2}" "$@"
-    ) 2> "$cck_scratch/said"
-    cck_status=$?
-    [ $cck_status -ne 0 ] || [ -s "$cck_scratch/said" ] || return 0
-    read -r cck_said < "$cck_scratch/said"
-    if [ $cck_status -eq 124 ]; then
-        cck_said='no reply in time'
-        # The command `:` would end the shell where the file can't be made.
-        true > "$cck_store/down-$cck_mark"
-    fi 2>/dev/null
-    return 1
-}
-
-# Sends a command to a Redis server, with what is to be read on standard input. The words are the command and options.
-# Where the server rejects a user or a database redis-cli says so, and continues as the default user, in database 0.
-ask_redis() {
-    cck_command=$1
-    [ "$1" != SETEX ] || set -- -x "$@"
-    set -- -n "${cck_database:-0}" ${cck_user:+--user "$cck_user"} --no-auth-warning -e -D '' "$@"
-    case $cck_scheme in
-    redis+unix) set -- -s "$cck_address" "$@" ;;
-    *) set -- -h "$cck_host" -p "${cck_port:-6379}" "$@" ;;
-    esac
-    if [ "$cck_scheme" = rediss ]; then
-        set -- --tls --cacert "$CCK_CACERT" ${CCK_CERT:+--cert "$CCK_CERT"} ${CCK_KEY:+--key "$CCK_KEY"} "$@"
-        case $cck_host in
-        *[!0-9.]*) set -- --sni "$cck_host" "$@" ;;
-        esac
-    fi
-    run_client redis-cli "$@" && return
-    case $cck_said in
-    NOPERM*) ;;
-    *) cck_failed=1 ;;
-    esac
-    fail "$cck_command" "$cck_said"
-}
-
-# Gets the file of the kind $1 and the key $2, and writes it to $3.
-get_redis() { ask_redis GET "cck:$cck_formats:$1:$2" > "$3"; }
-
-# Puts it.
-put_redis() { ask_redis SETEX "cck:$cck_formats:$1:$2" "${CCK_TTL:-2592000}" < "$3" > "$cck_scratch/reply"; }
-
-# A command for this would need a permission more.
-has_redis() { return 1; }
-
-# Sends a request of the method $1 for the file of the kind $2 and the key $3, and sets `cck_code` to the status of the
-# reply. The other words are options of curl, which reads what has a secret from standard input, and no file of options
-# of the user.
-ask_http() {
-    cck_method=$1 cck_path=$cck_formats/$2/${3%"${3#??}"}/$3
-    shift 3
-    if [ "$cck_scheme" = https ]; then
-        set -- ${CCK_CACERT:+--cacert "$CCK_CACERT"} ${CCK_CERT:+--cert "$CCK_CERT"} ${CCK_KEY:+--key "$CCK_KEY"} "$@"
-    fi
-    if run_client curl -q --silent --show-error --globoff --proto "=$cck_scheme" --max-filesize "$cck_max" \
-        --header Expect: --write-out '%{http_code}' --config - "$@" > "$cck_scratch/code" << CONFIG
-url = "$cck_url/$cck_path"
-$cck_header
-CONFIG
-    then
-        read -r cck_code < "$cck_scratch/code"
-        return 0
-    fi
-    cck_failed=1
-    fail "$cck_method" "$cck_said"
-}
-
-# Counts a status by its number. Of one that forbids a request the next request may be allowed.
-reject() {
-    count "server-status-$cck_code"
-    case $cck_code in
-    403|405|413) ;;
-    *) cck_failed=1 ;;
-    esac
-    fail "$cck_method" "status $cck_code"
-}
-
-get_http() {
-    ask_http GET "$1" "$2" --output "$3" || return 1
-    case $cck_code in
-    200) ;;
-    404) return 1 ;;
-    *) reject ;;
-    esac
-}
-
-put_http() {
-    ask_http PUT "$1" "$2" --upload-file "$3" --output "$cck_scratch/reply" || return 1
-    case $cck_code in
-    200|201|204) ;;
-    *) reject ;;
-    esac
-}
-
-has_http() {
-    ask_http HEAD "$1" "$2" --head --output "$cck_scratch/reply" || return 1
-    case $cck_code in
-    200) ;;
-    404) return 1 ;;
-    *) reject ;;
-    esac
-}
-
-# Writes the file of the kind $1 and the key $2 that the server has to $3, which is empty where it has none.
-get() {
-    true > "$3"
-    is_up || return 1
-    "get_$cck_protocol" "$@" || { true > "$3"; return 1; }
-    [ -s "$3" ]
-}
-
-# Whether files may be put to the server.
-writes() {
-    case $CCK_REMOTE_MODE in
-    ''|write) ;;
+# Whether lib/cckcc/server_hit.pl may ask the server for this call: it knows no TLS, no proxy and no password of an HTTP
+# server, and each of its parameters is a line. What it can't do lib/cckcc/client.sh does.
+is_plain() {
+    case $cck_scheme:$cck_user$http_proxy$all_proxy$ALL_PROXY:$cck_address in
+    redis:*|redis+unix:*) ;;
+    http::*[!A-Za-z0-9.:/_-]*|http::*:*:*|http::*/.*) return 1 ;;
+    http::*) ;;
     *) return 1 ;;
     esac
-}
-
-# Whether the server has the object $1 that this call did not ask for. One that is damaged was asked for.
-has_object() {
-    case $cck_sought in
-    *" $1 "*) return 1 ;;
+    case $cck_user$cck_secret$cck_address$cck_server in
+    *"$cck_newline"*) return 1 ;;
     esac
-    if ! writes || ! is_up; then return 1; fi
-    "has_$cck_protocol" object "$1" || return 1
-    count server-had-object
+    case ${CCK_TIMEOUT:-2} in
+    0*|*[!0-9]*) return 1 ;;
+    esac
+    [ -z "$cck_has_specs$PERL5OPT$PERL5DB$PERL_UNICODE$PERLIO${GLIBC_TUNABLES+set}" ] &&
+        { command -v perl 3>&1 > /dev/null; } 4>&2 2>/dev/null && [ ! -e "$cck_store/down-$cck_mark" ] &&
+        find_script server_hit.pl
 }
 
-# Puts the file $3 of the kind $1 and the key $2 to the server.
-put() {
-    if ! writes || ! is_up; then return 1; fi
-    if [ "$(wc -c < "$3")" -gt "$cck_max" ]; then
-        note "server: not put, too large: the $1 $2"
-        count server-too-large
-        return 1
+# Prints the lines that the script reads before what the program says of the call.
+print_server() {
+    case $cck_scheme in
+    redis) set -- "$cck_host" "${cck_port:-6379}" "$cck_database" "$cck_secret" ;;
+    redis+unix) set -- "$cck_address" '' "$cck_database" "$cck_secret" ;;
+    http)
+        case $cck_mark in
+        *:*) set -- "${cck_mark%%:*}" "${cck_mark#*:}" "${cck_url#http://"$cck_mark"}" ;;
+        *) set -- "$cck_mark" 80 "${cck_url#http://"$cck_mark"}" ;;
+        esac
+        set -- "$1" "$2" "$3" "${CCK_SECRET_FILE:+$cck_secret}"
+        ;;
+    esac
+    printf '%s\n' "$cck_scheme" "$1" "$2" "$3" "$cck_user" "$4"
+}
+
+# Takes a hit of the server, and ends, if all is plain. Otherwise `cck_found` is what the program printed of the call, or
+# nothing, `cck_asked` is not empty if that is of a look-up by the entry of the server, which has none that matches, and
+# `cck_slow` if a request took too long. The words are the compiler's.
+take_hit() {
+    cck_asked= cck_slow=
+    if [ -n "$cck_unusable" ] || ! is_plain; then return; fi
+    set -- --digests="$cck_digests" ${CCK_BASEDIR:+--base="$CCK_BASEDIR"} --directory="$PWD" -- $cck_color "$@"
+    if [ -n "$CCK_DIR" ]; then
+        cck_found=$(trap '' XFSZ; exec "$cck_program" look "$cck_store" --driver="$cck_compiler" "$@")
     fi
-    "put_$cck_protocol" "$@" || return 1
-    count "server-put-$1"
+    case $cck_found in
+    hit*) end_by_hit ;;
+    ''|miss*) ;;
+    *) return ;;
+    esac
+    {
+        cck_found=$(
+            trap '' XFSZ
+            {
+                print_server
+                [ -n "$cck_found" ] || exec "$cck_program" preprocessor-key --driver="$cck_compiler" "$@" 2>&3 3>&-
+                printf '%s\n' "$cck_found"
+            } | LC_ALL=C perl "$cck_script" "${LC_ALL+=$LC_ALL}" "$cck_formats" "${CCK_TIMEOUT:-2}" "$cck_max" "$cck_program" \
+                "$cck_store" "$CCK_DIR" "$@"
+        )
+    } 3>&2 2>/dev/null
+    case $?:$cck_found in
+    *:hit"$cck_newline"*"$cck_newline"unpacked*) end_by_hit server-hit ;;
+    *:hit"$cck_newline"*) cck_found= ;;
+    *:had"$cck_newline"*) end_by_hit ;;
+    *:asked"$cck_newline"*) cck_asked=1 ;;
+    # The status of SIGALRM.
+    *:slow"$cck_newline"*|142:) cck_slow=1 ;;
+    esac
+    cck_found=${cck_found#*"$cck_newline"}
+}
+
+# Ends after a hit. The event $1, if there is one, is counted.
+end_by_hit() {
+    cck_found=${cck_found#h??"$cck_newline"}
+    trap '' XFSZ
+    {
+        [ -z "$CCK_LOG" ] || echo "cckcc: ${cck_found%%"$cck_newline"*}" >> "$CCK_LOG"
+        [ -z "$1" ] || [ -d "$cck_store/counts" ] || mkdir -p "$cck_store/counts"
+        [ -z "$1" ] || printf . >> "$cck_store/counts/$1"
+    } 2>/dev/null
+    exit 0
 }

@@ -101,11 +101,11 @@ class Certificates:
 
 
 class Server:
-    """A server, which is asked by one of the schemes."""
-    scheme = None
+    """A server, which is asked by one of the schemes. It has a name if it is not the first one of its scheme."""
+    scheme = name = None
 
     def __init__(self, room, certificates, certificate="server"):
-        self.room = pathlib.Path(room) / f"{self.scheme}_{certificate}"
+        self.room = pathlib.Path(room) / f"{self.name or self.scheme}_{certificate}"
         self.room.mkdir()
         self.certificates, self.certificate = certificates, certificate
         self.run, self.port, self.other_port = None, free_port(), free_port()
@@ -274,6 +274,29 @@ class Nginx(Server):
 
     def remove(self, name):
         (self.room / "files" / name).unlink(missing_ok=True)
+
+
+LIGHTTPD = """server.modules = ("mod_access", "mod_webdav")
+server.document-root = "{room}/files"
+server.bind = "127.0.0.1"
+server.port = {port}
+server.errorlog = "{room}/errors"
+webdav.activate = "enable"
+$REQUEST_HEADER["Authorization"] != "Bearer {secret}" {{ url.access-deny = ("") }}
+"""
+
+
+class Lighttpd(Nginx):
+    """lighttpd with WebDAV, whose PUT makes no directories: they are there."""
+    name = "lighttpd"
+
+    def start(self):
+        for kind in ("entry", "object"):
+            for number in range(256):
+                (self.room / f"files/some/prefix/5/{kind}/{number:02x}").mkdir(parents=True, exist_ok=True)
+        (self.room / "config").write_text(LIGHTTPD.format(room=self.room, port=self.port, secret=SECRET))
+        self.run = subprocess.Popen(["lighttpd", "-D", "-f", str(self.room / "config")])
+        wait_for(lambda: listens(self.port), "lighttpd")
 
 
 class NginxByTls(Nginx):
