@@ -14,11 +14,11 @@ enum Need<'a> {
     Always,
     // Always, and its value is a number.
     AlwaysNumber,
-    // Never has it to be.
+    // It may be left out.
     Never,
-    // Never has it to be, but it comes only with the option of this name.
+    // It may be left out, and comes only with the option of this name.
     With(&'a str),
-    // Where the option of this name is not, and only there.
+    // Exactly where the option of this name is left out.
     Without(&'a str),
 }
 
@@ -282,7 +282,7 @@ impl Words {
     }
 }
 
-// An option that is given where the one of this name is not, and only there.
+// An option that is given exactly where the one of this name is left out.
 fn without<'a>(option: Arg<'a>, other: &'a str) -> Result<Arg<'a>, AllocError> {
     option.required_unless_present(other)?.conflicts_with(other)
 }
