@@ -571,8 +571,9 @@ find_own() {
 # Functions of `judge_text`. The first two read a file of the project, without its splices. They look for the name of a test,
 # or for a beginning of one; for builtin functions of x86; for pragmas that save macros; and for what may be a line marker. A
 # file of a device is not read. The next two are for macros that stand for a test for a header: where one is used, a word of the
-# header's name may be a macro too, which the text then shows unless it is one of the compiler, as `__LINE__`, and blanks in the
-# name are others. The last one says whether a raw string goes on in the next line.
+# header's name may be a macro too, which the text then shows unless it is one of the compiler, as `__LINE__`. Then comes whether
+# a literal of C++ has a suffix: what follows it is none if it was a macro when it was read. The last one says whether a raw
+# string goes on in the next line.
 cck_reading='
     BEGIN {
         is_c = ENVIRON["cck_is_c"] != ""
@@ -608,7 +609,7 @@ cck_reading='
         if (close(file) != 0) asks = 1
     }
     function add_words(line) {
-        while (match(line, /[A-Za-z_$\200-\377][A-Za-z0-9_$\200-\377]*/)) {
+        while (match(line, /[A-Za-z_][A-Za-z0-9_]*/)) {
             expanded[substr(line, RSTART, RLENGTH)]
             line = substr(line, RSTART + RLENGTH)
         }
@@ -621,6 +622,11 @@ cck_reading='
             if (word in expanded) return 1
         }
         return close(file) != 0
+    }
+    function has_suffix(line) {
+        gsub(/operator *""/, "", line)
+        gsub(/"([^"\\]|\\.)*"|\047([^\047\\]|\\.)+\047/, "\001", line)
+        return line ~ /\001[A-Za-z_$\200-\377\\]|["\047]/
     }
     function goes_on(line, begun, place) {
         while (match(line, /(^|[^A-Za-z0-9_])(u8|u|U|L)?R"[^ ()\\\t"]*\(/)) {
@@ -651,14 +657,15 @@ cck_judging='
         next
     }
     index($0, "R\"") && goes_on($0) { marks = 1 }
+    !is_c && /["\047]/ && has_suffix($0) { suffixes = 1 }
     !/^[ \t]*#/ { next }
     /^#define [^ (]+ *__has_include(_next)? *\( *</ {
         name = substr($0, index($0, "<"))
-        if (name ~ /^<([^>]*[^A-Za-z0-9$>\200-\377])?_/ || name ~ /^<[^>]*[ \t]/) reason = "header-test"
+        if (name !~ /^<[A-Za-z0-9_.\/+-]+>/ || name ~ /^<([^>]*[^A-Za-z0-9])?_/) reason = "header-test"
         add_words(name)
         stands = 1
     }
-    /^#define struct[ (]/ { reason = "header-test" }
+    /^#define (struct[ (]|[^ (]+[(]([^)]*[ ,])?struct[ ,)])/ { reason = "header-test" }
     /^# [0-9]+ "/ {
         flags = name = $0
         sub(/.*"/, "", flags)
@@ -704,7 +711,7 @@ cck_judging='
         if (stands && is_macro(FILENAME)) reason = "header-test"
         print shows_time ? "time-macro" : reason
         print doubts (asks ? " builtins" : "")
-        print warns || has_pragmas || saves ? "all" : ""
+        print warns || has_pragmas || saves || suffixes ? "all" : ""
         print "end"
     }'
 
