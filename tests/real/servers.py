@@ -282,6 +282,7 @@ server.bind = "127.0.0.1"
 server.port = {port}
 server.errorlog = "{room}/errors"
 webdav.activate = "enable"
+server.stat-cache-engine = "disable"
 $REQUEST_HEADER["Authorization"] != "Bearer {secret}" {{ url.access-deny = ("") }}
 """
 
