@@ -629,10 +629,10 @@ cck_reading='
         return line ~ /\001[A-Za-z_$\200-\377\\]|["\047]/
     }
     function goes_on(line, begun, place) {
-        while (match(line, /(^|[^A-Za-z0-9_])(u8|u|U|L)?R"[^ ()\\\t"]*\(/)) {
+        while (match(line, /(^|[^A-Za-z0-9_])(u8|u|U|L)?R"[^ ()\\\t]*\(/)) {
             begun = substr(line, RSTART, RLENGTH - 1)
             line = substr(line, RSTART + RLENGTH)
-            sub(/.*R"/, "", begun)
+            begun = substr(begun, index(begun, "R\"") + 2)
             place = index(line, ")" begun "\"")
             if (place == 0) return 1
             line = substr(line, place + length(begun) + 2)
@@ -665,7 +665,7 @@ cck_judging='
         add_words(name)
         stands = 1
     }
-    /^#define (struct[ (]|[^ (]+[(]([^)]*[ ,])?struct[ ,)])/ { reason = "header-test" }
+    /^#define (struct[ (]|[^ (]+[(]([^)]*[ ,])?struct[ ,.)])/ { reason = "header-test" }
     /^# [0-9]+ "/ {
         flags = name = $0
         sub(/.*"/, "", flags)
