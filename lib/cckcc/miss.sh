@@ -550,15 +550,39 @@ if [ -n "$CCK_LOG" ] && [ -n "$cck_keeps" ]; then
     done
 fi
 
+# Whether the input is in C++, by the compiler or by its name.
+is_cplusplus() {
+    cck_next=${cck_programs#*:}
+    case ${cck_next%%:*} in
+    */cc1plus) return 0 ;;
+    esac
+    case $cck_input in
+    *?.cc|*?.cp|*?.cxx|*?.cpp|*?.CPP|*?.c++|*?.C) return 0 ;;
+    esac
+    return 1
+}
+
+# Whether the program for the language of the input is among those that count. A compiler may find one by PATH alone.
+has_proper() {
+    is_cplusplus || return 0
+    case $cck_programs: in
+    *:/*/cc1plus:*) ;;
+    *) return 1 ;;
+    esac
+}
+
 # Preprocesses the input of the call into the file $1, with these further words of a shell. The list of directories is
 # read in the locale C. The preprocessor warns of each time macro that it expands, however that is spelled and wherever it
 # is: what a text shows of the time is in no key. Extensions are not errors in system headers. It names these as they are
 # looked for, and not by a shorter path that links lead to: a header that the compiler names so is not recorded. It also
 # writes each directive that includes a header (-dI), since it may pass over a copy of a header that was read, and the
-# definitions of macros, since the key of an object has no -D and -U. What is on standard input is for the compiler.
+# definitions of macros, since the key of an object has no -D and -U. In C++ it warns of what follows a literal and is a macro
+# when it is read, and not a suffix, which shows in no other way. What is on standard input is for the compiler.
 preprocess() {
+    cck_literals=
+    ! is_cplusplus || cck_literals=-Wliteral-suffix
     eval "LC_ALL=C \"\$cck_compiler\" $cck_preprocessed" \
-        '-Wdate-time -Wsystem-headers -Wno-error -Wno-pedantic -fno-canonical-system-headers' "$cck_macros $2" \
+        '-Wdate-time -Wsystem-headers -Wno-error -Wno-pedantic -fno-canonical-system-headers' "$cck_literals $cck_macros $2" \
         '-dI -E -v -o "$cck_scratch/$1"' < /dev/null 2> "$cck_scratch/$1-search" || true > "$cck_scratch/failed"
 }
 
@@ -571,9 +595,8 @@ find_own() {
 # Functions of `judge_text`. The first two read a file of the project, without its splices. They look for the name of a test,
 # or for a beginning of one; for builtin functions of x86; for pragmas that save macros; and for what may be a line marker. A
 # file of a device is not read. The next two are for macros that stand for a test for a header: where one is used, a word of the
-# header's name may be a macro too, which the text then shows unless it is one of the compiler, as `__LINE__`. Then comes whether
-# a literal of C++ has a suffix: what follows it is none if it was a macro when it was read. The last one says whether a raw
-# string goes on in the next line.
+# header's name may be a macro too, which the text then shows unless it is one of the compiler, as `__LINE__`. The last one
+# says whether a raw string goes on in the next line.
 cck_reading='
     BEGIN {
         is_c = ENVIRON["cck_is_c"] != ""
@@ -623,11 +646,6 @@ cck_reading='
         }
         return close(file) != 0
     }
-    function has_suffix(line) {
-        gsub(/operator *""/, "", line)
-        gsub(/"([^"\\]|\\.)*"|\047([^\047\\]|\\.)+\047/, "\001", line)
-        return line ~ /\001[A-Za-z_$\200-\377\\]|["\047]/
-    }
     function goes_on(line, begun, place) {
         while (match(line, /(^|[^A-Za-z0-9_])(u8|u|U|L)?R"[^ ()\\\t]*\(/)) {
             begun = substr(line, RSTART, RLENGTH - 1)
@@ -657,7 +675,6 @@ cck_judging='
         next
     }
     index($0, "R\"") && goes_on($0) { marks = 1 }
-    !is_c && /["\047]/ && has_suffix($0) { suffixes = 1 }
     !/^[ \t]*#/ { next }
     /^#define [^ (]+ *__has_include(_next)? *\( *</ {
         name = substr($0, index($0, "<"))
@@ -666,6 +683,7 @@ cck_judging='
         stands = 1
     }
     /^#define (struct[ (]|[^ (]+[(]([^)]*[ ,])?struct[ ,.)])/ { reason = "header-test" }
+    /^#(include|include_next|import)[ \t].*>[ \t]*struct[ \t]*[0-9]/ { reason = "header-test" }
     /^# [0-9]+ "/ {
         flags = name = $0
         sub(/.*"/, "", flags)
@@ -711,7 +729,7 @@ cck_judging='
         if (stands && is_macro(FILENAME)) reason = "header-test"
         print shows_time ? "time-macro" : reason
         print doubts (asks ? " builtins" : "")
-        print warns || has_pragmas || saves || suffixes ? "all" : ""
+        print warns || has_pragmas || saves ? "all" : ""
         print "end"
     }'
 
@@ -722,18 +740,6 @@ cck_judging='
 judge_text() {
     cck_own=$cck_own cck_extended=$cck_extended cck_targets=$cck_targets cck_is_c=$cck_is_c LC_ALL=C awk "$cck_reading$cck_judging" \
         "$cck_scratch/text-search" is_text=1 "$cck_scratch/text" < /dev/null
-}
-
-# Whether the input is in C++, by the compiler or by its name.
-is_cplusplus() {
-    cck_next=${cck_programs#*:}
-    case ${cck_next%%:*} in
-    */cc1plus) return 0 ;;
-    esac
-    case $cck_input in
-    *?.cc|*?.cp|*?.cxx|*?.cpp|*?.CPP|*?.c++|*?.C) return 0 ;;
-    esac
-    return 1
 }
 
 # Sets what the arguments say beside the text: `cck_extended` if the call has OpenMP or OpenACC; `cck_targets` if an argument
@@ -931,6 +937,7 @@ includes_files() {
 }
 
 eval "includes_files $cck_preprocessed" || { cck_found='passed pipe'; pass_on "$@"; }
+has_proper || { cck_found='passed compiler'; pass_on "$@"; }
 make_scratch || { cck_found='no scratch'; pass_on "$@"; }
 # With a server, what is recorded is first in the scratch directory.
 cck_entry_out=
