@@ -2,7 +2,8 @@
 # Installs into an empty directory, and compares what is there with the list below: paths, kinds and modes. Then a
 # compilation by the installed link `gcc` is recorded and found again, the options of the wrapper are tried, and
 # --uninstall leaves nothing. Needs gcc and the program (CCK_PROGRAM, by default the one that was proved and built here),
-# which stands for all three. The last line is `install: N passed, M failed`.
+# which stands for all three. LIBRARY names a libcck.a that was proved and built: with it the example in C is built by
+# pkg-config and run; without it an empty archive stands for it. The last line is `install: N passed, M failed`.
 top=$(cd "$(dirname "$0")/.." && pwd)
 program=${CCK_PROGRAM:-$top/crates/cck_cache/out/cck_cache}
 room=$(mktemp -d)
@@ -16,7 +17,7 @@ check() {
 }
 mkdir "$room/built"
 for name in cck_run cck_explain cck_cache; do cp "$program" "$room/built/$name"; done
-ar rcs "$room/built/libcck.a"
+if [ -n "${LIBRARY:-}" ]; then cp "$LIBRARY" "$room/built/libcck.a"; else ar rcs "$room/built/libcck.a"; fi
 installed() { (cd "$1" && find . ! -type d -printf '%y %m %P\n' | sort -k 3); }
 wanted() {
     for name in cck cck_cache cck_explain cckcc; do echo "f 755 bin/$name"; done
@@ -24,7 +25,7 @@ wanted() {
     for name in client command config miss recheck server; do echo "f 644 lib/cckcc/$name.sh"; done
     echo 'f 644 lib/cckcc/server_hit.pl'
     echo 'f 644 lib/libcck.a'
-    echo 'f 644 lib/pkgconfig/libcck.pc'
+    echo 'f 644 lib/pkgconfig/cck.pc'
     echo 'l 777 libexec/cckcc/cc'
     echo 'l 777 libexec/cckcc/gcc'
     echo 'f 644 share/bash-completion/completions/cckcc'
@@ -37,16 +38,20 @@ wanted() {
 check 'the files' "$(installed "$room/a b")" "$(wanted | sort -k 3)"
 "$top/install" --prefix /opt/cck --destdir "$room/package" --built "$room/built" >/dev/null
 check 'the files of a package' "$(installed "$room/package/opt/cck")" "$(wanted | sort -k 3)"
-check 'the prefix of a package' "$(sed -n 1p "$room/package/opt/cck/lib/pkgconfig/libcck.pc")" 'prefix=/opt/cck'
+check 'the prefix of a package' "$(sed -n 1p "$room/package/opt/cck/lib/pkgconfig/cck.pc")" 'prefix=/opt/cck'
 if command -v pkg-config >/dev/null; then
     export PKG_CONFIG_PATH="$room/package/opt/cck/lib/pkgconfig"
-    check 'the flags of the library' "$(echo $(pkg-config --cflags --libs libcck))" '-I/opt/cck/include -L/opt/cck/lib -lcck'
-    check 'its version' "$(pkg-config --modversion libcck)" "$("$program" --version | sed 's/.* //')"
+    check 'the flags of the library' "$(echo $(pkg-config --cflags --libs cck))" '-I/opt/cck/include -L/opt/cck/lib -lcck'
+    check 'its version' "$(pkg-config --modversion cck)" "$("$program" --version | sed 's/.* //')"
     PKG_CONFIG_PATH="$room/a b/lib/pkgconfig"
     printf '#include <cck.h>\nint main(void) { return CCK_DONE; }\n' >"$room/main.c"
-    eval "gcc $(pkg-config --cflags libcck) $room/main.c -o $room/main $(pkg-config --libs libcck)"
+    eval "gcc $(pkg-config --cflags cck) $room/main.c -o $room/main $(pkg-config --libs cck)"
     "$room/main"
     check 'a program with the library' $? 0
+    if [ -n "${LIBRARY:-}" ]; then
+        eval "gcc $(pkg-config --cflags cck) $top/examples/c/example.c -o $room/main $(pkg-config --libs cck)"
+        check 'the example' "$("$room/main")" "$(cat "$top/examples/c/stdout")"
+    fi
 fi
 
 mkdir "$room/project"
