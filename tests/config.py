@@ -80,6 +80,7 @@ CHECKS = [
     ("the environment before the file", "CCK_COMPILER_CHECK = mtime\n", {"CCK_COMPILER_CHECK": "content"}, ["@/home/.cache/cck"]),
     ("another value", None, {"CCK_COMPILER_CHECK": "size"}, ["@/home/.cache/cck"]),
     ("by times, in a locale", None, {"LANG": "de_DE.UTF-8"}, []),
+    ("by times, with a language of messages", None, {"LANG": "C.UTF-8", "LANGUAGE": "de"}, []),
     ("by times, with characters of a locale", None, {"LANG": "C", "LC_CTYPE": "en_US.UTF-8"}, []),
     ("by contents, in UTF-8", None, {"LANG": "C.UTF-8"}, ["@/home/.cache/cck"]),
     ("by contents, in a locale with a server", None, {"LC_ALL": "de_DE.UTF-8", "CCK_STORE": "redis://h", "CCK_DIR": "@/d"}, ["@/d"]),

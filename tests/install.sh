@@ -26,8 +26,7 @@ wanted() {
     echo 'f 644 lib/cckcc/server_hit.pl'
     echo 'f 644 lib/libcck.a'
     echo 'f 644 lib/pkgconfig/cck.pc'
-    echo 'l 777 libexec/cckcc/cc'
-    echo 'l 777 libexec/cckcc/gcc'
+    for name in c++ cc g++ gcc; do echo "l 777 libexec/cckcc/$name"; done
     echo 'f 644 share/bash-completion/completions/cckcc'
     for name in CHANGELOG.md LICENSE NOTICE README.md; do echo "f 644 share/doc/cck/$name"; done
     for page in "$top"/docs/*.md; do echo "f 644 share/doc/cck/docs/${page##*/}"; done
@@ -57,6 +56,7 @@ fi
 mkdir "$room/project"
 cd "$room/project" || exit 2
 echo 'int v;' >x.c
+echo 'class C;' >y.cc
 sleep 0.1
 unset CCK_PROGRAM CCK_BASEDIR CCK_DISABLE CCK_RECHECK
 compiler=$(command -v gcc)
@@ -66,6 +66,8 @@ export PATH CCK_STORE CCK_LOG XDG_CONFIG_HOME
 gcc -c x.c
 gcc -c x.c
 check 'a hit by the link' "$(sed -n 's/^cckcc: \([a-z]*\).*/\1/p' "$room/log" | tr '\n' ' ')" 'look why recorded hit '
+(export CCK_STORE="$room/plusplus" CCK_LOG="$room/plusplus.log"; g++ -c y.cc; c++ -c y.cc)
+check 'calls by the links for C++' "$(sed -n 's/^cckcc: recorded .* //p' "$room/plusplus.log" | tr '\n' ' ')" 'y.cc y.cc '
 check 'the compiler by the link' "$(gcc -dumpversion)" "$("$compiler" -dumpversion)"
 check 'the statistics' "$(cckcc --show-stats | sed 's/  */ /g; /^since/d; /^size/s/.* of/size of/')" "store $CCK_STORE
 hits 1 of 2 (50.0 %)

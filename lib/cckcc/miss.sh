@@ -140,6 +140,7 @@ says_what_it_read() {
 # as ccache, may call a compiler with more options, or keep objects itself.
 is_known() {
     case ${cck_driver##*/} in
+    *clang*) return 1 ;;
     *gcc*|*g++*) ;;
     *) return 1 ;;
     esac
