@@ -51,11 +51,19 @@ pub const GCC: &[u8] = b"\
 -pie alone code\n\
 -no-pie alone code\n\
 -static alone code\n\
+-static-pie alone code\n\
 -shared alone code\n\
 -nostdlib alone code\n\
 -nostartfiles alone code\n\
 -nodefaultlibs alone code\n\
 -rdynamic alone message\n\
+-static-libgcc alone message\n\
+-static-libstdc++ alone message\n\
+-static-libasan alone message\n\
+-static-liblsan alone message\n\
+-static-libtsan alone message\n\
+-static-libubsan alone message\n\
+-shared-libgcc alone message\n\
 -s alone message\n\
 -L either message\n\
 -l either message\n\
@@ -119,7 +127,8 @@ pub const GCC: &[u8] = b"\
 -iprefix either passed-preprocessor-option\n\
 -iwithprefix either passed-preprocessor-option\n\
 -isysroot either text\n\
---sysroot either passed-preprocessor-option\n\
+--sysroot equals text\n\
+--sysroot separate passed-preprocessor-option\n\
 -nostdinc alone text\n\
 -Wa, joined passed-assembler-option\n\
 -Wa,--noexecstack alone code\n\
@@ -140,7 +149,6 @@ pub const GCC: &[u8] = b"\
 -fuse-ld equals passed-other-programs\n\
 -flto either passed-link-time-optimization\n\
 -ffat-lto-objects alone passed-link-time-optimization\n\
--frandom-seed equals passed-link-time-optimization\n\
 -fprofile either passed-profile\n\
 -fauto-profile either passed-profile\n\
 -fbranch-probabilities alone passed-profile\n\
@@ -239,6 +247,7 @@ pub const GCC: &[u8] = b"\
 -fpack-struct equals code\n\
 -fpatchable-function-entry equals code\n\
 -fpermitted-flt-eval-methods equals text\n\
+-frandom-seed equals code\n\
 -freorder-blocks-algorithm equals code\n\
 -fsanitize equals code\n\
 -fsanitize-coverage equals code\n\
@@ -1224,6 +1233,8 @@ pub const GCC: &[u8] = b"\
 -mxsaves alone text\n\
 -fno-PIC alone text\n\
 -fno-PIE alone text\n\
+-fno-pic alone text\n\
+-fno-pie alone text\n\
 -fno-aggressive-loop-optimizations alone code\n\
 -fno-align-functions alone code\n\
 -fno-align-jumps alone code\n\
@@ -1585,6 +1596,7 @@ pub const GCC: &[u8] = b"\
 -fno-zee alone code\n\
 -fno-zero-initialized-in-bss alone code\n\
 -gno-column-info alone code\n\
+-gno-record-gcc-switches alone code\n\
 -gno-describe-dies alone code\n\
 -gno-dwarf alone code\n\
 -gno-gdb alone code\n\
@@ -1817,6 +1829,7 @@ pub const GCC: &[u8] = b"\
 -fpretty-templates alone message\n\
 -fsized-deallocation alone text\n\
 -fstrong-eval-order alone code\n\
+-fthreadsafe-statics alone text\n\
 -fstrong-eval-order equals code\n\
 -ftemplate-backtrace-limit equals message\n\
 -ftemplate-depth equals code\n\
