@@ -458,7 +458,7 @@ look_for_text() {
 shares_text() {
     [ -z "$C_INCLUDE_PATH$CPLUS_INCLUDE_PATH" ] || return 1
     case $cck_preprocessed in
-    *-isystem*|*-idirafter*|*-isysroot*) return 1 ;;
+    *-isystem*|*-idirafter*|*-isysroot*|*--sysroot*) return 1 ;;
     esac
 }
 
@@ -595,9 +595,11 @@ find_own() {
 
 # Functions of `judge_text`. The first two read a file of the project, without its splices. They look for the name of a test,
 # or for a beginning of one; for builtin functions of x86; for pragmas that save macros; and for what may be a line marker. A
-# file of a device is not read. The next two are for macros that stand for a test for a header: where one is used, a word of the
-# header's name may be a macro too, which the text then shows unless it is one of the compiler, as `__LINE__`. The last one
-# says whether a raw string goes on in the next line.
+# file of a device is not read. The next seven are for macros that stand for a test for a header: where one is used, a word of the
+# header's name may be a macro too, which the text then shows unless it is one of the compiler, as `__LINE__`. Where the name is
+# an argument of the macro, the words are those of all names that a file has in brackets after what may be such a macro; and no
+# file and no macro may have two words that make the macro's name, of which those are kept that have a part of its end. The last
+# one says whether a raw string goes on in the next line.
 cck_reading='
     BEGIN {
         is_c = ENVIRON["cck_is_c"] != ""
@@ -607,6 +609,11 @@ cck_reading='
         marker = "^(.*[*]/)?" gap "(#|%:|[?][?]=)" gap "([0-9]|\\\\" blank "*$|" comment "[*]*$)"
     }
     function read_line(line, whole) {
+        if (calls && (index(line, "HAS_") || index(line, "INCLUDE") || index(line, "has_") || index(line, "include"))) {
+            add_tested(line)
+            add_parts(line)
+        }
+        if (is_other) return
         whole = line
         if (line ~ /#|%:|[?][?]=/ && line ~ marker) marks = 1
         if (line ~ /(^|[^A-Za-z0-9_$])__ha(s(_(b(u(i(l(ti?)?)?)?)?)?)?)?([^A-Za-z0-9_$]|$)/) asks = 1
@@ -623,20 +630,45 @@ cck_reading='
     function read_file(name, file, line, held, is_later) {
         file = name ~ /^\// ? name : "./" name
         letters = ""
-        if (name ~ /^\/dev\//) asks = 1
+        if (name ~ /^\/dev\//) asks = unread = 1
         else while ((getline line < file) > 0) {
             if (!is_later++) sub(/^\357\273\277/, "", line)
             if (sub(/\\[ \t\r\f\013]*$/, "", line)) held = held line
             else { read_line(held line); held = "" }
         }
         read_line(held)
-        if (close(file) != 0) asks = 1
+        if (close(file) != 0) asks = unread = 1
     }
     function add_words(line) {
         while (match(line, /[A-Za-z_][A-Za-z0-9_]*/)) {
             expanded[substr(line, RSTART, RLENGTH)]
             line = substr(line, RSTART + RLENGTH)
         }
+    }
+    function add_tested(line) {
+        while (match(line, /(has_include|HAS_INCLUDE)[ \t\r\f\013]*[(][ \t\r\f\013]*</)) {
+            line = substr(line, RSTART + RLENGTH)
+            add_words(substr(line, 1, index(line ">", ">") - 1))
+        }
+    }
+    function add_parts(line) {
+        while (match(line, /[A-Za-z0-9_]+/)) {
+            parts[substr(line, RSTART, RLENGTH)]
+            line = substr(line, RSTART + RLENGTH)
+        }
+    }
+    function add_call(name, size) {
+        if (name !~ /^[A-Za-z0-9_]*(has_include|HAS_INCLUDE)$/) reason = "header-test"
+        for (size = 1; size < length(name); size++) {
+            first[name, size] = substr(name, 1, size)
+            second[name, size] = substr(name, size + 1)
+        }
+        calls = 1
+    }
+    function may_stand(word) { return word in parts || word !~ /HAS_|INCLUDE|has_|include/ }
+    function is_pasted(size) {
+        for (size in first) if (may_stand(first[size]) && may_stand(second[size])) return 1
+        return 0
     }
     function is_macro(file, line, word) {
         while ((getline line < file) > 0) {
@@ -683,6 +715,10 @@ cck_judging='
         add_words(name)
         stands = 1
     }
+    /^#define [^ (]+[(].*[)] *__has_include(_next)? *[(]/ {
+        add_call(substr($2, 1, index($2, "(") - 1))
+        stands = 1
+    }
     /^#define (struct[ (]|[^ (]+[(]([^)]*[ ,])?struct[ ,.)])/ { reason = "header-test" }
     /^#(include|include_next|import)[ \t].*>[ \t]*struct[ \t]*[0-9]/ { reason = "header-test" }
     /^# [0-9]+ "/ {
@@ -703,7 +739,9 @@ cck_judging='
         if (flags ~ /^ 2/ && depth > 0) depth--
         if (name ~ /^<.*>$/) {
             if ($2 != 0 || name !~ /^<(built-in|command-line)>$/) reason = "other-file"
-        } else if (name !~ /\/\/$/ && is_of_project) projects[name]
+        } else if (name !~ /\/\/$/) {
+            if (is_of_project) projects[name]; else others[name]
+        }
     }
     !/^[ \t]*#[ \t]*pragma/ { next }
     !/^[ \t]*#[ \t]*pragma[ \t]+GCC[ \t]+diagnostic[ \t]+(push|pop|ignored[ \t]+"-W[a-z0-9+=-]+")[ \t]*$/ &&
@@ -722,6 +760,12 @@ cck_judging='
     END {
         print found ? "" : "alone"
         if (reason == "") for (name in projects) read_file(name)
+        is_other = 1
+        if (reason == "" && calls) {
+            for (name in others) if (!(name in projects)) read_file(name)
+            read_file(FILENAME)
+            if (unread || is_pasted()) reason = "header-test"
+        }
         if ((marks || hides) && doubts != "") reason = "target-pragma"
         if (ENVIRON["cck_targets"] != "") targets = 1
         if (!is_c) asks = 0

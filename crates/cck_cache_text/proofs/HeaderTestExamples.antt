@@ -114,8 +114,32 @@ goes_on_in_a_comment = refl
 alias : is_alias (codes "#define X_HAS_INCLUDE ") (codes "__has_include ") ≡ true
 alias = refl
 
-no_alias : is_alias (codes "#define X_HAS_INCLUDE(x) ") (codes "__has_include(x)") ≡ false
-no_alias = refl
+alias_with_a_parameter : is_alias (codes "#define X_HAS_INCLUDE( x ) ") (codes "__has_include (x) /* none */") ≡ true
+alias_with_a_parameter = refl
+
+defined_with_a_parameter : is_defined (codes "# define ") (codes "X_HAS_INCLUDE( x )  __has_include_next( x)") ≡ true
+defined_with_a_parameter = refl
+
+alias_of_another_name : is_alias (codes "#define X(x) ") (codes "__has_include(x)") ≡ false
+alias_of_another_name = refl
+
+alias_of_a_string : is_alias (codes "#define X_HAS_INCLUDE(x) ") (codes "__has_include(#x)") ≡ false
+alias_of_a_string = refl
+
+alias_of_another_parameter : is_alias (codes "#define X_HAS_INCLUDE(y) ") (codes "__has_include(x)") ≡ false
+alias_of_another_parameter = refl
+
+alias_with_two_parameters : is_alias (codes "#define X_HAS_INCLUDE(x, y) ") (codes "__has_include(x)") ≡ false
+alias_with_two_parameters = refl
+
+alias_and_more : is_alias (codes "#define X_HAS_INCLUDE(x) ") (codes "__has_include(x) || F(") ≡ false
+alias_and_more = refl
+
+alias_of_a_test : is_alias (codes "#define __has_include(x) ") (codes "__has_include_next(x)") ≡ false
+alias_of_a_test = refl
+
+a_test_with_a_parameter : is_defined (codes "#define ") (codes "__has_include(x) __has_include_next(x)") ≡ false
+a_test_with_a_parameter = refl
 
 -- ---- macros that stand for a test
 
@@ -177,6 +201,18 @@ is_one = refl
 
 defined_as_a_test : tested false (codes "#define T __has_include(<g.h>)") 10 ≡ Some (record { name = codes "g.h"; is_quoted = false })
 defined_as_a_test = refl
+
+by_a_macro : tested false (codes "#if X_HAS_INCLUDE(<a/g_.h>)") 4 ≡ Some (record { name = codes "a/g_.h"; is_quoted = false })
+by_a_macro = refl
+
+quoted_by_a_macro : tested false (codes "#if X_HAS_INCLUDE(\"_ ,.h\")") 4 ≡ Some (record { name = codes "_ ,.h"; is_quoted = true })
+quoted_by_a_macro = refl
+
+blank_by_a_macro : tested false (codes "#if X_HAS_INCLUDE(<g .h>)") 4 ≡ None
+blank_by_a_macro = refl
+
+macro_of_the_compiler_by_a_macro : tested false (codes "#if X_HAS_INCLUDE(<a/__LINE__>)") 4 ≡ None
+macro_of_the_compiler_by_a_macro = refl
 
 blind : tested false (codes "#if F(__has_include(<g.h>))") 6 ≡ None
 blind = refl

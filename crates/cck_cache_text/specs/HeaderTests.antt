@@ -2,8 +2,8 @@
 use Rattle.std.specs.Prelude.{◌≡◌, ℕ, zero, suc, ◌-◌, ◌<◌, ◌⊎◌, ◌↔◌, Bool, true, false, not, ◌&&◌, ◌||◌, ◌==◌, nat_eq, List, [], ◌∷◌, ◌++◌, Contains, get_or, length, take, drop, map, Option, Some, None, codes, if◌then◌else◌}
 use Rattle.std.specs.List.{ends_with}
 use Rattle.cck_digest.specs.TimeMacros.{Has}
-use Rattle.cck_cache_text.specs.TestName.{TestFields, is_judged_word, is_test_word, name_in}
-use Rattle.cck_cache_text.specs.Identifier.{ends_in_word, is_start, rest_of_word, word_of}
+use Rattle.cck_cache_text.specs.TestName.{TestFields, is_judged_word, is_test_word, test_in}
+use Rattle.cck_cache_text.specs.Identifier.{ends_in_word, is_start, word_of}
 use Rattle.cck_cache_text.specs.Directive.{asks_for_definition, is_harmless}
 use Rattle.cck_cache_text.specs.Condition.{is_read}
 use Rattle.cck_cache_text.specs.TestMacro.{is_alias, is_defined, macro_test, names_class}
@@ -48,7 +48,7 @@ is_test inside line place = begins_word line place && not (is_no_test inside lin
 -- the header whose name is written out at this place of a line
 abbrev pub tested : Bool → List ℕ → ℕ → Option TestFields
 tested inside line place =
-    if is_judged_word (word_of (drop place line)) && is_read inside line place then name_in (rest_of_word (drop place line))
+    if is_judged_word (word_of (drop place line)) && is_read inside line place then test_in (drop place line)
     else macro_test (take place line) (drop place line)
 
 -- a line has a test for this header

@@ -6,8 +6,8 @@ use Rattle.std.specs.Option.{option_map_or}
 use Rattle.std.specs.Str.{bytes_eq}
 use Rattle.cck_cache_text.specs.Identifier.{after_blanks, ends_in_word, is_word_byte, rest_of_word, stripped, word_of}
 use Rattle.cck_cache_text.specs.Directive.{directive, directive_words}
-use Rattle.cck_cache_text.specs.TestName.{TestFields, is_include_word, is_judged_word, name_in}
-use Rattle.cck_cache_text.specs.Condition.{after_parenthesis, is_finished}
+use Rattle.cck_cache_text.specs.TestName.{TestFields, is_include_word, is_judged_word, is_macro_word, name_in}
+use Rattle.cck_cache_text.specs.Condition.{after_closed_word, after_parenthesis, is_finished}
 use Rattle.cck_cache_text.specs.Splices.{before_blanks, is_blank, run_length}
 
 -- a byte of the parameters of a macro
@@ -36,9 +36,29 @@ abbrev pub is_plain_macro : List ℕ → Bool
 is_plain_macro text =
     option_map_or (λ inner. option_map_or is_number (after_parameters inner) false) (stripped 40 text) (is_number text || is_test_alone (after_blanks text))
 
+-- what follows an identifier in parentheses
+abbrev pub after_enclosed : List ℕ → Option (List ℕ)
+after_enclosed text = option_and_then after_closed_word (stripped 40 text)
+
+-- the identifier after a parenthesis
+abbrev pub enclosed : List ℕ → List ℕ
+enclosed text = word_of (after_blanks (drop 1 text))
+
+-- a test for the header that this parameter names, and no more
+abbrev pub is_test_of : List ℕ → List ℕ → Bool
+is_test_of parameter text =
+    let inner = after_blanks (rest_of_word text) in
+    is_include_word (word_of text) && (bytes_eq (enclosed inner) parameter && option_map_or is_finished (after_enclosed inner) false)
+
+-- A macro of which this follows the name has one parameter, and stands for a test for the header that it names, and for no more.
+abbrev pub is_test_of_parameter : List ℕ → Bool
+is_test_of_parameter text = option_map_or (λ body. is_test_of (enclosed text) (after_blanks body)) (after_enclosed text) false
+
 -- the name here is read as one of a test, and so are its uses, or it is not
 abbrev pub is_plain_definition : List ℕ → Bool
-is_plain_definition after = not (is_judged_word (word_of after)) || is_plain_macro (rest_of_word after)
+is_plain_definition after =
+    not (is_judged_word (word_of after))
+    || (is_plain_macro (rest_of_word after) || (is_macro_word (word_of after) && is_test_of_parameter (rest_of_word after)))
 
 -- the name is the one that a directive undefines, or defines as such a macro
 abbrev pub is_defined : List ℕ → List ℕ → Bool
@@ -56,9 +76,24 @@ defines_name words =
 abbrev pub defines_judged : List ℕ → Bool
 defines_judged words = defines_name words && is_judged_word (after_blanks (drop 6 words))
 
--- The name of a test is all that a macro of such a name stands for: each use of the macro is read as a test.
+-- what follows `define` is the name of a macro that may stand for a test, with one parameter
+abbrev pub defines_call : List ℕ → Bool
+defines_call words =
+    let name = after_blanks (drop 6 words) in
+    bytes_eq (word_of words) (codes "define")
+    && (is_macro_word (word_of name) && option_map_or (λ rest. length rest == 0) (after_enclosed (rest_of_word name)) false)
+
+-- this parameter
+abbrev pub defined_parameter : List ℕ → List ℕ
+defined_parameter words = enclosed (rest_of_word (after_blanks (drop 6 words)))
+
+-- a directive defines a macro of such a name that is no more than a test for the header that its parameter names
+abbrev pub is_call : List ℕ → List ℕ → Bool
+is_call before after = defines_call (directive_words before) && is_test_of (defined_parameter (directive_words before)) after
+
+-- The name of a test, or a test with its parameter, is all that a macro of such a name stands for: each use of the macro is read as a test.
 abbrev pub is_alias : List ℕ → List ℕ → Bool
-is_alias before after = is_test_alone after && defines_judged (directive_words before)
+is_alias before after = (is_test_alone after && defines_judged (directive_words before)) || is_call before after
 
 -- the test, if the name of the header is in brackets
 abbrev pub in_brackets : Option TestFields → Option TestFields

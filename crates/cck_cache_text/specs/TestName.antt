@@ -1,10 +1,11 @@
 -- names of tests for headers, and of the headers that they look for
 use Rattle.std.specs.Prelude.{ℕ, Bool, true, false, not, ◌&&◌, ◌||◌, ◌==◌, nat_eq, nat_lt, List, length, take, drop, Option, Some, None, is_some, option_and_then, codes, if◌then◌else◌}
 use Rattle.std.specs.Borrow.{Bor}
+use Rattle.std.specs.Char.{is_ascii_alphanumeric}
 use Rattle.std.specs.List.{ends_with, list_all, starts_with}
 use Rattle.std.specs.Option.{option_map_or}
 use Rattle.std.specs.Str.{bytes_eq}
-use Rattle.cck_cache_text.specs.Identifier.{after_blanks, stripped, word_of}
+use Rattle.cck_cache_text.specs.Identifier.{after_blanks, rest_of_word, stripped, word_of}
 use Rattle.cck_digest.specs.TimeMacros.{has}
 use Rattle.cck_cache_text.specs.Splices.{run_length}
 
@@ -72,6 +73,23 @@ named text =
 abbrev pub name_in : List ℕ → Option TestFields
 name_in text = option_and_then (λ inner. named (after_blanks inner)) (stripped 40 (after_blanks text))
 
+-- a byte of a name in brackets that an argument of a macro has as tokens: gcc puts them together to this name
+abbrev pub is_token_byte : ℕ → Bool
+is_token_byte byte = is_ascii_alphanumeric byte || byte == 95 || byte == 46 || byte == 47 || byte == 43 || byte == 45
+
+-- an identifier of such a name may begin with `_`, as each macro that the compiler has and no text shows
+abbrev pub has_low_word : List ℕ → Bool
+has_low_word name =
+    starts_with nat_eq name (codes "_") || (has name (codes "._") || (has name (codes "/_") || (has name (codes "+_") || has name (codes "-_"))))
+
+-- a name of which no identifier begins so, of such bytes
+abbrev pub is_token_name : List ℕ → Bool
+is_token_name name = not (has_low_word name) && list_all is_token_byte name
+
+-- the test, if its name is in quotes or made of tokens
+abbrev pub as_tokens : Option TestFields → Option TestFields
+as_tokens found = option_and_then (λ test. if test.is_quoted || is_token_name test.name then Some test else None) found
+
 abbrev pub is_include_word : List ℕ → Bool
 is_include_word word = bytes_eq word (codes "__has_include") || bytes_eq word (codes "__has_include_next")
 
@@ -79,3 +97,11 @@ is_include_word word = bytes_eq word (codes "__has_include") || bytes_eq word (c
 abbrev pub is_judged_word : List ℕ → Bool
 is_judged_word word =
     ends_with nat_eq word (codes "has_include") || (ends_with nat_eq word (codes "HAS_INCLUDE") || bytes_eq word (codes "__has_include_next"))
+
+-- the name of a macro that may stand for a test, and of no test
+abbrev pub is_macro_word : List ℕ → Bool
+is_macro_word word = is_judged_word word && not (is_include_word word)
+
+-- The test whose name begins here. The name of a header may be an argument of a macro that stands for a test.
+abbrev pub test_in : List ℕ → Option TestFields
+test_in text = if is_include_word (word_of text) then name_in (rest_of_word text) else as_tokens (name_in (rest_of_word text))

@@ -31,7 +31,7 @@ fn after_comment(text: &[u8]) -> Option<&[u8]>
 }
 
 // What follows an identifier and a closing parenthesis.
-fn after_closed_word(text: &[u8]) -> Option<&[u8]>
+pub fn after_closed_word(text: &[u8]) -> Option<&[u8]>
     ensures { option_map (λ rest. rest.now) result ≡ after_closed_word text.now }
 {
     stripped(after_blanks(after_word(after_blanks(text))?), b')')

@@ -6,11 +6,11 @@ ghost use Rattle.cck_cache_text.specs.TestName.{lent_fields};
 
 use crate::condition::is_read;
 use crate::directive::{asks_for_definition, is_harmless};
-use crate::identifier::{ends_in_word, is_start, rest_of_word, word_of};
+use crate::identifier::{ends_in_word, is_start, word_of};
 use crate::search_list::text_lines;
 use crate::splices::before_blanks;
 use crate::test_macro::{is_alias, is_defined, macro_test, names_class};
-use crate::test_name::{is_judged_word, is_test_word_at, may_have_test, name_in};
+use crate::test_name::{is_judged_word, is_test_word_at, may_have_test, test_in};
 use std::alloc::{AllocError, Global};
 
 /// A test for the existence of a header whose name is written out.
@@ -92,7 +92,7 @@ fn tested(is_open: bool, line: &[u8], place: usize) -> Option<(&[u8], bool)>
 {
     let after = &line[place..];
     if is_judged_word(word_of(after)) && is_read(is_open, line, place) {
-        name_in(rest_of_word(after))
+        test_in(after)
     } else {
         macro_test(&line[..place], after)
     }

@@ -1,18 +1,19 @@
 //! Macros whose names are read as those of tests.
-ghost use Rattle.std.specs.Prelude.{◌≡◌, drop, false};
+ghost use Rattle.std.specs.Prelude.{◌≡◌, ◌==◌, drop, false, length};
 ghost use Rattle.std.specs.Option.{option_map, option_map_or};
 ghost use Rattle.cck_cache_text.specs.Splices.{run_length};
 ghost use Rattle.cck_cache_text.specs.Identifier.{after_blanks};
-ghost use Rattle.cck_cache_text.specs.TestMacro.{after_parameters, defines_judged, defines_name, is_alias, is_defined, is_number, is_number_byte, is_parameter_byte, is_plain_definition, is_plain_macro, is_test_alone, macro_test, names_class, stands_for_test};
+ghost use Rattle.cck_cache_text.specs.Condition.{is_finished};
+ghost use Rattle.cck_cache_text.specs.TestMacro.{after_enclosed, after_parameters, defined_parameter, defines_call, defines_judged, defines_name, enclosed, is_alias, is_call, is_defined, is_number, is_number_byte, is_parameter_byte, is_plain_definition, is_plain_macro, is_test_alone, is_test_of, is_test_of_parameter, macro_test, names_class, stands_for_test};
 ghost use Rattle.cck_cache_text.specs.TestName.{lent_fields};
 
-use crate::condition::{after_parenthesis, is_finished};
+use crate::condition::{after_closed_word, after_parenthesis, is_finished};
 use crate::directive::{directive, directive_words};
 use crate::identifier::{
     after_blanks, ends_in_word, is_word_byte, rest_of_word, stripped, word_of,
 };
 use crate::splices::{before_blanks, is_blank};
-use crate::test_name::{is_include_word, is_judged_word, name_in};
+use crate::test_name::{is_include_word, is_judged_word, is_macro_word, name_in};
 
 // Whether a byte is one of the parameters of a macro.
 fn is_parameter_byte(byte: u8) -> bool
@@ -88,11 +89,57 @@ fn is_plain_macro(text: &[u8]) -> bool
     }
 }
 
+// What follows an identifier in parentheses.
+fn after_enclosed(text: &[u8]) -> Option<&[u8]>
+    ensures { option_map (λ rest. rest.now) result ≡ after_enclosed text.now }
+{
+    after_closed_word(stripped(text, b'(')?)
+}
+
+// The identifier after a parenthesis.
+fn enclosed(text: &[u8]) -> &[u8]
+    ensures { result.now ≡ enclosed text.now }
+{
+    word_of(after_blanks(&text[text.len().min(1)..]))
+}
+
+// Whether no more follows an identifier in parentheses than a comment.
+fn is_enclosed_alone(text: &[u8]) -> bool
+    ensures { result ≡ option_map_or is_finished (after_enclosed text.now) false }
+{
+    match after_enclosed(text) {
+        Some(rest) => is_finished(rest),
+        None => false,
+    }
+}
+
+// Whether here is a test for the header that this parameter names, and no more.
+fn is_test_of(parameter: &[u8], text: &[u8]) -> bool
+    ensures { result ≡ is_test_of parameter.now text.now }
+{
+    let inner = after_blanks(rest_of_word(text));
+    is_include_word(word_of(text)) && enclosed(inner) == parameter && is_enclosed_alone(inner)
+}
+
+// Whether a macro of which this follows the name has one parameter, and stands for a test for the header
+// that it names, and for no more.
+fn is_test_of_parameter(text: &[u8]) -> bool
+    ensures { result ≡ is_test_of_parameter text.now }
+{
+    match after_enclosed(text) {
+        Some(body) => is_test_of(enclosed(text), after_blanks(body)),
+        None => false,
+    }
+}
+
 // Whether the name here is read as one of a test, and so are its uses, or it is not.
 fn is_plain_definition(after: &[u8]) -> bool
     ensures { result ≡ is_plain_definition after.now }
 {
-    !is_judged_word(word_of(after)) || is_plain_macro(rest_of_word(after))
+    let (name, rest) = (word_of(after), rest_of_word(after));
+    !is_judged_word(name)
+        || is_plain_macro(rest)
+        || (is_macro_word(name) && is_test_of_parameter(rest))
 }
 
 // Whether the name between these texts is the one that a directive undefines, or defines as such a
@@ -126,11 +173,47 @@ fn defines_judged(words: &[u8]) -> bool
     defines_name(words) && is_judged_word(defined_name(words))
 }
 
-// Whether the name of a test is all that a macro of such a name stands for.
+// Whether an identifier in parentheses is all of a text.
+fn is_enclosed(text: &[u8]) -> bool
+    ensures { result ≡ option_map_or (λ rest. length rest == 0) (after_enclosed text.now) false }
+{
+    match after_enclosed(text) {
+        Some(rest) => rest.is_empty(),
+        None => false,
+    }
+}
+
+// Whether what follows `define` is the name of a macro that may stand for a test, with one parameter.
+fn defines_call(words: &[u8]) -> bool
+    ensures { result ≡ defines_call words.now }
+{
+    let name = defined_name(words);
+    word_of(words) == b"define".as_slice()
+        && is_macro_word(word_of(name))
+        && is_enclosed(rest_of_word(name))
+}
+
+// This parameter.
+fn defined_parameter(words: &[u8]) -> &[u8]
+    ensures { result.now ≡ defined_parameter words.now }
+{
+    enclosed(rest_of_word(defined_name(words)))
+}
+
+// Whether a directive between these texts defines a macro of such a name that is no more than a test for
+// the header that its parameter names.
+fn is_call(before: &[u8], after: &[u8]) -> bool
+    ensures { result ≡ is_call before.now after.now }
+{
+    let words = directive_words(before);
+    defines_call(words) && is_test_of(defined_parameter(words), after)
+}
+
+// Whether the name of a test, or a test with its parameter, is all that a macro of such a name stands for.
 pub fn is_alias(before: &[u8], after: &[u8]) -> bool
     ensures { result ≡ is_alias before.now after.now }
 {
-    is_test_alone(after) && defines_judged(directive_words(before))
+    (is_test_alone(after) && defines_judged(directive_words(before))) || is_call(before, after)
 }
 
 // Whether a directive between these texts defines a macro that is no more than a test for a header.

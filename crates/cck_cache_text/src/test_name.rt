@@ -2,9 +2,9 @@
 ghost use Rattle.std.specs.Prelude.{◌≡◌, ◌≤◌, ◌==◌, drop, length, not};
 ghost use Rattle.std.specs.Option.{option_map};
 ghost use Rattle.cck_cache_text.specs.Splices.{run_length};
-ghost use Rattle.cck_cache_text.specs.TestName.{begins_test, closed_name, has_comment, is_beginning, is_closed, is_include_word, is_judged_word, is_name_byte, is_plain_name, is_test_name, is_test_word, lent_fields, may_have_test, name_in, named};
+ghost use Rattle.cck_cache_text.specs.TestName.{as_tokens, begins_test, closed_name, has_comment, has_low_word, is_beginning, is_closed, is_include_word, is_judged_word, is_macro_word, is_name_byte, is_plain_name, is_test_name, is_test_word, is_token_byte, is_token_name, lent_fields, may_have_test, name_in, named, test_in};
 
-use crate::identifier::{after_blanks, stripped, word_of};
+use crate::identifier::{after_blanks, rest_of_word, stripped, word_of};
 use crate::splices::has;
 
 // Whether an identifier ends as a name of a test for a header: the name, a part of it that is pasted, or
@@ -122,6 +122,43 @@ pub fn name_in(text: &[u8]) -> Option<(&[u8], bool)>
     named(after_blanks(stripped(after_blanks(text), b'(')?))
 }
 
+// Whether a byte is one of a name in brackets that an argument of a macro has as tokens, which gcc puts
+// together to this name again.
+fn is_token_byte(byte: u8) -> bool
+    ensures { result ≡ is_token_byte byte }
+{
+    byte.is_ascii_alphanumeric() || matches!(byte, b'_' | b'.' | b'/' | b'+' | b'-')
+}
+
+// Whether an identifier of such a name may begin with `_`, as each macro that the compiler has and no text
+// shows.
+fn has_low_word(name: &[u8]) -> bool
+    ensures { result ≡ has_low_word name.now }
+{
+    name.starts_with(b"_")
+        || has(name, b"._")
+        || has(name, b"/_")
+        || has(name, b"+_")
+        || has(name, b"-_")
+}
+
+// Whether no identifier of a name begins so, and it is made of such bytes.
+fn is_token_name(name: &[u8]) -> bool
+    ensures { result ≡ is_token_name name.now }
+{
+    !has_low_word(name) && name.iter().all(|byte| is_token_byte(*byte))
+}
+
+// The test, if its name is in quotes or made of tokens.
+fn as_tokens(found: Option<(&[u8], bool)>) -> Option<(&[u8], bool)>
+    ensures { option_map lent_fields result ≡ as_tokens (option_map lent_fields found.entry) }
+{
+    match found {
+        Some((name, is_quoted)) if is_quoted || is_token_name(name) => Some((name, is_quoted)),
+        _ => None,
+    }
+}
+
 // Whether this is a name of a test for a header, as a whole.
 pub fn is_include_word(word: &[u8]) -> bool
     ensures { result ≡ is_include_word word.now }
@@ -136,4 +173,24 @@ pub fn is_judged_word(word: &[u8]) -> bool
     word.ends_with(b"has_include")
         || word.ends_with(b"HAS_INCLUDE")
         || word == b"__has_include_next".as_slice()
+}
+
+// Whether this is the name of a macro that may stand for a test, and of no test.
+pub fn is_macro_word(word: &[u8]) -> bool
+    ensures { result ≡ is_macro_word word.now }
+{
+    is_judged_word(word) && !is_include_word(word)
+}
+
+// The test whose name begins here. The name of a header may be an argument of a macro that stands for a
+// test.
+pub fn test_in(text: &[u8]) -> Option<(&[u8], bool)>
+    ensures { option_map lent_fields result ≡ test_in text.now }
+{
+    let found = name_in(rest_of_word(text));
+    if is_include_word(word_of(text)) {
+        found
+    } else {
+        as_tokens(found)
+    }
 }
