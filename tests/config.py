@@ -47,12 +47,14 @@ SHOWN = [
     ("a place of stores", None, {"XDG_CACHE_HOME": "@/cache"}, ["(default) CCK_STORE = @/cache/cck"]),
     ("a place of stores without a slash", None, {"XDG_CACHE_HOME": "cache"}, ["(default) CCK_STORE = @/home/.cache/cck"]),
     ("the variables of servers", "CCK_SECRET_FILE = /f\nCCK_CACERT = /a\nCCK_CERT = /c\nCCK_KEY = /k\nCCK_REMOTE_MODE = read\n"
-     "CCK_REMOTE_MAX = 7\n", {}, [f"({FILE}:{line}) CCK_{end}" for line, end in enumerate(
-         ("SECRET_FILE = /f", "CACERT = /a", "CERT = /c", "KEY = /k", "REMOTE_MODE = read", "REMOTE_MAX = 7"), 1)]),
+     "CCK_REMOTE_MAX = 7\nCCK_SIGN_KEY = /s\nCCK_VERIFY_KEY = /v\nCCK_COMPRESS = zstd\n", {},
+     [f"({FILE}:{line}) CCK_{end}" for line, end in enumerate(
+         ("SECRET_FILE = /f", "CACERT = /a", "CERT = /c", "KEY = /k", "REMOTE_MODE = read", "REMOTE_MAX = 7", "SIGN_KEY = /s",
+          "VERIFY_KEY = /v", "COMPRESS = zstd"), 1)]),
     ("how a compiler counts", "CCK_COMPILER_CHECK = mtime\n", {}, [f"({FILE}:1) CCK_COMPILER_CHECK = mtime"]),
     ("its default", None, {}, ["(default) CCK_COMPILER_CHECK = content"]),
     ("their defaults", None, {}, ["(default) CCK_REMOTE_MODE = write", "(default) CCK_REMOTE_MAX = 100000000",
-                                  "(default) CCK_SECRET_FILE = "]),
+                                  "(default) CCK_SECRET_FILE = ", "(default) CCK_SIGN_KEY = ", "(default) CCK_COMPRESS = "]),
 ]
 # Addresses of a server with `%` for each `@`, and how they are shown: without the password, which is or begins with PW.
 ADDRESSES = [

@@ -1,11 +1,12 @@
 #!/usr/bin/env python3
 """Compiles small projects by each kind of server of a team's store, and compares each object, dependency file and
 message with gcc's: three checkouts, hits with and without a client, addresses that are not valid, faults of each server,
-damaged values. No fault may end a call, and each is counted. No secret may be an argument of a process, in the log, or in
-the environment of a compiler. Needs gcc, openssl, perl, redis-server, redis-cli, nginx, lighttpd with mod_webdav and curl.
-The program is CCK_PROGRAM, by default the one that was proved and built here. DAMAGES is the number of damaged values,
-100 by default, and DIGESTS a directory that keeps the digests of the compiler's programs for the next run. With names of
-checks or servers only these are tried.
+signatures, compression, damaged and forged values. No fault may end a call, and each is counted. No secret may be an
+argument of a process, in the log, or in the environment of a compiler, and no key in the environment of any process. Needs
+gcc, openssl, perl, redis-server, redis-cli, nginx, lighttpd with mod_webdav, curl and zstd. The program is CCK_PROGRAM, by
+default the one that was proved and built here. DAMAGES is the number of damaged values, and that of forged ones, 100 by
+default, and DIGESTS a directory that keeps the digests of the compiler's programs for the next run. With names of checks
+or servers only these are tried.
 The last line is `team_servers: N passed, M failed`."""
 import collections
 import glob
@@ -21,6 +22,7 @@ import time
 
 TOP = pathlib.Path(__file__).resolve().parent.parent
 sys.path.insert(0, str(TOP / "tests/real"))
+import sealed  # noqa: E402
 import servers  # noqa: E402
 import team  # noqa: E402
 
@@ -33,16 +35,16 @@ FILES = {
 }
 SOURCES = ["a", "b", "it's large"]
 # The programs in whose place a script notes the arguments and the environment, and calls the program.
-WATCHED = ["as", "curl", "perl", "redis-cli"]
+WATCHED = ["as", "curl", "perl", "redis-cli", "zstd"]
 WATCH = """#!/bin/sh
 limit=$(ulimit -S -f)
 ulimit -S -f unlimited
 name=${0##*/} here=${0%/*}
-case $name in as|perl) env >>"$here/environment" ;; esac
+case $name in as|perl|zstd) env >>"$here/environment" ;; esac
 printf '%s\\n' "$name" "$@" >>"$here/arguments"
-PATH=${PATH#*:}
+program=$(PATH=${PATH#*:}; command -v "$name")
 ulimit -S -f "$limit"
-exec "$name" "$@"
+exec "$program" "$@"
 """
 Done = collections.namedtuple("Done", "status outputs log counts")
 
@@ -59,6 +61,7 @@ class Test:
         self.watch()
         self.variables.update(CCK_PROGRAM=program, PATH=f"{self.seed}:{TOP}/bin:{os.environ['PATH']}", CCK_TIMEOUT="10")
         self.plain, self.logs, self.arguments = {}, "", ""
+        self.keys = sealed.Keys(self.room)
         for name in ("one", "two", "three"):
             self.add_checkout(name)
         time.sleep(0.1)
@@ -307,6 +310,29 @@ def http_faults(test, server):
     faulty.stop()
 
 
+# What a program prints that dies in the dialogue, or says what no program says.
+DEATHS = ["", "get entry", "get entry 0\\n", "get object 0\\nget object 0\\n", "expand 10 100\\nabc", "expand 10 3\\nabc",
+          "get entry 0\\nnothing\\n", "nothing", "miss\\n", "\\n"]
+DYING = """#!/bin/sh
+case $1 in
+look) printf '%s'; kill -9 $$ ;;
+esac
+exec %s "$@"
+"""
+
+
+def deaths(test, server):
+    """A program that dies while it asks leaves no call waiting: the compiler runs, and nothing else is printed."""
+    program = server.room / "dying"
+    for printed in DEATHS:
+        program.write_text(DYING % (printed, test.variables["CCK_PROGRAM"]))
+        program.chmod(0o755)
+        for changes in ({}, BY_CLIENT[0]):
+            label = f"{server.scheme}: a program that prints {printed} and dies, {changes}"
+            done = test.compile(label, "one", "a", test.machine(), **server.variables(), **changes, CCK_PROGRAM=str(program))
+            test.check(label, (way_of(done), done.counts["passed-error"]), ("passed on", 1))
+
+
 def modes(test, server):
     """A call that may only read, and an object that is too large."""
     for label, changes, event in (("reads", {"CCK_REMOTE_MODE": "read"}, None),
@@ -340,24 +366,152 @@ def known(test, server):
                 server.remove(name)
 
 
+def empty(server):
+    """Removes all values."""
+    for name in server.values():
+        server.remove(name)
+
+
+def filled(test, server, **changes):
+    """The values of a compilation that puts them with these variables."""
+    empty(server)
+    test.compile(f"{server.scheme}: values", "one", "a", test.machine(), **{**server.variables(), **changes})
+    return server.values()
+
+
+def rejects(test, server, label, name, data, values, **changes):
+    """A call with a value in the place of the one of this name, which is not used. A frame that is no file of its size is as
+    no value, and noted nowhere."""
+    label = f"{server.scheme}: {label}, {name.split('cck')[-1][:12]}"
+    server.set(name, data)
+    variables = {**server.variables(), "CCK_REMOTE_MODE": "read", **changes}
+    done = test.compile(label, "one", "a", test.machine(), **variables)
+    is_same = sealed.expanded(data) == sealed.expanded(values[name])
+    used = way_of(done) == "hit" or "object" in name and way_of(done) != "recorded"
+    test.check(f"{label}: used", used, is_same)
+    if not data.startswith(sealed.ZSTD):
+        noted = done.counts["server-damaged"] + done.counts["server-forged"] > 0
+        test.check(f"{label}: noted", noted, not is_same and data != b"")
+    server.set(name, values[name])
+    return done
+
+
+def number_of(values):
+    """The number of changes of each value."""
+    return int(os.environ.get("DAMAGES", "100")) // (len(SERVERS) * len(values) * 2)
+
+
 def damage(test, server):
     """Values that are damaged: none is used, and what the call writes is right."""
-    test.compile(f"{server.scheme}: values", "one", "a", test.machine(), **server.variables())
-    values = server.values()
+    for form, changes in (("plain", {}), ("compressed", COMPRESSED)):
+        values = filled(test, server, **changes)
+        for name in values:
+            for _ in range(number_of(values)):
+                way = team.chance.choice([way for way in team.WAYS if way not in ("list", "empty", "gone")])
+                data = team.damaged(way, values[name], list(values.values()))
+                rejects(test, server, f"{form}, {way}", name, data, values)
+
+
+def forge(test, server):
+    """Values that are signed and then changed: none is used with the key."""
+    keys = test.keys
+    for form, changes in (("signed", keys.signs()), ("signed and compressed", {**keys.signs(), **COMPRESSED})):
+        values = filled(test, server, **changes)
+        for name in values:
+            forged = list(sealed.forgeries(*sealed.place_of(name), values[name], values.values()))
+            for _ in range(number_of(values)):
+                way = team.chance.choice([way for way in team.WAYS if way not in ("list", "empty", "gone")] + ["forged"] * 9)
+                label, data = team.chance.choice(forged)
+                if way != "forged":
+                    label, data = way, team.damaged(way, values[name], list(values.values()))
+                is_same = data == values[name]
+                done = rejects(test, server, f"{form}, {label}", name, data, values, **keys.verifies())
+                test.check(f"{form}, {label}: forged", done.counts["server-forged"] > 0, not is_same and data != b"")
+
+
+def signatures(test, server):
+    """Values that are signed, and readers with the key, with another one and with none."""
+    keys = test.keys
+    for changes, key, is_used, event in (
+            (keys.both(), keys.verifies(), True, None), (keys.signs(), {}, True, None), ({}, {}, True, None),
+            (keys.signs(), keys.verifies(sealed.OTHER_KEY), False, "server-forged"),
+            ({}, keys.verifies(), False, "server-forged")):
+        label = f"{server.scheme}: put with {sorted(changes)}, read with {key}"
+        values = filled(test, server, **changes)
+        for name, value in values.items():
+            data = sealed.content(value)
+            wanted = sealed.signed(sealed.KEY.encode(), *sealed.place_of(name), data) if changes else data
+            test.check(f"{label}: the value", value, wanted)
+        home = test.machine()
+        variables = {**server.variables(), "CCK_REMOTE_MODE": "read", **key}
+        done = test.compile(label, "one", "a", home, **variables)
+        test.check(label, (way_of(done), done.counts[event] > 0), ("hit" if is_used else "recorded", event is not None))
+        done = test.compile(f"{label}, by its text", "two", "a", home, **variables)
+        test.check(f"{label}, by its text", way_of(done), "hit, by its text" if is_used else "recorded")
+        directory = {"CCK_DIR": str(test.machine() / ".cache/cck")}
+        for wanted in ("hit" if is_used else "recorded", "hit"):
+            done = test.compile(f"{label}, kept", "one", "a", home, **variables, **directory)
+            test.check(f"{label}, kept", way_of(done), wanted)
+    # A writer whose key is another one puts its own values in the place of these.
+    other = {**keys.signs(sealed.OTHER_KEY), **keys.verifies(sealed.OTHER_KEY)}
+    for wanted in ("recorded", "hit"):
+        done = test.compile(f"{server.scheme}: another key", "one", "a", test.machine(), **server.variables(), **other)
+        test.check(f"{server.scheme}: another key", way_of(done), wanted)
+    values = filled(test, server, **keys.both())
     for name in values:
-        for _ in range(int(os.environ.get("DAMAGES", "100")) // (len(SERVERS) * len(values))):
-            way = team.chance.choice([way for way in team.WAYS if way not in ("list", "empty", "gone")])
-            data = team.damaged(way, values[name], list(values.values()))
-            server.set(name, data)
-            label = f"{server.scheme}: {way} of {name.split('cck')[-1][:12]}"
-            done = test.compile(label, "one", "a", test.machine(), **server.variables())
-            is_same = data == values[name]
-            used = way_of(done) == "hit" or "object" in name and way_of(done) != "recorded"
-            test.check(label, (used, done.counts["server-damaged"] > 0), (is_same, not is_same))
-            for each in server.values():
-                server.remove(each)
-            for each, data in values.items():
-                server.set(each, data)
+        for label, data in sealed.forgeries(*sealed.place_of(name), values[name], values.values()):
+            rejects(test, server, label, name, data, values, **keys.verifies())
+    wrong_keys(test, server)
+
+
+def wrong_keys(test, server):
+    """Files that are no keys: the server is not asked."""
+    for number, text in enumerate((*sealed.SHORT, None)):
+        path = test.room / f"short_{number}"
+        if text is not None:
+            path.write_bytes(text)
+        for variable in ("CCK_SIGN_KEY", "CCK_VERIFY_KEY"):
+            label = f"{server.scheme}: {variable} with {text}"
+            done = test.compile(label, "one", "a", test.machine(), **server.variables(), **{variable: str(path)})
+            test.check(label, (way_of(done), done.counts["server-key"], done.counts["passed-key"]), ("passed on", 1, 1))
+
+
+COMPRESSED = {"CCK_COMPRESS": "zstd"}
+
+
+def compression(test, server):
+    """Values that are compressed: they are smaller, and what they are made into is right, or they are not used."""
+    plain = filled(test, server)
+    values = filled(test, server, **COMPRESSED)
+    test.check(f"{server.scheme}: names of compressed values", sorted(values), sorted(plain))
+    test.check(f"{server.scheme}: they are smaller", all(len(values[name]) < len(plain[name]) for name in plain), True)
+    for changes in ({}, test.keys.both()):
+        label = f"{server.scheme}: compressed, {sorted(changes)}"
+        for source in SOURCES:
+            empty(server)
+            for wanted in ("recorded", "hit"):
+                done = test.compile(f"{label}, {source}.c", "one", source, test.machine(), **server.variables(), **COMPRESSED,
+                                    **changes)
+                test.check(f"{label}, {source}.c", (way_of(done), done.counts["server-failed"]), (wanted, 0))
+    values = filled(test, server, **COMPRESSED)
+    for name in values:
+        for label, data in sealed.bombs(test.variables["CCK_PROGRAM"], *sealed.place_of(name), plain[name]):
+            rejects(test, server, f"a frame {label}", name, data, values)
+    # What stands for a PATH without it: the first one can't be run.
+    hidden = server.room / "hidden"
+    hidden.mkdir()
+    (hidden / "zstd").write_text("#!/bin/sh\nexit 127\n")
+    (hidden / "zstd").chmod(0o755)
+    without = {"PATH": test.variables["PATH"].replace(f"{test.seed}:", f"{test.seed}:{hidden}:", 1)}
+    done = test.compile(f"{server.scheme}: no zstd", "one", "a", test.machine(), **server.variables(), **without,
+                        CCK_REMOTE_MODE="read")
+    test.check(f"{server.scheme}: no zstd", way_of(done), "recorded")
+    found = filled(test, server, **COMPRESSED, **without)
+    test.check(f"{server.scheme}: no zstd that compresses", found, plain)
+    done = test.compile(f"{server.scheme}: another compression", "one", "a", test.machine(), **server.variables(),
+                        CCK_COMPRESS="gzip")
+    found = way_of(done), done.counts["server-compress"], done.counts["passed-compress"]
+    test.check(f"{server.scheme}: another compression", found, ("passed on", 1, 1))
 
 
 def rechecked(test, server):
@@ -378,13 +532,13 @@ def secrets(test, found):
     test.check("arguments were watched", not set(WATCHED).isdisjoint(seen["arguments"].split("\n")), True)
     test.check("the environment was watched", "CCK_PROGRAM=" in seen["environment"], True)
     for name, text in {**seen, "log": test.logs}.items():
-        for secret in servers.SECRETS:
+        for secret in servers.SECRETS + sealed.KEYS:
             test.check(f"the {name}: a secret", secret in text, False)
     test.check("arguments of processes", found, [])
 
 
 class Processes(threading.Thread):
-    """Looks at the arguments of all processes, again and again."""
+    """Looks at the arguments of all processes for secrets, and at their environments for keys, again and again."""
 
     def __init__(self):
         super().__init__(daemon=True)
@@ -392,7 +546,8 @@ class Processes(threading.Thread):
 
     def run(self):
         while not self.ends:
-            self.found += [words for words in arguments() if any(word in words for word in servers.SECRETS)]
+            for file, secrets in (("cmdline", servers.SECRETS + sealed.KEYS), ("environ", sealed.KEYS)):
+                self.found += [words for words in words_of(file) if any(word in words for word in secrets)]
             time.sleep(0.01)
 
     def __enter__(self):
@@ -404,9 +559,9 @@ class Processes(threading.Thread):
         self.join()
 
 
-def arguments():
-    """The arguments of each process."""
-    for path in glob.glob("/proc/[0-9]*/cmdline"):
+def words_of(file):
+    """The arguments or the environment of each process."""
+    for path in glob.glob(f"/proc/[0-9]*/{file}"):
         try:
             yield pathlib.Path(path).read_bytes().decode(errors="replace")
         except OSError:
@@ -415,7 +570,7 @@ def arguments():
 
 SERVERS = [servers.Redis, servers.RedisByTls, servers.RedisBySocket, servers.Nginx, servers.NginxByTls,
            servers.Lighttpd]
-CHECKS = [checkouts, clients, faults, http_faults, known, modes, damage, rechecked]
+CHECKS = [checkouts, clients, faults, http_faults, deaths, known, modes, signatures, compression, damage, forge, rechecked]
 
 
 def chosen(items, names, name_of):
@@ -425,8 +580,9 @@ def chosen(items, names, name_of):
 
 def tried(test, names):
     """Makes the checks."""
-    if not names or "addresses" in names:
-        addresses(test)
+    for check in (addresses, sealed.seals):
+        if not names or check.__name__ in names:
+            check(test)
     certificates = servers.Certificates(test.room / "certificates")
     for kind in chosen(SERVERS, names, lambda kind: kind.name or kind.scheme):
         server = kind(test.room, certificates)

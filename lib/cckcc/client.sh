@@ -1,5 +1,5 @@
 # Asks the server of a team's store by redis-cli or curl: lib/cckcc/miss.sh sources this script where CCK_STORE is an
-# address. lib/cckcc/server.sh has read the address.
+# address. lib/cckcc/server.sh has read the address. `converse` answers what the program asks for, and `put` puts values.
 
 # Whether the server may be asked: not after a failure in this call, nor for some seconds after a request of another
 # call took too long.
@@ -170,7 +170,91 @@ has_object() {
     count server-had-object
 }
 
-# Puts the file $3 of the kind $1 and the key $2 to the server.
+# Writes the bytes of the frame `frame`, in the scratch directory, to `value`. It fails where they are not $1 bytes.
+expand() {
+    [ "$1" -le "$cck_max" ] 2>/dev/null || return 1
+    true > "$cck_scratch/expanded"
+    { zstd -dcq < "$cck_scratch/frame" && echo expanded > "$cck_scratch/expanded"; } 2>/dev/null |
+        head -c "$(($1 + 1))" > "$cck_scratch/value"
+    [ -s "$cck_scratch/expanded" ] && [ "$(wc -c < "$cck_scratch/value")" -eq "$1" ]
+}
+
+# Replies to the line of the program that has these words, on stream 3. A frame follows the line on stream 4. A program that
+# has ended ends `cat` alone.
+reply() {
+    case $1 in
+    get)
+        [ "$2" != object ] || cck_sought="$cck_sought $3 "
+        get "$2" "$3" "$cck_scratch/value" 3>&- 4<&-
+        ;;
+    expand) head -c "$3" <&4 > "$cck_scratch/frame" && expand "$2" 3>&- 4<&- ;;
+    esac
+    if [ $? -eq 0 ]; then
+        wc -c < "$cck_scratch/value" > "$cck_scratch/length"
+        cat "$cck_scratch/length" "$cck_scratch/value" >&3 2>/dev/null
+    else
+        echo - > "$cck_scratch/length"
+        cat "$cck_scratch/length" >&3 2>/dev/null
+    fi
+}
+
+# Runs the program on these words, which ask for values of the server, and sets `cck_found` to its answer. It reads replies
+# from a pipe, and writes to another one: both are opened to read and write first, which waits for no process. The shell
+# keeps no end of the program's, so that it sees where that dies.
+converse() {
+    cck_found=
+    rm -f "$cck_scratch/asked" "$cck_scratch/replied"
+    mkfifo "$cck_scratch/asked" "$cck_scratch/replied" || return
+    {
+        { trap '' XFSZ; exec "$cck_program" "$@"; } <&5 >&6 3>&- 4<&- 5<&- 6>&- 7>&- 8>&- &
+        cck_talker=$!
+        exec 5<&- 6>&- 7>&- 8>&-
+        while IFS= read -r cck_found <&4; do
+            case $cck_found in
+            get\ *|expand\ *) reply $cck_found ;;
+            *) cck_found=$cck_found$cck_newline$(cat <&4); break ;;
+            esac
+        done
+    } 7<> "$cck_scratch/replied" 3> "$cck_scratch/replied" 5< "$cck_scratch/replied" \
+        8<> "$cck_scratch/asked" 4< "$cck_scratch/asked" 6> "$cck_scratch/asked"
+    wait "$cck_talker" 2>/dev/null
+    cck_talker= cck_found=${cck_found%"$cck_newline"}
+}
+
+# Notes the values of the server that were not used, by the words of an answer that is no hit, and what was asked for: it is
+# not there, or not used, and will be put.
+note_unused() {
+    while [ $# -gt 1 ]; do
+        case $1:$2 in
+        object:*) cck_sought="$cck_sought $2 " ;;
+        damaged:entry:*|damaged:object:*|forged:entry:*|forged:object:*)
+            cck_sought="$cck_sought ${2#*:} "
+            note "server: the ${2%%:*} ${2#*:} is $1"
+            ;;
+        esac
+        shift
+    done
+}
+
+# Sets `cck_value` to a file with the value of the file $3, of the kind $1 and the key $2: compressed where that makes it
+# smaller, and signed.
+seal() {
+    cck_value=$3 cck_size=
+    if [ "$CCK_COMPRESS" = zstd ] && zstd -1cq < "$3" > "$cck_scratch/frame" 2>/dev/null; then
+        cck_size=$(wc -c < "$3")
+        if [ "$(wc -c < "$cck_scratch/frame")" -lt "$((cck_size - 64))" ]; then
+            cck_value=$cck_scratch/frame
+        else
+            cck_size=
+        fi
+    fi
+    [ -n "$CCK_SIGN_KEY$cck_size" ] || return 0
+    "$cck_program" seal "$1" "$2" ${CCK_SIGN_KEY:+--sign-key="$CCK_SIGN_KEY"} ${cck_size:+--expanded="$cck_size"} \
+        < "$cck_value" > "$cck_scratch/sealed" 2>/dev/null || return 1
+    cck_value=$cck_scratch/sealed
+}
+
+# Puts the file $3 of the kind $1 and the key $2 to the server. The limit is also that of what a reader expands.
 put() {
     if ! writes || ! is_up; then return 1; fi
     if [ "$(wc -c < "$3")" -gt "$cck_max" ]; then
@@ -178,6 +262,11 @@ put() {
         count server-too-large
         return 1
     fi
-    "put_$cck_protocol" "$@" || return 1
+    if ! seal "$@"; then
+        note "server: not put, not signed: the $1 $2"
+        count server-key
+        return 1
+    fi
+    "put_$cck_protocol" "$1" "$2" "$cck_value" || return 1
     count "server-put-$1"
 }

@@ -42,7 +42,8 @@ locate() {
 
 # Whether the tools are there that decide what is recorded. It starts no process.
 has_tools() {
-    for cck_tool in awk cat cksum cmp cp grep head ldd mkdir mktemp mv readlink rm sed sha256sum stat touch; do
+    for cck_tool in awk cat cksum cmp cp grep head ldd mkdir mktemp mv readlink rm sed sha256sum stat touch \
+        ${cck_server:+mkfifo}; do
         command -v $cck_tool > /dev/null || return 1
     done
 }
@@ -78,7 +79,7 @@ locate "$cck_compiler"
 if [ -n "$cck_unusable" ]; then
     note "server: not asked: $cck_why"
     count "server-$cck_unusable"
-    cck_failed=1
+    cck_server=
     [ -n "$cck_keeps" ] || cck_reason=$cck_unusable
 fi
 if [ -n "$cck_reason" ]; then
@@ -126,7 +127,7 @@ make_scratch() {
 # Ends by a signal, as the compiler does. A preprocessor in the background ignores that of the terminal.
 end_by() {
     trap - EXIT "$1"
-    [ -z "$cck_text" ] || kill "$cck_text" 2>/dev/null
+    for cck_next in $cck_text $cck_talker; do kill "$cck_next" 2>/dev/null; done
     rm -rf "$cck_scratch"
     kill -"$1" $$
 }
@@ -356,53 +357,6 @@ keep() {
     { mkdir -p "$cck_place" && cp "$3" "$cck_place/$2.new$$" && mv "$cck_place/$2.new$$" "$cck_place/$2"; } 2>/dev/null
 }
 
-# Writes the outputs of the object of the name $1 from the file $2, and prints the compiler's messages. What is damaged,
-# or of another name, is not taken.
-unpack() {
-    case $("$cck_program" unpack "$cck_store" --name="$1" --packed="$2" --out="$cck_out" \
-        ${cck_dependencies:+--dependencies="$cck_dependencies"}) in
-    unpacked*) ;;
-    *) note "the object $1 is damaged"; return 1 ;;
-    esac
-}
-
-# Takes the object of the name $1 from the server.
-take_object() {
-    cck_sought="$cck_sought $1 "
-    get object "$1" "$cck_scratch/object" || return 1
-    unpack "$1" "$cck_scratch/object" || { count server-damaged; return 1; }
-    keep objects "$1" "$cck_scratch/object"
-}
-
-# Looks for the object of the request at the server, and ends if it is there.
-look_at_server() {
-    if [ -z "$cck_object$cck_asked" ]; then
-        get entry "$cck_key" "$cck_scratch/entry"
-        cck_found=$("$cck_program" look "$cck_store" --entry="$cck_scratch/entry" "$@")
-        case $cck_found in
-        hit*)
-            keep entries "$cck_key" "$cck_scratch/entry"
-            log "$cck_found"
-            exit 0
-            ;;
-        miss*"$cck_newline"*"$cck_newline"*) divide; fields $cck_found ;;
-        *) pass_on "$@" ;;
-        esac
-        case $cck_found in
-        *' damaged '*)
-            note "server: the entry $cck_key is damaged"
-            count server-damaged
-            ;;
-        esac
-    fi
-    if [ -n "$cck_object" ] && take_object "$cck_object"; then
-        [ ! -s "$cck_scratch/entry" ] || keep entries "$cck_key" "$cck_scratch/entry"
-        count server-hit
-        log "hit $cck_object $cck_input"
-        exit 0
-    fi
-}
-
 # Records what was made of the text. The words are options of `record`, and those of the request. The shell of this function
 # becomes the program.
 record() {
@@ -420,7 +374,14 @@ send() {
 
 # Takes the object of the text from the server.
 take_text_from_server() {
-    take_object "$cck_object" || return 1
+    is_up || return 1
+    converse unpack "$cck_store" --name="$cck_object" --server="$cck_mode" \
+        ${CCK_VERIFY_KEY:+--verify-key="$CCK_VERIFY_KEY"} --out="$cck_out" \
+        ${cck_dependencies:+--dependencies="$cck_dependencies"}
+    case $cck_found in
+    unpacked*) ;;
+    *) note_unused $cck_found; return 1 ;;
+    esac
     keep entries "$cck_key" "$cck_scratch/entry"
     put entry "$cck_key" "$cck_scratch/entry"
     count server-hit-text
@@ -431,7 +392,11 @@ take_text_from_server() {
 take_text_from_directory() {
     find_place objects "$cck_object"
     [ -e "$cck_place/$cck_object" ] || return 1
-    unpack "$cck_object" "$cck_place/$cck_object" || return 1
+    case $("$cck_program" unpack "$cck_store" --name="$cck_object" --packed="$cck_place/$cck_object" --out="$cck_out" \
+        ${cck_dependencies:+--dependencies="$cck_dependencies"}) in
+    unpacked*) ;;
+    *) note "the object $cck_object is damaged"; return 1 ;;
+    esac
     cck_found=$(record "$@")
     count hit-text
 }
@@ -462,10 +427,10 @@ shares_text() {
     esac
 }
 
-# Sets `cck_mark` to the path of a file for this input, with the sum of an input of this name of which the store has an
+# Sets `cck_seen` to the path of a file for this input, with the sum of an input of this name of which the store has an
 # object. It may be that of other arguments or, with a base directory, of another directory.
 name_mark() {
-    cck_mark=
+    cck_seen=
     [ -z "$CCK_BASEDIR" ] || shares_text || return 0
     case $cck_input in
     /*) cck_above=${cck_input%/*} ;;
@@ -473,31 +438,31 @@ name_mark() {
     *) cck_above=$PWD ;;
     esac
     [ -z "$CCK_BASEDIR" ] || cck_above=${cck_above#"$CCK_BASEDIR"}
-    cck_mark=$cck_store/inputs/${cck_above##*/}-${cck_input##*/}
+    cck_seen=$cck_store/inputs/${cck_above##*/}-${cck_input##*/}
 }
 
 # Whether the directory may have the object of the text. Where the call has an entry, a header has changed, and with it the
 # name of the object, but for what another directory has.
 may_have_text() {
-    [ -n "$cck_mark" ] && [ -e "$cck_mark" ] || return 1
+    [ -n "$cck_seen" ] && [ -e "$cck_seen" ] || return 1
     find_place entries "$cck_key"
     [ -n "$CCK_BASEDIR" ] || [ ! -e "$cck_place/$cck_key" ] || return 1
-    cksum < "$cck_input" > "$cck_scratch/sum" 2>/dev/null && cmp -s "$cck_scratch/sum" "$cck_mark"
+    cksum < "$cck_input" > "$cck_scratch/sum" 2>/dev/null && cmp -s "$cck_scratch/sum" "$cck_seen"
 }
 
 # Writes that file.
 write_mark() {
-    [ -n "$cck_mark" ] && [ -s "$cck_scratch/sum" ] || return 0
+    [ -n "$cck_seen" ] && [ -s "$cck_scratch/sum" ] || return 0
     read -r cck_sum < "$cck_scratch/sum"
-    { [ -d "$cck_store/inputs" ] || mkdir -p "$cck_store/inputs"; printf '%s\n' "$cck_sum" > "$cck_mark"; } 2>/dev/null
+    { [ -d "$cck_store/inputs" ] || mkdir -p "$cck_store/inputs"; printf '%s\n' "$cck_sum" > "$cck_seen"; } 2>/dev/null
 }
 
-# Has the program look for the call's object, or where no directory keeps objects make its key.
+# Has the program look for the call's object.
 look_up() {
-    if [ -n "$cck_keeps" ]; then
-        cck_found=$("$cck_program" look "$cck_store" "$@")
+    if [ -n "$cck_server" ]; then
+        converse look "$cck_store" --server="$cck_mode" ${CCK_VERIFY_KEY:+--verify-key="$CCK_VERIFY_KEY"} "$@"
     else
-        cck_found=$("$cck_program" preprocessor-key "$@")
+        cck_found=$("$cck_program" look "$cck_store" "$@")
     fi
 }
 
@@ -506,11 +471,9 @@ set -- --directory="$PWD" -- $cck_color "$@"
 [ -z "$CCK_BASEDIR" ] || set -- --base="$CCK_BASEDIR" "$@"
 [ -z "$cck_digests" ] || set -- --digests="$cck_digests" "$@"
 set -- --driver="$cck_compiler" "$@"
-cck_scratch= cck_text=
-if [ -n "$cck_server" ]; then
-    make_scratch || cck_keeps=
-    [ -n "$cck_found" ] || look_up "$@"
-fi
+cck_scratch= cck_text= cck_talker=
+if [ -n "$cck_server" ]; then make_scratch || { cck_found='no scratch'; pass_on "$@"; }; fi
+[ -n "$cck_found" ] || look_up "$@"
 case $cck_found in
 'passed programs-unknown')
     find_programs || { cck_found='passed no-scratch'; pass_on "$@"; }
@@ -521,25 +484,15 @@ case $cck_found in
     ;;
 'passed variable'|'passed compiler') pass_on "$@" ;;
 esac
-if [ -n "$cck_server" ] && [ -z "$cck_scratch" ]; then cck_found='no scratch'; pass_on "$@"; fi
-if [ -n "$cck_keeps$cck_asked" ]; then
-    case $cck_found in
-    hit*) log "$cck_found"; exit 0 ;;
-    miss*"$cck_newline"*"$cck_newline"*) divide; fields $cck_found ;;
-    *) pass_on "$@" ;;
-    esac
-else
-    case $cck_found in
-    none*) count no-key; pass_on "$@" ;;
-    passed*|error*|'') pass_on "$@" ;;
-    esac
-    divide
-    cck_key=$cck_found cck_object=
-fi
+case $cck_found in
+hit*) log "${cck_found%%"$cck_newline"*}"; exit 0 ;;
+miss*"$cck_newline"*"$cck_newline"*) divide; fields $cck_found ;;
+*) pass_on "$@" ;;
+esac
 # A call has the programs of its look-up, also if the store has another list by now.
 shift
 set -- --compiler="$cck_programs" "$@"
-[ -z "$cck_server" ] || look_at_server "$@"
+[ -z "$cck_server" ] || note_unused $cck_found
 log "look: $cck_found $cck_input"
 # With a log, what keeps an entry of the directory from matching.
 if [ -n "$CCK_LOG" ] && [ -n "$cck_keeps" ]; then
@@ -903,7 +856,7 @@ judge_targets() {
 # made of a text that names no file beside the input: such a text names an empty one. The words are those of the call.
 write_text() {
     [ "$cck_macros" != -dD ] || show_all_macros "$@"
-    [ -z "$cck_mark" ] || [ -e "$cck_scratch/sum" ] || cksum < "$cck_input" > "$cck_scratch/sum"
+    [ -z "$cck_seen" ] || [ -e "$cck_scratch/sum" ] || cksum < "$cck_input" > "$cck_scratch/sum"
     preprocess text ''
     [ ! -e "$cck_scratch/failed" ] || return
     find_own

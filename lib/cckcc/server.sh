@@ -8,9 +8,16 @@ cck_formats=5
 # Sets why the server can't be asked: a word under which this is counted, and what the log says.
 unusable() { cck_unusable=$1 cck_why=$2; }
 
-# Reads the address. What has a secret is in no message: of an unknown scheme the log has the name alone.
+# Reads the address, and what decides of values. What has a secret is in no message: of an unknown scheme the log has the
+# name alone.
 read_server() {
     cck_unusable= cck_sought=
+    test_key "$CCK_SIGN_KEY"
+    test_key "$CCK_VERIFY_KEY"
+    case $CCK_COMPRESS in
+    ''|0|zstd) ;;
+    *) unusable compress 'CCK_COMPRESS is not zstd' ;;
+    esac
     case $CCK_REMOTE_MAX in
     ''|0*|*[!0-9]*) cck_max=100000000 ;;
     *) cck_max=$CCK_REMOTE_MAX ;;
@@ -34,6 +41,16 @@ read_secret() {
     cck_secret=
     { IFS= read -r cck_secret < "$CCK_SECRET_FILE"; } 2>/dev/null
     [ -n "$cck_secret" ] || unusable secret "no line in the file of CCK_SECRET_FILE"
+}
+
+# Tests the file of a key, if one is named. The program decides, where the first line alone is not long enough.
+test_key() {
+    [ -n "$1" ] || return 0
+    unset cck_line
+    { IFS= read -r cck_line < "$1"; } 2>/dev/null
+    [ ${#cck_line} -ge 16 ] || "$cck_program" seal entry 0 --sign-key="$1" < /dev/null > /dev/null 2>&1 ||
+        unusable key "no key of 16 bytes in $1"
+    cck_line=
 }
 
 # Divides the address into a user, with a password if it has one, and the rest: at the last `@`, or before the path of a
@@ -132,67 +149,75 @@ is_plain() {
         find_script server_hit.pl
 }
 
-# Prints the lines that the script reads before what the program says of the call.
-print_server() {
+# Sets what the script has to know of the server beside the scheme, the user and the secret: `cck_host`, `cck_port` and
+# `cck_database`.
+describe_server() {
     case $cck_scheme in
-    redis) set -- "$cck_host" "${cck_port:-6379}" "$cck_database" "$cck_secret" ;;
-    redis+unix) set -- "$cck_address" '' "$cck_database" "$cck_secret" ;;
+    redis) cck_port=${cck_port:-6379} ;;
+    redis+unix) cck_host=$cck_address ;;
     http)
+        cck_host=${cck_mark%%:*} cck_port=80 cck_database=${cck_url#http://"$cck_mark"}
         case $cck_mark in
-        *:*) set -- "${cck_mark%%:*}" "${cck_mark#*:}" "${cck_url#http://"$cck_mark"}" ;;
-        *) set -- "$cck_mark" 80 "${cck_url#http://"$cck_mark"}" ;;
+        *:*) cck_port=${cck_mark#*:} ;;
         esac
-        set -- "$1" "$2" "$3" "${CCK_SECRET_FILE:+$cck_secret}"
+        [ -n "$CCK_SECRET_FILE" ] || cck_secret=
         ;;
     esac
-    printf '%s\n' "$cck_scheme" "$1" "$2" "$3" "$cck_user" "$4"
 }
 
-# Takes a hit of the server, and ends, if all is plain. Otherwise `cck_found` is what the program printed of the call, or
-# nothing, `cck_asked` is not empty if that is of a look-up by the entry of the server, which has none that matches, and
-# `cck_slow` if a request took too long. The words are the compiler's.
-take_hit() {
-    cck_asked= cck_slow=
-    if [ -n "$cck_unusable" ] || ! is_plain; then return; fi
-    set -- --digests="$cck_digests" ${CCK_BASEDIR:+--base="$CCK_BASEDIR"} --directory="$PWD" -- $cck_color "$@"
-    if [ -n "$CCK_DIR" ]; then
-        cck_found=$(trap '' XFSZ; exec "$cck_program" look "$cck_store" --driver="$cck_compiler" "$@")
-    fi
-    case $cck_found in
-    hit*) end_by_hit ;;
-    ''|miss*) ;;
-    *) return ;;
-    esac
+# Runs the script, which has the program look for an object and asks the server, and sets `cck_found` to what it prints. The
+# words are those of the program. The shell that takes what is printed becomes perl, and a here-document needs no process.
+relay() {
+    describe_server
     {
         cck_found=$(
             trap '' XFSZ
-            {
-                print_server
-                [ -n "$cck_found" ] || exec "$cck_program" preprocessor-key --driver="$cck_compiler" "$@" 2>&3 3>&-
-                printf '%s\n' "$cck_found"
-            } | LC_ALL=C perl "$cck_script" "${LC_ALL+=$LC_ALL}" "$cck_formats" "${CCK_TIMEOUT:-2}" "$cck_max" "$cck_program" \
-                "$cck_store" "$CCK_DIR" "$@"
+            set -- "${LC_ALL+=$LC_ALL}" "$cck_formats" "${CCK_TIMEOUT:-2}" "$cck_max" "$cck_mode" "$cck_program" look \
+                "$cck_store" --server="$cck_mode" ${CCK_VERIFY_KEY:+--verify-key="$CCK_VERIFY_KEY"} "$@"
+            export LC_ALL=C
+            exec perl "$cck_script" "$@" <<LINES
+$cck_scheme
+$cck_host
+$cck_port
+$cck_database
+$cck_user
+$cck_secret
+LINES
         )
     } 3>&2 2>/dev/null
+}
+
+# Takes a hit of the server, and ends, if all is plain. Otherwise `cck_found` is the answer of the program, or nothing if
+# the server has to be asked again, and `cck_slow` is not empty if a request took too long. The words are the compiler's. A
+# hit of the directory starts no other process.
+take_hit() {
+    cck_slow= cck_mode=only
+    [ -z "$CCK_DIR" ] || cck_mode=keep
+    if [ -n "$cck_unusable" ] || ! is_plain; then return; fi
+    set -- --driver="$cck_compiler" --digests="$cck_digests" ${CCK_BASEDIR:+--base="$CCK_BASEDIR"} --directory="$PWD" -- \
+        $cck_color "$@"
+    if [ -n "$CCK_DIR" ]; then
+        cck_found=$(trap '' XFSZ; exec "$cck_program" look "$cck_store" "$@")
+        case $cck_found in
+        hit*) end_by_hit ;;
+        miss*) ;;
+        *) return ;;
+        esac
+    fi
+    relay "$@"
     case $?:$cck_found in
-    *:hit"$cck_newline"*"$cck_newline"unpacked*) end_by_hit server-hit ;;
-    *:hit"$cck_newline"*) cck_found= ;;
-    *:had"$cck_newline"*) end_by_hit ;;
-    *:asked"$cck_newline"*) cck_asked=1 ;;
+    *:hit"$cck_newline"*) cck_found=${cck_found#*"$cck_newline"}; end_by_hit ;;
+    *:asked"$cck_newline"*) ;;
+    *:slow"$cck_newline"*) cck_slow=1 ;;
     # The status of SIGALRM.
-    *:slow"$cck_newline"*|142:) cck_slow=1 ;;
+    142:*) cck_slow=1 cck_found= ;;
+    *) cck_found= ;;
     esac
     cck_found=${cck_found#*"$cck_newline"}
 }
 
-# Ends after a hit. The event $1, if there is one, is counted.
+# Ends after a hit.
 end_by_hit() {
-    cck_found=${cck_found#h??"$cck_newline"}
-    trap '' XFSZ
-    {
-        [ -z "$CCK_LOG" ] || echo "cckcc: ${cck_found%%"$cck_newline"*}" >> "$CCK_LOG"
-        [ -z "$1" ] || [ -d "$cck_store/counts" ] || mkdir -p "$cck_store/counts"
-        [ -z "$1" ] || printf . >> "$cck_store/counts/$1"
-    } 2>/dev/null
+    [ -z "$CCK_LOG" ] || { trap '' XFSZ; echo "cckcc: ${cck_found%%"$cck_newline"*}" >> "$CCK_LOG"; } 2>/dev/null
     exit 0
 }

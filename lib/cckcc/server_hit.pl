@@ -1,36 +1,48 @@
-# A hit of a server: asks a Redis server, or an HTTP server, neither by TLS, for an entry and its object by one connection.
-# lib/cckcc/server.sh runs it as `perl server_hit.pl LOCALE FORMATS SECONDS BYTES PROGRAM STORE KEEPS WORD..`, where LOCALE is
-# `=` and the caller's LC_ALL, or empty where that is not set, FORMATS the number in the names at a server, BYTES the most
-# that a value may have, and the words are those of a call for the program.
+# A hit of a server: runs the program for a call, and asks a Redis server, or an HTTP server, neither by TLS, for what the
+# program asks for. lib/cckcc/server.sh runs it as `perl server_hit.pl LOCALE FORMATS SECONDS BYTES MODE PROGRAM WORD..`,
+# where LOCALE is `=` and the caller's LC_ALL, or empty where that is not set, FORMATS the number in the names at a server,
+# BYTES the most that a value may have, MODE the program's, and the words are those of the program.
 #
 # Standard input has six lines: the scheme, the host or the path of a socket, the port, the database or what the path of a
-# name begins with, the user, and the password or token, which is so in no argument and in no environment. After them
-# comes what the program printed of the call: `preprocessor-key` or, if KEEPS is not empty, `look` in the directory.
-# Stream 3 is for the compiler's messages.
+# name begins with, the user, and the password or token, which is so in no argument and in no environment. Stream 3 is for
+# the compiler's messages.
 #
-# The program tests each value, and writes the outputs of the call. What is printed begins with one of these lines:
+# The program has all rules, and writes the outputs of the call. It prints lines that ask for a value or for the bytes of
+# a frame, and gets them on standard input; each other line begins its answer (docs/man/cck_cache.1). What is printed here
+# begins with one of these lines:
 #
-#   hit      the object is there; then come `hit NAME INPUT` and `unpacked NAME`, if it was written
-#   had      that of the directory is, by an entry of the server; then comes what `look` printed
-#   asked    the server has no entry that matches; then comes what `look` printed
-#   slow     a request took too long; then comes what the program printed of the call
-#   unknown  all else, as an error of the server; then comes the same. The caller asks again, by a client that says what
-#            failed
+#   hit      the answer follows, which is a hit
+#   asked    the answer follows, which is no hit, and no request failed
+#   slow     a request took too long, and the server was not asked for more; the answer follows
+#   unknown  all else, as an error of the server. The caller asks again, by a client that says what failed
 #
 # Nothing is printed where it takes too long to find the server: the signal of the alarm ends the script.
 #
 # It reads no module: `warnings` alone takes longer than all that it does.
 
-my ($locale, $formats, $seconds, $most, $program, $store, $keeps, @words) = @ARGV;
+my ($locale, $formats, $seconds, $most, $mode, $program, @words) = @ARGV;
 my ($scheme, $address, $port, $place, $user, $secret) = map { my $line = <STDIN>; chomp $line; $line } 1 .. 6;
-my $called = join '', <STDIN>;
-my ($server, $held, @addresses, $begun, $slow);
+my ($child, $to, $from, $server, $held, @addresses, $begun, $slow);
 my $piped = $SIG{PIPE} || 'DEFAULT';
 
-# Ends with a line and what comes after it.
+# Ends without an answer. The program has changed nothing yet where it waits for a reply.
 sub leave {
-    print "$_[0]\n", $_[1] // $called;
+    kill 'TERM', $child if $child;
+    print "unknown\n";
     exit 0;
+}
+
+# Starts a program with these words, whose messages go to this stream: its process, its standard input and its standard
+# output.
+sub begin {
+    my $messages = shift;
+    pipe my $input, my $to or return;
+    pipe my $from, my $output or return;
+    my $child = fork // return;
+    return ($child, $to, $from) if $child;
+    $SIG{PIPE} = $piped;
+    open STDIN, '<&', $input and open STDOUT, '>&', $output and open STDERR, '>&', $messages and exec { $_[0] } @_;
+    exit 127;
 }
 
 # The structures that Linux has for the addresses of the server.
@@ -44,7 +56,6 @@ sub addresses {
 # Each function below dies where the server, or its reply, is not as it has to be.
 
 sub connect_server {
-    @addresses = addresses() if !@addresses;
     for my $to (@addresses) {
         socket $server, $scheme eq 'redis+unix' ? 1 : 2, 1, 0 or die;
         if (connect $server, $to) { $held = ''; return 1 }
@@ -52,9 +63,18 @@ sub connect_server {
     die;
 }
 
+# Finds the server, and connects to it. No handler of a signal runs while a name is looked up.
+sub find_server {
+    $SIG{ALRM} = 'DEFAULT';
+    alarm $seconds;
+    @addresses = addresses();
+    $SIG{ALRM} = sub { $slow = 1; die };
+    connect_server();
+}
+
 sub send_all {
-    my $bytes = shift;
-    while (length $bytes) { substr $bytes, 0, (syswrite $server, $bytes or die), '' }
+    my ($stream, $bytes) = @_;
+    while (length $bytes) { substr $bytes, 0, (syswrite $stream, $bytes or die), '' }
 }
 
 # Reads until there are so many bytes.
@@ -88,7 +108,7 @@ sub get_redis {
         push @first, command('AUTH', ($user eq '' ? () : $user), $secret) if $secret ne '';
         push @first, command('SELECT', $place) if $place;
     }
-    send_all(join '', @first, command('GET', "cck:$formats:$_[0]:$_[1]"));
+    send_all($server, join '', @first, command('GET', "cck:$formats:$_[0]:$_[1]"));
     for (@first) { read_line() eq '+OK' or die }
     read_line() =~ /^\$(-1|[0-9]{1,10})$/ or die;
     return '' if $1 < 0;
@@ -100,7 +120,7 @@ sub get_redis {
 # What an HTTP server has under a name, or nothing.
 sub get_http {
     connect_server() if !$server;
-    send_all(join "\r\n", "GET $place/$formats/$_[0]/" . substr($_[1], 0, 2) . "/$_[1] HTTP/1.1",
+    send_all($server, join "\r\n", "GET $place/$formats/$_[0]/" . substr($_[1], 0, 2) . "/$_[1] HTTP/1.1",
         'Host: ' . ($port == 80 ? $address : "$address:$port"), 'Accept: */*',
         ($secret eq '' ? () : "Authorization: Bearer $secret"), '', '');
     read_line() =~ m{^HTTP/1\.([01]) (200|404)( |$)} or die;
@@ -115,109 +135,65 @@ sub get_http {
     return $status == 200 ? $value : '';
 }
 
-# What the server has of this kind under this name, or nothing. There is no value where the reply is another one.
+# What the server has of this kind under this name, or nothing. After a request that took too long it is not asked.
 sub get {
     my ($kind, $name) = @_;
+    return '' if $slow;
     my $value = eval {
+        find_server() if !@addresses;
         alarm $seconds;
-        my $got = $scheme eq 'http' ? get_http($kind, $name) : get_redis($kind, $name);
-        alarm 0;
-        $got;
+        $scheme eq 'http' ? get_http($kind, $name) : get_redis($kind, $name);
     };
     alarm 0;
-    return $value;
+    leave() if !defined $value and !$slow;
+    return $value // '';
 }
 
-# This process becomes the program with these words, which reads `$input`.
-sub become {
-    my $input = shift;
-    $SIG{PIPE} = $piped;
-    open STDIN, '<&', $input and open STDERR, '>&', 3 and exec { $program } $program, @_;
-    exit 127;
-}
-
-# Starts the program with these words, to which standard input is given later.
-sub begin {
-    pipe my $input, my $to or leave('unknown');
-    pipe my $from, my $output or leave('unknown');
-    my $child = fork // leave('unknown');
-    return [$child, $to, $from] if $child;
-    open STDOUT, '>&', $output or exit 127;
-    become($input, @_);
-}
-
-# Gives the program its standard input, and returns what it prints.
-sub finish {
-    my ($child, $to, $from) = @{ $_[0] };
-    my $bytes = $_[1];
-    while (length $bytes) { substr $bytes, 0, (syswrite $to, $bytes or last), '' }
-    close $to;
-    my $printed = join '', <$from>;
-    waitpid $child, 0;
-    return $printed;
-}
-
-# The words of a line that is quoted for a shell.
-sub unquoted {
-    my ($line, @all) = ($_[0], '');
-    while ($line =~ /\G(?:'([^']*)'|\\(.)|( )|([^'\\ ]+))/gcs) {
-        if (defined $3) { push @all, '' } else { $all[-1] .= $1 // $2 // $4 }
+# The bytes of a frame, or nothing where they are not so many. A pipe that has room takes what is written at once.
+sub expand {
+    my ($size, $frame) = @_;
+    my ($zstd, $input, $output) = begin(2, 'zstd', '-dcq') or return '';
+    my $bytes = '';
+    while (length $bytes <= $size) {
+        my ($ready, $room) = ('', '');
+        vec($ready, fileno $output, 1) = 1;
+        if ($frame eq '') { close $input } else { vec($room, fileno $input, 1) = 1 }
+        select $ready, $room, undef, undef;
+        if ($frame ne '' and vec $room, fileno $input, 1) {
+            substr $frame, 0, (syswrite $input, $frame, 4096 or length $frame), '';
+        }
+        if (vec $ready, fileno $output, 1) {
+            sysread $output, $bytes, $size + 1 - length $bytes, length $bytes or last;
+        }
     }
-    return @all;
+    close $input;
+    close $output;
+    waitpid $zstd, 0;
+    return $? == 0 && length $bytes == $size ? $bytes : '';
 }
 
-# Keeps a value in the directory. Where it can't be written it is not kept.
-sub keep {
-    my ($kind, $name, $value) = @_;
-    my $directory = "$store/$kind/" . substr $name, 0, 2;
-    mkdir "$store/$kind";
-    mkdir $directory;
-    open my $file, '>', "$directory/$name.new$$" or return;
-    print $file $value and close $file and rename "$directory/$name.new$$", "$directory/$name" or
-        unlink "$directory/$name.new$$";
+# Gives the program these bytes. A pipe is made larger for them (F_SETPIPE_SZ). Where the program has ended it gets none.
+sub reply {
+    my $bytes = shift;
+    fcntl $to, 1031, length $bytes if length $bytes > 65536;
+    eval { send_all($to, $bytes eq '' ? "-\n" : length($bytes) . "\n$bytes") };
 }
 
 $SIG{PIPE} = 'IGNORE';
-$| = 1;
 if ($locale eq '') { delete $ENV{LC_ALL} } else { $ENV{LC_ALL} = substr $locale, 1 }
-$called =~ /^(?:miss )?([0-9a-f]{64})(?: [0-9.]+(?: object ([0-9a-f]{64}))?(?: damaged .*)?)?\n(.*)\n/ or leave('unknown');
-my ($key, $object) = ($1, $2);
-my ($input, $out, $dependencies, $programs) = unquoted($3);
-# No handler of a signal runs while a name is looked up. No other process runs yet.
-$SIG{ALRM} = 'DEFAULT';
-alarm $seconds;
-eval { connect_server() } or leave('unknown');
-alarm 0;
-$SIG{ALRM} = sub { $slow = 1; die };
-my $entry = '';
-if (!defined $object) {
-    # The program reads the input while the server is asked.
-    my $look = begin('look', $store, '--entry=/dev/stdin', "--compiler=$programs", @words);
-    $entry = get('entry', $key);
-    my $found = finish($look, $entry // '');
-    leave($slow ? 'slow' : 'unknown') if !defined $entry;
-    if ($found =~ /^hit /) {
-        keep('entries', $key, $entry) if $keeps ne '';
-        leave('had', $found);
+($child, $to, $from) = begin(3, $program, @words) or leave();
+# The program reads the input meanwhile. A call that the directory has does not wait for the server.
+if ($mode eq 'only') { eval { find_server() }; alarm 0 }
+while (defined(my $line = <$from>)) {
+    if ($line =~ /^get (entry|object) ([0-9a-f]+)$/) {
+        reply(get($1, $2));
+    } elsif ($line =~ /^expand ([0-9]+) ([0-9]+)$/) {
+        my ($size, $frame) = $1;
+        read $from, $frame, $2;
+        reply($size > $most ? '' : expand($size, $frame));
+    } else {
+        print $slow ? 'slow' : $line =~ /^hit / ? 'hit' : 'asked', "\n", $line, <$from>;
+        exit 0;
     }
-    $found =~ /^miss [0-9a-f]{64} [0-9.]+(?: object ([0-9a-f]{64}))?\n/ or leave('unknown');
-    $object = $1 // leave('asked', $found);
 }
-my $value = get('object', $object);
-leave($slow ? 'slow' : 'unknown') if ($value // '') eq '';
-print "hit\nhit $object $input\n";
-my @unpack = ('unpack', $store, "--name=$object", '--packed=/dev/stdin', "--out=$out",
-    ($dependencies eq '' ? () : "--dependencies=$dependencies"));
-pipe my $from, my $to or exit;
-# Where a pipe can hold the value (F_SETPIPE_SZ) the program needs no process beside this one.
-if ($keeps eq '' and length $value <= (fcntl($to, 1031, length $value) || 0)) {
-    syswrite $to, $value;
-    close $to;
-    become($from, @unpack);
-}
-my $said = finish(begin(@unpack), $value);
-if ($keeps ne '' and $said =~ /^unpacked /) {
-    keep('objects', $object, $value);
-    keep('entries', $key, $entry) if $entry ne '';
-}
-print $said;
+leave();

@@ -1,5 +1,5 @@
 -- what the words of a command say
-use Rattle.std.specs.Prelude.{◌≡◌, ◌<◌, ◌^◌, ℕ, ℤ, List, Option, Some, None, codes}
+use Rattle.std.specs.Prelude.{◌≡◌, ◌<◌, ◌^◌, ◌↔◌, ℕ, ℤ, Bool, IsTrue, List, Option, Some, None, codes}
 use Rattle.std.specs.Option.{option_map}
 use Rattle.std.specs.Str.Parse.{IsNumeral, digits_value, without_leading_plus}
 use Rattle.clap.specs.Matches.{first_value}
@@ -8,6 +8,9 @@ use Rattle.cck_cache_arguments.specs.Stamp.{IsStamp}
 use Rattle.cck_cache_arguments.specs.declared.task.Made.{Made}
 use Rattle.cck_cache_arguments.specs.declared.task.Outputs.{Outputs}
 use Rattle.cck_cache_arguments.specs.declared.task.Packed.{Packed}
+use Rattle.cck_cache_arguments.specs.declared.task.Server.{Server}
+use Rattle.cck_cache_arguments.specs.declared.task.Source.{Source}
+use Rattle.cck_cache_arguments.specs.declared.task.Source.TheVariants.{Path, Server as ServerSource}
 
 -- where the parts of an object file are written: a path for the object, and one for the dependency file, if one is given
 pub record OutputWords : Type 0 where
@@ -21,18 +24,45 @@ pub record IsOutputs (found : Found) (words : OutputWords) : Type 0 where
   pub object : first_value found (codes "out") ≡ Some words.object
   pub dependencies : first_value found (codes "dependencies") ≡ words.dependencies
 
+-- a server: whether what it has is kept in a store, and the path of the key of signatures, if one is given
+pub record ServerWords : Type 0 where
+  pub keeps : Bool
+  pub verify_key : Option (List ℕ)
+
+abbrev pub server_words : Server → ServerWords
+server_words server = record { keeps = server.keeps; verify_key = option_map (λ k. k.now) server.verify_key }
+
+pub record IsServer (found : Found) (words : ServerWords) : Type 0 where
+  pub mode : List ℕ
+  pub given : first_value found (codes "server") ≡ Some mode
+  pub keeps : IsTrue words.keeps ↔ (mode ≡ codes "keep")
+  pub verify_key : first_value found (codes "verify-key") ≡ words.verify_key
+
+-- where an object file is: at a path, or at a server
+pub data SourceWords : Type 0 where
+  at_path : List ℕ → SourceWords
+  at_server : ServerWords → SourceWords
+
+abbrev pub source_words : Source → SourceWords
+source_words (Path path) = at_path path.now
+source_words (ServerSource server) = at_server (server_words server)
+
+abbrev pub IsSource : Found → SourceWords → Type 0
+IsSource found (at_path path) = first_value found (codes "packed") ≡ Some path
+IsSource found (at_server server) = (first_value found (codes "packed") ≡ None) × IsServer found server
+
 -- the words of `unpack` beside its store
 pub record PackedWords : Type 0 where
   pub name : List ℕ
-  pub path : List ℕ
+  pub source : SourceWords
   pub outputs : OutputWords
 
 abbrev pub packed_words : Packed → PackedWords
-packed_words packed = record { name = packed.name.now; path = packed.path.now; outputs = output_words packed.outputs }
+packed_words packed = record { name = packed.name.now; source = source_words packed.source; outputs = output_words packed.outputs }
 
 pub record IsPacked (found : Found) (words : PackedWords) : Type 0 where
   pub name : first_value found (codes "name") ≡ Some words.name
-  pub path : first_value found (codes "packed") ≡ Some words.path
+  pub source : IsSource found words.source
   pub outputs : IsOutputs found words.outputs
 
 -- what a compiler made: the paths of the object and of the messages; and those of its dependency file, of that of the assembler, and of that which it
@@ -71,10 +101,18 @@ pub record IsSince (found : Found) (seconds : ℤ) (nanoseconds : ℕ) : Type 0 
   pub given : first_value found (codes "since") ≡ Some stamp
   pub time : IsStamp stamp seconds nanoseconds
 
--- a number of bytes, in decimal digits and below 2^64
-pub record IsSize (found : Found) (size : ℕ) : Type 0 where
+-- the number of bytes of the option of this name, in decimal digits and below 2^64
+pub record IsNumber (found : Found) (name : List ℕ) (size : ℕ) : Type 0 where
   pub text : List ℕ
-  pub given : first_value found (codes "max-size") ≡ Some text
+  pub given : first_value found name ≡ Some text
   pub digits : IsNumeral 10 (without_leading_plus text)
   pub value : size ≡ digits_value 10 (without_leading_plus text)
   pub below : size < 2 ^ 64
+
+abbrev pub IsSize : Found → ℕ → Type 0
+IsSize found size = IsNumber found (codes "max-size") size
+
+-- a number of bytes that may be given
+abbrev pub IsExpanded : Found → Option ℕ → Type 0
+IsExpanded found None = first_value found (codes "expanded") ≡ None
+IsExpanded found (Some size) = IsNumber found (codes "expanded") size

@@ -20,13 +20,17 @@ enum Need<'a> {
     With(&'a str),
     // Exactly where the option of this name is left out.
     Without(&'a str),
+    // It may be left out, and its value is one of these.
+    OneOf(&'a [&'a str]),
+    // It may be left out, and its value is a number.
+    Number,
 }
 
 // When an option is given, its name, that of its value, and its help.
 type OptionWords<'a> = (Need<'a>, &'a str, &'a str, &'a str);
 
-// The name of a word that has to be given, and its help.
-type WordWords<'a> = (&'a str, &'a str);
+// The name of a word that has to be given, its help, and what it may be: any word where there is nothing.
+type WordWords<'a> = (&'a str, &'a str, &'a [&'a str]);
 
 // A list of options.
 #[derive(Clone, Copy)]
@@ -41,6 +45,8 @@ enum Options {
     Unpack,
     // Those of `prune`.
     Prune,
+    // Those of `seal`.
+    Seal,
 }
 
 // A list of words that have to be given.
@@ -52,19 +58,31 @@ enum Words {
     Store,
     // A store, and a file in it.
     StoreAndFile,
+    // A kind and a name.
+    KindAndName,
 }
 
 // A command: its name, what it does, its options and words, and whether the words of a compiler's call
 // come after its own.
 type CommandWords<'a> = (&'a str, &'a str, Options, Words, bool);
 
-static STORE: [WordWords<'static>; 1] = [("STORE", "The directory of the store")];
+static STORE: [WordWords<'static>; 1] = [("STORE", "The directory of the store", &[])];
 
 static STORE_AND_FILE: [WordWords<'static>; 2] = [
-    ("STORE", "The directory of the store"),
+    ("STORE", "The directory of the store", &[]),
     (
         "WORD",
         "A preprocessor key, the name of an object, or a path with a slash",
+        &[],
+    ),
+];
+
+static KIND_AND_NAME: [WordWords<'static>; 2] = [
+    ("KIND", "The kind of the file", &["entry", "object"]),
+    (
+        "NAME",
+        "The preprocessor key, or the name of the object",
+        &[],
     ),
 ];
 
@@ -96,9 +114,25 @@ static CALL: [OptionWords<'static>; 5] = [
     ),
 ];
 
-static UNPACK: [OptionWords<'static>; 4] = [
+const SERVER: OptionWords<'static> = (
+    Need::OneOf(&["keep", "only"]),
+    "server",
+    "MODE",
+    "Asks a server by lines on standard output, and reads its replies on standard input: after the store, which keeps what the server has (keep), or nothing but the server (only)",
+);
+
+const VERIFY_KEY: OptionWords<'static> = (
+    Need::With("server"),
+    "verify-key",
+    "FILE",
+    "The key without whose signature no value of the server is used",
+);
+
+static UNPACK: [OptionWords<'static>; 6] = [
     (Need::Always, "name", "NAME", "The name of the object"),
-    (Need::Always, "packed", "FILE", "The object file"),
+    (Need::Without("server"), "packed", "FILE", "The object file"),
+    SERVER,
+    VERIFY_KEY,
     (Need::Always, "out", "FILE", "Where the object is written"),
     (
         Need::Never,
@@ -108,12 +142,22 @@ static UNPACK: [OptionWords<'static>; 4] = [
     ),
 ];
 
-static LOOK: [OptionWords<'static>; 1] = [(
-    Need::Never,
-    "entry",
-    "FILE",
-    "An entry file that is read in place of the store's",
-)];
+static LOOK: [OptionWords<'static>; 2] = [SERVER, VERIFY_KEY];
+
+static SEAL: [OptionWords<'static>; 2] = [
+    (
+        Need::Never,
+        "sign-key",
+        "FILE",
+        "The key with which the value is signed",
+    ),
+    (
+        Need::Number,
+        "expanded",
+        "BYTES",
+        "The number of bytes of the file of which standard input is a frame of zstd",
+    ),
+];
 
 static RECORD: [OptionWords<'static>; 10] = [
     (
@@ -185,7 +229,7 @@ static PRUNE: [OptionWords<'static>; 1] = [(
     "The most bytes that the files may have together",
 )];
 
-static COMMANDS: [CommandWords<'static>; 10] = [
+static COMMANDS: [CommandWords<'static>; 11] = [
     (
         "preprocessor-key",
         "Prints the preprocessor key",
@@ -219,6 +263,13 @@ static COMMANDS: [CommandWords<'static>; 10] = [
         "Writes the object that an object file has",
         Options::Unpack,
         Words::Store,
+        false,
+    ),
+    (
+        "seal",
+        "Writes a value of a server, of the bytes that are read from standard input",
+        Options::Seal,
+        Words::KindAndName,
         false,
     ),
     (
@@ -267,6 +318,7 @@ impl Options {
             Self::Record => &RECORD,
             Self::Unpack => &UNPACK,
             Self::Prune => &PRUNE,
+            Self::Seal => &SEAL,
         }
     }
 }
@@ -278,6 +330,7 @@ impl Words {
             Self::Empty => &[],
             Self::Store => &STORE,
             Self::StoreAndFile => &STORE_AND_FILE,
+            Self::KindAndName => &KIND_AND_NAME,
         }
     }
 }
@@ -295,6 +348,8 @@ fn needed<'a>(option: Arg<'a>, need: Need<'a>) -> Result<Arg<'a>, AllocError> {
         Need::Never => Ok(option),
         Need::With(other) => option.requires_arg(other),
         Need::Without(other) => without(option, other),
+        Need::OneOf(names) => Ok(option.value_parser(names)),
+        Need::Number => Ok(option.value_parser(value_parser!(u64))),
     }
 }
 
@@ -338,12 +393,21 @@ fn with_options<'a>(
     command
 }
 
+// A word that is one of these, or any word where there are none.
+fn one_of<'a>(word: Arg<'a>, names: &'a [&'a str]) -> Arg<'a> {
+    if names.is_empty() {
+        word
+    } else {
+        word.value_parser(names)
+    }
+}
+
 // A command with these words, which have to be given.
 fn with_words<'a>(alloc: Global, command: Building<'a>, words: &[WordWords<'a>]) -> Building<'a> {
     let mut command = command;
-    for (name, help) in words {
+    for (name, help, names) in words {
         let word = Arg::new(alloc, *name).required(true).help(*help);
-        command = with_argument(command, Ok(word));
+        command = with_argument(command, Ok(one_of(word, names)));
     }
     command
 }

@@ -11,4 +11,6 @@ mod task;
 
 pub use request::{CompilerCall, Programs, Request};
 pub use stamp::stamp_of;
-pub use task::{Action, Compilation, Look, Made, Outputs, Packed, Task, task_of};
+pub use task::{
+    Action, Compilation, Look, Made, Outputs, Packed, Seal, Server, Source, Task, task_of,
+};

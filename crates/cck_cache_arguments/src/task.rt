@@ -1,8 +1,8 @@
 //! What words ask for.
-ghost use Rattle.std.specs.Prelude.{MatchOption, ℕ, ℤ, Option};
+ghost use Rattle.std.specs.Prelude.{◌≡◌, MatchOption, ℕ, ℤ, None, Option, codes};
 ghost use Rattle.std.specs.Option.{option_map};
-ghost use Rattle.clap.specs.Matches.{found_of};
-ghost use Rattle.cck_cache_arguments.specs.Task.{IsMade, IsOutputs, IsPacked, IsSince, IsSize, MadeWords, OutputWords, PackedWords, made_words, output_words, packed_words};
+ghost use Rattle.clap.specs.Matches.{first_value, found_of};
+ghost use Rattle.cck_cache_arguments.specs.Task.{IsExpanded, IsMade, IsOutputs, IsPacked, IsServer, IsSince, IsSize, IsSource, MadeWords, OutputWords, PackedWords, SourceWords, made_words, output_words, packed_words, server_words, source_words};
 
 use crate::command_line::program;
 use crate::request::{CompilerCall, Request, call_of};
@@ -29,13 +29,22 @@ pub struct Outputs<'a> {
     pub dependencies: Option<&'a str>,
 }
 
+/// A server that is asked for what a store lacks.
+#[derive(Clone, Copy)]
+pub struct Server<'a> {
+    /// Whether the store is asked before the server, and keeps what the server has. Otherwise nothing of the store is used.
+    pub keeps: bool,
+    /// The path of the key of signatures. With one, a value without the signature of this key is not used.
+    pub verify_key: Option<&'a str>,
+}
+
 /// What a look-up is for.
 #[derive(Drop)]
 pub struct Look<'a> {
     /// The path of the store.
     pub store: &'a str,
-    /// The path of an entry file that is read in place of the store's.
-    pub entry: Option<&'a str>,
+    /// The server, if one is asked.
+    pub server: Option<Server<'a>>,
     /// Where the parts of the object file are written.
     pub outputs: Outputs<'a>,
     /// The request.
@@ -75,15 +84,37 @@ pub struct Made<'a> {
     pub opened: Option<&'a str>,
 }
 
+/// Where an object file is that is not in the store.
+#[derive(Clone, Copy)]
+pub enum Source<'a> {
+    /// At this path.
+    Path(&'a str),
+    /// At a server.
+    Server(Server<'a>),
+}
+
 /// An object file that is not in the store.
 #[derive(Drop)]
 pub struct Packed<'a> {
     /// The name of the object.
     pub name: &'a str,
-    /// The path of the object file.
-    pub path: &'a str,
+    /// Where the object file is.
+    pub source: Source<'a>,
     /// Where its parts are written.
     pub outputs: Outputs<'a>,
+}
+
+/// What a value of a server is made of, beside its bytes.
+#[derive(Drop)]
+pub struct Seal<'a> {
+    /// The kind of the file, `entry` or `object`.
+    pub kind: &'a str,
+    /// The key or the name of the file.
+    pub name: &'a str,
+    /// The path of the key of signatures, if the value is signed.
+    pub sign_key: Option<&'a str>,
+    /// The number of bytes of the file, if the bytes are a frame of zstd.
+    pub expanded: Option<u64>,
 }
 
 /// What is done for a call of a compiler.
@@ -95,8 +126,8 @@ pub enum Action<'a> {
     Look {
         /// The path of the store.
         store: &'a str,
-        /// The path of an entry file that is read in place of the store's.
-        entry: Option<&'a str>,
+        /// The server, if one is asked.
+        server: Option<Server<'a>>,
     },
     /// The compilation is recorded.
     Record {
@@ -129,6 +160,8 @@ pub enum Task<'a> {
         /// The object file.
         packed: Packed<'a>,
     },
+    /// A value of a server, of the bytes that are read.
+    Seal(Seal<'a>),
     /// What a store has, and what was counted.
     Stats {
         /// The path of the store.
@@ -171,6 +204,28 @@ fn outputs_of<'a>(matches: &ArgMatches<'a>) -> Option<Outputs<'a>>
     })
 }
 
+// The server in the words of `look` and `unpack`. `None` where they have none.
+fn server_of<'a>(matches: &ArgMatches<'a>) -> Option<Server<'a>>
+    ensures { MatchOption result (first_value (found_of matches.now) (codes "server") ≡ None)
+        (λ server. IsServer (found_of matches.now) (server_words server)) }
+{
+    Some(Server {
+        keeps: matches.get_str("server")? == "keep",
+        verify_key: matches.get_str("verify-key"),
+    })
+}
+
+// Where the object file is, in the words of `unpack`.
+fn source_of<'a>(matches: &ArgMatches<'a>) -> Option<Source<'a>>
+    ensures { MatchOption result ((words : SourceWords) → IsSource (found_of matches.now) words → ⊥)
+        (λ source. IsSource (found_of matches.now) (source_words source)) }
+{
+    match matches.get_str("packed") {
+        Some(path) => Some(Source::Path(path)),
+        None => Some(Source::Server(server_of(matches)?)),
+    }
+}
+
 // The object file in the words of `unpack`.
 fn packed_of<'a>(matches: &ArgMatches<'a>) -> Option<Packed<'a>>
     ensures { MatchOption result ((words : PackedWords) → IsPacked (found_of matches.now) words → ⊥)
@@ -178,8 +233,29 @@ fn packed_of<'a>(matches: &ArgMatches<'a>) -> Option<Packed<'a>>
 {
     Some(Packed {
         name: matches.get_str("name")?,
-        path: matches.get_str("packed")?,
+        source: source_of(matches)?,
         outputs: outputs_of(matches)?,
+    })
+}
+
+// The number of bytes in the words of `seal`, if it is given.
+fn expanded_of(matches: &ArgMatches<'_>) -> Option<Option<u64>>
+    ensures { MatchOption result ((size : Option ℕ) → IsExpanded (found_of matches.now) size → ⊥)
+        (IsExpanded (found_of matches.now)) }
+{
+    match matches.get_str("expanded") {
+        Some(size) => Some(Some(size.parse::<u64>().ok()?)),
+        None => Some(None),
+    }
+}
+
+// What a value is made of, in the words of `seal`.
+fn seal_of<'a>(matches: &ArgMatches<'a>) -> Option<Seal<'a>> {
+    Some(Seal {
+        kind: matches.get_str("KIND")?,
+        name: matches.get_str("NAME")?,
+        sign_key: matches.get_str("sign-key"),
+        expanded: expanded_of(matches)?,
     })
 }
 
@@ -229,7 +305,7 @@ fn max_size_of(matches: &ArgMatches<'_>) -> Option<u64>
 fn look_action<'a>(matches: &ArgMatches<'a>) -> Option<Action<'a>> {
     Some(Action::Look {
         store: matches.get_str("STORE")?,
-        entry: matches.get_str("entry"),
+        server: server_of(matches),
     })
 }
 
@@ -313,6 +389,10 @@ fn task_in<'a>(alloc: Global, matches: &ArgMatches<'a>) -> Result<Option<Task<'a
         "stats" | "prune" | "clear" | "verify" | "inspect" | "unpack" => {
             Ok(store_task(name, command))
         }
+        "seal" => Ok(Some(Task::Seal(match seal_of(command) {
+            Some(seal) => seal,
+            None => return Ok(None),
+        }))),
         _ => call_task(alloc, name, command),
     }
 }

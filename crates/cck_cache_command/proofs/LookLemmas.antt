@@ -14,7 +14,7 @@ use Rattle.cck_cache_arguments.specs.declared.task.Look.{Look}
 -- an object file that was found under the name of a match
 pub looked_kept : (lookup : LookUp) (place : ℕ) (name : String Global) (looked : Looked) → place < 16 → IsNameOf lookup name
     → IsKeptObject lookup.wanted.now.outputs place name looked → IsLooked lookup looked
-looked_kept lookup place name (Object p n object) small is kept = (
+looked_kept lookup place name (Object p n object given) small is kept = (
   subst (λ (x : ℕ). x < 16) (sym kept.0) small,
   subst (λ (x : String Global). IsNameOf lookup x) (sym kept.1) is,
   kept.2 ∙ sym (ap string_bytes kept.1),
@@ -24,14 +24,14 @@ looked_kept lookup place name (Missed missed) small is kept = subst (λ (x : Opt
 
 -- nothing, without the name of an object
 pub looked_none : (lookup : LookUp) (looked : Looked) → IsMissed None looked → IsLooked lookup looked
-looked_none lookup (Object place name object) none = absurd none
+looked_none lookup (Object place name object given) none = absurd none
 looked_none lookup (Missed missed) none = subst (λ (x : Option (String Global)). IfSome x (IsNameOf lookup)) (sym none) tt
 
 -- the result for the preprocessor key of a request is the result for the request
 pub found_all : (environment : Environment) (wanted : Look) (key : String Global) (has : HasPreprocessorKey environment wanted.request (Some (string_bytes key))) (found : Found)
     → IsFoundFor environment.reads_all wanted has.asked has.input key found → IsLookResult environment wanted found
-found_all environment wanted key has (Hit k place n file) is =
-    subst (λ (x : String Global). IsLookResult environment wanted (Hit x place n file)) (sym is.0) (has, is.1, is.2, is.3, is.4)
+found_all environment wanted key has (Hit k place n file given) is =
+    subst (λ (x : String Global). IsLookResult environment wanted (Hit x place n file given)) (sym is.0) (has, is.1, is.2, is.3, is.4)
 found_all environment wanted key has (Miss k since missed) is =
     subst (λ (x : String Global). IsLookResult environment wanted (Miss x since missed)) (sym is.0) (has, is.1)
 found_all environment wanted key has NoKey is = absurd is

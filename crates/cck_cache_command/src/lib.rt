@@ -21,6 +21,8 @@ mod programs;
 mod record;
 mod request;
 mod response;
+mod seal;
+mod server;
 mod store;
 mod unpack;
 mod why;

@@ -1,5 +1,5 @@
 //! Looks for an object in the store.
-ghost use Rattle.std.specs.Prelude.{◌≡◌, ◌<◌, [], IfOk, IfSome, string_bytes, true};
+ghost use Rattle.std.specs.Prelude.{◌≡◌, ◌<◌, ◌⊎◌, [], IfOk, IfSome, string_bytes, true};
 ghost use Rattle.cck_cache_command.specs.Input.{IsCalm};
 ghost use Rattle.cck_cache_command.specs.Look.{IsFoundFor, IsKeptObject, IsKeyEntry, IsLookResult, IsLooked, IsMissed, IsNamedMatch, IsLookUp};
 ghost use Rattle.cck_cache_command.specs.Request.{IsKeyOver, IsRequest};
@@ -12,6 +12,7 @@ use crate::input::input_snapshot;
 use crate::naming::name_of;
 use crate::outputs::has_outputs;
 use crate::request::{hasher_of, snapshot_request};
+use crate::server::{Given, Sources};
 use anyhow::{Context, Result};
 use c_cache_keys::PreprocessorKey;
 use cck_cache_arguments::{Look, Outputs, Request};
@@ -25,8 +26,9 @@ use cck_path::Timestamp;
 use cck_snapshot::{SnapshotRequest, look_up, preprocessor_key};
 use cck_util::Sha256State;
 use std::alloc::{AllocError, Global};
+use std::io;
+use std::io::{Read, Write};
 use std::rt::Files;
-use std::{fs, io};
 
 /// What is printed of a request that has no preprocessor key.
 pub const NO_KEY: &str = "none: SCCACHE_DIRECT is off, or the input shows the time";
@@ -44,6 +46,8 @@ pub enum Found {
         object_name: String,
         /// What the compiler made.
         object: ObjectFile,
+        /// Whether the object is that of the server.
+        is_given: bool,
     },
     /// No object.
     Miss {
@@ -63,8 +67,10 @@ pub enum Found {
 pub struct Missed {
     /// The name of the object of a result of an entry that matches, which the store does not have.
     pub object_name: Option<String>,
-    /// The path of a file that is damaged.
+    /// The path of a file that is damaged, or the kind and the name of a value of the server.
     pub damaged: Option<String>,
+    /// The kind and the name of a value of the server that has not the right signature.
+    pub forged: Option<String>,
 }
 
 /// What the store has of a preprocessor key at a place.
@@ -100,24 +106,11 @@ enum Looked {
         name: String,
         // What the compiler made.
         object: ObjectFile,
+        // Whether the object is that of the server.
+        is_given: bool,
     },
     // None.
     Missed(Missed),
-}
-
-// The bytes of the file at this path, if one is given, and else of the store's entry file of this name.
-// `None` where there are none.
-fn entry_bytes<R: Files + AllocGlobal>(
-    rt: &R,
-    store: &StoreDirectory,
-    path: Option<&str>,
-    name: &str,
-) -> io::Result<Option<Vec<u8>>> {
-    let Some(path) = path else {
-        return store.read(rt, Kind::Entry, name);
-    };
-    let bytes = fs::read(rt, path)?;
-    Ok(if bytes.is_empty() { None } else { Some(bytes) })
 }
 
 // What these bytes of an entry file hold of a preprocessor key.
@@ -186,18 +179,65 @@ fn matching_name<R: Files + AllocGlobal>(
     Ok(Some(name))
 }
 
-// Nothing was found, but for this name of an object or this path of a damaged file.
-fn nothing_found(object_name: Option<String>, damaged: Option<String>) -> Looked
+// Nothing was found, but for this name of an object.
+fn nothing_found(object_name: Option<String>) -> Looked
     ensures { IsMissed object_name result }
 {
     Looked::Missed(Missed {
         object_name,
-        damaged,
+        damaged: None,
+        forged: None,
     })
 }
 
-// What the store has under the name of an object of the entry file at a place. An object file
-// without what is to be written counts as absent, so that it is recorded again.
+// Nothing was found, but for this name of an object and this file, which is damaged.
+fn damaged_found(object_name: Option<String>, damaged: String) -> Looked
+    ensures { IsMissed object_name result }
+{
+    Looked::Missed(Missed {
+        object_name,
+        damaged: Some(damaged),
+        forged: None,
+    })
+}
+
+// Nothing was found, but for this name of an object and this value of the server, which has not the right signature.
+fn forged_found(object_name: Option<String>, forged: String) -> Looked
+    ensures { IsMissed object_name result }
+{
+    Looked::Missed(Missed {
+        object_name,
+        damaged: None,
+        forged: Some(forged),
+    })
+}
+
+// What these bytes of a file hold of the object of a name, for the entry file at a place. An object file without what is
+// to be written counts as absent, so that it is recorded again. `file` is what is damaged where these are other bytes.
+fn object_found(
+    alloc: Global,
+    outputs: &Outputs<'_>,
+    place: usize,
+    name: String,
+    bytes: &[u8],
+    file: String,
+    is_given: bool,
+) -> Result<Looked, AllocError>
+    ensures { IfOk result (IsKeptObject outputs.now place name) }
+{
+    Ok(match object_in(alloc, name.as_str(), bytes)? {
+        Some(object) if has_outputs(&object, outputs) => Looked::Object {
+            place,
+            name,
+            object,
+            is_given,
+        },
+        Some(_) => nothing_found(Some(name)),
+        None => damaged_found(Some(name), file),
+    })
+}
+
+// What the store has under the name of an object of the entry file at a place.
 fn kept_object<R: Files + AllocGlobal>(
     rt: &R,
     store: &StoreDirectory,
@@ -208,40 +248,84 @@ fn kept_object<R: Files + AllocGlobal>(
     ensures { IfOk result (IsKeptObject outputs.now place name) }
 {
     let Some(bytes) = store.read(rt, Kind::Object, name.as_str())? else {
-        return Ok(nothing_found(Some(name), None));
+        return Ok(nothing_found(Some(name)));
     };
-    match object_in(rt.alloc(), name.as_str(), &bytes)? {
-        Some(object) if has_outputs(&object, outputs) => Ok(Looked::Object {
-            place,
-            name,
-            object,
-        }),
-        Some(_) => Ok(nothing_found(Some(name), None)),
-        None => {
-            let path = store.path_of(rt, Kind::Object, name.as_str())?;
-            Ok(nothing_found(Some(name), Some(path)))
-        }
+    let path = store.path_of(rt, Kind::Object, name.as_str())?;
+    Ok(object_found(rt.alloc(), outputs, place, name, &bytes, path, false)?)
+}
+
+// Writes an object file that was found to the store, if it can be.
+fn keep_object<R: Files + AllocGlobal>(
+    rt: &R,
+    store: &StoreDirectory,
+    found: &Looked,
+    bytes: &[u8],
+) {
+    if let Looked::Object { name, .. } = found {
+        let _ = store.write(rt, Kind::Object, name.as_str(), bytes);
     }
 }
 
-// The path of an entry file: this one, if one is given, and else that of the store's of this name.
-fn entry_path<R: AllocGlobal>(
+// What the server has under the name of an object of the entry file at a place. Where the store keeps what the server has
+// an object is written there.
+fn given_object<R: Files + AllocGlobal, I: Read, W: Write>(
     rt: &R,
     store: &StoreDirectory,
-    path: Option<&str>,
-    name: &str,
-) -> Result<String, AllocError> {
-    match path {
-        Some(path) => String::from_str(rt.alloc(), path),
-        None => store.path_of(rt, Kind::Entry, name),
+    sources: &mut Sources<'_, I, W>,
+    outputs: &Outputs<'_>,
+    place: usize,
+    name: String,
+) -> Result<Looked>
+    ensures { IfOk result (IsKeptObject outputs.now place name) }
+{
+    let alloc = rt.alloc();
+    let value = format!(in alloc; "object:{name}")?;
+    let bytes = match sources.get(alloc, Kind::Object, name.as_str())? {
+        Given::File(bytes) => bytes,
+        Given::Forged => return Ok(forged_found(Some(name), value)),
+        Given::Unexpanded | Given::Nothing => return Ok(nothing_found(Some(name))),
+    };
+    let found = object_found(alloc, outputs, place, name, &bytes, value, true)?;
+    if sources.keeps() {
+        keep_object(rt, store, &found, &bytes);
+    }
+    Ok(found)
+}
+
+// What the store or the server has under the name of an object of the entry file at a place.
+fn object_of<R: Files + AllocGlobal, I: Read, W: Write>(
+    rt: &R,
+    store: &StoreDirectory,
+    sources: &mut Sources<'_, I, W>,
+    outputs: &Outputs<'_>,
+    place: usize,
+    name: String,
+) -> Result<Looked>
+    ensures { IfOk result (IsKeptObject outputs.now place name) }
+{
+    if !sources.use_store() {
+        return given_object(rt, store, sources, outputs, place, name);
+    }
+    if !sources.has_server() {
+        return kept_object(rt, store, outputs, place, name);
+    }
+    let missed = match kept_object(rt, store, outputs, place, name)? {
+        Looked::Missed(missed) => missed,
+        found => return Ok(found),
+    };
+    let Missed { object_name, .. } = missed;
+    match object_name {
+        Some(name) => given_object(rt, store, sources, outputs, place, name),
+        None => Ok(nothing_found(None)),
     }
 }
 
 // Looks for the object by the entry file at a place. Where none of its results matches, the first file that changed is
 // noted, if there is one.
-fn look_by_entry<R: Files + AllocGlobal>(
+fn look_by_entry<R: Files + AllocGlobal, I: Read, W: Write>(
     rt: &R,
     lookup: &LookUp<'_>,
+    sources: &mut Sources<'_, I, W>,
     place: usize,
     file: &EntryFile,
     changed: &mut Option<Changed>,
@@ -261,76 +345,143 @@ fn look_by_entry<R: Files + AllocGlobal>(
         file,
     )?;
     match found {
-        Some(name) => kept_object(rt, lookup.store, &lookup.wanted.outputs, place, name),
+        Some(name) => object_of(
+            rt,
+            lookup.store,
+            sources,
+            &lookup.wanted.outputs,
+            place,
+            name,
+        ),
         None => {
             if changed.is_none() {
                 *changed = changed_in(rt.alloc(), &mut files, &file.entry)?;
             }
-            Ok(nothing_found(None, None))
+            Ok(nothing_found(None))
         }
     }
 }
 
-// Looks for the object by the entry file at a place, or at the path that is wanted. A file that has not the present
+// Looks for the object by the entry file at a place. A file that has not the present
 // contents of a file that changed matches as little, and is not read further.
-fn look_at_place<R: Files + AllocGlobal>(
+fn look_at_place<R: Files + AllocGlobal, I: Read, W: Write>(
     rt: &R,
     lookup: &LookUp<'_>,
+    sources: &mut Sources<'_, I, W>,
     place: usize,
     changed: &mut Option<Changed>,
 ) -> Result<Looked>
     requires { place < ENTRY_FILES }
     ensures { IfOk result (λ looked. IsLookUp lookup.now → IsLooked lookup.now looked) }
 {
-    let (alloc, path, key) = (rt.alloc(), lookup.wanted.entry, lookup.key.text.as_str());
+    let (alloc, key) = (rt.alloc(), lookup.key.text.as_str());
     let name = entry_name(alloc, key, place)?;
-    let read = entry_bytes(rt, lookup.store, path, name.as_str()).context("the entry file")?;
-    let Some(bytes) = read else {
-        return Ok(nothing_found(None, None));
+    let read = lookup.store.read(rt, Kind::Entry, name.as_str());
+    let Some(bytes) = read.context("the entry file")? else {
+        return Ok(nothing_found(None));
     };
     if !may_match(alloc, changed.as_ref(), &bytes)? {
-        return Ok(nothing_found(None, None));
+        return Ok(nothing_found(None));
     }
     match kept_in(alloc, key, &bytes)? {
-        Kept::Entry(file) => look_by_entry(rt, lookup, place, &file, changed),
+        Kept::Entry(file) => look_by_entry(rt, lookup, sources, place, &file, changed),
         Kept::Nothing | Kept::Damaged => {
-            let path = entry_path(rt, lookup.store, path, name.as_str())?;
-            Ok(nothing_found(None, Some(path)))
+            let path = lookup.store.path_of(rt, Kind::Entry, name.as_str())?;
+            Ok(damaged_found(None, path))
         }
     }
 }
 
-// Looks for the object by each entry file of the preprocessor key, or by the one at the path that is wanted.
-fn look_in_files<R: Files + AllocGlobal>(rt: &R, lookup: &LookUp<'_>) -> Result<Looked>
+// What was found by one entry file, and by the ones before it.
+fn with_missed(before: Missed, one: Missed) -> Missed
+    ensures { (result.object_name ≡ before.object_name) ⊎ (result.object_name ≡ one.object_name) }
+{
+    Missed {
+        object_name: before.object_name.or(one.object_name),
+        damaged: before.damaged.or(one.damaged),
+        forged: before.forged.or(one.forged),
+    }
+}
+
+// Looks for the object by each entry file of the preprocessor key in the store.
+fn look_in_store<R: Files + AllocGlobal, I: Read, W: Write>(
+    rt: &R,
+    lookup: &LookUp<'_>,
+    sources: &mut Sources<'_, I, W>,
+) -> Result<Looked>
     ensures { IfOk result (λ looked. IsLookUp lookup.now → IsLooked lookup.now looked) }
 {
     let mut changed = None;
-    if lookup.wanted.entry.is_some() {
-        return look_at_place(rt, lookup, 0, &mut changed);
-    }
     let mut all = Missed {
         object_name: None,
         damaged: None,
+        forged: None,
     };
     for place in 0..ENTRY_FILES {
-        match look_at_place(rt, lookup, place, &mut changed)? {
-            Looked::Missed(one) => {
-                all = Missed {
-                    object_name: all.object_name.or(one.object_name),
-                    damaged: all.damaged.or(one.damaged),
-                };
-            }
+        match look_at_place(rt, lookup, sources, place, &mut changed)? {
+            Looked::Missed(one) => all = with_missed(all, one),
             found => return Ok(found),
         }
     }
     Ok(Looked::Missed(all))
 }
 
+// Looks for the object by the entry file that the server has. Where the store keeps what the server has the file is
+// written there, if it can be and an object was found.
+fn look_at_server<R: Files + AllocGlobal, I: Read, W: Write>(
+    rt: &R,
+    lookup: &LookUp<'_>,
+    sources: &mut Sources<'_, I, W>,
+) -> Result<Looked>
+    ensures { IfOk result (λ looked. IsLookUp lookup.now → IsLooked lookup.now looked) }
+{
+    let (alloc, key) = (rt.alloc(), lookup.key.text.as_str());
+    let bytes = match sources.get(alloc, Kind::Entry, key)? {
+        Given::File(bytes) => bytes,
+        Given::Forged => return Ok(forged_found(None, format!(in alloc; "entry:{key}")?)),
+        Given::Unexpanded | Given::Nothing => return Ok(nothing_found(None)),
+    };
+    let Kept::Entry(file) = kept_in(alloc, key, &bytes)? else {
+        return Ok(damaged_found(None, format!(in alloc; "entry:{key}")?));
+    };
+    let looked = look_by_entry(rt, lookup, sources, 0, &file, &mut None)?;
+    if let Looked::Object { .. } = &looked
+        && sources.keeps()
+    {
+        let _ = lookup.store.write(rt, Kind::Entry, key, &bytes);
+    }
+    Ok(looked)
+}
+
+// Looks for the object in the store and at the server, as far as these are used.
+fn look_in_files<R: Files + AllocGlobal, I: Read, W: Write>(
+    rt: &R,
+    lookup: &LookUp<'_>,
+    sources: &mut Sources<'_, I, W>,
+) -> Result<Looked>
+    ensures { IfOk result (λ looked. IsLookUp lookup.now → IsLooked lookup.now looked) }
+{
+    if !sources.has_server() {
+        return look_in_store(rt, lookup, sources);
+    }
+    if !sources.use_store() {
+        return look_at_server(rt, lookup, sources);
+    }
+    let kept = match look_in_store(rt, lookup, sources)? {
+        Looked::Missed(missed) => missed,
+        found => return Ok(found),
+    };
+    match look_at_server(rt, lookup, sources)? {
+        Looked::Missed(missed) => Ok(Looked::Missed(with_missed(missed, kept))),
+        found => Ok(found),
+    }
+}
+
 // Looks for the object of a request that has this preprocessor key over a snapshot of the input.
-fn look_for<R: Files + AllocGlobal>(
+fn look_for<R: Files + AllocGlobal, I: Read, W: Write>(
     rt: &R,
     environment: &Environment<'_>,
-    store: &StoreDirectory,
+    places: (&StoreDirectory, &mut Sources<'_, I, W>),
     wanted: &Look<'_>,
     asked: &SnapshotRequest<'_>,
     files: &MapFiles,
@@ -340,6 +491,7 @@ fn look_for<R: Files + AllocGlobal>(
         → IsKeyOver asked.now files.now.files key
         → IsFoundFor environment.entry.now.reads_all wanted.now asked.now files.now.files key.text found) }
 {
+    let (store, sources) = places;
     let looked = look_in_files(
         rt,
         &LookUp {
@@ -350,6 +502,7 @@ fn look_for<R: Files + AllocGlobal>(
             files,
             key: &key,
         },
+        sources,
     )?;
     let preprocessor_key = key.text;
     match looked {
@@ -357,11 +510,13 @@ fn look_for<R: Files + AllocGlobal>(
             place,
             name,
             object,
+            is_given,
         } => Ok(Found::Hit {
             preprocessor_key,
             place,
             object_name: name,
             object,
+            is_given,
         }),
         Looked::Missed(missed) => {
             let since = store.stamp(rt)?;
@@ -379,19 +534,21 @@ fn look_for<R: Files + AllocGlobal>(
 /// Each entry file of the preprocessor key is asked, in the order of their places, until one has an object. A file
 /// that the entry names is not read if its status shows that it is unchanged, and a path is not
 /// tested if its directory's does, unless the environment asks that all are read. Once a file is known to have
-/// changed, an entry file that names it, and not its present contents, is passed over.
+/// changed, an entry file that names it, and not its present contents, is passed over. A server is asked for the entry
+/// file and the object that the store lacks.
 ///
 /// The error is of an input that is no regular file that can be read, of a program of the compiler, of
-/// the store, of a store of digests or of the file at `wanted.entry` that can't be read, of a file that
-/// can't be made in the store after a miss, or lack of memory.
+/// the store or of a store of digests that can't be read, of a file that can't be made in the store after a miss, of a
+/// failed write or read of the streams by which the server is asked, or lack of memory.
 ///
 /// No contract can say what a disk holds. So what is found is stated over snapshots that there are: one
 /// that has the input alone, and one that has files that the entry names too.
-pub fn look<R: Files + AllocGlobal>(
+pub fn look<R: Files + AllocGlobal, I: Read, W: Write>(
     rt: &R,
     environment: &Environment<'_>,
     store: &StoreDirectory,
     wanted: &Look<'_>,
+    sources: &mut Sources<'_, I, W>,
 ) -> Result<Found>
     ensures { IfOk result (IsLookResult environment.entry.now wanted.now) }
 {
@@ -406,7 +563,15 @@ pub fn look<R: Files + AllocGlobal>(
         &[],
     );
     match preprocessor_key::<Sha256State, MapFiles>(rt.alloc(), &mut files, &asked)? {
-        Some(key) => look_for(rt, environment, store, wanted, &asked, &files, key),
+        Some(key) => look_for(
+            rt,
+            environment,
+            (store, sources),
+            wanted,
+            &asked,
+            &files,
+            key,
+        ),
         None => Ok(Found::NoKey),
     }
 }

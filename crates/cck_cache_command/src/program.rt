@@ -9,12 +9,15 @@ use crate::places::are_free;
 use crate::programs::{Named, programs_of};
 use crate::record::{Outcome, record};
 use crate::request::request_key;
+use crate::seal::seal;
+use crate::server::{Sources, key_of};
 use crate::store::store_in;
-use crate::unpack::unpack;
+use crate::unpack::{Taken, unpack};
 use crate::why::print_why;
 use anyhow::{Result, bail};
 use cck_cache_arguments::{
-    Action, Compilation, CompilerCall, Look, Outputs, Packed, Request, Task, task_of,
+    Action, Compilation, CompilerCall, Look, Outputs, Packed, Request, Seal, Server, Source, Task,
+    task_of,
 };
 use cck_cache_files::{Kind, StoreDirectory, entry_name};
 use cck_cache_options::{Call, GCC, rows_of};
@@ -77,7 +80,7 @@ fn run_preprocessor_key<R: Files + AllocGlobal, W: Write>(
 }
 
 // Prints a miss: the preprocessor key, the time at which the look-up ended, and the name of an object and
-// the path of a damaged file, if there are such.
+// what is damaged or forged, if there are such.
 fn print_miss<W: Write>(
     writer: &mut W,
     preprocessor_key: &str,
@@ -89,8 +92,11 @@ fn print_miss<W: Write>(
     if let Some(object_name) = &missed.object_name {
         write!(writer, " object {object_name}")?;
     }
-    if let Some(path) = &missed.damaged {
-        write!(writer, " damaged {path}")?;
+    if let Some(file) = &missed.damaged {
+        write!(writer, " damaged {file}")?;
+    }
+    if let Some(value) = &missed.forged {
+        write!(writer, " forged {value}")?;
     }
     writeln!(writer)?;
     Ok(())
@@ -110,35 +116,79 @@ fn note_hit<R: Files + AllocGlobal>(
     let _ = store.count(rt, "hit");
 }
 
-// Looks for the object of a request in a store, or in an entry file, and writes it, with the dependency
-// file if there is a path for it. The compiler's messages go to `errors`.
-fn run_look<R: Files + AllocGlobal, W: Write, E: Write>(
+// Keeps the shares of an object and a preprocessor key within the limit of the store. An error changes no result: the next
+// recording there tries again.
+fn limit_store<R: Files + AllocGlobal + Clone + Drop>(
     rt: &R,
     environment: &Environment<'_>,
-    places: (&str, Option<&str>),
-    outputs: Outputs<'_>,
-    request: Request<'_>,
+    store: &StoreDirectory,
+    object_name: &str,
+    key: &str,
+) {
+    if let Some(limit) = environment.max_size {
+        let _ = limit_shares(rt, environment.now, limit, store, object_name, key);
+    }
+}
+
+// Counts a miss, and a value of the server that is damaged or forged.
+fn count_miss<R: Files + AllocGlobal>(
+    rt: &R,
+    store: &StoreDirectory,
+    has_server: bool,
+    missed: &Missed,
+) {
+    let _ = store.count(rt, "miss");
+    if has_server && missed.damaged.is_some() {
+        let _ = store.count(rt, "server-damaged");
+    }
+    if missed.forged.is_some() {
+        let _ = store.count(rt, "server-forged");
+    }
+}
+
+// Counts a hit by an object of the server, and keeps the store within its limit, if the object was kept there.
+fn note_given<R: Files + AllocGlobal + Clone + Drop>(
+    rt: &R,
+    environment: &Environment<'_>,
+    store: &StoreDirectory,
+    keeps: bool,
+    object_name: &str,
+    key: &str,
+) {
+    let _ = store.count(rt, "server-hit");
+    if keeps {
+        limit_store(rt, environment, store, object_name, key);
+    }
+}
+
+// Writes the object that was found, with the dependency file if there is a path for it, and the compiler's messages to
+// `errors`, or prints that there is none.
+fn print_found<R: Files + AllocGlobal + Clone + Drop, W: Write, E: Write>(
+    rt: &R,
+    environment: &Environment<'_>,
+    store: &StoreDirectory,
+    wanted: &Look<'_>,
+    found: Found,
     writer: &mut W,
     errors: &mut E,
 ) -> Result<u8> {
-    let (store, entry) = places;
-    let wanted = Look {
-        store,
-        entry,
-        outputs,
-        request,
-    };
-    let store = store_in(rt, environment, wanted.store)?;
-    match look(rt, environment, &store, &wanted)? {
+    match found {
         Found::Hit {
             preprocessor_key,
             place,
             object_name,
             object,
+            is_given,
         } => {
-            write_outputs(rt, &store, &wanted.outputs, &object, errors)?;
-            let entry_name = entry_name(rt.alloc(), &preprocessor_key, place)?;
-            note_hit(rt, environment, &store, &entry_name, &object_name);
+            write_outputs(rt, store, &wanted.outputs, &object, errors)?;
+            if is_given {
+                let keeps = wanted.server.as_ref().is_some_and(|server| server.keeps);
+                let (name, key) = (object_name.as_str(), preprocessor_key.as_str());
+                note_given(rt, environment, store, keeps, name, key);
+            } else {
+                let entry_name = entry_name(rt.alloc(), &preprocessor_key, place)?;
+                note_hit(rt, environment, store, &entry_name, &object_name);
+            }
             writeln!(writer, "hit {object_name} {}", wanted.request.input)?;
             Ok(DONE)
         }
@@ -147,7 +197,7 @@ fn run_look<R: Files + AllocGlobal, W: Write, E: Write>(
             since,
             missed,
         } => {
-            let _ = store.count(rt, "miss");
+            count_miss(rt, store, wanted.server.is_some(), &missed);
             print_miss(writer, &preprocessor_key, since, &missed)?;
             Ok(MISS)
         }
@@ -159,26 +209,114 @@ fn run_look<R: Files + AllocGlobal, W: Write, E: Write>(
     }
 }
 
+// Looks for the object of a request in a store, or at a server.
+fn found_by<R: Files + AllocGlobal, I: Read, W: Write>(
+    rt: &R,
+    environment: &Environment<'_>,
+    store: &StoreDirectory,
+    wanted: &Look<'_>,
+    reader: &mut I,
+    writer: &mut W,
+) -> Result<Found> {
+    let (keeps, key) = match &wanted.server {
+        Some(server) => (Some(server.keeps), key_of(rt, server)?),
+        None => (None, None),
+    };
+    let mut sources = Sources::new(keeps, key, reader, writer);
+    look(rt, environment, store, wanted, &mut sources)
+}
+
+// Looks for the object of a request in a store, or at a server, and writes it, with the dependency
+// file if there is a path for it. The compiler's messages go to `errors`.
+fn run_look<R: Files + AllocGlobal + Clone + Drop, I: Read, W: Write, E: Write>(
+    rt: &R,
+    environment: &Environment<'_>,
+    wanted: &Look<'_>,
+    reader: &mut I,
+    writer: &mut W,
+    errors: &mut E,
+) -> Result<u8> {
+    let store = store_in(rt, environment, wanted.store)?;
+    let found = found_by(rt, environment, &store, wanted, reader, writer)?;
+    print_found(rt, environment, &store, wanted, found, writer, errors)
+}
+
+// Prints how an object file was taken that is not damaged in a directory, and counts it.
+fn print_taken<R: Files + AllocGlobal, W: Write>(
+    rt: &R,
+    store: &StoreDirectory,
+    packed: &Packed<'_>,
+    taken: Taken,
+    writer: &mut W,
+) -> Result<u8> {
+    let name = packed.name;
+    match (taken, packed.source) {
+        (Taken::Written, _) => {
+            let _ = store.count(rt, "unpacked");
+            writeln!(writer, "unpacked {name}")?;
+            return Ok(DONE);
+        }
+        (Taken::Damaged, Source::Path(path)) => {
+            let _ = store.count(rt, "damaged");
+            writeln!(writer, "damaged {path}")?;
+        }
+        (Taken::Damaged, Source::Server(_)) => {
+            let _ = store.count(rt, "server-damaged");
+            writeln!(writer, "damaged object:{name}")?;
+        }
+        (Taken::Forged, _) => {
+            let _ = store.count(rt, "server-forged");
+            writeln!(writer, "forged object:{name}")?;
+        }
+        (Taken::Absent, _) => writeln!(writer, "absent {name}")?,
+    }
+    Ok(MISS)
+}
+
+// Takes the object of an object file, which may be at a server.
+fn taken_by<R: Files + AllocGlobal, I: Read, W: Write, E: Write>(
+    rt: &R,
+    store: &StoreDirectory,
+    packed: &Packed<'_>,
+    reader: &mut I,
+    writer: &mut W,
+    errors: &mut E,
+) -> Result<Taken> {
+    let (keeps, key) = match &packed.source {
+        Source::Path(_) => (None, None),
+        Source::Server(server) => (Some(server.keeps), key_of(rt, server)?),
+    };
+    let mut sources = Sources::new(keeps, key, reader, writer);
+    unpack(rt, store, packed, &mut sources, errors)
+}
+
 // Writes the object of an object file, with the dependency file if there is a path for it. The
 // compiler's messages go to `errors`.
-fn run_unpack<R: Files + AllocGlobal, W: Write, E: Write>(
+fn run_unpack<R: Files + AllocGlobal, I: Read, W: Write, E: Write>(
     rt: &R,
     environment: &Environment<'_>,
     store: &str,
     packed: &Packed<'_>,
+    reader: &mut I,
     writer: &mut W,
     errors: &mut E,
 ) -> Result<u8> {
     let store = store_in(rt, environment, store)?;
-    if unpack(rt, &store, packed, errors)? {
-        let _ = store.count(rt, "unpacked");
-        writeln!(writer, "unpacked {}", packed.name)?;
-        Ok(DONE)
-    } else {
-        let _ = store.count(rt, "damaged");
-        writeln!(writer, "damaged {}", packed.path)?;
-        Ok(MISS)
-    }
+    let taken = taken_by(rt, &store, packed, reader, writer, errors)?;
+    print_taken(rt, &store, packed, taken, writer)
+}
+
+// Writes a value of a server, of the bytes that are read.
+fn run_seal<R: Files + AllocGlobal, I: Read, W: Write>(
+    rt: &R,
+    wanted: &Seal<'_>,
+    reader: &mut I,
+    writer: &mut W,
+) -> Result<u8> {
+    let bytes = read_text(rt, reader)?;
+    let value = seal(rt, wanted, bytes)?;
+    writer.write_all(&value)?;
+    Ok(DONE)
 }
 
 // Reads a text to its end.
@@ -201,30 +339,6 @@ fn count_outcome<R: Files + AllocGlobal>(
     }
 }
 
-// Keeps the store within its limit after a recording. An error changes no result: the next recording there tries
-// again.
-fn limit_store<R: Files + AllocGlobal + Clone + Drop>(
-    rt: &R,
-    environment: &Environment<'_>,
-    store: &StoreDirectory,
-    compilation: &Compilation<'_>,
-    object_name: &str,
-) {
-    let Some(limit) = environment.max_size else {
-        return;
-    };
-    if compilation.entry_out.is_none() && compilation.object_out.is_none() {
-        let _ = limit_shares(
-            rt,
-            environment.now,
-            limit,
-            store,
-            object_name,
-            compilation.key,
-        );
-    }
-}
-
 // Records a compilation, whose preprocessed text is read.
 fn run_record<R: Files + AllocGlobal + Clone + Drop, I: Read, W: Write>(
     rt: &R,
@@ -240,7 +354,9 @@ fn run_record<R: Files + AllocGlobal + Clone + Drop, I: Read, W: Write>(
     match record(rt, environment, &store, request, compilation, &text)? {
         Outcome::Recorded(object_name) => {
             count_outcome(rt, &store, compilation, "recorded");
-            limit_store(rt, environment, &store, compilation, &object_name);
+            if compilation.entry_out.is_none() && compilation.object_out.is_none() {
+                limit_store(rt, environment, &store, &object_name, compilation.key);
+            }
             writeln!(writer, "recorded {object_name}")?;
             Ok(DONE)
         }
@@ -336,12 +452,16 @@ fn outputs_of<'a>(paths: &'a CallPaths<'_>) -> Outputs<'a> {
     }
 }
 
+// Where a command looks: the path of the store, and the server, if one is asked.
+type Places<'a> = (&'a str, Option<Server<'a>>);
+
 // Looks for the object of a call. After a line for a miss it prints the call.
-fn run_look_for_call<R: Files + AllocGlobal, W: Write, E: Write>(
+fn run_look_for_call<R: Files + AllocGlobal + Clone + Drop, I: Read, W: Write, E: Write>(
     rt: &R,
     environment: &Environment<'_>,
-    places: (&str, Option<&str>),
+    places: Places<'_>,
     wanted: Wanted<'_>,
+    reader: &mut I,
     writer: &mut W,
     errors: &mut E,
 ) -> Result<u8> {
@@ -350,10 +470,17 @@ fn run_look_for_call<R: Files + AllocGlobal, W: Write, E: Write>(
         paths,
         request,
     } = wanted;
-    let (outputs, programs) = (outputs_of(&paths), request.compiler.clone()?);
-    let status = run_look(rt, environment, places, outputs, request, writer, errors)?;
+    let (store, server) = places;
+    let look = Look {
+        store,
+        server,
+        outputs: outputs_of(&paths),
+        request,
+    };
+    let status = run_look(rt, environment, &look, reader, writer, errors)?;
     if status == MISS {
-        print_call(rt.alloc(), &asked, &paths, programs.as_str(), writer)?;
+        let programs = look.request.compiler.as_str();
+        print_call(rt.alloc(), &asked, &paths, programs, writer)?;
     }
     Ok(status)
 }
@@ -370,11 +497,12 @@ fn run_action<R: Files + AllocGlobal + Clone + Drop, I: Read, W: Write, E: Write
 ) -> Result<u8> {
     match action {
         Action::PreprocessorKey => run_preprocessor_key(rt, environment, &wanted, writer),
-        Action::Look { store, entry } => run_look_for_call(
+        Action::Look { store, server } => run_look_for_call(
             rt,
             environment,
-            (store, *entry),
+            (store, *server),
             wanted,
+            reader,
             writer,
             errors,
         ),
@@ -447,9 +575,11 @@ fn run_task<R: Files + AllocGlobal + Clone + Drop, I: Read, W: Write, E: Write>(
             environment,
             store,
             packed,
+            reader,
             writer,
             errors,
         ),
+        Task::Seal(wanted) => run_seal(rt, wanted, reader, writer),
         Task::Stats { store } => run_stats(rt, environment, store, writer),
         Task::Prune { store, max_size } => run_prune(rt, environment, store, *max_size, writer),
         Task::Clear { store } => run_clear(rt, environment, store, writer),

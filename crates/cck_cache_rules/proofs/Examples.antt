@@ -1,5 +1,5 @@
 -- The definitions at literal values.
-use Rattle.std.proofs.Common.{arith, ◌≡◌, ◌<◌, ◌^◌, ℕ, zero, suc, true, false, pos, negsuc, Some, None, [], ◌∷◌, ◌++◌, codes, drop, refl}
+use Rattle.std.proofs.Common.{arith, ◌≡◌, ◌<◌, ◌^◌, ℕ, zero, suc, true, false, pos, negsuc, Some, None, [], ◌∷◌, ◌++◌, codes, drop, replicate, refl}
 use Rattle.std.specs.List.{sum}
 use Rattle.cck_digest.specs.Frames.{length_bytes}
 use Rattle.cck_include.specs.TimePart.{i64_bytes, u32_bytes}
@@ -12,6 +12,8 @@ use Rattle.cck_cache_rules.specs.Refusal.{IsRefusal}
 use Rattle.cck_cache_rules.specs.Removal.{IsRemovedCount}
 use Rattle.cck_cache_rules.specs.Size.{IsSize}
 use Rattle.cck_cache_rules.specs.Size.IsUnit.{kibibyte}
+use Rattle.cck_cache_rules.specs.Signature.{hmac, pad, signed_text}
+use Rattle.cck_cache_rules.specs.Value.{compressed_value, signed_value}
 use Rattle.cck_cache_rules.specs.declared.refusal.Refusal.TheVariants.{DayChanged, NoKey}
 
 -- an hour and a second
@@ -97,3 +99,24 @@ one_goes = record { within = omega arith; fits = omega arith; fewest = fewest }
 -- ten kibibytes
 ten_kibibytes : IsSize (codes "10Ki") 10240
 ten_kibibytes = record { unit = 2 ^ 10; number = (omega arith, (omega arith, (omega arith, tt))); suffix = kibibyte; value = refl; below = omega arith }
+
+-- the bytes of a key combined with a byte, and that byte to the end of the 64
+two_and_pad : pad 54 (97 ∷ 54 ∷ []) ≡ 87 ∷ 0 ∷ replicate 62 54
+two_and_pad = refl
+
+-- by a function that leaves the first 64 bytes out, and the key of 65 bytes for what is left of it
+inner_text : hmac (drop 64) (codes "ab") (codes "text") ≡ codes "text"
+inner_text = refl
+
+short_key_is_its_digest : hmac (drop 64) (replicate 65 97) (codes "text") ≡ hmac (drop 64) (codes "a") (codes "text")
+short_key_is_its_digest = refl
+
+a_signed_text : signed_text (codes "entry") (codes "ab") (codes "c") ≡ codes "entry\nab\nc"
+a_signed_text = refl
+
+a_signed_value : signed_value (drop 64) (codes "k") (codes "entry") (codes "ab") (codes "c") ≡ codes "cck signed 1\nentry\nab\ncc"
+a_signed_value = refl
+
+a_compressed_value : compressed_value 258 (codes "z") ≡ codes "cck zstd 1\n" ++ (2 ∷ 1 ∷ 0 ∷ 0 ∷ 0 ∷ 0 ∷ 0 ∷ 0 ∷ codes "z")
+unfolding length_bytes
+a_compressed_value = refl

@@ -12,6 +12,7 @@ pub mod ListLemmas
 mod ObjectNameLemmas
 pub mod ReadingLemmas
 mod RemovalLemmas
+mod SignatureLemmas
 mod SizeLemmas
 pub mod StoredLemmas
 pub mod TestLemmas

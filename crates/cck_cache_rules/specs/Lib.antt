@@ -13,6 +13,8 @@ pub mod Reading
 pub mod Refusal
 pub mod Removal
 pub mod Shown
+pub mod Signature
 pub mod Size
 pub mod Stored
 pub mod Text
+pub mod Value

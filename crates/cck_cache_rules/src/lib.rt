@@ -16,6 +16,7 @@
 //!   one was last used more than a day ago.
 //! - [`limit_of`] reads the limit of a store, and [`removed_count`] says which files go where there are too many
 //!   bytes.
+//! - [`sign_value`] and [`compress_value`] make a value of a server, and [`verified_value`] and [`payload_of`] read one.
 //! - [`laws`] states what equal names have in common, which damage a checksum finds in any case, and
 //!   what `==` means for the types.
 //!
@@ -46,9 +47,11 @@ mod path_test;
 mod refusal;
 mod removal;
 mod shown;
+mod signature;
 mod size;
 mod stored;
 mod text;
+mod value;
 
 pub use age::{is_abandoned, is_day_old};
 pub use base::{Words, base_of};
@@ -64,3 +67,4 @@ pub use removal::removed_count;
 pub use shown::shows_base;
 pub use size::{limit_of, size_of};
 pub use text::bases_of;
+pub use value::{Payload, compress_value, payload_of, sign_value, unsigned_value, verified_value};

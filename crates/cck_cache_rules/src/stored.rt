@@ -30,9 +30,9 @@ pub fn write_stored(alloc: Global, kind: &[u8], parts: &[&[u8]]) -> Result<Vec<u
     Ok(bytes)
 }
 
-// The bytes of a checksum after a kind, and the frames after it. `None` where the bytes are too few,
-// or of another kind.
-fn cut_stored<'a>(kind: &[u8], bytes: &'a [u8]) -> Option<(&'a [u8], &'a [u8])>
+/// The 32 bytes of a checksum or a signature after a kind, and the bytes after them. `None` where the bytes are too
+/// few, or of another kind.
+pub(crate) fn cut_stored<'a>(kind: &[u8], bytes: &'a [u8]) -> Option<(&'a [u8], &'a [u8])>
     ensures { IsCut kind.now bytes.now (option_map (λ r. (r.0.now, r.1.now)) result) }
 {
     let rest = bytes.strip_prefix(kind)?;

@@ -31,5 +31,5 @@ returns-in-Some g c =
             (rw copied at (c.in_ok-found.ensures (rw copied from.calm) from.is_request (rw copied from.is_key))),
       ),
     ) in
-    IfOk-weaker c.kept_object.result (IsKeptObject lookup.wanted.now.outputs c.args.place name) (λ (looked : Looked). IsLookUp lookup → IsLooked lookup looked)
-    (λ looked kept from. looked_kept lookup c.args.place name looked c.requires.place (is from) kept) c.kept_object.ensures
+    IfOk-weaker c.object_of.result (IsKeptObject lookup.wanted.now.outputs c.args.place name) (λ (looked : Looked). IsLookUp lookup → IsLooked lookup looked)
+    (λ looked kept from. looked_kept lookup c.args.place name looked c.requires.place (is from) kept) c.object_of.ensures

@@ -1,6 +1,6 @@
 use Rattle.std.proofs.Common.{IfSome}
 use Rattle.cck_cache_command.specs.Look.{IsNameOf, IsLookUp}
-use Rattle.cck_cache_command.proofs.look.look_in_files.Given as goal
+use Rattle.cck_cache_command.proofs.look.look_in_store.Given as goal
 
 -- the name so far is one of an object of the key
 abbrev pub invariant-loop-place : goal.invariant-loop-place
