@@ -382,7 +382,7 @@ check_call '--' 'passed on (unknown-option)*' -DVALUE=1 -c -- x.c
 check_call 'standard input' 'passed on (mode)*' -c -
 check_call '-remap' 'passed on (preprocessor-option)*' -remap -Ia -include value.h -c x.c
 check_call '-I-' 'passed on (preprocessor-option)*' -Ia -I- -DVALUE=1 -c x.c
-check_call '--sysroot' 'passed on (preprocessor-option)*' --sysroot=a -DVALUE=1 -c x.c
+check_call '--sysroot' 'hit *' --sysroot=a -DVALUE=1 -c x.c
 check_call '--sysroot and its value' 'passed on (preprocessor-option)*' --sysroot a -DVALUE=1 -c x.c
 check_call '-print-file-name' 'passed on (mode)*' -print-file-name=cc1 -DVALUE=1 -c x.c
 check_call '-print-search-dirs' 'passed on (mode)*' -DVALUE=1 -c x.c -print-search-dirs
