@@ -326,7 +326,7 @@ fields() {
 # (-dU).
 paths() { cck_input=$1 cck_out=$2 cck_dependencies=$3 cck_programs=$4 cck_macros=$5; }
 
-# Divides what `look` or `preprocessor-key` printed: a line with the answer, one for `paths`, and one with the arguments of
+# Divides what `look` printed: a line with the answer, one for `paths`, and one with the arguments of
 # the preprocessor. The last two are quoted for a shell.
 divide() {
     cck_preprocessed=${cck_found#*"$cck_newline"} cck_found=${cck_found%%"$cck_newline"*}
