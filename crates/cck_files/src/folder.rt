@@ -29,10 +29,11 @@ fn feed_name<H: HashState>(
     ensures { OnOk result ((fed : List ℕ) → H.holds digest.old fed
         → H.holds digest.new (fed ++ opening (option_copied name.entry))) }
 {
-    if let Some(name) = name {
-        let text = name.to_str_lossy(alloc)?;
-        digest.delimiter(text.as_bytes());
-    }
+    let Some(name) = name else {
+        return Ok(());
+    };
+    let text = name.to_str_lossy(alloc)?;
+    digest.delimiter(text.as_bytes());
     Ok(())
 }
 

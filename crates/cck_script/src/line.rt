@@ -12,7 +12,7 @@ use cck_path::Timestamp;
 use std::alloc::{AllocError, Global};
 
 /// What a line is.
-#[derive(Debug, Drop)]
+#[derive(Drop)]
 pub(crate) enum Reading {
     /// Wrong: it says nothing.
     Wrong,
@@ -226,7 +226,7 @@ fn clear_line(rest: Option<&[u8]>) -> Option<Command>
 }
 
 // A call that a line asks for.
-#[derive(Debug, Drop)]
+#[derive(Drop)]
 struct Asked {
     moment: Timestamp,
     arguments: Vec<Vec<u8>>,

@@ -1,7 +1,7 @@
 -- the cuts before a place, one place after the other
 use Rattle.std.proofs.Common.{◌≡◌, ℕ, zero, suc, ◌+◌, ◌-◌, ◌<◌, ◌≤◌, ◌||◌, ◌&&◌, not, List, [], ◌∷◌, ◌++◌, Bool, true, false, cond, nat_lt, refl, sym, ap, ◌∙◌, arith, map}
 use Rattle.std.specs.List.{list_any}
-use Rattle.std.proofs.lemmas.Bool.Decides.{nat_tests}
+use Rattle.std.proofs.lemmas.Bool.{le-ltb, lt-ltb}
 use Rattle.std.proofs.lemmas.List.{map-append}
 use Rattle.cck_strip.specs.Cuts.{cuts_below}
 use Rattle.cck_strip.specs.CutList.{cut_at}
@@ -29,10 +29,10 @@ reaches-push site (c ∷ cuts) i k = ap (λ b. nat_lt k (c + site c) || b) (reac
     grouped false b c = refl
 
 is_lt : (m n : ℕ) → m < n → nat_lt m n ≡ true
-is_lt m n h = grind (arith, nat_tests)
+is_lt m n h = lt-ltb m n h
 
 not_lt : (m n : ℕ) → n ≤ m → nat_lt m n ≡ false
-not_lt m n h = grind (arith, nat_tests)
+not_lt m n h = le-ltb m n h
 
 -- a place with a site that no cut before it reaches is a cut
 pub next_cut : (site : ℕ → ℕ) (at : ℕ) → reaches site (cuts_below site at) at ≡ false → 0 < site at → cuts_below site (suc at) ≡ cuts_below site at ++ at ∷ []

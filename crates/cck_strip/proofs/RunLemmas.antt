@@ -3,8 +3,7 @@ use Rattle.std.proofs.Common.{◌≡◌, ◌≢◌, inl, inr, ℕ, zero, suc, �
 use Rattle.std.specs.List.{starts_with}
 use Rattle.std.proofs.Math.ListN.{get_or-map}
 use Rattle.std.proofs.Math.Seq.{drop-cons}
-use Rattle.std.proofs.lemmas.Bool.{cases_eq, cases_lt, false≢true}
-use Rattle.std.proofs.lemmas.Bool.Decides.{nat_tests}
+use Rattle.std.proofs.lemmas.Bool.{cases_eq, cases_lt, eq-eqb, false≢true, ne_eqb}
 use Rattle.std.proofs.lemmas.List.{drop_all, get_or-take, get_or-set_other, get_or-set_same, get_or_default, length-map, take_all, take_more, take_rest}
 use Rattle.cck_strip.specs.Text.{longest_prefix}
 use Rattle.cck_strip.specs.declared.node.TrieNode.{TrieNode}
@@ -65,10 +64,10 @@ ended nodes text at n depth best true e w = absurd cc
 ended nodes text at n depth best false e w = w
 
 equal : (a b : ℕ) → a ≡ b → nat_eq a b ≡ true
-equal a b e = grind (arith, nat_tests)
+equal a b e = eq-eqb a b e
 
 unequal : (a b : ℕ) → a ≢ b → nat_eq a b ≡ false
-unequal a b e = grind (arith, nat_tests)
+unequal a b e = ne_eqb a b e
 
 -- one straight node more before a run
 pub IsRun-longer : (nodes : List TrieNode) (node : TrieNode) (i later n run : ℕ) → At nodes i node → IsStraight node (i + 1) → IsRun n nodes later

@@ -3,7 +3,7 @@
 //! A text is read from its end to its start. At each place the state is the longest ending of a base
 //! directory with which the text begins there. So each byte of the text is read once, whatever the
 //! base directories repeat.
-ghost use Rattle.std.specs.Prelude.{◌≡◌, ◌≢◌, ◌<◌, ◌≤◌, ℕ, ◌+◌, List, [], ◌∷◌, MatchOption, IfOk, IfSome, None, OnOk, length, map, nat_eq, replicate, take, true, unwrap_or};
+ghost use Rattle.std.specs.Prelude.{◌≡◌, ◌≢◌, ◌<◌, ◌≤◌, ℕ, ◌+◌, List, [], ◌∷◌, MatchOption, IfOk, IfSome, None, OnOk, length, map, nat_eq, take, true, unwrap_or};
 ghost use Rattle.std.specs.HashMap.{get};
 ghost use Rattle.std.specs.List.{All};
 ghost use Rattle.cck_strip.specs.Endings.{HasLinks, IsLink, IsLonger, IsLongest, IsNoLonger, IsNoNodeFor, IsNodeFor, IsRead, IsReached, IsWithin, ListsLengths, Reaches, known_length, turned};
@@ -261,17 +261,6 @@ fn first_cursors<'a>(alloc: Global, words: &'a [Vec<u8>]) -> Result<Vec<Cursor<'
     Ok(cursors)
 }
 
-// This many links that are not known.
-fn no_links(alloc: Global, count: usize) -> Result<Vec<Option<Link>>, AllocError>
-    ensures { IfOk result (λ links. links.items ≡ replicate count None) }
-{
-    let mut links = Vec::with_capacity(alloc, count)?;
-    for index in 0..count {
-        links.push(None)?;
-    }
-    Ok(links)
-}
-
 // The links of the nodes of these words.
 fn all_links(
     alloc: Global,
@@ -281,7 +270,7 @@ fn all_links(
     requires { IsForward nodes.now }
     ensures { IfOk result (λ links. HasLinks nodes.now links.items) }
 {
-    let mut links = no_links(alloc, nodes.len())?;
+    let mut links = vec![in alloc; None; nodes.len()]?;
     let mut cursors = first_cursors(alloc, words)?;
     // The nodes of shorter endings come first, since the links of longer ones need theirs.
     for read in 0..nodes.len() {

@@ -3,7 +3,8 @@ ghost use Rattle.std.specs.Prelude.{◌≡◌, ◌+◌, ◌++◌, ◌≤◌, IfO
 ghost use Rattle.cck_strip.specs.Argument.{stripped_argument};
 ghost use Rattle.cck_strip.specs.Cuts.{stripped};
 ghost use Rattle.cck_strip.specs.Into.{IsWritten};
-ghost use Rattle.cck_strip.specs.Text.{stripped_text};
+ghost use Rattle.cck_strip.specs.Search.{Finds};
+ghost use Rattle.cck_strip.specs.Text.{stripped_text, text_site};
 
 use crate::argument::{ArgumentSites, PositionSearch};
 use crate::cuts::{Progress, Search, Sites, next_piece};
@@ -50,6 +51,26 @@ fn cut_into<S: Sites, F: Search<S>>(
     Some(written)
 }
 
+// Writes the text without its cuts, as `cut_into` does, by a search of this kind.
+fn sites_cut_into(
+    text: &[u8],
+    sites: &TextSites<'_>,
+    search: &TextSearch<'_>,
+    buffer: &mut [u8],
+) -> Option<usize>
+    requires text_is { sites.now.text.now ≡ text.now }
+    requires finds { Finds search.now (map (λ b. b.items) sites.now.basedirs.now) }
+    requires room { length text.now ≤ length buffer.old }
+    ensures { IsWritten (stripped (text_site (map (λ b. b.items) sites.now.basedirs.now) sites.now.text.now) text.now)
+        text.now buffer.old buffer.new result }
+{
+    match search {
+        TextSearch::FirstBytes(search) => cut_into(text, sites, search, buffer),
+        TextSearch::Byte(search) => cut_into(text, sites, search, buffer),
+        TextSearch::Word(search) => cut_into(text, sites, search, buffer),
+    }
+}
+
 /// Writes what [`strip_basedirs`](crate::strip_basedirs) returns of this text to the start of the
 /// buffer, and returns its length in bytes. The rest of the buffer stays as it is. Returns `None` if
 /// nothing is cut out, and writes nothing then: the text is its own result.
@@ -80,12 +101,7 @@ pub fn strip_basedirs_into(
         trie: &trie,
         listed: &listed,
     };
-    let written = match &search {
-        TextSearch::FirstBytes(search) => cut_into(text, &sites, search, buffer),
-        TextSearch::Byte(search) => cut_into(text, &sites, search, buffer),
-        TextSearch::Word(search) => cut_into(text, &sites, search, buffer),
-    };
-    Ok(written)
+    Ok(sites_cut_into(text, &sites, &search, buffer))
 }
 
 /// Writes what [`strip_basedirs_from_arg`](crate::strip_basedirs_from_arg) returns of this argument

@@ -3,8 +3,9 @@ ghost use Rattle.std.specs.Prelude.{◌≡◌, ◌≤◌, ◌<◌, ◌∷◌, []
 ghost use Rattle.std.specs.HashMap.{get};
 ghost use Rattle.std.specs.Cow.{cow_slice_items, IsOwnedSlice};
 ghost use Rattle.cck_strip.specs.Beginnings.{AllBegin, FirstsMarked};
-ghost use Rattle.cck_strip.specs.Cuts.{Remains};
+ghost use Rattle.cck_strip.specs.Cuts.{Remains, stripped};
 ghost use Rattle.cck_strip.specs.Endings.{ListsLengths};
+ghost use Rattle.cck_strip.specs.Search.{Finds};
 ghost use Rattle.cck_strip.specs.Text.{longest_prefix, stripped_text, text_site};
 ghost use Rattle.cck_strip.specs.Trie.{IsTrie};
 
@@ -16,7 +17,7 @@ use crate::search::{TextSearch, text_search};
 use crate::trie::BasedirTrie;
 use cck_digest::UtilError;
 use memchr::memchr_iter;
-use std::alloc::Global;
+use std::alloc::{AllocError, Global};
 use std::borrow::CowSlice;
 use std::collections::HashMap;
 
@@ -130,6 +131,27 @@ impl<'b> Search<TextSites<'b>> for FirstByteSearch {
     }
 }
 
+// The text without its cuts, by a search of this kind.
+fn sites_cut_out<'a>(
+    alloc: Global,
+    text: &'a [u8],
+    sites: &TextSites<'_>,
+    search: &TextSearch<'_>,
+) -> Result<CowSlice<'a, u8>, AllocError>
+    requires text_is { sites.now.text.now ≡ text.now }
+    requires finds { Finds search.now (map (λ b. b.items) sites.now.basedirs.now) }
+    ensures value { IfOk result (λ kept. cow_slice_items kept
+        ≡ stripped (text_site (map (λ b. b.items) sites.now.basedirs.now) sites.now.text.now) text.now) }
+    ensures remains { IfOk result (λ kept. Remains (text_site (map (λ b. b.items) sites.now.basedirs.now) sites.now.text.now)
+        text.now (cow_slice_items kept) (IsOwnedSlice kept)) }
+{
+    match search {
+        TextSearch::FirstBytes(search) => cut_out(alloc, text, sites, search),
+        TextSearch::Byte(search) => cut_out(alloc, text, sites, search),
+        TextSearch::Word(search) => cut_out(alloc, text, sites, search),
+    }
+}
+
 /// Returns the text without the base directories at its start or directly after a space, a tab, a
 /// line feed, a form feed, a carriage return, `"` or `<`. Bytes are compared exactly.
 ///
@@ -161,10 +183,5 @@ pub fn strip_basedirs<'a>(
         trie: &trie,
         listed: &listed,
     };
-    let kept = match &search {
-        TextSearch::FirstBytes(search) => cut_out(alloc, text, &sites, search)?,
-        TextSearch::Byte(search) => cut_out(alloc, text, &sites, search)?,
-        TextSearch::Word(search) => cut_out(alloc, text, &sites, search)?,
-    };
-    Ok(kept)
+    Ok(sites_cut_out(alloc, text, &sites, &search)?)
 }

@@ -9,7 +9,7 @@ use crate::frames::{hash_argument_list, hash_option, hash_text_list};
 use crate::variables::hash_object_variables;
 use cck_digest::{Digest, HashState, UtilError, hash_len_prefixed};
 use cck_strip::strip_basedirs;
-use std::alloc::Global;
+use std::alloc::{AllocError, Global};
 use std::marker::Model;
 
 /// The version of the key material, and part of it. It is raised when the key material of equal
@@ -28,7 +28,7 @@ pub const CACHE_VERSION: &[u8] = b"14";
 ///     .with_plusplus(false)
 ///     .compute::<Sha256State>(alloc)?;
 /// ```
-#[derive(Debug, Clone, Drop)]
+#[derive(Debug, Drop)]
 pub struct HashKeyParams<'a> {
     compiler_digest: &'a str,
     language: Language,
@@ -49,6 +49,29 @@ impl<'a> Model for HashKeyParams<'a> {
     ghost use Rattle.cck_util.specs.HashKeyParams.{params_of};
 
     ghost view = { params_of };
+}
+
+// By hand, since a derived clone calls one for each field, and these are all copied.
+impl Clone for HashKeyParams<'_> {
+    ghost use Rattle.std.specs.Prelude.{⊤};
+
+    ghost is_clone = { λ parts copy. copy ≡ parts };
+
+    ghost is_infallible = { λ _. ⊤ };
+
+    fn clone(&self) -> Result<Self, AllocError> {
+        Ok(HashKeyParams {
+            compiler_digest: self.compiler_digest,
+            language: self.language,
+            arguments: self.arguments,
+            preprocessor_output: self.preprocessor_output,
+            extra_hashes: self.extra_hashes,
+            env_vars: self.env_vars,
+            plusplus: self.plusplus,
+            basedirs: self.basedirs,
+            assembler_digest: self.assembler_digest,
+        })
+    }
 }
 
 impl<'a> HashKeyParams<'a> {

@@ -43,3 +43,12 @@ returns-then-count-eq0-clause-calls g c = one_more c.loop-count.files (component
 
 pub returns-in_err-take-clause-calls : goal.returns-in_err-take-clause-calls
 returns-in_err-take-clause-calls g c = one_more c.loop-count.files (components c.args.path.now) c.loop-count.invariant.calls refl c.in_ok-count.ensures.call
+
+pub returns-in_err-count-clause-keeps : goal.returns-in_err-count-clause-keeps
+returns-in_err-count-clause-keeps g c = keeps_all _ _ _ c.loop-count.invariant.keeps c.in_err-count.ensures.keeps
+
+pub returns-then-count-eq0-clause-keeps : goal.returns-then-count-eq0-clause-keeps
+returns-then-count-eq0-clause-keeps g c = keeps_all _ _ _ c.loop-count.invariant.keeps c.in_ok-count.ensures.keeps
+
+pub returns-in_err-take-clause-keeps : goal.returns-in_err-take-clause-keeps
+returns-in_err-take-clause-keeps g c = keeps_all _ _ _ c.loop-count.invariant.keeps c.in_ok-count.ensures.keeps

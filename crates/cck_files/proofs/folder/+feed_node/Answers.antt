@@ -1,9 +1,9 @@
-use Rattle.std.proofs.Common.{◌≡◌, ◌++◌, ◌<◌, length, map, ap, ◌∙◌, arith, get_or, [], ◌∷◌, List, ℕ}
+use Rattle.std.proofs.Common.{◌≡◌, ◌++◌, ◌<◌, length, map, ap, sym, subst, append-nil, refl, ◌∙◌, arith, get_or, [], ◌∷◌, List, ℕ}
 use Rattle.std.specs.Prelude.{vec_items}
 use Rattle.std.specs.Option.{option_copied}
 use Rattle.std.proofs.lemmas.List.{length-map}
 use Rattle.std.proofs.lemmas.Result.{err_from_is_err_and}
-use Rattle.cck_path.specs.Path.{Path, Name, components}
+use Rattle.cck_path.specs.Path.{Path, Name, components, joined}
 use Rattle.cck_path.specs.declared.metadata.FileKind.TheVariants.{File, Folder}
 use Rattle.cck_files.specs.Calls.{Rose}
 use Rattle.cck_files.proofs.CallsLemmas.{keeps_all, rose_earlier}
@@ -54,7 +54,7 @@ returns-in_err-feed_node-in-Folder-clause-outcome g t c =
     let order : AreChildNames fm.nodes path names = rw (c.deref-child-items.ensures.value, ← c.metadata.ensures.keeps.same_map) c.in_ok-names-in-Folder.ensures.outcome in
     let is : c.deref.result.now ≡ get_or names i [] = c.deref.ensures.value ∙ name_at xs i c.child-item.result among c.child-item.is in
     let at : components c.deref-in-loop-child-2.result.now ≡ path ++ Name (get_or names i []) ∷ [] =
-    child_at fm path _ c.deref.result.now names i here order is (ap components c.deref-in-loop-child-2.ensures.value ∙ c.in_ok-child_path-in-Folder.ensures.components) in
+    child_at fm path _ c.deref.result.now names i here order is (◌∙◌ {c = joined path (components c.deref.result.now)} (ap components c.deref-in-loop-child-2.ensures.value) c.in_ok-child_path-in-Folder.ensures.components) in
     let p = err_from_is_err_and c.from_residual-in_err-feed_node-in-Folder.result c.from_residual-in_err-feed_node-in-Folder.ensures.1 in
     let rose = rose_earlier (g.F.Files.faults c.args.files.now) (g.F.Files.faults c.loop-child.files) (g.F.Files.faults c.feed_node.new.files) c.loop-child.invariant.keeps.not_lower in
     rw (p.1, p.2) (child_failed fm path (g.F.Files.file_map c.loop-child.files) (components c.deref-in-loop-child-2.result.now) names i c.args.level _ _ c.in_err-feed_node-in-Folder.field-0.0
@@ -75,7 +75,7 @@ loop-child-preserved g t c =
     let order : AreChildNames fm.nodes path names = rw (c.deref-child-items.ensures.value, ← c.metadata.ensures.keeps.same_map) c.in_ok-names-in-Folder.ensures.outcome in
     let is : c.deref.result.now ≡ get_or names i [] = c.deref.ensures.value ∙ name_at xs i c.child-item.result among c.child-item.is in
     let at : components c.deref-in-loop-child-2.result.now ≡ path ++ Name (get_or names i []) ∷ [] =
-    child_at fm path _ c.deref.result.now names i here order is (ap components c.deref-in-loop-child-2.ensures.value ∙ c.in_ok-child_path-in-Folder.ensures.components) in
+    child_at fm path _ c.deref.result.now names i here order is (◌∙◌ {c = joined path (components c.deref.result.now)} (ap components c.deref-in-loop-child-2.ensures.value) c.in_ok-child_path-in-Folder.ensures.components) in
     let named : c.deref-in-loop-child-3.result.now ≡ child_name (option_copied c.args.name) (get_or names i []) =
     c.deref-in-loop-child-3.ensures.value ∙ (c.in_ok-child_name-in-Folder.ensures ∙ ap (child_name (option_copied c.args.name)) (c.deref-in-loop-child.ensures.value ∙ name_at xs i c.child-item.result among c.child-item.is)) in
     record {
@@ -109,3 +109,26 @@ returns-after-loop-child-clause-outcome g t c =
 
 pub returns-in-Other-clause-outcome : goal.returns-in-Other-clause-outcome
 returns-in-Other-clause-outcome g t c = other_kind _ _ (at_metadata _ _ _ _ c.in_ok-metadata.ensures.outcome c.in-Other.is)
+
+pub returns-in_err-feed_named-in-File-clause-keeps : goal.returns-in_err-feed_named-in-File-clause-keeps
+returns-in_err-feed_named-in-File-clause-keeps g t c = keeps_all _ _ _ c.metadata.ensures.keeps c.in_err-feed_named-in-File.ensures.keeps
+
+pub returns-in_ok-feed_named-in-File-clause-keeps : goal.returns-in_ok-feed_named-in-File-clause-keeps
+returns-in_ok-feed_named-in-File-clause-keeps g t c = keeps_all _ _ _ c.metadata.ensures.keeps c.in_ok-feed_named-in-File.ensures.keeps
+
+pub returns-in_err-names-in-Folder-clause-keeps : goal.returns-in_err-names-in-Folder-clause-keeps
+returns-in_err-names-in-Folder-clause-keeps g t c = keeps_all _ _ _ c.metadata.ensures.keeps c.in_err-names-in-Folder.ensures.keeps
+
+pub returns-in_err-feed_node-in-Folder-clause-keeps : goal.returns-in_err-feed_node-in-Folder-clause-keeps
+returns-in_err-feed_node-in-Folder-clause-keeps g t c = keeps_all _ _ _ c.loop-child.invariant.keeps c.in_err-feed_node-in-Folder.ensures.keeps
+
+pub loop-child-init : goal.loop-child-init
+loop-child-init g t c = record {
+  keeps = keeps_all _ _ _ c.metadata.ensures.keeps c.in_ok-names-in-Folder.ensures.keeps;
+  room = omega arith;
+  fed = record {
+    none_other = refl;
+    none_too_deep = refl;
+    fed = λ fed h. subst (g.H.HashState.holds c.args.digest.now) (sym (append-nil fed)) h;
+  };
+}

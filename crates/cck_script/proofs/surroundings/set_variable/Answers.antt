@@ -22,3 +22,9 @@ returns-clause-set c = λ are.
     c.insert.new.self _ c.in_ok-copy.copy c.args.value (rw count at c.if-at-count.false) (rw c.reserve.ensures.items at c.in_ok-push.ensures.items)
     (c.in_ok-copy.ensures.items_if_clones_equal (λ x y e. e) ∙ c.deref.ensures.value)
     (rw count at c.in_ok-insert.ensures.updates.0)
+
+pub returns-then-at-count-clause-kept : goal.returns-then-at-count-clause-kept
+returns-then-at-count-clause-kept c = tt
+
+pub index_mut-requires : goal.index_mut-requires
+index_mut-requires c = rw (← c.len-count.ensures) c.if-at-count.true

@@ -1,5 +1,5 @@
 use Rattle.std.proofs.Common.{◌≡◌, ◌∙◌, ◌∷◌, [], ◌++◌, ◌+◌, map, take, sym, ap, subst, arith}
-use Rattle.std.proofs.lemmas.Grind.{common_steps}
+use Rattle.std.proofs.lemmas.Bool.{eqb-true}
 use Rattle.std.proofs.lemmas.List.{map_more, take_all}
 use Rattle.cck_strip.proofs.CommonLemmas.{AllBegin-first, AllBegin-more, AllEmpty-start, Common, Common-pass, when_none, when_some}
 use Rattle.cck_strip.proofs.beginnings.common_beginning.Goals as goal
@@ -24,7 +24,7 @@ loop-basedir-preserved c =
           (AllBegin-more _ _ _ _ (when_some _ _ _ _ w.in-Some.is c.loop-basedir.invariant)
           w.shared_len.ensures.within w.shared_len.ensures.within_others w.shared_len.ensures.shared)
       | else-not-is_empty w ↦
-          rw (more, w.common-is) (Common-pass _ _ _ c.loop-basedir.invariant (grind (arith, common_steps)))
+          rw (more, w.common-is) (Common-pass _ _ _ c.loop-basedir.invariant (let none = eqb-true basedir.len 0 (sym w.if-not-is_empty.ensures) in omega (arith, basedir.ok.0)))
     ]
 
 pub returns : goal.returns

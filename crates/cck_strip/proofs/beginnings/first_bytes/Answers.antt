@@ -1,5 +1,5 @@
 use Rattle.std.proofs.Common.{◌≡◌, ◌∙◌, ◌∷◌, [], ◌++◌, ◌+◌, map, take, get_or, length-set, sym, ap, subst, arith}
-use Rattle.std.proofs.lemmas.Grind.{common_steps}
+use Rattle.std.proofs.lemmas.Bool.{eqb-true}
 use Rattle.std.proofs.lemmas.List.{map_more, take_all}
 use Rattle.cck_strip.specs.Beginnings.{FirstsMarked}
 use Rattle.cck_strip.proofs.SoughtLemmas.{FirstsMarked-more, FirstsMarked-pass}
@@ -26,7 +26,7 @@ loop-basedir-preserved c =
       | else-not-is_empty w ↦
           record {
             size = rw w.is_first-is size;
-            marked = rw (more, w.is_first-is) (FirstsMarked-pass _ _ _ marked (grind (arith, common_steps)));
+            marked = rw (more, w.is_first-is) (FirstsMarked-pass _ _ _ marked (let none = eqb-true basedir.len 0 (sym w.if-not-is_empty.ensures) in omega (arith, basedir.ok.0)));
           }
     ]
 

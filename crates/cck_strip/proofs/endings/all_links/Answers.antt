@@ -1,11 +1,11 @@
-use Rattle.std.proofs.Common.{◌∙◌, refl, subst, sym, arith}
+use Rattle.std.proofs.Common.{◌∙◌, refl, rules, subst, sym, arith}
 use Rattle.cck_strip.specs.Endings.{HasLinks}
 use Rattle.cck_strip.proofs.EndingLemmas.{HasLinks-start, IsRead-start, written_back}
 use Rattle.cck_strip.proofs.endings.all_links.Goals as goal
 
 pub loop-read-init : goal.loop-read-init
 loop-read-init c = record {
-  links = rw c.in_ok-links.ensures (HasLinks-start _ _ refl);
+  links = rw (c.in_ok-links.ensures.items_if_clones_equal (λ y h. search rules)) (HasLinks-start _ _ refl);
   read = λ k d lt. IsRead-start _ _ (c.in_ok-cursors.ensures k d lt);
 }
 

@@ -1,7 +1,6 @@
 use Rattle.std.proofs.Common.{◌≡◌, ◌+◌, ◌<◌, ◌≤◌, ◌-◌, ◌++◌, ◌||◌, ◌∙◌, ℕ, List, Bool, true, false, not, append_assoc, length, drop, take, length-take, refl, sym, ap, arith}
 use Rattle.std.proofs.lemmas.List.{drop-drop, take-append-drop}
 use Rattle.cck_strip.specs.Pieces.{stripped_from}
-use Rattle.cck_strip.proofs.CommonLemmas.{when_none, when_some}
 use Rattle.cck_strip.proofs.PieceLemmas.{Remains-none, Remains-stripped, cut_before, whole_at_end, within_same}
 use Rattle.cck_strip.proofs.into.cut_into.Goals as goal
 
@@ -29,7 +28,7 @@ or_true false c e f = cc (e, f)
 pub loop-piece-preserved : goal.loop-piece-preserved
 loop-piece-preserved g c =
     let before = c.loop-piece.invariant in
-    let next = when_some _ _ _ _ c.in-Some.is c.next_piece.ensures.outcome in
+    let next = c.in-Some.ensures.outcome in
     let write = c.write_piece-written in
     let place = write.ensures.place in
     let next_is = next.next_is in
@@ -49,7 +48,7 @@ loop-piece-preserved g c =
 pub returns-then-not-progress : goal.returns-then-not-progress
 returns-then-not-progress g c =
     let within = within_same _ _ _ c.requires.text_is (g.met.S.Sites.within c.args.sites.now) in
-    let end = when_none _ _ _ c.in_default.is c.next_piece.ensures.outcome in
+    let end = c.in_default.ensures.outcome in
     let uncut = cut_before c.next_piece.new.progress.is_cut c.loop-piece.progress.is_cut false c.in_default.ensures.is_cut c.if-not-progress.true in
     let start = c.loop-piece.invariant.uncut uncut in (
       sym (Remains-stripped _ _ _ _ within (Remains-none _ _ within (λ k. end.uncut uncut k (let zero = start.0 in omega arith)))),
@@ -59,7 +58,7 @@ returns-then-not-progress g c =
 pub returns : goal.returns
 returns g c =
     let within = within_same _ _ _ c.requires.text_is (g.met.S.Sites.within c.args.sites.now) in
-    let end = when_none _ _ _ c.in_default.is c.next_piece.ensures.outcome in
+    let end = c.in_default.ensures.outcome in
     let cut = cut_before c.next_piece.new.progress.is_cut c.loop-piece.progress.is_cut true c.in_default.ensures.is_cut c.if-not-progress.false in
     let kept = whole_at_end _ _ _ _ within (end.cut cut) c.loop-piece.invariant.whole in
     let shorter = c.loop-piece.invariant.shorter cut in

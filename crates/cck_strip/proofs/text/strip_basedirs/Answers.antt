@@ -10,3 +10,6 @@ returns-in-None-clause-remains c =
 
 pub returns-in-None-clause-value : goal.returns-in-None-clause-value
 returns-in-None-clause-value c = Remains-stripped _ _ _ _ (text_site-within _ _) (returns-in-None-clause-remains c)
+
+pub returns : goal.returns
+returns c = record { value = c.in_ok-sites_cut_out.ensures.value; remains = c.in_ok-sites_cut_out.ensures.remains; errors = tt }

@@ -4,6 +4,7 @@ use Rattle.cck_path.specs.Bytes.{variables_of}
 use Rattle.cck_path.specs.Path.{components}
 use Rattle.cck_path.specs.Text.{join_path}
 use Rattle.cck_util.proofs.WrapperLemmas.{in_turn, nothing_found, no_name, no_path, candidates_by, first_found, if_ok}
+use Rattle.cck_files.proofs.CallsLemmas.{keeps_all}
 use Rattle.cck_util.proofs.wrapper.find_compiler.Goals as goal
 
 pub returns-then-branch-clause-outcome : goal.returns-then-branch-clause-outcome
@@ -46,3 +47,6 @@ pub returns-clause-judgement : goal.returns-clause-judgement
 returns-clause-judgement g c =
     if_ok c.first_compiler.result c.first_compiler.ensures.judgement
     (λ compiler judgement. subst (λ m. IfSome compiler (λ path. exists_at m (components path.items) ≡ true)) c.in_ok-is_settled.ensures.keeps.same_map judgement)
+
+pub returns-clause-keeps : goal.returns-clause-keeps
+returns-clause-keeps g c = keeps_all _ _ _ c.in_ok-is_settled.ensures.keeps c.first_compiler.ensures.keeps

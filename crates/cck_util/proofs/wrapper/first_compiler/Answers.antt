@@ -36,3 +36,9 @@ returns-then-branch-clause-judgement g c = let F = g.F.Files in
     sym (ap (λ s. exists_at (F.file_map c.loop-part.files) (components s)) c.deref.ensures.value
     ∙ ap (λ m. exists_at m (components c.in-Ok.path.items)) c.loop-part.invariant.kept.same_map)
     ∙ c.in_ok-is_compiler.ensures.judgement c.if-branch.true
+
+pub returns-in_err-is_compiler-clause-keeps : goal.returns-in_err-is_compiler-clause-keeps
+returns-in_err-is_compiler-clause-keeps g c = keeps_all _ _ _ c.loop-part.invariant.kept c.in_err-is_compiler.ensures.keeps
+
+pub returns-then-branch-clause-keeps : goal.returns-then-branch-clause-keeps
+returns-then-branch-clause-keeps g c = keeps_all _ _ _ c.loop-part.invariant.kept c.in_ok-is_compiler.ensures.keeps

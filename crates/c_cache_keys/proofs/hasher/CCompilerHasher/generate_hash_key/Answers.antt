@@ -1,4 +1,5 @@
 use Rattle.std.proofs.lemmas.Result.{err_from_is_err_and}
+use Rattle.cck_files.proofs.CallsLemmas.{keeps_all, keeps_itself}
 use Rattle.c_cache_keys.proofs.Stepped.{step_failed, step_hit, step_made, step_starved, step_stopped}
 use Rattle.c_cache_keys.proofs.hasher.CCompilerHasher.generate_hash_key.Goals as goal
 
@@ -51,3 +52,21 @@ returns-clause-step g c =
     third c.in_ok-found.ensures.keeps.not_lower c.in_ok-key.ensures.keeps.not_lower c.find.new.store c.in_ok-found.found c.in_default.is
     (rw c.in_ok-opening.ensures.keeps.same_map at c.in_ok-found.ensures.found) _
     (rw (c.in_ok-found.ensures.keeps.same_map, c.in_ok-opening.ensures.keeps.same_map) at c.in_ok-key.ensures.makes)
+
+pub returns-in_err-weak_toolchain_key-clause-keeps : goal.returns-in_err-weak_toolchain_key-clause-keeps
+returns-in_err-weak_toolchain_key-clause-keeps g c = keeps_itself c.args.files.now
+
+pub returns-in_err-opening-clause-keeps : goal.returns-in_err-opening-clause-keeps
+returns-in_err-opening-clause-keeps g c = c.in_err-opening.ensures.keeps
+
+pub returns-in_err-found-clause-keeps : goal.returns-in_err-found-clause-keeps
+returns-in_err-found-clause-keeps g c = keeps_all _ _ _ c.in_ok-opening.ensures.keeps c.in_err-found.ensures.keeps
+
+pub returns-in-Some-clause-keeps : goal.returns-in-Some-clause-keeps
+returns-in-Some-clause-keeps g c = keeps_all _ _ _ c.in_ok-opening.ensures.keeps c.in_ok-found.ensures.keeps
+
+pub returns-in_err-key-clause-keeps : goal.returns-in_err-key-clause-keeps
+returns-in_err-key-clause-keeps g c = keeps_all _ _ _ c.in_ok-opening.ensures.keeps (keeps_all _ _ _ c.in_ok-found.ensures.keeps c.in_err-key.ensures.keeps)
+
+pub returns-clause-keeps : goal.returns-clause-keeps
+returns-clause-keeps g c = keeps_all _ _ _ c.in_ok-opening.ensures.keeps (keeps_all _ _ _ c.in_ok-found.ensures.keeps c.in_ok-key.ensures.keeps)

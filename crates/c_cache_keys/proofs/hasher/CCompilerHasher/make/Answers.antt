@@ -1,7 +1,7 @@
 use Rattle.std.proofs.Common.{◌∙◌, ap, map, option_map, refl, sym}
 use Rattle.std.proofs.lemmas.Result.{err_from_is_err_and}
 use Rattle.std.specs.Prelude.{string_bytes}
-use Rattle.cck_files.proofs.CallsLemmas.{rose_earlier}
+use Rattle.cck_files.proofs.CallsLemmas.{rose_earlier, keeps_all, keeps_itself}
 use Rattle.cck_files.specs.Calls.{Rose}
 use Rattle.cck_path.specs.Text.{join_path}
 use Rattle.c_cache_keys.proofs.Made.{from_input, stop_input, stop_memory, stop_text, without_key}
@@ -112,3 +112,27 @@ walk_and_put-requires g c = rw c.in-Ok-preprocess.ensures.keeps.same_map record 
   first = sym c.needs_c_preprocessing.ensures ∙ c.if-not-needs_c_preprocessing.false;
   prints = rw (c.deref-2.ensures.value, sym c.deref-5.ensures.value) at c.in-Ok-preprocess.ensures.outcome;
 }
+
+pub returns-in_err-input-clause-keeps : goal.returns-in_err-input-clause-keeps
+returns-in_err-input-clause-keeps g c = keeps_itself c.args.files.now
+
+pub returns-in-Err-clause-keeps : goal.returns-in-Err-clause-keeps
+returns-in-Err-clause-keeps g c = c.in-Err.ensures.keeps
+
+pub returns-in_err-plain_key-clause-keeps : goal.returns-in_err-plain_key-clause-keeps
+returns-in_err-plain_key-clause-keeps g c = c.in-Ok.ensures.keeps
+
+pub returns-then-not-needs_c_preprocessing-clause-keeps : goal.returns-then-not-needs_c_preprocessing-clause-keeps
+returns-then-not-needs_c_preprocessing-clause-keeps g c = c.in-Ok.ensures.keeps
+
+pub returns-in-Err-preprocess-clause-keeps : goal.returns-in-Err-preprocess-clause-keeps
+returns-in-Err-preprocess-clause-keeps g c = c.in-Err-preprocess.ensures.keeps
+
+pub returns-in_err-plain_key-2-clause-keeps : goal.returns-in_err-plain_key-2-clause-keeps
+returns-in_err-plain_key-2-clause-keeps g c = c.in-Ok-preprocess.ensures.keeps
+
+pub returns-in_default-clause-keeps : goal.returns-in_default-clause-keeps
+returns-in_default-clause-keeps g c = c.in-Ok-preprocess.ensures.keeps
+
+pub returns-clause-keeps : goal.returns-clause-keeps
+returns-clause-keeps g c = keeps_all _ _ _ c.in-Ok-preprocess.ensures.keeps c.walk_and_put.ensures.keeps

@@ -1,6 +1,6 @@
 use Rattle.std.proofs.Common.{refl, sym, ◌∙◌}
 use Rattle.std.proofs.lemmas.Result.{err_from_is_err_and}
-use Rattle.cck_files.proofs.CallsLemmas.{rose_earlier}
+use Rattle.cck_files.proofs.CallsLemmas.{rose_earlier, keeps_all}
 use Rattle.cck_files.specs.Calls.{Rose}
 use Rattle.c_cache_keys.proofs.Opened.{extra_failed, open_with, open_without, paths_as, stop_input, texts_here, used}
 use Rattle.c_cache_keys.proofs.Widen.{wide_opening}
@@ -62,3 +62,15 @@ returns-in-Err-clause-reason g c =
     let after = g.F.Files.faults c.key_of_input.new.files in
     wide_reason (Rose middle after) (Rose before after) (rose_earlier before middle after c.in_ok-extra_hashes.ensures.keeps.not_lower) w call _
     (key_reason w call (Rose middle after) c.in-Err.error (rw c.in_ok-extra_hashes.ensures.keeps.same_map at c.in-Err.ensures.outcome))
+
+pub returns-in_err-extra_hashes-clause-keeps : goal.returns-in_err-extra_hashes-clause-keeps
+returns-in_err-extra_hashes-clause-keeps g c = c.in_err-extra_hashes.ensures.keeps
+
+pub returns-then-not-uses_cache-clause-keeps : goal.returns-then-not-uses_cache-clause-keeps
+returns-then-not-uses_cache-clause-keeps g c = c.in_ok-extra_hashes.ensures.keeps
+
+pub returns-in-Ok-clause-keeps : goal.returns-in-Ok-clause-keeps
+returns-in-Ok-clause-keeps g c = keeps_all _ _ _ c.in_ok-extra_hashes.ensures.keeps c.in-Ok.ensures.keeps
+
+pub returns-in-Err-clause-keeps : goal.returns-in-Err-clause-keeps
+returns-in-Err-clause-keeps g c = keeps_all _ _ _ c.in_ok-extra_hashes.ensures.keeps c.in-Err.ensures.keeps

@@ -1,7 +1,7 @@
 use Rattle.std.proofs.Common.{Ok, Err, ◌∙◌, ap, length, refl, sym}
 use Rattle.std.proofs.lemmas.Result.{err_from_is_err_and}
 use Rattle.std.specs.Prelude.{◌==◌}
-use Rattle.cck_files.proofs.CallsLemmas.{rose_earlier}
+use Rattle.cck_files.proofs.CallsLemmas.{rose_earlier, keeps_all}
 use Rattle.cck_files.specs.Calls.{Rose}
 use Rattle.cck_include.specs.Gathered.{digested_in}
 use Rattle.c_cache_keys.proofs.Made.{accepted_walk, empty_list, nothing_mapped, nothing_named, put_for, refused_for, refused_walk, some_list, stop_memory, stop_walked}
@@ -74,3 +74,24 @@ returns-clause-makes g c =
     c.args.store.now c.put_result.new.store c.in_ok-key.key c.in_ok-put_result.field-0 c.in_ok-key.ensures walk
     (λ none. some (nothing_mapped _ c.in_ok-included.included.items (c.in_ok-included.ensures ∙ none)))
     (rw (c.deref-included.ensures.value, c.in_ok-included.ensures, c.in_ok-walk.ensures.keeps.same_map, c.as_str.ensures.value) at c.in_ok-put_result.ensures.put))
+
+pub returns-in_err-walk-clause-keeps : goal.returns-in_err-walk-clause-keeps
+returns-in_err-walk-clause-keeps g c = c.in_err-walk.ensures.keeps
+
+pub returns-in_err-key-clause-keeps : goal.returns-in_err-key-clause-keeps
+returns-in_err-key-clause-keeps g c = c.in_ok-walk.ensures.keeps
+
+pub returns-in-Refused-clause-keeps : goal.returns-in-Refused-clause-keeps
+returns-in-Refused-clause-keeps g c = c.in_ok-walk.ensures.keeps
+
+pub returns-in_err-included-clause-keeps : goal.returns-in_err-included-clause-keeps
+returns-in_err-included-clause-keeps g c = c.in_ok-walk.ensures.keeps
+
+pub returns-then-is_empty-clause-keeps : goal.returns-then-is_empty-clause-keeps
+returns-then-is_empty-clause-keeps g c = c.in_ok-walk.ensures.keeps
+
+pub returns-in_err-put_result-clause-keeps : goal.returns-in_err-put_result-clause-keeps
+returns-in_err-put_result-clause-keeps g c = keeps_all _ _ _ c.in_ok-walk.ensures.keeps c.in_err-put_result.ensures.keeps
+
+pub returns-clause-keeps : goal.returns-clause-keeps
+returns-clause-keeps g c = keeps_all _ _ _ c.in_ok-walk.ensures.keeps c.in_ok-put_result.ensures.keeps

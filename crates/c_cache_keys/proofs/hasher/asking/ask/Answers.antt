@@ -4,6 +4,7 @@ use Rattle.std.specs.String.{string_bytes}
 use Rattle.cck_files.specs.Calls.{Rose}
 use Rattle.cck_include.specs.Matching.{matches}
 use Rattle.cck_compiler.specs.declared.store.StoreError.TheVariants as store
+use Rattle.cck_files.proofs.CallsLemmas.{keeps_itself}
 use Rattle.c_cache_keys.proofs.Asked.{given, given_error}
 use Rattle.c_cache_keys.specs.Conditions.{given_of, setting_under}
 use Rattle.c_cache_keys.specs.Step.{lacked, nothing, store_failed, store_lacked}
@@ -66,3 +67,27 @@ returns-clause-asks g c =
       gives = given test F c.in-Ok-Some.bytes.items _ _ None (ap (option_map (λ k. k.now)) c.in-None.is)
           (rw c.deref.ensures.value at c.in-Ok.ensures.reads) c.in-Ok-lookup_result_digest.ensures.outcome;
     }
+
+pub returns-in-Ok-None-clause-keeps : goal.returns-in-Ok-None-clause-keeps
+returns-in-Ok-None-clause-keeps g c = keeps_itself c.args.files.now
+
+pub returns-in-Err-Fault-clause-keeps : goal.returns-in-Err-Fault-clause-keeps
+returns-in-Err-Fault-clause-keeps g c = keeps_itself c.args.files.now
+
+pub returns-in-Err-Memory-clause-keeps : goal.returns-in-Err-Memory-clause-keeps
+returns-in-Err-Memory-clause-keeps g c = keeps_itself c.args.files.now
+
+pub returns-in-Err-clause-keeps : goal.returns-in-Err-clause-keeps
+returns-in-Err-clause-keeps g c = keeps_itself c.args.files.now
+
+pub returns-in-Err-lookup_result_digest-clause-keeps : goal.returns-in-Err-lookup_result_digest-clause-keeps
+returns-in-Err-lookup_result_digest-clause-keeps g c = c.in-Err-lookup_result_digest.ensures.keeps
+
+pub returns-in_err-from_str-in-Some-clause-keeps : goal.returns-in_err-from_str-in-Some-clause-keeps
+returns-in_err-from_str-in-Some-clause-keeps g c = c.in-Ok-lookup_result_digest.ensures.keeps
+
+pub returns-in-Some-clause-keeps : goal.returns-in-Some-clause-keeps
+returns-in-Some-clause-keeps g c = c.in-Ok-lookup_result_digest.ensures.keeps
+
+pub returns-clause-keeps : goal.returns-clause-keeps
+returns-clause-keeps g c = c.in-Ok-lookup_result_digest.ensures.keeps
