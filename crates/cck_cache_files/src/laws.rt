@@ -4,7 +4,7 @@ ghost use Rattle.cck_cache_files.specs.EntryNames.{EntryNamesDiffer};
 ghost use Rattle.cck_cache_files.specs.Paths.{DigestPathsDiffer, KeyPathsDiffer};
 ghost use Rattle.cck_cache_files.specs.Programs.{ListPathsDiffer};
 
-use crate::{Kind, PathState};
+use crate::PathState;
 
 /// In a store the files of two keys have one path only if they are of one kind and one key, and the
 /// files of two digests only if they have one name. No digest has the path of a key.
@@ -23,11 +23,6 @@ pub fn entry_names_differ()
 /// the same, and the lengths of their first lines.
 pub fn list_paths_differ()
     ensures { ListPathsDiffer }
-{}
-
-/// Two [`Kind`]s are equal exactly if they are the same.
-pub fn kind_equality_is_exact()
-    ensures { (a b : Kind) → IsTrue (⟦<Kind as PartialEq>⟧.eq a b) ↔ (a ≡ b) }
 {}
 
 /// Two [`PathState`]s are equal exactly if they are the same.

@@ -33,6 +33,7 @@ mod copies;
 mod entry_names;
 pub mod laws;
 mod listing;
+mod path_in;
 mod path_states;
 mod path_statuses;
 mod path_tests;

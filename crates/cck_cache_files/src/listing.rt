@@ -3,6 +3,7 @@ ghost use Rattle.std.specs.Prelude.{All, IfOk, IfSome, codes};
 ghost use Rattle.cck_cache_files.specs.Paths.{directory_bytes, kind_name};
 ghost use Rattle.cck_cache_files.specs.Listing.{AddsFilesIn, AreFileNames, IsFileBelow, IsFileIn, IsFileNamed, IsInShare, path_in};
 
+use crate::path_in::path_in;
 use crate::store_directory::{Kind, StoreDirectory};
 use crate::times::modified;
 use cck_path::Timestamp;
@@ -56,7 +57,7 @@ fn file_in<R: Files + AllocGlobal>(
 ) -> Result<Option<StoredFile>, AllocError>
     ensures { IfOk result (λ found. IfSome found (IsFileNamed directory.now name.now)) }
 {
-    let path = format!(in rt.alloc(); "{directory}/{name}")?;
+    let path = path_in(rt.alloc(), directory, name)?;
     let Ok(metadata) = fs::symlink_metadata(rt, path.as_str()) else {
         return Ok(None);
     };
@@ -104,12 +105,12 @@ pub fn list_files<R: Files + AllocGlobal + Clone + Drop>(
         All (IsFileBelow (path_in (directory_bytes store.now) (kind_name kind))) files.items) }
 {
     let alloc = rt.alloc();
-    let (directory, kind) = (store.directory(), kind.as_str());
-    let directory = format!(in alloc; "{directory}/{kind}")?;
+    let owned = path_in(alloc, store.directory(), kind.as_str())?;
+    let directory = owned.as_str();
     let mut files = Vec::new(alloc);
-    let names = names_in(rt, directory.as_str())?;
+    let names = names_in(rt, directory)?;
     for name in &names {
-        let path = format!(in alloc; "{directory}/{name}")?;
+        let path = path_in(alloc, directory, name.as_str())?;
         add_files(rt, &mut files, path.as_str())?;
     }
     Ok(files)
@@ -145,8 +146,7 @@ pub fn list_counts<R: Files + AllocGlobal + Clone + Drop>(
     ensures { IfOk result (λ files.
         All (IsFileIn (path_in (directory_bytes store.now) (codes "counts"))) files.items) }
 {
-    let directory = store.directory();
-    let directory = format!(in rt.alloc(); "{directory}/counts")?;
+    let directory = path_in(rt.alloc(), store.directory(), "counts")?;
     let mut files = Vec::new(rt.alloc());
     add_files(rt, &mut files, directory.as_str())?;
     Ok(files)

@@ -8,6 +8,7 @@ ghost use Rattle.cck_cache_rules.specs.PathStatus.{statuses_of};
 ghost use Rattle.cck_files.specs.FileState.{IsQuiet};
 ghost use Rattle.cck_include.specs.Include.{include_lent};
 
+use crate::path_in::path_in;
 use crate::path_states::PathStates;
 use crate::snapshot::add_new_file;
 use crate::times::{changed, changed_before, modified};
@@ -173,7 +174,7 @@ fn may_use<R: Files + AllocGlobal>(
     found: &fs::Metadata,
 ) -> Result<bool, AllocError> {
     if found.is_dir() {
-        let inside = format!(in rt.alloc(); "{path}/.")?;
+        let inside = path_in(rt.alloc(), path, ".")?;
         return Ok(fs::metadata(rt, inside.as_str()).is_ok());
     }
     if !found.is_file() {

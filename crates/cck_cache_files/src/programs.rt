@@ -12,6 +12,7 @@ ghost use Rattle.std.specs.Option.{option_map};
 ghost use Rattle.cck_cache_files.specs.Programs.{AreKept, ArePlaces, IsContext, IsKeptLine, IsLastPart, IsLine, IsListPath, IsListRead, StartsLine, absolute, may_execute, place_in};
 
 use crate::compiler::line_of;
+use crate::path_in::path_in;
 use crate::times::{changed, changed_before, modified};
 use cck_path::Timestamp;
 use std::alloc::{AllocError, Global};
@@ -89,7 +90,7 @@ fn absolute(alloc: Global, directory: &str, path: &str) -> Result<String, AllocE
     if path.starts_with('/') {
         String::from_str(alloc, path)
     } else {
-        Ok(format!(in alloc; "{directory}/{path}")?)
+        path_in(alloc, directory, path)
     }
 }
 
@@ -97,8 +98,11 @@ fn absolute(alloc: Global, directory: &str, path: &str) -> Result<String, AllocE
 fn place_in(alloc: Global, element: &str, name: &str) -> Result<String, AllocError>
     ensures { IfOk result (λ text. string_bytes text ≡ place_in element.now name.now) }
 {
-    let element = if element.is_empty() { "." } else { element };
-    Ok(format!(in alloc; "{element}/{name}")?)
+    if element.is_empty() {
+        path_in(alloc, ".", name)
+    } else {
+        path_in(alloc, element, name)
+    }
 }
 
 // The paths at which a shell looks for a program of this name, from this working directory and with this

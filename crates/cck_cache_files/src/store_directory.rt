@@ -2,6 +2,7 @@
 ghost use Rattle.std.specs.Prelude.{◌≡◌, ◌<ℤ◌, pos, IfOk, IsErr, string_bytes};
 ghost use Rattle.cck_cache_files.specs.Paths.{IsStoreIn, digest_path, directory_bytes, first_digits, key_directory, key_path, kind_name};
 
+use crate::path_in::path_in;
 use crate::times::{modified, system_time};
 use cck_cache_rules::is_day_old;
 use cck_path::Timestamp;
@@ -15,7 +16,7 @@ use std::{fs, io};
 const VERSION: &[u8] = b"cck store 1\n";
 
 /// The kinds of file that a store has.
-#[derive(Clone, Copy, PartialEq, Eq)]
+#[derive(Clone, Copy)]
 pub enum Kind {
     /// Entry files, by preprocessor keys.
     Entry,
@@ -49,7 +50,7 @@ pub struct StoreDirectory {
 fn make_store<R: Files + AllocGlobal>(rt: &R, store: &StoreDirectory) -> io::Result<()> {
     let directory = store.directory.as_str();
     fs::create_dir_all(rt, directory)?;
-    let path = format!(in rt.alloc(); "{directory}/VERSION")?;
+    let path = path_in(rt.alloc(), directory, "VERSION")?;
     store.replace(rt, path.as_str(), VERSION)
 }
 
@@ -69,7 +70,7 @@ pub fn open_store<R: Files + AllocGlobal>(
         directory: String::from_str(alloc, directory)?,
         suffix: format!(in alloc; "new{id}")?,
     };
-    let path = format!(in alloc; "{directory}/VERSION")?;
+    let path = path_in(alloc, directory, "VERSION")?;
     match fs::read(rt, path.as_str()) {
         Ok(version) if version.as_slice() == VERSION => Ok(store),
         Ok(_) => Err(io::Error::from(ErrorKind::InvalidData)),
@@ -114,10 +115,8 @@ impl StoreDirectory {
         ensures { IfOk result (λ path. string_bytes path
             ≡ key_directory (directory_bytes self.now) kind key.now) }
     {
-        let directory = self.directory.as_str();
-        let kind = kind.as_str();
-        let digits = first_digits(key);
-        Ok(format!(in rt.alloc(); "{directory}/{kind}/{digits}")?)
+        let directory = path_in(rt.alloc(), self.directory.as_str(), kind.as_str())?;
+        path_in(rt.alloc(), directory.as_str(), first_digits(key))
     }
 
     /// The path of the file of a key.
@@ -133,7 +132,7 @@ impl StoreDirectory {
             ≡ key_path (directory_bytes self.now) kind key.now) }
     {
         let directory = self.directory_of(rt, kind, key)?;
-        Ok(format!(in rt.alloc(); "{directory}/{key}")?)
+        path_in(rt.alloc(), directory.as_str(), key)
     }
 
     /// The bytes of the file of a key. `None` where there is no such file.
@@ -223,7 +222,7 @@ impl StoreDirectory {
     ) -> io::Result<()> {
         let path = self.digest_path(rt, name)?;
         let directory = self.directory.as_str();
-        fs::create_dir_all(rt, format!(in rt.alloc(); "{directory}/digests")?.as_str())?;
+        fs::create_dir_all(rt, path_in(rt.alloc(), directory, "digests")?.as_str())?;
         self.replace(rt, path.as_str(), digest)
     }
 
@@ -282,14 +281,13 @@ impl StoreDirectory {
     /// The error is of a directory or a file that can't be made, opened or written, or lack of memory.
     /// The event is then not counted.
     pub fn count<R: Files + AllocGlobal>(&self, rt: &R, name: &str) -> io::Result<()> {
-        let directory = self.directory.as_str();
-        let path = format!(in rt.alloc(); "{directory}/counts/{name}")?;
+        let counts = path_in(rt.alloc(), self.directory.as_str(), "counts")?;
+        let path = path_in(rt.alloc(), counts.as_str(), name)?;
         let mut options = OpenOptions::new();
         options.append(true).create(true);
         let mut file = match options.open(rt, path.as_str()) {
             Err(error) if error.kind() == ErrorKind::NotFound => {
-                let parent = format!(in rt.alloc(); "{directory}/counts")?;
-                fs::create_dir_all(rt, parent.as_str())?;
+                fs::create_dir_all(rt, counts.as_str())?;
                 options.open(rt, path.as_str())?
             }
             outcome => outcome?,

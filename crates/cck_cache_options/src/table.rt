@@ -246,18 +246,11 @@ fn class_named(name: &[u8]) -> Option<Class>
     }
 }
 
-// The fields of a line, with single spaces between them.
-fn fields<'t>(alloc: Global, line: &'t [u8]) -> Result<Vec<&'t [u8]>, AllocError>
-    ensures { IfOk result (λ parts. map (λ part. part.now) parts.items ≡ split_at 32 line.now) }
+// The pieces of a text, each up to the next byte of this value.
+fn pieces<'t>(alloc: Global, text: &'t [u8], separator: u8) -> Result<Vec<&'t [u8]>, AllocError>
+    ensures { IfOk result (λ parts. map (λ part. part.now) parts.items ≡ split_at separator text.now) }
 {
-    line.split(|byte| *byte == b' ').collect(alloc)
-}
-
-// The lines of a text.
-fn lines<'t>(alloc: Global, text: &'t [u8]) -> Result<Vec<&'t [u8]>, AllocError>
-    ensures { IfOk result (λ parts. map (λ part. part.now) parts.items ≡ split_at 10 text.now) }
-{
-    text.split(|byte| *byte == b'\n').collect(alloc)
+    text.split(|byte| *byte == separator).collect(alloc)
 }
 
 // The row of these fields: a name, a form and a class.
@@ -277,7 +270,7 @@ fn row_of<'t>(fields: &[&'t [u8]]) -> Option<Row<'t>>
 fn row_in<'t>(alloc: Global, line: &'t [u8]) -> Result<Option<Row<'t>>, AllocError>
     ensures { IfOk result (λ row. option_map entry row ≡ entry_of_line (split_at 32 line.now)) }
 {
-    let fields = fields(alloc, line)?;
+    let fields = pieces(alloc, line, b' ')?;
     Ok(row_of(&fields))
 }
 
@@ -314,7 +307,7 @@ pub fn rows_of<'t>(alloc: Global, text: &'t [u8]) -> Result<Vec<Row<'t>>, AllocE
     ensures { IfOk result (λ rows. entries rows.items ≡ table_of text.now) }
 {
     let mut rows = Vec::new(alloc);
-    let lines = lines(alloc, text)?;
+    let lines = pieces(alloc, text, b'\n')?;
     push_rows(alloc, &mut rows, &lines)?;
     Ok(rows)
 }

@@ -71,9 +71,11 @@ module _ (first : ℕ) (rest directory : List ℕ) where
   portable_text : (text : List ℕ) → all_marked base directory [] text ≡ true → IsPortableText text base directory
   portable_text text e before after is = each_marked [] text e before after is
 
-no_path : (argument : List ℕ) → starts_with nat_eq argument (codes "-fsanitize") ≡ false → starts_with nat_eq argument (codes "-gz") ≡ false → ¬ ShowsPaths argument
-no_path argument sanitize compress (inl begins) = no_beginning argument (codes "-fsanitize") sanitize begins
-no_path argument sanitize compress (inr begins) = no_beginning argument (codes "-gz") compress begins
+no_path : (argument : List ℕ) → starts_with nat_eq argument (codes "-fsanitize") ≡ false → starts_with nat_eq argument (codes "-gz") ≡ false
+    → starts_with nat_eq argument (codes "-flto") ≡ false → ¬ ShowsPaths argument
+no_path argument sanitize compress optimize (inl begins) = no_beginning argument (codes "-fsanitize") sanitize begins
+no_path argument sanitize compress optimize (inr (inl begins)) = no_beginning argument (codes "-gz") compress begins
+no_path argument sanitize compress optimize (inr (inr begins)) = no_beginning argument (codes "-flto") optimize begins
 
 no_map : (argument base : List ℕ) → starts_with nat_eq argument (codes "-f") ≡ false → ¬ IsMapOfBase argument base
 no_map argument base e (inl (inl m)) = no_beginning argument (codes "-f") e (codes "file-prefix-map=" ++ (base ++ 61 ∷ m.name), m.is)
@@ -82,11 +84,15 @@ no_map argument base e (inr m) = no_beginning argument (codes "-f") e (codes "ma
 
 -- an argument with no path
 debug_information : IsPortable (codes "-g") (codes "/a")
-debug_information = (no_path (codes "-g") refl refl, inr (no_part (codes "-g") (codes "-prefix-map") refl, no_part (codes "-g") (codes "/a") refl))
+debug_information = (no_path (codes "-g") refl refl refl, inr (no_part (codes "-g") (codes "-prefix-map") refl, no_part (codes "-g") (codes "/a") refl))
 
 -- a sanitizer's messages have paths
 sanitizer : ¬ IsPortable (codes "-fsanitize=address") (codes "/a")
 sanitizer portable = portable.0 (inl (codes "=address", refl))
+
+-- code for link-time optimization has the working directory
+link_time : ¬ IsPortable (codes "-flto=auto") (codes "/a")
+link_time portable = portable.0 (inr (inr (codes "=auto", refl)))
 
 -- a directory of headers below the base directory
 header_directory : ¬ IsPortable (codes "-I/a/include") (codes "/a")
@@ -146,7 +152,7 @@ portable = record {
   given = refl;
   plain = plain;
   below = below;
-  arguments = All-cons IsPart (codes "-ffile-prefix-map=/a=.") (codes "-g" ∷ []) (no_path (codes "-ffile-prefix-map=/a=.") refl refl, inl (inl (inl mapped)))
+  arguments = All-cons IsPart (codes "-ffile-prefix-map=/a=.") (codes "-g" ∷ []) (no_path (codes "-ffile-prefix-map=/a=.") refl refl refl, inl (inl (inl mapped)))
       (All-cons IsPart (codes "-g") [] debug_information (All-nil IsPart));
   hidden = λ asks. (0, codes "-ffile-prefix-map=/a=.", omega arith, refl, inl mapped);
 }

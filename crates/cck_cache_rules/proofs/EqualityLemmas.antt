@@ -1,20 +1,11 @@
--- The equality tests decide whether two files, two statuses or two tests of paths are the same.
+-- The equality test decides whether two tests of paths are the same.
 use Rattle.std.proofs.Common.{◌≡◌, Bool, List, [], ◌∷◌, map, refl, ap}
 use Rattle.std.proofs.lemmas.Bool.Decides.{Decides-and, Decides-eqb, Decides-like}
 use Rattle.std.specs.Cmp.Lexicographic.{bytes_decides, pointwise}
 use Rattle.std.specs.Prelude.{Decides}
-use Rattle.cck_path.proofs.EqualityLemmas.{moment_decides}
-use Rattle.cck_cache_rules.specs.PathStatus.{Status, status_of, statuses_of}
-use Rattle.cck_cache_rules.specs.Files.{EntryFields, ObjectFields, entry_fields, object_fields}
 use Rattle.cck_cache_rules.specs.PathTest as test
 use Rattle.cck_cache_rules.specs.PathTest.{test_of, tests_of}
-use Rattle.cck_cache_rules.specs.contracts.path_status.PathStatusPartialEq.TheImpl as same_status
-use Rattle.cck_cache_rules.specs.contracts.entry_file.EntryFilePartialEq.TheImpl as same_entry
-use Rattle.cck_cache_rules.specs.contracts.object_file.ObjectFilePartialEq.TheImpl as same_object
 use Rattle.cck_cache_rules.specs.contracts.path_test.PathTestPartialEq.TheImpl as same_test
-use Rattle.cck_cache_rules.specs.declared.path_status.PathStatus.{PathStatus}
-use Rattle.cck_cache_rules.specs.declared.entry_file.EntryFile.{EntryFile}
-use Rattle.cck_cache_rules.specs.declared.object_file.ObjectFile.{ObjectFile}
 use Rattle.cck_cache_rules.specs.declared.path_test.PathTest.{PathTest}
 use Rattle.cck_cache_rules.specs.declared.path_test.PathTest.TheVariants.{Absent, File, Directory, Searched, Plain, Real}
 
@@ -65,27 +56,3 @@ module _ {X Y : Type 0} (E : X → X → Bool) (f : X → Y) (each : (a b : X) �
 
 pub tests_decide : (a b : List PathTest) → Decides (pointwise same_test.ghosts.eq a b) (tests_of a ≡ tests_of b)
 tests_decide = list_of_decides same_test.ghosts.eq test_of test_decides
-
-pub status_decides : (a b : PathStatus) → Decides (same_status.ghosts.eq a b) (status_of a ≡ status_of b)
-status_decides a b =
-    Decides-like _ (λ h. λ i. record { path = h.0 i; device = h.1.0 i; inode = h.1.1.0 i; modified = h.1.1.1.0 i; changed = h.1.1.1.1 i })
-    (λ e. (ap (λ (s : Status). s.path) e, (ap (λ (s : Status). s.device) e, (ap (λ (s : Status). s.inode) e, (ap (λ (s : Status). s.modified) e, ap (λ (s : Status). s.changed) e)))))
-    (Decides-and _ _ (bytes_decides a.path.items b.path.items) (Decides-and _ _ (Decides-eqb a.device b.device) (Decides-and _ _ (Decides-eqb a.inode b.inode)
-    (Decides-and _ _ (moment_decides a.modified b.modified) (moment_decides a.changed b.changed)))))
-
-pub statuses_decide : (a b : List PathStatus) → Decides (pointwise same_status.ghosts.eq a b) (statuses_of a ≡ statuses_of b)
-statuses_decide = list_of_decides same_status.ghosts.eq status_of status_decides
-
-pub entry_decides : (a b : EntryFile) → Decides (same_entry.ghosts.eq a b) (entry_fields a ≡ entry_fields b)
-entry_decides a b =
-    Decides-like _ (λ h. λ i. record { preprocessor_key = h.0 i; entry = h.1.0 i; statuses = h.1.1.0 i; tests = h.1.1.1 i })
-    (λ e. (ap (λ (f : EntryFields). f.preprocessor_key) e, (ap (λ (f : EntryFields). f.entry) e, (ap (λ (f : EntryFields). f.statuses) e, ap (λ (f : EntryFields). f.tests) e))))
-    (Decides-and _ _ (bytes_decides a.preprocessor_key.items b.preprocessor_key.items) (Decides-and _ _ (bytes_decides a.entry.items b.entry.items)
-    (Decides-and _ _ (statuses_decide a.statuses.items b.statuses.items) (tests_decide a.tests.items b.tests.items))))
-
-pub object_decides : (a b : ObjectFile) → Decides (same_object.ghosts.eq a b) (object_fields a ≡ object_fields b)
-object_decides a b =
-    Decides-like _ (λ h. λ i. record { key = h.0 i; object = h.1.0 i; messages = h.1.1.0 i; dependencies = h.1.1.1 i })
-    (λ e. (ap (λ (f : ObjectFields). f.key) e, (ap (λ (f : ObjectFields). f.object) e, (ap (λ (f : ObjectFields). f.messages) e, ap (λ (f : ObjectFields). f.dependencies) e))))
-    (Decides-and _ _ (bytes_decides a.key.items b.key.items) (Decides-and _ _ (bytes_decides a.object.items b.object.items)
-    (Decides-and _ _ (bytes_decides a.messages.items b.messages.items) (bytes_decides a.dependencies.items b.dependencies.items))))

@@ -28,7 +28,7 @@ AsksForDebug argument = Begins argument (codes "-g") × (argument ≢ codes "-g0
 
 -- the option may put paths into an object, or hide them there
 abbrev pub ShowsPaths : List ℕ → Type 0
-ShowsPaths argument = Begins argument (codes "-fsanitize") ⊎ Begins argument (codes "-gz")
+ShowsPaths argument = Begins argument (codes "-fsanitize") ⊎ (Begins argument (codes "-gz") ⊎ Begins argument (codes "-flto"))
 
 -- an argument of a portable compilation: it maps exactly the base directory, or maps and names nothing
 abbrev pub IsPortable : List ℕ → List ℕ → Type 0

@@ -58,11 +58,14 @@ pub(crate) fn asks_for_debug(argument: &[u8]) -> bool
     argument.starts_with(b"-g") && argument != b"-g0".as_slice()
 }
 
-// Whether an argument may put paths into an object, or hide them there.
+// Whether an argument may put paths into an object, or hide them there: code for link-time optimization has the working
+// directory, and is compressed.
 fn shows_paths(argument: &[u8]) -> bool
     ensures { IsTrue result ↔ ShowsPaths argument.now }
 {
-    argument.starts_with(b"-fsanitize") || argument.starts_with(b"-gz")
+    argument.starts_with(b"-fsanitize")
+        || argument.starts_with(b"-gz")
+        || argument.starts_with(b"-flto")
 }
 
 // Whether an argument may be in a portable compilation.

@@ -15,7 +15,7 @@ use std::alloc::{AllocError, Global};
 const KIND: &[u8] = b"cck entry 4\n";
 
 /// What an entry file holds.
-#[derive(Drop, PartialEq, Eq)]
+#[derive(Drop)]
 pub struct EntryFile {
     /// The preprocessor key that the entry belongs to.
     pub preprocessor_key: Vec<u8>,

@@ -1,12 +1,10 @@
 //! Laws about the definitions. Each is the contract of a function with an empty body.
 ghost use Rattle.std.specs.Prelude.{◌≡◌, ◌↔◌, IsTrue};
 ghost use Rattle.cck_cache_rules.specs.Checksum.{ChecksumTellsOneWord, ChecksumTellsTwoWords};
-ghost use Rattle.cck_cache_rules.specs.PathStatus.{status_of};
-ghost use Rattle.cck_cache_rules.specs.Files.{entry_fields, object_fields};
 ghost use Rattle.cck_cache_rules.specs.ObjectName.{MaterialTellsObject};
 ghost use Rattle.cck_cache_rules.specs.PathTest.{test_of};
 
-use crate::{EntryFile, ObjectFile, PathStatus, PathTest, Refusal};
+use crate::PathTest;
 
 /// Bytes that differ in one of their words, of 4 bytes each, have different checksums.
 pub fn checksum_tells_one_word()
@@ -23,29 +21,6 @@ pub fn checksum_tells_two_words()
 /// count is written before its bytes or items.
 pub fn material_tells_object()
     ensures { MaterialTellsObject }
-{}
-
-/// Two [`Refusal`]s are equal exactly if they are the same.
-pub fn refusal_equality_is_exact()
-    ensures { (a b : Refusal) → IsTrue (⟦<Refusal as PartialEq>⟧.eq a b) ↔ (a ≡ b) }
-{}
-
-/// Two [`EntryFile`]s are equal exactly if all their fields are, byte for byte.
-pub fn entry_file_equality_is_exact()
-    ensures { (a b : EntryFile) →
-        IsTrue (⟦<EntryFile as PartialEq>⟧.eq a b) ↔ (entry_fields a ≡ entry_fields b) }
-{}
-
-/// Two [`ObjectFile`]s are equal exactly if all their fields are, byte for byte.
-pub fn object_file_equality_is_exact()
-    ensures { (a b : ObjectFile) →
-        IsTrue (⟦<ObjectFile as PartialEq>⟧.eq a b) ↔ (object_fields a ≡ object_fields b) }
-{}
-
-/// Two [`PathStatus`]es are equal exactly if all their fields are.
-pub fn path_status_equality_is_exact()
-    ensures { (a b : PathStatus) →
-        IsTrue (⟦<PathStatus as PartialEq>⟧.eq a b) ↔ (status_of a ≡ status_of b) }
 {}
 
 /// Two [`PathTest`]s are equal exactly if they are of one kind, and their paths and places are equal.

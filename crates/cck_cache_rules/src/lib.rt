@@ -18,7 +18,7 @@
 //!   bytes.
 //! - [`sign_value`] and [`compress_value`] make a value of a server, and [`verified_value`] and [`payload_of`] read one.
 //! - [`laws`] states what equal names have in common, which damage a checksum finds in any case, and
-//!   what `==` means for the types.
+//!   what `==` means for a [`PathTest`].
 //!
 //! # Base directories
 //!

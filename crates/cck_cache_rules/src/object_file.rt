@@ -11,7 +11,7 @@ use std::alloc::{AllocError, Global};
 const KIND: &[u8] = b"cck object 4\n";
 
 /// What an object file of the store holds.
-#[derive(Drop, PartialEq, Eq)]
+#[derive(Drop)]
 pub struct ObjectFile {
     /// The key of the file: the name of the object.
     pub key: Vec<u8>,

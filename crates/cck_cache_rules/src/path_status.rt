@@ -18,7 +18,7 @@ const STATUS: &[u8] = b"status ";
 const NANOS_IN_A_SECOND: u32 = 1_000_000_000;
 
 /// What the system said of a file or a directory: which one it is, and when it was last changed.
-#[derive(Drop, PartialEq, Eq)]
+#[derive(Drop)]
 pub struct PathStatus {
     /// The path.
     pub path: Vec<u8>,

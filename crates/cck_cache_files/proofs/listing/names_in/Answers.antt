@@ -7,4 +7,4 @@ pub loop-entry-preserved : goal.loop-entry-preserved
 loop-entry-preserved g c =
     let pushed : c.push.new.self.items ≡ c.loop-entry.names.items ++ c.in_ok-from_str.field-0 ∷ [] = search rules in
     one_more_name c.loop-entry.names.items c.push.new.self.items c.in_ok-from_str.field-0 (dir_entry_path c.in_ok-entry.entry) c.loop-entry.invariant pushed
-    (c.in_ok-from_str.ensures.ok ∙ c.file_name.ensures)
+    (◌∙◌ {b = c.file_name.result.now} c.in_ok-from_str.ensures.ok c.file_name.ensures)
