@@ -143,6 +143,27 @@ pub enum Action<'a> {
     },
 }
 
+/// What is done with a store alone.
+#[derive(Clone, Copy)]
+pub enum StoreAction<'a> {
+    /// It is printed what the store has, and what was counted.
+    Stats,
+    /// Files are removed.
+    Prune {
+        /// The most bytes that its files may have together.
+        max_size: u64,
+    },
+    /// All entries and objects are removed.
+    Clear,
+    /// All entries and objects are tested.
+    Verify,
+    /// It is printed what files say.
+    Inspect {
+        /// A preprocessor key, the name of an object, or the path of a file.
+        word: &'a str,
+    },
+}
+
 /// What the words ask for.
 #[derive(Drop)]
 pub enum Task<'a> {
@@ -162,34 +183,12 @@ pub enum Task<'a> {
     },
     /// A value of a server, of the bytes that are read.
     Seal(Seal<'a>),
-    /// What a store has, and what was counted.
-    Stats {
+    /// Something for a store alone.
+    Store {
         /// The path of the store.
         store: &'a str,
-    },
-    /// The removal of files.
-    Prune {
-        /// The path of the store.
-        store: &'a str,
-        /// The most bytes that its files may have together.
-        max_size: u64,
-    },
-    /// The removal of all entries and objects.
-    Clear {
-        /// The path of the store.
-        store: &'a str,
-    },
-    /// A test of all entries and objects.
-    Verify {
-        /// The path of the store.
-        store: &'a str,
-    },
-    /// What files of a store say.
-    Inspect {
-        /// The path of the store.
-        store: &'a str,
-        /// A preprocessor key, the name of an object, or the path of a file.
-        word: &'a str,
+        /// What is done.
+        action: StoreAction<'a>,
     },
 }
 
@@ -360,24 +359,27 @@ fn call_task<'a>(
 // The task in the words of a command without a call of a compiler.
 fn store_task<'a>(name: &str, matches: &ArgMatches<'a>) -> Option<Task<'a>> {
     let store = matches.get_str("STORE")?;
-    match name {
-        "stats" => Some(Task::Stats { store }),
-        "prune" => Some(Task::Prune {
-            store,
+    let action = match name {
+        "stats" => StoreAction::Stats,
+        "prune" => StoreAction::Prune {
             max_size: max_size_of(matches)?,
-        }),
-        "clear" => Some(Task::Clear { store }),
-        "verify" => Some(Task::Verify { store }),
-        "inspect" => Some(Task::Inspect {
-            store,
+        },
+        "clear" => StoreAction::Clear,
+        "verify" => StoreAction::Verify,
+        "inspect" => StoreAction::Inspect {
             word: matches.get_str("WORD")?,
-        }),
-        "unpack" => Some(Task::Unpack {
-            store,
-            packed: packed_of(matches)?,
-        }),
-        _ => None,
-    }
+        },
+        _ => return None,
+    };
+    Some(Task::Store { store, action })
+}
+
+// The task in the words of `unpack`.
+fn unpack_task<'a>(matches: &ArgMatches<'a>) -> Option<Task<'a>> {
+    Some(Task::Unpack {
+        store: matches.get_str("STORE")?,
+        packed: packed_of(matches)?,
+    })
 }
 
 // The task in these matches. `None` where one of its words is missing or has no meaning.
@@ -386,13 +388,12 @@ fn task_in<'a>(alloc: Global, matches: &ArgMatches<'a>) -> Result<Option<Task<'a
         return Ok(None);
     };
     match name {
-        "stats" | "prune" | "clear" | "verify" | "inspect" | "unpack" => {
-            Ok(store_task(name, command))
-        }
-        "seal" => Ok(Some(Task::Seal(match seal_of(command) {
-            Some(seal) => seal,
-            None => return Ok(None),
-        }))),
+        "stats" | "prune" | "clear" | "verify" | "inspect" => Ok(store_task(name, command)),
+        "unpack" => Ok(unpack_task(command)),
+        "seal" => Ok(match seal_of(command) {
+            Some(seal) => Some(Task::Seal(seal)),
+            None => None,
+        }),
         _ => call_task(alloc, name, command),
     }
 }

@@ -82,33 +82,37 @@ IsNameOf lookup =
 
 -- nothing was found but this name
 abbrev pub IsMissed : Option (String Global) → Looked → Type 0
-IsMissed name (Object place n object given) = ⊥
+IsMissed name (Object place n object) = ⊥
 IsMissed name (Missed missed) = missed.object_name ≡ name
 
--- what was found in a store under the name of an object of the entry file at a place
-abbrev pub IsKeptObject : Outputs → ℕ → String Global → Looked → Type 0
-IsKeptObject outputs place name (Object p n object given) =
+-- what was found under the name of an object of the entry file at a place, if it has one
+abbrev pub IsKeptObject : Outputs → Option ℕ → String Global → Looked → Type 0
+IsKeptObject outputs place name (Object p n object) =
     (p ≡ place) × (n ≡ name) × (object.key.items ≡ string_bytes name) × (has_outputs outputs object ≡ true)
 IsKeptObject outputs place name (Missed missed) = missed.object_name ≡ Some name
 
+-- a place of an entry file, if there is one
+abbrev pub IsPlace : Option ℕ → Type 0
+IsPlace place = IfSome place (λ (p : ℕ). p < entry_files)
+
 -- what was found by one entry file or by some
 abbrev pub IsLooked : LookUp → Looked → Type 0
-IsLooked lookup (Object place name object given) =
-    (place < entry_files) × IsNameOf lookup name × (object.key.items ≡ string_bytes name) × (has_outputs lookup.wanted.now.outputs object ≡ true)
+IsLooked lookup (Object place name object) =
+    IsPlace place × IsNameOf lookup name × (object.key.items ≡ string_bytes name) × (has_outputs lookup.wanted.now.outputs object ≡ true)
 IsLooked lookup (Missed missed) = IfSome missed.object_name (IsNameOf lookup)
 
 -- what was found for a preprocessor key over a snapshot of the input
 abbrev pub IsFoundFor : Bool → Look → SnapshotRequest → FileMap → String Global → Found → Type 0
-IsFoundFor reads_all wanted asked input key (Hit k place n object given) =
-    (k ≡ key) × (place < entry_files) × IsNameOfKey reads_all wanted.request asked input key n × (object.key.items ≡ string_bytes n) × (has_outputs wanted.outputs object ≡ true)
+IsFoundFor reads_all wanted asked input key (Hit k place n object) =
+    (k ≡ key) × IsPlace place × IsNameOfKey reads_all wanted.request asked input key n × (object.key.items ≡ string_bytes n) × (has_outputs wanted.outputs object ≡ true)
 IsFoundFor reads_all wanted asked input key (Miss k since missed) = (k ≡ key) × IfSome missed.object_name (IsNameOfKey reads_all wanted.request asked input key)
 IsFoundFor reads_all wanted asked input key NoKey = ⊥
 
 -- The result of a look-up. A hit has an object file of the name of an object whose key is looked up in an entry file of the request's preprocessor
 -- key.
 abbrev pub IsLookResult : Environment → Look → Found → Type 0
-IsLookResult environment wanted (Hit k place n object given) =
-    (has : HasPreprocessorKey environment wanted.request (Some (string_bytes k))) × (place < entry_files)
+IsLookResult environment wanted (Hit k place n object) =
+    (has : HasPreprocessorKey environment wanted.request (Some (string_bytes k))) × IsPlace place
     × IsNameOfKey environment.reads_all wanted.request has.asked has.input k n × (object.key.items ≡ string_bytes n) × (has_outputs wanted.outputs object ≡ true)
 IsLookResult environment wanted (Miss k since missed) =
     (has : HasPreprocessorKey environment wanted.request (Some (string_bytes k))) × IfSome missed.object_name (IsNameOfKey environment.reads_all wanted.request has.asked has.input k)

@@ -213,9 +213,12 @@ fn push_paths(words: &mut Vec<u8>, paths: &CallPaths<'_>, programs: &str) -> Res
     push_word(words, programs.as_bytes())
 }
 
-// The lines of a call for a shell: one with its paths, its programs and the option by which the preprocessor
-// shows macros, and one with the arguments of the preprocessor.
-fn call_lines(
+/// The paths of a call, the programs that it runs and the option by which the preprocessor shows
+/// macros on one line, and the arguments that the preprocessor has on another. A shell reads them back. Where
+/// no dependency file is written its path is empty.
+///
+/// The only error is lack of memory.
+pub fn call_lines(
     alloc: Global,
     asked: &Call<'_>,
     paths: &CallPaths<'_>,
@@ -231,21 +234,4 @@ fn call_lines(
     push_preprocessor_arguments(&mut lines, &asked.keyed)?;
     lines.push(b'\n')?;
     Ok(lines)
-}
-
-/// Prints the paths of a call, the programs that it runs and the option by which the preprocessor shows
-/// macros on one line, and the arguments that the preprocessor has on another. A shell reads them back. Where
-/// no dependency file is written its path is empty.
-///
-/// The error is of a failed write, or lack of memory.
-pub fn print_call<W: Write>(
-    alloc: Global,
-    asked: &Call<'_>,
-    paths: &CallPaths<'_>,
-    programs: &str,
-    writer: &mut W,
-) -> Result<()> {
-    let lines = call_lines(alloc, asked, paths, programs)?;
-    writer.write_all(&lines)?;
-    Ok(())
 }

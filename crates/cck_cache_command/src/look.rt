@@ -1,7 +1,7 @@
 //! Looks for an object in the store.
-ghost use Rattle.std.specs.Prelude.{◌≡◌, ◌<◌, ◌⊎◌, [], IfOk, IfSome, string_bytes, true};
+ghost use Rattle.std.specs.Prelude.{◌≡◌, ◌<◌, ◌⊎◌, [], IfOk, IfSome, None, Some, string_bytes, true};
 ghost use Rattle.cck_cache_command.specs.Input.{IsCalm};
-ghost use Rattle.cck_cache_command.specs.Look.{IsFoundFor, IsKeptObject, IsKeyEntry, IsLookResult, IsLooked, IsMissed, IsNamedMatch, IsLookUp};
+ghost use Rattle.cck_cache_command.specs.Look.{IsFoundFor, IsKeptObject, IsKeyEntry, IsLookResult, IsLooked, IsMissed, IsNamedMatch, IsNameOf, IsLookUp};
 ghost use Rattle.cck_cache_command.specs.Request.{IsKeyOver, IsRequest};
 ghost use Rattle.cck_cache_rules.specs.PathTest.{tests_of};
 
@@ -12,7 +12,7 @@ use crate::input::input_snapshot;
 use crate::naming::name_of;
 use crate::outputs::has_outputs;
 use crate::request::{hasher_of, snapshot_request};
-use crate::server::{Given, Sources};
+use crate::server::{Given, Peer, given_file, key_of};
 use anyhow::{Context, Result};
 use c_cache_keys::PreprocessorKey;
 use cck_cache_arguments::{Look, Outputs, Request};
@@ -27,7 +27,6 @@ use cck_snapshot::{SnapshotRequest, look_up, preprocessor_key};
 use cck_util::Sha256State;
 use std::alloc::{AllocError, Global};
 use std::io;
-use std::io::{Read, Write};
 use std::rt::Files;
 
 /// What is printed of a request that has no preprocessor key.
@@ -40,14 +39,12 @@ pub enum Found {
     Hit {
         /// The preprocessor key.
         preprocessor_key: String,
-        /// The place of the entry file among those of the preprocessor key.
-        place: usize,
+        /// The place of the entry file among those of the preprocessor key, if the object is the store's.
+        place: Option<usize>,
         /// The name of the object.
         object_name: String,
         /// What the compiler made.
         object: ObjectFile,
-        /// Whether the object is that of the server.
-        is_given: bool,
     },
     /// No object.
     Miss {
@@ -94,20 +91,20 @@ struct LookUp<'a> {
     // The snapshot.
     files: &'a MapFiles,
     key: &'a PreprocessorKey,
+    // The key of signatures, if those of the server are tested.
+    verify_key: Option<&'a [u8]>,
 }
 
 // What was found by one entry file, or by all.
 enum Looked {
     // An object.
     Object {
-        // The place of the entry file.
-        place: usize,
+        // The place of the entry file, if the object is the store's.
+        place: Option<usize>,
         // The name of the object.
         name: String,
         // What the compiler made.
         object: ObjectFile,
-        // Whether the object is that of the server.
-        is_given: bool,
     },
     // None.
     Missed(Missed),
@@ -212,16 +209,16 @@ fn forged_found(object_name: Option<String>, forged: String) -> Looked
     })
 }
 
-// What these bytes of a file hold of the object of a name, for the entry file at a place. An object file without what is
-// to be written counts as absent, so that it is recorded again. `file` is what is damaged where these are other bytes.
+// What these bytes of a file hold of the object of a name, for the entry file at a place if they are the store's. An object
+// file without what is to be written counts as absent, so that it is recorded again. `file` is what is damaged where these
+// are other bytes.
 fn object_found(
     alloc: Global,
     outputs: &Outputs<'_>,
-    place: usize,
+    place: Option<usize>,
     name: String,
     bytes: &[u8],
     file: String,
-    is_given: bool,
 ) -> Result<Looked, AllocError>
     ensures { IfOk result (IsKeptObject outputs.now place name) }
 {
@@ -230,7 +227,6 @@ fn object_found(
             place,
             name,
             object,
-            is_given,
         },
         Some(_) => nothing_found(Some(name)),
         None => damaged_found(Some(name), file),
@@ -245,94 +241,64 @@ fn kept_object<R: Files + AllocGlobal>(
     place: usize,
     name: String,
 ) -> Result<Looked>
-    ensures { IfOk result (IsKeptObject outputs.now place name) }
+    ensures { IfOk result (IsKeptObject outputs.now (Some place) name) }
 {
     let Some(bytes) = store.read(rt, Kind::Object, name.as_str())? else {
         return Ok(nothing_found(Some(name)));
     };
     let path = store.path_of(rt, Kind::Object, name.as_str())?;
-    Ok(object_found(rt.alloc(), outputs, place, name, &bytes, path, false)?)
+    let place = Some(place);
+    Ok(object_found(rt.alloc(), outputs, place, name, &bytes, path)?)
 }
 
-// Writes an object file that was found to the store, if it can be.
-fn keep_object<R: Files + AllocGlobal>(
-    rt: &R,
-    store: &StoreDirectory,
-    found: &Looked,
-    bytes: &[u8],
-) {
-    if let Looked::Object { name, .. } = found {
-        let _ = store.write(rt, Kind::Object, name.as_str(), bytes);
+/// Whether the store keeps what a server has.
+pub fn keeps(wanted: &Look<'_>) -> bool {
+    match &wanted.server {
+        Some(server) => server.keeps,
+        None => false,
     }
 }
 
-// What the server has under the name of an object of the entry file at a place. Where the store keeps what the server has
-// an object is written there.
-fn given_object<R: Files + AllocGlobal, I: Read, W: Write>(
+// Writes an object file of the server that was found to the store, if the store keeps such and it can be written.
+fn keep_object<R: Files + AllocGlobal>(rt: &R, lookup: &LookUp<'_>, found: &Looked, bytes: &[u8]) {
+    if keeps(lookup.wanted)
+        && let Looked::Object { name, .. } = found
+    {
+        let _ = lookup.store.write(rt, Kind::Object, name.as_str(), bytes);
+    }
+}
+
+// What the server has under the name of an object.
+fn given_object<R: Files + AllocGlobal, S: Peer>(
     rt: &R,
-    store: &StoreDirectory,
-    sources: &mut Sources<'_, I, W>,
-    outputs: &Outputs<'_>,
-    place: usize,
+    lookup: &LookUp<'_>,
+    peer: &mut S,
     name: String,
 ) -> Result<Looked>
-    ensures { IfOk result (IsKeptObject outputs.now place name) }
+    ensures { IfOk result (IsKeptObject lookup.now.wanted.now.outputs None name) }
 {
     let alloc = rt.alloc();
     let value = format!(in alloc; "object:{name}")?;
-    let bytes = match sources.get(alloc, Kind::Object, name.as_str())? {
+    let bytes = match given_file(alloc, peer, lookup.verify_key, Kind::Object, name.as_str())? {
         Given::File(bytes) => bytes,
         Given::Forged => return Ok(forged_found(Some(name), value)),
-        Given::Unexpanded | Given::Nothing => return Ok(nothing_found(Some(name))),
+        Given::Nothing => return Ok(nothing_found(Some(name))),
     };
-    let found = object_found(alloc, outputs, place, name, &bytes, value, true)?;
-    if sources.keeps() {
-        keep_object(rt, store, &found, &bytes);
-    }
+    let found = object_found(alloc, &lookup.wanted.outputs, None, name, &bytes, value)?;
+    keep_object(rt, lookup, &found, &bytes);
     Ok(found)
 }
 
-// What the store or the server has under the name of an object of the entry file at a place.
-fn object_of<R: Files + AllocGlobal, I: Read, W: Write>(
-    rt: &R,
-    store: &StoreDirectory,
-    sources: &mut Sources<'_, I, W>,
-    outputs: &Outputs<'_>,
-    place: usize,
-    name: String,
-) -> Result<Looked>
-    ensures { IfOk result (IsKeptObject outputs.now place name) }
-{
-    if !sources.use_store() {
-        return given_object(rt, store, sources, outputs, place, name);
-    }
-    if !sources.has_server() {
-        return kept_object(rt, store, outputs, place, name);
-    }
-    let missed = match kept_object(rt, store, outputs, place, name)? {
-        Looked::Missed(missed) => missed,
-        found => return Ok(found),
-    };
-    let Missed { object_name, .. } = missed;
-    match object_name {
-        Some(name) => given_object(rt, store, sources, outputs, place, name),
-        None => Ok(nothing_found(None)),
-    }
-}
-
-// Looks for the object by the entry file at a place. Where none of its results matches, the first file that changed is
+// The name of the object of a result of an entry file that matches. Where none matches, the first file that changed is
 // noted, if there is one.
-fn look_by_entry<R: Files + AllocGlobal, I: Read, W: Write>(
+fn name_by_entry<R: Files + AllocGlobal>(
     rt: &R,
     lookup: &LookUp<'_>,
-    sources: &mut Sources<'_, I, W>,
-    place: usize,
     file: &EntryFile,
     changed: &mut Option<Changed>,
-) -> Result<Looked>
-    requires place { place < ENTRY_FILES }
-    requires key { file.now.preprocessor_key.items ≡ string_bytes lookup.now.key.now.text }
-    ensures { IfOk result (λ looked. IsLookUp lookup.now → IsLooked lookup.now looked) }
+) -> Result<Option<String>>
+    requires { file.now.preprocessor_key.items ≡ string_bytes lookup.now.key.now.text }
+    ensures { IfOk result (λ found. IsLookUp lookup.now → IfSome found (IsNameOf lookup.now)) }
 {
     let mut files = lookup.files.copy(rt.alloc())?;
     let found = matching_name(
@@ -344,30 +310,17 @@ fn look_by_entry<R: Files + AllocGlobal, I: Read, W: Write>(
         lookup.key,
         file,
     )?;
-    match found {
-        Some(name) => object_of(
-            rt,
-            lookup.store,
-            sources,
-            &lookup.wanted.outputs,
-            place,
-            name,
-        ),
-        None => {
-            if changed.is_none() {
-                *changed = changed_in(rt.alloc(), &mut files, &file.entry)?;
-            }
-            Ok(nothing_found(None))
-        }
+    if found.is_none() && changed.is_none() {
+        *changed = changed_in(rt.alloc(), &mut files, &file.entry)?;
     }
+    Ok(found)
 }
 
 // Looks for the object by the entry file at a place. A file that has not the present
 // contents of a file that changed matches as little, and is not read further.
-fn look_at_place<R: Files + AllocGlobal, I: Read, W: Write>(
+fn look_at_place<R: Files + AllocGlobal>(
     rt: &R,
     lookup: &LookUp<'_>,
-    sources: &mut Sources<'_, I, W>,
     place: usize,
     changed: &mut Option<Changed>,
 ) -> Result<Looked>
@@ -383,12 +336,13 @@ fn look_at_place<R: Files + AllocGlobal, I: Read, W: Write>(
     if !may_match(alloc, changed.as_ref(), &bytes)? {
         return Ok(nothing_found(None));
     }
-    match kept_in(alloc, key, &bytes)? {
-        Kept::Entry(file) => look_by_entry(rt, lookup, sources, place, &file, changed),
-        Kept::Nothing | Kept::Damaged => {
-            let path = lookup.store.path_of(rt, Kind::Entry, name.as_str())?;
-            Ok(damaged_found(None, path))
-        }
+    let Kept::Entry(file) = kept_in(alloc, key, &bytes)? else {
+        let path = lookup.store.path_of(rt, Kind::Entry, name.as_str())?;
+        return Ok(damaged_found(None, path));
+    };
+    match name_by_entry(rt, lookup, &file, changed)? {
+        Some(name) => kept_object(rt, lookup.store, &lookup.wanted.outputs, place, name),
+        None => Ok(nothing_found(None)),
     }
 }
 
@@ -404,11 +358,7 @@ fn with_missed(before: Missed, one: Missed) -> Missed
 }
 
 // Looks for the object by each entry file of the preprocessor key in the store.
-fn look_in_store<R: Files + AllocGlobal, I: Read, W: Write>(
-    rt: &R,
-    lookup: &LookUp<'_>,
-    sources: &mut Sources<'_, I, W>,
-) -> Result<Looked>
+fn look_in_store<R: Files + AllocGlobal>(rt: &R, lookup: &LookUp<'_>) -> Result<Looked>
     ensures { IfOk result (λ looked. IsLookUp lookup.now → IsLooked lookup.now looked) }
 {
     let mut changed = None;
@@ -418,7 +368,7 @@ fn look_in_store<R: Files + AllocGlobal, I: Read, W: Write>(
         forged: None,
     };
     for place in 0..ENTRY_FILES {
-        match look_at_place(rt, lookup, sources, place, &mut changed)? {
+        match look_at_place(rt, lookup, place, &mut changed)? {
             Looked::Missed(one) => all = with_missed(all, one),
             found => return Ok(found),
         }
@@ -428,60 +378,105 @@ fn look_in_store<R: Files + AllocGlobal, I: Read, W: Write>(
 
 // Looks for the object by the entry file that the server has. Where the store keeps what the server has the file is
 // written there, if it can be and an object was found.
-fn look_at_server<R: Files + AllocGlobal, I: Read, W: Write>(
+fn look_at_server<R: Files + AllocGlobal, S: Peer>(
     rt: &R,
     lookup: &LookUp<'_>,
-    sources: &mut Sources<'_, I, W>,
+    peer: &mut S,
 ) -> Result<Looked>
     ensures { IfOk result (λ looked. IsLookUp lookup.now → IsLooked lookup.now looked) }
 {
     let (alloc, key) = (rt.alloc(), lookup.key.text.as_str());
-    let bytes = match sources.get(alloc, Kind::Entry, key)? {
+    let bytes = match given_file(alloc, peer, lookup.verify_key, Kind::Entry, key)? {
         Given::File(bytes) => bytes,
         Given::Forged => return Ok(forged_found(None, format!(in alloc; "entry:{key}")?)),
-        Given::Unexpanded | Given::Nothing => return Ok(nothing_found(None)),
+        Given::Nothing => return Ok(nothing_found(None)),
     };
     let Kept::Entry(file) = kept_in(alloc, key, &bytes)? else {
         return Ok(damaged_found(None, format!(in alloc; "entry:{key}")?));
     };
-    let looked = look_by_entry(rt, lookup, sources, 0, &file, &mut None)?;
-    if let Looked::Object { .. } = &looked
-        && sources.keeps()
+    let Some(name) = name_by_entry(rt, lookup, &file, &mut None)? else {
+        return Ok(nothing_found(None));
+    };
+    let looked = given_object(rt, lookup, peer, name)?;
+    if keeps(lookup.wanted)
+        && let Looked::Object { .. } = &looked
     {
         let _ = lookup.store.write(rt, Kind::Entry, key, &bytes);
     }
     Ok(looked)
 }
 
-// Looks for the object in the store and at the server, as far as these are used.
-fn look_in_files<R: Files + AllocGlobal, I: Read, W: Write>(
+// What the server has under the name of an object that the store lacks, if there is one.
+fn lacked_object<R: Files + AllocGlobal, S: Peer>(
     rt: &R,
     lookup: &LookUp<'_>,
-    sources: &mut Sources<'_, I, W>,
+    peer: &mut S,
+    object_name: Option<String>,
+) -> Result<Looked>
+    requires { IsLookUp lookup.now → IfSome object_name (IsNameOf lookup.now) }
+    ensures { IfOk result (λ looked. IsLookUp lookup.now → IsLooked lookup.now looked) }
+{
+    match object_name {
+        Some(name) => given_object(rt, lookup, peer, name),
+        None => Ok(nothing_found(None)),
+    }
+}
+
+// Looks for the object at the server: first for that which the store lacks, if there is one.
+fn look_past_store<R: Files + AllocGlobal, S: Peer>(
+    rt: &R,
+    lookup: &LookUp<'_>,
+    peer: &mut S,
+    missed: Missed,
+) -> Result<Looked>
+    requires { IsLookUp lookup.now → IfSome missed.object_name (IsNameOf lookup.now) }
+    ensures { IfOk result (λ looked. IsLookUp lookup.now → IsLooked lookup.now looked) }
+{
+    let Missed {
+        object_name,
+        damaged,
+        forged,
+    } = missed;
+    let lacked = match lacked_object(rt, lookup, peer, object_name)? {
+        Looked::Missed(lacked) => lacked,
+        found => return Ok(found),
+    };
+    let rest = Missed {
+        object_name: None,
+        damaged,
+        forged,
+    };
+    match look_at_server(rt, lookup, peer)? {
+        Looked::Missed(one) => Ok(Looked::Missed(with_missed(one, with_missed(lacked, rest)))),
+        found => Ok(found),
+    }
+}
+
+// Looks for the object in the store and at the server, as far as these are used.
+fn look_in_files<R: Files + AllocGlobal, S: Peer>(
+    rt: &R,
+    lookup: &LookUp<'_>,
+    peer: &mut S,
 ) -> Result<Looked>
     ensures { IfOk result (λ looked. IsLookUp lookup.now → IsLooked lookup.now looked) }
 {
-    if !sources.has_server() {
-        return look_in_store(rt, lookup, sources);
-    }
-    if !sources.use_store() {
-        return look_at_server(rt, lookup, sources);
-    }
-    let kept = match look_in_store(rt, lookup, sources)? {
-        Looked::Missed(missed) => missed,
-        found => return Ok(found),
+    let Some(server) = &lookup.wanted.server else {
+        return look_in_store(rt, lookup);
     };
-    match look_at_server(rt, lookup, sources)? {
-        Looked::Missed(missed) => Ok(Looked::Missed(with_missed(missed, kept))),
+    if !server.keeps {
+        return look_at_server(rt, lookup, peer);
+    }
+    match look_in_store(rt, lookup)? {
+        Looked::Missed(missed) => look_past_store(rt, lookup, peer, missed),
         found => Ok(found),
     }
 }
 
 // Looks for the object of a request that has this preprocessor key over a snapshot of the input.
-fn look_for<R: Files + AllocGlobal, I: Read, W: Write>(
+fn look_for<R: Files + AllocGlobal, S: Peer>(
     rt: &R,
     environment: &Environment<'_>,
-    places: (&StoreDirectory, &mut Sources<'_, I, W>),
+    places: (&StoreDirectory, Option<&[u8]>, &mut S),
     wanted: &Look<'_>,
     asked: &SnapshotRequest<'_>,
     files: &MapFiles,
@@ -491,7 +486,7 @@ fn look_for<R: Files + AllocGlobal, I: Read, W: Write>(
         → IsKeyOver asked.now files.now.files key
         → IsFoundFor environment.entry.now.reads_all wanted.now asked.now files.now.files key.text found) }
 {
-    let (store, sources) = places;
+    let (store, verify_key, peer) = places;
     let looked = look_in_files(
         rt,
         &LookUp {
@@ -501,8 +496,9 @@ fn look_for<R: Files + AllocGlobal, I: Read, W: Write>(
             asked,
             files,
             key: &key,
+            verify_key,
         },
-        sources,
+        peer,
     )?;
     let preprocessor_key = key.text;
     match looked {
@@ -510,13 +506,11 @@ fn look_for<R: Files + AllocGlobal, I: Read, W: Write>(
             place,
             name,
             object,
-            is_given,
         } => Ok(Found::Hit {
             preprocessor_key,
             place,
             object_name: name,
             object,
-            is_given,
         }),
         Looked::Missed(missed) => {
             let since = store.stamp(rt)?;
@@ -538,21 +532,23 @@ fn look_for<R: Files + AllocGlobal, I: Read, W: Write>(
 /// file and the object that the store lacks.
 ///
 /// The error is of an input that is no regular file that can be read, of a program of the compiler, of
-/// the store or of a store of digests that can't be read, of a file that can't be made in the store after a miss, of a
-/// failed write or read of the streams by which the server is asked, or lack of memory.
+/// the store or of a store of digests that can't be read, of a file that can't be made in the store after a miss, that of
+/// a key of
+/// signatures that can't be read or is too short, that of [`Peer::get`], or lack of memory.
 ///
 /// No contract can say what a disk holds. So what is found is stated over snapshots that there are: one
 /// that has the input alone, and one that has files that the entry names too.
-pub fn look<R: Files + AllocGlobal, I: Read, W: Write>(
+pub fn look<R: Files + AllocGlobal, S: Peer>(
     rt: &R,
     environment: &Environment<'_>,
     store: &StoreDirectory,
     wanted: &Look<'_>,
-    sources: &mut Sources<'_, I, W>,
+    peer: &mut S,
 ) -> Result<Found>
     ensures { IfOk result (IsLookResult environment.entry.now wanted.now) }
 {
     let request = &wanted.request;
+    let verify_key = key_of(rt, wanted.server)?;
     let hasher = hasher_of(rt, environment, request)?;
     let mut files = input_snapshot(rt, request)?;
     let asked = snapshot_request(
@@ -566,7 +562,7 @@ pub fn look<R: Files + AllocGlobal, I: Read, W: Write>(
         Some(key) => look_for(
             rt,
             environment,
-            (store, sources),
+            (store, verify_key.as_deref(), peer),
             wanted,
             &asked,
             &files,

@@ -24,19 +24,18 @@ fn write_in_place<R: Files>(rt: &R, path: &str, bytes: &[u8]) -> io::Result<()> 
     file.write_all(bytes)
 }
 
-/// Writes the parts of an object file: the dependency file, if there is a path for it, the object, and
-/// the compiler's messages. As gcc does, the dependency file is written in place and before the object,
+/// Writes the parts of an object file: the dependency file, if there is a path for it, and the object. The compiler's
+/// messages are appended to `messages`. As gcc does, the dependency file is written in place and before the object,
 /// and the object is made anew: an object that is there has its dependencies.
 ///
-/// The error is of a file that can't be made, written or renamed, of a failed write of the messages, or
-/// lack of memory. What was written before it stays: the dependency file then may have some of its bytes,
+/// The error is of a file that can't be made, written or renamed, or lack of memory. What was written before it stays: the dependency file then may have some of its bytes,
 /// as one of a compilation that failed.
-pub fn write_outputs<R: Files + AllocGlobal, E: Write>(
+pub fn write_outputs<R: Files + AllocGlobal>(
     rt: &R,
     store: &StoreDirectory,
     outputs: &Outputs<'_>,
     object: &ObjectFile,
-    errors: &mut E,
+    messages: &mut Vec<u8>,
 ) -> Result<()> {
     if let Some(path) = outputs.dependencies {
         write_in_place(rt, path, &object.dependencies).context("the dependency file")?;
@@ -44,6 +43,6 @@ pub fn write_outputs<R: Files + AllocGlobal, E: Write>(
     store
         .replace(rt, outputs.object, &object.object)
         .context("the object")?;
-    errors.write_all(&object.messages).context("the messages")?;
+    messages.extend_from_slice(&object.messages)?;
     Ok(())
 }

@@ -1,23 +1,23 @@
 //! The program, over any files, reader and writers.
-use crate::call::{CallPaths, print_call, request_of};
+use crate::call::{CallPaths, call_lines, request_of};
 use crate::environment::Environment;
 use crate::input::input_snapshot;
 use crate::judge::{Judged, Passed, judge};
-use crate::look::{Found, Missed, NO_KEY, look};
+use crate::look::{Found, Missed, NO_KEY, keeps, look};
 use crate::outputs::write_outputs;
 use crate::places::are_free;
 use crate::programs::{Named, programs_of};
 use crate::record::{Outcome, record};
 use crate::request::request_key;
 use crate::seal::seal;
-use crate::server::{Sources, key_of};
+use crate::server::{Peer, StreamPeer};
 use crate::store::store_in;
 use crate::unpack::{Taken, unpack};
 use crate::why::print_why;
-use anyhow::{Result, bail};
+use anyhow::{Context, Result, bail};
 use cck_cache_arguments::{
-    Action, Compilation, CompilerCall, Look, Outputs, Packed, Request, Seal, Server, Source, Task,
-    task_of,
+    Action, Compilation, CompilerCall, Look, Outputs, Packed, Request, Server, Source, StoreAction,
+    Task, task_of,
 };
 use cck_cache_files::{Kind, StoreDirectory, entry_name};
 use cck_cache_options::{Call, GCC, rows_of};
@@ -40,6 +40,15 @@ const USAGE: u8 = 2;
 /// The exit status where there is no key, no object or no recording, or where a call is not cached.
 const MISS: u8 = 3;
 
+// What the program prints.
+#[derive(Drop)]
+struct Printed {
+    // On standard output.
+    answer: Vec<u8>,
+    // On standard error: the compiler's messages, or what is wrong with the words.
+    messages: Vec<u8>,
+}
+
 // What a call of a compiler asks for.
 #[derive(Drop)]
 struct Wanted<'a> {
@@ -52,28 +61,29 @@ struct Wanted<'a> {
 }
 
 // Prints why a call is not cached.
-fn print_passed<W: Write>(writer: &mut W, reason: Passed) -> Result<u8> {
-    writeln!(writer, "passed {}", reason.as_str())?;
+fn print_passed(answer: &mut Vec<u8>, reason: Passed) -> Result<u8> {
+    writeln!(answer, "passed {}", reason.as_str())?;
     Ok(MISS)
 }
 
-// Prints the preprocessor key.
-fn run_preprocessor_key<R: Files + AllocGlobal, W: Write>(
+// Prints the preprocessor key, and the call.
+fn run_preprocessor_key<R: Files + AllocGlobal>(
     rt: &R,
     environment: &Environment<'_>,
     wanted: &Wanted<'_>,
-    writer: &mut W,
+    answer: &mut Vec<u8>,
 ) -> Result<u8> {
     let mut files = input_snapshot(rt, &wanted.request)?;
     match request_key(rt, environment, &wanted.request, &mut files)? {
         Some(key) => {
-            writeln!(writer, "{key}")?;
+            writeln!(answer, "{key}")?;
             let programs = wanted.request.compiler.as_str();
-            print_call(rt.alloc(), &wanted.asked, &wanted.paths, programs, writer)?;
+            let lines = call_lines(rt.alloc(), &wanted.asked, &wanted.paths, programs)?;
+            answer.extend_from_slice(&lines)?;
             Ok(DONE)
         }
         None => {
-            writeln!(writer, "{NO_KEY}")?;
+            writeln!(answer, "{NO_KEY}")?;
             Ok(MISS)
         }
     }
@@ -81,25 +91,24 @@ fn run_preprocessor_key<R: Files + AllocGlobal, W: Write>(
 
 // Prints a miss: the preprocessor key, the time at which the look-up ended, and the name of an object and
 // what is damaged or forged, if there are such.
-fn print_miss<W: Write>(
-    writer: &mut W,
+fn print_miss(
+    answer: &mut Vec<u8>,
     preprocessor_key: &str,
     since: Timestamp,
     missed: &Missed,
-) -> Result<()> {
+) -> io::Result<()> {
     let (seconds, nanoseconds) = (since.seconds(), since.nanoseconds());
-    write!(writer, "miss {preprocessor_key} {seconds}.{nanoseconds:09}")?;
+    write!(answer, "miss {preprocessor_key} {seconds}.{nanoseconds:09}")?;
     if let Some(object_name) = &missed.object_name {
-        write!(writer, " object {object_name}")?;
+        write!(answer, " object {object_name}")?;
     }
     if let Some(file) = &missed.damaged {
-        write!(writer, " damaged {file}")?;
+        write!(answer, " damaged {file}")?;
     }
     if let Some(value) = &missed.forged {
-        write!(writer, " forged {value}")?;
+        write!(answer, " forged {value}")?;
     }
-    writeln!(writer)?;
-    Ok(())
+    writeln!(answer)
 }
 
 // Notes that the entry file of this name and the object file of that name were used, and counts a hit. An error changes no result: neither
@@ -161,16 +170,14 @@ fn note_given<R: Files + AllocGlobal + Clone + Drop>(
     }
 }
 
-// Writes the object that was found, with the dependency file if there is a path for it, and the compiler's messages to
-// `errors`, or prints that there is none.
-fn print_found<R: Files + AllocGlobal + Clone + Drop, W: Write, E: Write>(
+// Writes the object that was found, with the dependency file if there is a path for it, or prints that there is none.
+fn print_found<R: Files + AllocGlobal + Clone + Drop>(
     rt: &R,
     environment: &Environment<'_>,
     store: &StoreDirectory,
     wanted: &Look<'_>,
     found: Found,
-    writer: &mut W,
-    errors: &mut E,
+    printed: &mut Printed,
 ) -> Result<u8> {
     match found {
         Found::Hit {
@@ -178,18 +185,17 @@ fn print_found<R: Files + AllocGlobal + Clone + Drop, W: Write, E: Write>(
             place,
             object_name,
             object,
-            is_given,
         } => {
-            write_outputs(rt, store, &wanted.outputs, &object, errors)?;
-            if is_given {
-                let keeps = wanted.server.as_ref().is_some_and(|server| server.keeps);
-                let (name, key) = (object_name.as_str(), preprocessor_key.as_str());
-                note_given(rt, environment, store, keeps, name, key);
-            } else {
-                let entry_name = entry_name(rt.alloc(), &preprocessor_key, place)?;
-                note_hit(rt, environment, store, &entry_name, &object_name);
+            write_outputs(rt, store, &wanted.outputs, &object, &mut printed.messages)?;
+            let (name, key) = (object_name.as_str(), preprocessor_key.as_str());
+            match place {
+                Some(place) => {
+                    let entry_name = entry_name(rt.alloc(), key, place)?;
+                    note_hit(rt, environment, store, &entry_name, name);
+                }
+                None => note_given(rt, environment, store, keeps(wanted), name, key),
             }
-            writeln!(writer, "hit {object_name} {}", wanted.request.input)?;
+            writeln!(printed.answer, "hit {name} {}", wanted.request.input)?;
             Ok(DONE)
         }
         Found::Miss {
@@ -198,132 +204,61 @@ fn print_found<R: Files + AllocGlobal + Clone + Drop, W: Write, E: Write>(
             missed,
         } => {
             count_miss(rt, store, wanted.server.is_some(), &missed);
-            print_miss(writer, &preprocessor_key, since, &missed)?;
+            print_miss(&mut printed.answer, &preprocessor_key, since, &missed)?;
             Ok(MISS)
         }
         Found::NoKey => {
             let _ = store.count(rt, "no-key");
-            writeln!(writer, "{NO_KEY}")?;
+            writeln!(printed.answer, "{NO_KEY}")?;
             Ok(MISS)
         }
     }
 }
 
-// Looks for the object of a request in a store, or at a server.
-fn found_by<R: Files + AllocGlobal, I: Read, W: Write>(
-    rt: &R,
-    environment: &Environment<'_>,
-    store: &StoreDirectory,
-    wanted: &Look<'_>,
-    reader: &mut I,
-    writer: &mut W,
-) -> Result<Found> {
-    let (keeps, key) = match &wanted.server {
-        Some(server) => (Some(server.keeps), key_of(rt, server)?),
-        None => (None, None),
-    };
-    let mut sources = Sources::new(keeps, key, reader, writer);
-    look(rt, environment, store, wanted, &mut sources)
-}
-
-// Looks for the object of a request in a store, or at a server, and writes it, with the dependency
-// file if there is a path for it. The compiler's messages go to `errors`.
-fn run_look<R: Files + AllocGlobal + Clone + Drop, I: Read, W: Write, E: Write>(
-    rt: &R,
-    environment: &Environment<'_>,
-    wanted: &Look<'_>,
-    reader: &mut I,
-    writer: &mut W,
-    errors: &mut E,
-) -> Result<u8> {
-    let store = store_in(rt, environment, wanted.store)?;
-    let found = found_by(rt, environment, &store, wanted, reader, writer)?;
-    print_found(rt, environment, &store, wanted, found, writer, errors)
-}
-
 // Prints how an object file was taken that is not damaged in a directory, and counts it.
-fn print_taken<R: Files + AllocGlobal, W: Write>(
+fn print_taken<R: Files + AllocGlobal>(
     rt: &R,
     store: &StoreDirectory,
     packed: &Packed<'_>,
     taken: Taken,
-    writer: &mut W,
+    answer: &mut Vec<u8>,
 ) -> Result<u8> {
     let name = packed.name;
     match (taken, packed.source) {
         (Taken::Written, _) => {
             let _ = store.count(rt, "unpacked");
-            writeln!(writer, "unpacked {name}")?;
+            writeln!(answer, "unpacked {name}")?;
             return Ok(DONE);
         }
         (Taken::Damaged, Source::Path(path)) => {
             let _ = store.count(rt, "damaged");
-            writeln!(writer, "damaged {path}")?;
+            writeln!(answer, "damaged {path}")?;
         }
         (Taken::Damaged, Source::Server(_)) => {
             let _ = store.count(rt, "server-damaged");
-            writeln!(writer, "damaged object:{name}")?;
+            writeln!(answer, "damaged object:{name}")?;
         }
         (Taken::Forged, _) => {
             let _ = store.count(rt, "server-forged");
-            writeln!(writer, "forged object:{name}")?;
+            writeln!(answer, "forged object:{name}")?;
         }
-        (Taken::Absent, _) => writeln!(writer, "absent {name}")?,
+        (Taken::Absent, _) => writeln!(answer, "absent {name}")?,
     }
     Ok(MISS)
 }
 
-// Takes the object of an object file, which may be at a server.
-fn taken_by<R: Files + AllocGlobal, I: Read, W: Write, E: Write>(
-    rt: &R,
-    store: &StoreDirectory,
-    packed: &Packed<'_>,
-    reader: &mut I,
-    writer: &mut W,
-    errors: &mut E,
-) -> Result<Taken> {
-    let (keeps, key) = match &packed.source {
-        Source::Path(_) => (None, None),
-        Source::Server(server) => (Some(server.keeps), key_of(rt, server)?),
-    };
-    let mut sources = Sources::new(keeps, key, reader, writer);
-    unpack(rt, store, packed, &mut sources, errors)
-}
-
-// Writes the object of an object file, with the dependency file if there is a path for it. The
-// compiler's messages go to `errors`.
-fn run_unpack<R: Files + AllocGlobal, I: Read, W: Write, E: Write>(
+// Writes the object of an object file, with the dependency file if there is a path for it.
+fn run_unpack<R: Files + AllocGlobal, S: Peer>(
     rt: &R,
     environment: &Environment<'_>,
     store: &str,
     packed: &Packed<'_>,
-    reader: &mut I,
-    writer: &mut W,
-    errors: &mut E,
+    peer: &mut S,
+    printed: &mut Printed,
 ) -> Result<u8> {
     let store = store_in(rt, environment, store)?;
-    let taken = taken_by(rt, &store, packed, reader, writer, errors)?;
-    print_taken(rt, &store, packed, taken, writer)
-}
-
-// Writes a value of a server, of the bytes that are read.
-fn run_seal<R: Files + AllocGlobal, I: Read, W: Write>(
-    rt: &R,
-    wanted: &Seal<'_>,
-    reader: &mut I,
-    writer: &mut W,
-) -> Result<u8> {
-    let bytes = read_text(rt, reader)?;
-    let value = seal(rt, wanted, bytes)?;
-    writer.write_all(&value)?;
-    Ok(DONE)
-}
-
-// Reads a text to its end.
-fn read_text<R: AllocGlobal, I: Read>(rt: &R, reader: &mut I) -> io::Result<Vec<u8>> {
-    let mut text = Vec::new(rt.alloc());
-    reader.read_to_end(&mut text)?;
-    Ok(text)
+    let taken = unpack(rt, &store, packed, peer, &mut printed.messages)?;
+    print_taken(rt, &store, packed, taken, &mut printed.answer)
 }
 
 // Counts the outcome of a recording. That of an entry alone is not counted: the object of its text may be
@@ -339,108 +274,45 @@ fn count_outcome<R: Files + AllocGlobal>(
     }
 }
 
-// Records a compilation, whose preprocessed text is read.
-fn run_record<R: Files + AllocGlobal + Clone + Drop, I: Read, W: Write>(
+// Records a compilation, whose preprocessed text this is.
+fn run_record<R: Files + AllocGlobal + Clone + Drop>(
     rt: &R,
     environment: &Environment<'_>,
     store: &str,
     request: &Request<'_>,
     compilation: &Compilation<'_>,
-    reader: &mut I,
-    writer: &mut W,
+    text: &[u8],
+    answer: &mut Vec<u8>,
 ) -> Result<u8> {
     let store = store_in(rt, environment, store)?;
-    let text = read_text(rt, reader)?;
-    match record(rt, environment, &store, request, compilation, &text)? {
+    match record(rt, environment, &store, request, compilation, text)? {
         Outcome::Recorded(object_name) => {
             count_outcome(rt, &store, compilation, "recorded");
             if compilation.entry_out.is_none() && compilation.object_out.is_none() {
                 limit_store(rt, environment, &store, &object_name, compilation.key);
             }
-            writeln!(writer, "recorded {object_name}")?;
+            writeln!(answer, "recorded {object_name}")?;
             Ok(DONE)
         }
         Outcome::Refused(refusal) => {
             let name = refusal.as_str();
             count_outcome(rt, &store, compilation, name);
-            writeln!(writer, "{name}")?;
+            writeln!(answer, "{name}")?;
             Ok(MISS)
         }
     }
 }
 
-// Prints what a store has.
-fn run_stats<R: Files + AllocGlobal + Clone + Drop, W: Write>(
-    rt: &R,
-    environment: &Environment<'_>,
-    store: &str,
-    writer: &mut W,
-) -> Result<u8> {
-    let store = store_in(rt, environment, store)?;
-    print_stats(rt, environment.max_size, &store, writer)?;
-    Ok(DONE)
-}
-
-// Removes files from a store.
-fn run_prune<R: Files + AllocGlobal + Clone + Drop, W: Write>(
-    rt: &R,
-    environment: &Environment<'_>,
-    store: &str,
-    max_size: u64,
-    writer: &mut W,
-) -> Result<u8> {
-    let store = store_in(rt, environment, store)?;
-    prune_store(rt, environment.now, &store, max_size, writer)?;
-    Ok(DONE)
-}
-
-// Removes all entries and objects from a store.
-fn run_clear<R: Files + AllocGlobal + Clone + Drop, W: Write>(
-    rt: &R,
-    environment: &Environment<'_>,
-    store: &str,
-    writer: &mut W,
-) -> Result<u8> {
-    let store = store_in(rt, environment, store)?;
-    clear_store(rt, &store, writer)?;
-    Ok(DONE)
-}
-
-// Tests the files of a store.
-fn run_verify<R: Files + AllocGlobal + Clone + Drop, W: Write>(
-    rt: &R,
-    environment: &Environment<'_>,
-    store: &str,
-    writer: &mut W,
-) -> Result<u8> {
-    let store = store_in(rt, environment, store)?;
-    verify_store(rt, &store, writer)?;
-    Ok(DONE)
-}
-
-// Prints what files of a store say.
-fn run_inspect<R: Files + AllocGlobal, W: Write>(
-    rt: &R,
-    environment: &Environment<'_>,
-    store: &str,
-    word: &str,
-    writer: &mut W,
-) -> Result<u8> {
-    let store = store_in(rt, environment, store)?;
-    print_files(rt, &store, word, writer)?;
-    Ok(DONE)
-}
-
 // Prints why a look-up misses, or that the request has no preprocessor key.
-fn run_why<R: Files + AllocGlobal, W: Write>(
+fn run_why<R: Files + AllocGlobal>(
     rt: &R,
     environment: &Environment<'_>,
     store: &str,
     request: &Request<'_>,
-    writer: &mut W,
+    answer: &mut Vec<u8>,
 ) -> Result<u8> {
     let store = store_in(rt, environment, store)?;
-    let has_key = print_why(rt, environment, &store, request, writer)?;
+    let has_key = print_why(rt, environment, &store, request, answer)?;
     Ok(if has_key { DONE } else { MISS })
 }
 
@@ -452,95 +324,82 @@ fn outputs_of<'a>(paths: &'a CallPaths<'_>) -> Outputs<'a> {
     }
 }
 
-// Where a command looks: the path of the store, and the server, if one is asked.
-type Places<'a> = (&'a str, Option<Server<'a>>);
-
-// Looks for the object of a call. After a line for a miss it prints the call.
-fn run_look_for_call<R: Files + AllocGlobal + Clone + Drop, I: Read, W: Write, E: Write>(
+// Looks for the object of a call, in the store of this path or at the server, if one is asked. After a line for a miss it
+// prints the call.
+fn run_look<R: Files + AllocGlobal + Clone + Drop, S: Peer>(
     rt: &R,
     environment: &Environment<'_>,
-    places: Places<'_>,
+    places: (&str, Option<Server<'_>>),
     wanted: Wanted<'_>,
-    reader: &mut I,
-    writer: &mut W,
-    errors: &mut E,
+    peer: &mut S,
+    printed: &mut Printed,
 ) -> Result<u8> {
     let Wanted {
         asked,
         paths,
         request,
     } = wanted;
-    let (store, server) = places;
-    let look = Look {
-        store,
-        server,
+    let look_for = Look {
+        store: places.0,
+        server: places.1,
         outputs: outputs_of(&paths),
         request,
     };
-    let status = run_look(rt, environment, &look, reader, writer, errors)?;
+    let store = store_in(rt, environment, look_for.store)?;
+    let found = look(rt, environment, &store, &look_for, peer)?;
+    let status = print_found(rt, environment, &store, &look_for, found, printed)?;
     if status == MISS {
-        let programs = look.request.compiler.as_str();
-        print_call(rt.alloc(), &asked, &paths, programs, writer)?;
+        let programs = look_for.request.compiler.as_str();
+        let lines = call_lines(rt.alloc(), &asked, &paths, programs)?;
+        printed.answer.extend_from_slice(&lines)?;
     }
     Ok(status)
 }
 
 // Does what was asked for with a call that is cached.
-fn run_action<R: Files + AllocGlobal + Clone + Drop, I: Read, W: Write, E: Write>(
+fn run_action<R: Files + AllocGlobal + Clone + Drop, S: Peer>(
     rt: &R,
     environment: &Environment<'_>,
     action: &Action<'_>,
     wanted: Wanted<'_>,
-    reader: &mut I,
-    writer: &mut W,
-    errors: &mut E,
+    peer: &mut S,
+    printed: &mut Printed,
 ) -> Result<u8> {
+    let answer = &mut printed.answer;
     match action {
-        Action::PreprocessorKey => run_preprocessor_key(rt, environment, &wanted, writer),
-        Action::Look { store, server } => run_look_for_call(
-            rt,
-            environment,
-            (store, *server),
-            wanted,
-            reader,
-            writer,
-            errors,
-        ),
-        Action::Record { store, compilation } => run_record(
-            rt,
-            environment,
-            store,
-            &wanted.request,
-            compilation,
-            reader,
-            writer,
-        ),
-        Action::Why { store } => run_why(rt, environment, store, &wanted.request, writer),
+        Action::PreprocessorKey => run_preprocessor_key(rt, environment, &wanted, answer),
+        Action::Look { store, server } => {
+            run_look(rt, environment, (store, *server), wanted, peer, printed)
+        }
+        Action::Record { store, compilation } => {
+            let (request, text) = (&wanted.request, peer.read_text(rt.alloc())?);
+            run_record(rt, environment, store, request, compilation, &text, answer)
+        }
+        Action::Why { store } => run_why(rt, environment, store, &wanted.request, answer),
     }
 }
 
 // Does what was asked for with a call of a compiler, or prints why the call is not cached.
-fn run_call<R: Files + AllocGlobal + Clone + Drop, I: Read, W: Write, E: Write>(
+fn run_call<R: Files + AllocGlobal + Clone + Drop, S: Peer>(
     rt: &R,
     environment: &Environment<'_>,
     call: &CompilerCall<'_>,
     action: &Action<'_>,
-    reader: &mut I,
-    writer: &mut W,
-    errors: &mut E,
+    peer: &mut S,
+    printed: &mut Printed,
 ) -> Result<u8> {
     let alloc = rt.alloc();
     let programs = match programs_of(rt, environment, call, action)? {
         Named::Paths(programs) => programs,
-        Named::PassedOn(reason) => return print_passed(writer, reason),
+        Named::PassedOn(reason) => return print_passed(&mut printed.answer, reason),
     };
     let rows = rows_of(alloc, GCC)?;
     let (asked, paths) = match judge(alloc, &rows, &call.arguments)? {
         Judged::Asks(asked, paths) => (asked, paths),
-        Judged::PassedOn(reason) => return print_passed(writer, reason),
+        Judged::PassedOn(reason) => return print_passed(&mut printed.answer, reason),
     };
     if !are_free(rt, &paths) {
-        return print_passed(writer, Passed::Output);
+        return print_passed(&mut printed.answer, Passed::Output);
     }
     let request = request_of(alloc, call, programs, &asked, &paths)?;
     let wanted = Wanted {
@@ -548,56 +407,63 @@ fn run_call<R: Files + AllocGlobal + Clone + Drop, I: Read, W: Write, E: Write>(
         paths,
         request,
     };
-    run_action(rt, environment, action, wanted, reader, writer, errors)
+    run_action(rt, environment, action, wanted, peer, printed)
 }
 
-// Does what was asked for.
-fn run_task<R: Files + AllocGlobal + Clone + Drop, I: Read, W: Write, E: Write>(
+// Does what was asked for with a store alone.
+fn run_on_store<R: Files + AllocGlobal + Clone + Drop>(
     rt: &R,
     environment: &Environment<'_>,
-    task: &Task<'_>,
-    reader: &mut I,
-    writer: &mut W,
-    errors: &mut E,
-) -> Result<u8> {
-    match task {
-        Task::Call { call, action } => run_call(
-            rt,
-            environment,
-            call,
-            action,
-            reader,
-            writer,
-            errors,
-        ),
-        Task::Unpack { store, packed } => run_unpack(
-            rt,
-            environment,
-            store,
-            packed,
-            reader,
-            writer,
-            errors,
-        ),
-        Task::Seal(wanted) => run_seal(rt, wanted, reader, writer),
-        Task::Stats { store } => run_stats(rt, environment, store, writer),
-        Task::Prune { store, max_size } => run_prune(rt, environment, store, *max_size, writer),
-        Task::Clear { store } => run_clear(rt, environment, store, writer),
-        Task::Verify { store } => run_verify(rt, environment, store, writer),
-        Task::Inspect { store, word } => run_inspect(rt, environment, store, word, writer),
+    store: &StoreDirectory,
+    action: &StoreAction<'_>,
+    answer: &mut Vec<u8>,
+) -> Result<()> {
+    match *action {
+        StoreAction::Stats => print_stats(rt, environment.max_size, store, answer),
+        StoreAction::Prune { max_size } => {
+            prune_store(rt, environment.now, store, max_size, answer)
+        }
+        StoreAction::Clear => clear_store(rt, store, answer),
+        StoreAction::Verify => verify_store(rt, store, answer),
+        StoreAction::Inspect { word } => print_files(rt, store, word, answer),
     }
 }
 
-// Writes what clap says of the words. The error is of a failed write, or lack of memory.
-fn explain<W: Write, E: Write>(error: &Error, writer: &mut W, errors: &mut E) -> Result<u8> {
+// Does what was asked for.
+fn run_task<R: Files + AllocGlobal + Clone + Drop, S: Peer>(
+    rt: &R,
+    environment: &Environment<'_>,
+    task: &Task<'_>,
+    peer: &mut S,
+    printed: &mut Printed,
+) -> Result<u8> {
+    match task {
+        Task::Call { call, action } => run_call(rt, environment, call, action, peer, printed),
+        Task::Unpack { store, packed } => {
+            run_unpack(rt, environment, store, packed, peer, printed)
+        }
+        Task::Seal(wanted) => {
+            printed.answer = seal(rt, wanted, peer.read_text(rt.alloc())?)?;
+            Ok(DONE)
+        }
+        Task::Store { store, action } => {
+            let store = store_in(rt, environment, store)?;
+            run_on_store(rt, environment, &store, action, &mut printed.answer)?;
+            Ok(DONE)
+        }
+    }
+}
+
+// What clap says of the words. The only error is lack of memory.
+fn explain(error: &Error, printed: &mut Printed) -> Result<u8> {
     if error.kind() == ErrorKind::OutOfMemory {
         bail!("out of memory");
     }
     if error.use_stderr() {
-        write!(errors, "{error}")?;
+        write!(printed.messages, "{error}")?;
         Ok(USAGE)
     } else {
-        write!(writer, "{error}")?;
+        write!(printed.answer, "{error}")?;
         Ok(DONE)
     }
 }
@@ -605,7 +471,8 @@ fn explain<W: Write, E: Write>(error: &Error, writer: &mut W, errors: &mut E) ->
 /// Does what these words ask for, of which the first is the program's name. Returns the exit
 /// status. What is wrong with the words is written to `errors`.
 ///
-/// The error is of what could not be read or written, of a malformed line marker, or lack of memory.
+/// The error is of what could not be read or written, of a malformed line marker, or lack of memory. What was to be written
+/// before it is written.
 pub fn run<R: Files + AllocGlobal + Clone + Drop, I: Read, W: Write, E: Write>(
     rt: &R,
     environment: &Environment<'_>,
@@ -614,8 +481,22 @@ pub fn run<R: Files + AllocGlobal + Clone + Drop, I: Read, W: Write, E: Write>(
     writer: &mut W,
     errors: &mut E,
 ) -> Result<u8> {
-    match task_of(rt.alloc(), words) {
-        Ok(task) => run_task(rt, environment, &task, reader, writer, errors),
-        Err(error) => explain(&error, writer, errors),
-    }
+    let alloc = rt.alloc();
+    let mut printed = Printed {
+        answer: Vec::new(alloc),
+        messages: Vec::new(alloc),
+    };
+    let ended = match task_of(alloc, words) {
+        Ok(task) => {
+            let mut peer = StreamPeer {
+                reader,
+                writer: &mut *writer,
+            };
+            run_task(rt, environment, &task, &mut peer, &mut printed)
+        }
+        Err(error) => explain(&error, &mut printed),
+    };
+    errors.write_all(&printed.messages).context("the messages")?;
+    writer.write_all(&printed.answer)?;
+    ended
 }

@@ -1,12 +1,11 @@
 //! Takes an object from an object file that is not in the store.
 use crate::outputs::{has_outputs, write_outputs};
-use crate::server::{Given, Sources};
+use crate::server::{Given, Peer, given_file, key_of};
 use anyhow::{Context, Result};
 use cck_cache_arguments::{Packed, Source};
 use cck_cache_files::{Kind, StoreDirectory};
 use cck_cache_rules::object_in;
 use std::fs;
-use std::io::{Read, Write};
 use std::rt::Files;
 
 /// How an object file was taken.
@@ -23,12 +22,12 @@ pub enum Taken {
 }
 
 // Writes the parts of an object file of these bytes.
-fn write_parts<R: Files + AllocGlobal, E: Write>(
+fn write_parts<R: Files + AllocGlobal>(
     rt: &R,
     store: &StoreDirectory,
     packed: &Packed<'_>,
     bytes: &[u8],
-    errors: &mut E,
+    messages: &mut Vec<u8>,
 ) -> Result<Taken> {
     let Some(object) = object_in(rt.alloc(), packed.name, bytes)? else {
         return Ok(Taken::Damaged);
@@ -36,7 +35,7 @@ fn write_parts<R: Files + AllocGlobal, E: Write>(
     if !has_outputs(&object, &packed.outputs) {
         return Ok(Taken::Damaged);
     }
-    write_outputs(rt, store, &packed.outputs, &object, errors)?;
+    write_outputs(rt, store, &packed.outputs, &object, messages)?;
     Ok(Taken::Written)
 }
 
@@ -44,26 +43,30 @@ fn write_parts<R: Files + AllocGlobal, E: Write>(
 /// compiler's messages. In all other cases nothing is written. Where the store keeps what a server has, the object file is
 /// written there, if it can be.
 ///
-/// The error is of an object file that can't be read, of a failed write or read of the streams by which a server is asked,
-/// lack of memory, or that of [`write_outputs`], which says what is then written.
-pub fn unpack<R: Files + AllocGlobal, I: Read, W: Write, E: Write>(
+/// The error is of an object file that can't be read, a key of signatures that can't be read or is too short, lack of memory,
+/// that of [`Peer::get`], or that of [`write_outputs`], which says what is then written.
+pub fn unpack<R: Files + AllocGlobal, S: Peer>(
     rt: &R,
     store: &StoreDirectory,
     packed: &Packed<'_>,
-    sources: &mut Sources<'_, I, W>,
-    errors: &mut E,
+    peer: &mut S,
+    messages: &mut Vec<u8>,
 ) -> Result<Taken> {
-    if let Source::Path(path) = packed.source {
-        let bytes = fs::read(rt, path).context("the object file")?;
-        return write_parts(rt, store, packed, &bytes, errors);
-    }
-    let bytes = match sources.get(rt.alloc(), Kind::Object, packed.name)? {
+    let server = match packed.source {
+        Source::Path(path) => {
+            let bytes = fs::read(rt, path).context("the object file")?;
+            return write_parts(rt, store, packed, &bytes, messages);
+        }
+        Source::Server(server) => server,
+    };
+    let (alloc, key) = (rt.alloc(), key_of(rt, Some(server))?);
+    let bytes = match given_file(alloc, peer, key.as_deref(), Kind::Object, packed.name)? {
         Given::File(bytes) => bytes,
         Given::Forged => return Ok(Taken::Forged),
-        Given::Unexpanded | Given::Nothing => return Ok(Taken::Absent),
+        Given::Nothing => return Ok(Taken::Absent),
     };
-    let taken = write_parts(rt, store, packed, &bytes, errors)?;
-    if taken == Taken::Written && sources.keeps() {
+    let taken = write_parts(rt, store, packed, &bytes, messages)?;
+    if taken == Taken::Written && server.keeps {
         let _ = store.write(rt, Kind::Object, packed.name, &bytes);
     }
     Ok(taken)

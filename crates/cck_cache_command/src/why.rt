@@ -13,37 +13,38 @@ use cck_entry::{PathMap, ResultRef};
 use cck_files::MapFiles;
 use cck_include::{JudgeContext, KnownFiles, include_matches};
 use cck_util::Sha256State;
+use std::alloc::AllocError;
 use std::io::Write;
 use std::rt::Files;
 
-// Prints a line with a path, which may be any bytes.
-fn print_path<W: Write>(writer: &mut W, word: &[u8], path: &[u8]) -> Result<()> {
-    writer.write_all(word)?;
-    writer.write_all(path)?;
-    writer.write_all(b"\n")?;
+// Appends a line with a path, which may be any bytes.
+fn print_path(lines: &mut Vec<u8>, word: &[u8], path: &[u8]) -> Result<(), AllocError> {
+    lines.extend_from_slice(word)?;
+    lines.extend_from_slice(path)?;
+    lines.push(b'\n')?;
     Ok(())
 }
 
-// Prints a line for a test that fails.
-fn print_test<W: Write>(writer: &mut W, test: &PathTest) -> Result<()> {
+// Appends a line for a test that fails.
+fn print_test(lines: &mut Vec<u8>, test: &PathTest) -> Result<(), AllocError> {
     match test {
-        PathTest::Absent(path) => print_path(writer, b"present ", path),
-        PathTest::File(path) => print_path(writer, b"absent ", path),
+        PathTest::Absent(path) => print_path(lines, b"present ", path),
+        PathTest::File(path) => print_path(lines, b"absent ", path),
         PathTest::Directory(path)
         | PathTest::Searched { path, .. }
         | PathTest::Plain(path)
-        | PathTest::Real { path, .. } => print_path(writer, b"changed ", path),
+        | PathTest::Real { path, .. } => print_path(lines, b"changed ", path),
     }
 }
 
-// Prints the path of each file that a result included and that does not match.
-fn print_changed<R: AllocGlobal, W: Write>(
+// Appends the path of each file that a result included and that does not match.
+fn print_changed<R: AllocGlobal>(
     rt: &R,
     environment: &Environment<'_>,
     files: &mut MapFiles,
     known: &mut KnownFiles,
     found: &ResultRef<'_>,
-    writer: &mut W,
+    lines: &mut Vec<u8>,
 ) -> Result<()> {
     let context = JudgeContext {
         moment: environment.now,
@@ -60,23 +61,23 @@ fn print_changed<R: AllocGlobal, W: Write>(
             &context,
         )?;
         if !matches {
-            print_path(writer, b"changed ", include.path)?;
+            print_path(lines, b"changed ", include.path)?;
         }
     }
     Ok(())
 }
 
-// Prints what of an entry does not match.
-fn print_entry<R: Files + AllocGlobal, W: Write>(
+// Appends what of an entry does not match.
+fn print_entry<R: Files + AllocGlobal>(
     rt: &R,
     environment: &Environment<'_>,
     files: &mut MapFiles,
     file: &EntryFile,
-    writer: &mut W,
+    lines: &mut Vec<u8>,
 ) -> Result<()> {
     let nothing_known = PathMap::new(rt.alloc());
     if let Some(test) = first_failing(rt, &nothing_known, &file.tests)? {
-        print_test(writer, test)?;
+        print_test(lines, test)?;
     }
     let Some(entry) = entry_view(rt.alloc(), &file.entry)? else {
         bail!("the bytes of the entry are malformed");
@@ -84,54 +85,54 @@ fn print_entry<R: Files + AllocGlobal, W: Write>(
     add_entry_files(rt, files, &nothing_known, &entry)?;
     let mut known = KnownFiles::new(rt.alloc());
     for result in entry.results() {
-        writeln!(writer, "result {}", result.key())?;
-        print_changed(rt, environment, files, &mut known, result, writer)?;
+        writeln!(lines, "result {}", result.key())?;
+        print_changed(rt, environment, files, &mut known, result, lines)?;
     }
     Ok(())
 }
 
-// Prints what the store has of a preprocessor key at a place. Returns whether there is a file.
-fn print_place<R: Files + AllocGlobal, W: Write>(
+// Appends what the store has of a preprocessor key at a place. Returns whether there is a file.
+fn print_place<R: Files + AllocGlobal>(
     rt: &R,
     environment: &Environment<'_>,
     store: &StoreDirectory,
     files: &mut MapFiles,
     key: &str,
     place: usize,
-    writer: &mut W,
+    lines: &mut Vec<u8>,
 ) -> Result<bool> {
     let name = entry_name(rt.alloc(), key, place)?;
     match read_entry(rt, store, key, name.as_str())? {
         Kept::Nothing => return Ok(false),
         Kept::Damaged => {
             let path = store.path_of(rt, Kind::Entry, name.as_str())?;
-            writeln!(writer, "damaged {path}")?;
+            writeln!(lines, "damaged {path}")?;
         }
-        Kept::Entry(file) => print_entry(rt, environment, files, &file, writer)?,
+        Kept::Entry(file) => print_entry(rt, environment, files, &file, lines)?,
     }
     Ok(true)
 }
 
-// Prints what the store has of a preprocessor key.
-fn print_kept<R: Files + AllocGlobal, W: Write>(
+// Appends what the store has of a preprocessor key.
+fn print_kept<R: Files + AllocGlobal>(
     rt: &R,
     environment: &Environment<'_>,
     store: &StoreDirectory,
     files: &mut MapFiles,
     key: &str,
-    writer: &mut W,
+    lines: &mut Vec<u8>,
 ) -> Result<()> {
     let mut has_file = false;
     for place in 0..ENTRY_FILES {
-        has_file |= print_place(rt, environment, store, files, key, place, writer)?;
+        has_file |= print_place(rt, environment, store, files, key, place, lines)?;
     }
     if !has_file {
-        writeln!(writer, "no entry")?;
+        writeln!(lines, "no entry")?;
     }
     Ok(())
 }
 
-/// Prints what the store has of a request and which paths keep it from matching, a line each. `false` where the
+/// Appends what the store has of a request and which paths keep it from matching, a line each. `false` where the
 /// request has no preprocessor key: then a line says that.
 ///
 /// - `preprocessor-key KEY`;
@@ -142,21 +143,21 @@ fn print_kept<R: Files + AllocGlobal, W: Write>(
 /// - `result KEY`, and after it `changed PATH` for each included file that does not match.
 ///
 /// The error is of an input that is no regular file that can be read, of a program of the compiler or
-/// of an entry file that can't be read, of an entry that is malformed, of a failed write, or lack of
-/// memory. Some lines may then be written.
-pub fn print_why<R: Files + AllocGlobal, W: Write>(
+/// of an entry file that can't be read, of an entry that is malformed, or lack of memory. Some lines may
+/// then be appended.
+pub fn print_why<R: Files + AllocGlobal>(
     rt: &R,
     environment: &Environment<'_>,
     store: &StoreDirectory,
     request: &Request<'_>,
-    writer: &mut W,
+    lines: &mut Vec<u8>,
 ) -> Result<bool> {
     let mut files = input_snapshot(rt, request)?;
     let Some(key) = request_key(rt, environment, request, &mut files)? else {
-        writeln!(writer, "{NO_KEY}")?;
+        writeln!(lines, "{NO_KEY}")?;
         return Ok(false);
     };
-    writeln!(writer, "preprocessor-key {key}")?;
-    print_kept(rt, environment, store, &mut files, key.as_str(), writer)?;
+    writeln!(lines, "preprocessor-key {key}")?;
+    print_kept(rt, environment, store, &mut files, key.as_str(), lines)?;
     Ok(true)
 }
