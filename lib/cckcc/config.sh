@@ -40,7 +40,7 @@ divide_line() {
     cck_name=${cck_name%"${cck_name##*[! 	]}"} cck_value=${cck_value#"${cck_value%%[! 	]*}"}
     case $cck_name in
     CCK_STORE|CCK_MAXSIZE|CCK_PROGRAM|CCK_LOG|CCK_READ|CCK_BASEDIR|CCK_DISABLE|CCK_RECHECK|CCK_COMPILER_CHECK) ;;
-    CCK_DIR|CCK_TTL|CCK_TIMEOUT|CCK_DEBUG|CCK_REMOTE_MODE|CCK_REMOTE_MAX) ;;
+    CCK_UMASK|CCK_DIR|CCK_TTL|CCK_TIMEOUT|CCK_DEBUG|CCK_REMOTE_MODE|CCK_REMOTE_MAX) ;;
     CCK_SECRET_FILE|CCK_CACERT|CCK_CERT|CCK_KEY|CCK_SIGN_KEY|CCK_VERIFY_KEY|CCK_COMPRESS) ;;
     ''|*[!A-Za-z0-9_]*) cck_fault="no name before '='"; return 1 ;;
     *) cck_fault="no such variable: $cck_name"; return 1 ;;

@@ -16,9 +16,19 @@ note() {
 
 # An empty file is made by `true > FILE`: the command `:` ends the shell where it can't be made.
 
+# Sets the umask for files of a directory that users share: that of CCK_UMASK, or the caller's without the bits of the group
+# where the directory has the set-group-ID bit and its group may write. It fails where the directory is not shared. It is
+# for a shell that writes no output of the call.
+share() {
+    case $CCK_UMASK in
+    [0-7]|[0-7][0-7]|[0-7][0-7][0-7]|0[0-7][0-7][0-7]) umask "$CCK_UMASK" ;;
+    *) [ -g "$cck_store" ] && [ -n "$(find "$cck_store" -prune -perm -2020)" ] && umask g=rwx ;;
+    esac
+}
+
 # Counts an event of the name $1, as cck_cache does.
 count() {
-    (trap '' XFSZ; [ -d "$cck_store/counts" ] || mkdir -p "$cck_store/counts"; printf . >> "$cck_store/counts/$1") 2>/dev/null
+    (trap '' XFSZ; share; [ -d "$cck_store/counts" ] || mkdir -p "$cck_store/counts"; printf . >> "$cck_store/counts/$1") 2>/dev/null
 }
 
 # Sets `cck_located` to the absolute path of a program, as the shell finds it, or to nothing. It starts no process.
@@ -283,7 +293,8 @@ write_list() {
     cck_tested=/etc/ld.so.cache:/etc/ld.so.preload
     [ "$cck_programs" = - ] || cck_tested=$cck_searched:$cck_tested
     cck_tested=$cck_driver:$cck_tested
-    {
+    (
+        share
         mkdir -p "$cck_store/compilers" &&
             {
                 printf '%s%s\n%s\n%s\n' "$cck_context" "$cck_driver" "$cck_tested" "$cck_programs"
@@ -291,7 +302,7 @@ write_list() {
             } > "$cck_list.new$$" &&
             touch -r "$cck_tried/asked" "$cck_list.new$$" && mv "$cck_list.new$$" "$cck_list"
         [ -e "$cck_store/empty.h" ] || true > "$cck_store/empty.h"
-    } 2>/dev/null
+    ) 2>/dev/null
 }
 
 # Asks the compiler for the programs, and keeps them. Where a tool fails the compiler is unknown to this call alone.
@@ -354,12 +365,16 @@ find_place() { cck_place=$cck_store/$1/${2%"${2#??}"}; }
 keep() {
     [ -n "$cck_keeps" ] || return 0
     find_place "$1" "$2"
-    { mkdir -p "$cck_place" && cp "$3" "$cck_place/$2.new$$" && mv "$cck_place/$2.new$$" "$cck_place/$2"; } 2>/dev/null
+    (share; mkdir -p "$cck_place" && cp "$3" "$cck_place/$2.new$$" && mv "$cck_place/$2.new$$" "$cck_place/$2") 2>/dev/null
 }
 
 # Records what was made of the text. The words are options of `record`, and those of the request. The shell of this function
-# becomes the program.
+# becomes the program. A look-up, which writes outputs too, has the caller's umask: others may use what it made in a
+# directory that is shared from here on, as far as the umask lets them.
 record() {
+    if share 2>/dev/null; then
+        find "$cck_store" -maxdepth 2 ! -perm -060 -exec chmod +rwX {} + 2>/dev/null
+    fi
     exec "$cck_program" record "$cck_store" --since="$cck_since" --preprocessor-key="$cck_key" \
         --search="$cck_scratch/text-search" "$@" 2>/dev/null < "$cck_scratch/text"
 }
@@ -454,7 +469,7 @@ may_have_text() {
 write_mark() {
     [ -n "$cck_seen" ] && [ -s "$cck_scratch/sum" ] || return 0
     read -r cck_sum < "$cck_scratch/sum"
-    { [ -d "$cck_store/inputs" ] || mkdir -p "$cck_store/inputs"; printf '%s\n' "$cck_sum" > "$cck_seen"; } 2>/dev/null
+    (share; [ -d "$cck_store/inputs" ] || mkdir -p "$cck_store/inputs"; printf '%s\n' "$cck_sum" > "$cck_seen") 2>/dev/null
 }
 
 # Has the program look for the call's object.

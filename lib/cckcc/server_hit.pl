@@ -20,10 +20,8 @@
 #
 # It reads no module: `warnings` alone takes longer than all that it does.
 
-my ($locale, $formats, $seconds, $most, $mode, $program, @words) = @ARGV;
-my ($scheme, $address, $port, $place, $user, $secret) = map { my $line = <STDIN>; chomp $line; $line } 1 .. 6;
-my ($child, $to, $from, $server, $held, @addresses, $begun, $slow);
-my $piped = $SIG{PIPE} || 'DEFAULT';
+my ($locale, $formats, $seconds, $most, $mode, $program, @words);
+my ($piped, $child, $to, $from, $server, $held, @addresses, $begun, $slow);
 
 # Ends without an answer. The program has changed nothing yet where it waits for a reply.
 sub leave {
@@ -44,6 +42,20 @@ sub begin {
     open STDIN, '<&', $input and open STDOUT, '>&', $output and open STDERR, '>&', $messages and exec { $_[0] } @_;
     exit 127;
 }
+
+# The program begins before the rest of this text is compiled.
+BEGIN {
+    ($locale, $formats, $seconds, $most, $mode, $program, @words) = @ARGV;
+    $piped = $SIG{PIPE} || 'DEFAULT';
+    $SIG{PIPE} = 'IGNORE';
+    # A test of the syntax has no words.
+    if (@ARGV) {
+        if ($locale eq '') { delete $ENV{LC_ALL} } else { $ENV{LC_ALL} = substr $locale, 1 }
+        ($child, $to, $from) = begin(3, $program, @words) or leave();
+    }
+}
+
+my ($scheme, $address, $port, $place, $user, $secret) = map { my $line = <STDIN>; chomp $line; $line } 1 .. 6;
 
 # The structures that Linux has for the addresses of the server.
 sub addresses {
@@ -179,9 +191,6 @@ sub reply {
     eval { send_all($to, $bytes eq '' ? "-\n" : length($bytes) . "\n$bytes") };
 }
 
-$SIG{PIPE} = 'IGNORE';
-if ($locale eq '') { delete $ENV{LC_ALL} } else { $ENV{LC_ALL} = substr $locale, 1 }
-($child, $to, $from) = begin(3, $program, @words) or leave();
 # The program reads the input meanwhile. A call that the directory has does not wait for the server.
 if ($mode eq 'only') { eval { find_server() }; alarm 0 }
 while (defined(my $line = <$from>)) {
