@@ -531,10 +531,9 @@ fn look_for<R: Files + AllocGlobal, S: Peer>(
 /// changed, an entry file that names it, and not its present contents, is passed over. A server is asked for the entry
 /// file and the object that the store lacks.
 ///
-/// The error is of an input that is no regular file that can be read, of a program of the compiler, of
-/// the store or of a store of digests that can't be read, of a file that can't be made in the store after a miss, that of
-/// a key of
-/// signatures that can't be read or is too short, that of [`Peer::get`], or lack of memory.
+/// The error is of an input that is not a regular file that can be read, of a program of the compiler, of
+/// the store or of a store of digests that can't be read, of a file that can't be made in the store after a miss, of a key
+/// of signatures that can't be read or is too short, that of [`given_file`], or lack of memory.
 ///
 /// No contract can say what a disk holds. So what is found is stated over snapshots that there are: one
 /// that has the input alone, and one that has files that the entry names too.

@@ -28,8 +28,9 @@ fn write_in_place<R: Files>(rt: &R, path: &str, bytes: &[u8]) -> io::Result<()> 
 /// messages are appended to `messages`. As gcc does, the dependency file is written in place and before the object,
 /// and the object is made anew: an object that is there has its dependencies.
 ///
-/// The error is of a file that can't be made, written or renamed, or lack of memory. What was written before it stays: the dependency file then may have some of its bytes,
-/// as one of a compilation that failed.
+/// The error is of a file that can't be made, written or renamed, or lack of memory. What was written
+/// before it stays: the dependency file then may have some of its bytes, as one of a compilation that
+/// failed.
 pub fn write_outputs<R: Files + AllocGlobal>(
     rt: &R,
     store: &StoreDirectory,

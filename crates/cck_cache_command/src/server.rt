@@ -205,7 +205,7 @@ fn tested_value<'a>(key: Option<&[u8]>, kind: Kind, name: &str, value: &'a [u8])
 
 /// Asks for the file of a kind and a name. With a key of signatures, a value that it did not sign is not used.
 ///
-/// The error is of a failed write or read of the caller's streams, or lack of memory.
+/// The error is that of [`Peer::get`] or [`Peer::expand`], or lack of memory.
 pub fn given_file<S: Peer>(
     alloc: Global,
     peer: &mut S,

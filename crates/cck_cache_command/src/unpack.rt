@@ -44,7 +44,7 @@ fn write_parts<R: Files + AllocGlobal>(
 /// written there, if it can be.
 ///
 /// The error is of an object file that can't be read, a key of signatures that can't be read or is too short, lack of memory,
-/// that of [`Peer::get`], or that of [`write_outputs`], which says what is then written.
+/// that of [`given_file`], or that of [`write_outputs`], which says what is then written.
 pub fn unpack<R: Files + AllocGlobal, S: Peer>(
     rt: &R,
     store: &StoreDirectory,

@@ -1,12 +1,8 @@
-use Rattle.std.proofs.Common.{◌∙◌, Err, Ok, Result, Some, ap, inl, inr, option_map, refl, sym}
-use Rattle.std.specs.Prelude.{IfErr}
+use Rattle.std.proofs.Common.{◌∙◌, Some, ap, inl, inr, option_map, refl, sym}
+use Rattle.std.proofs.lemmas.Result.{IfErr-weaker}
 use Rattle.cck_files.proofs.CallsLemmas.{keeps_itself}
 use Rattle.c_cache_keys.specs.Opening.{text_of}
 use Rattle.c_cache_keys.proofs.hasher.asking.find.Goals as goal
-
-if_error : {X E : Type 0} {P Q : E → Type 0} (r : Result X E) → ((e : E) → P e → Q e) → IfErr r P → IfErr r Q
-if_error (Ok x) f h = tt
-if_error (Err e) f h = f e h
 
 pub returns-in_default-clause-keeps : goal.returns-in_default-clause-keeps
 returns-in_default-clause-keeps g c = keeps_itself c.args.files.now
@@ -23,7 +19,7 @@ returns-in-Default-clause-found g c =
 
 pub returns-in-Default-clause-reason : goal.returns-in-Default-clause-reason
 returns-in-Default-clause-reason g c =
-    if_error c.ask.result (λ e why. (c.as_str.result.now, ap (option_map text_of) c.in-Some.is ∙ ap Some (sym c.as_str.ensures.value), why)) c.ask.ensures.reason
+    IfErr-weaker c.ask.result _ _ (λ e why. (c.as_str.result.now, ap (option_map text_of) c.in-Some.is ∙ ap Some (sym c.as_str.ensures.value), why)) c.ask.ensures.reason
 
 pub returns-in-ForceRecache-clause-keeps : goal.returns-in-ForceRecache-clause-keeps
 returns-in-ForceRecache-clause-keeps g c = keeps_itself c.args.files.now
