@@ -221,7 +221,7 @@ def checkouts(test, server):
             test.check(label, (way_of(done), done.counts["server-failed"]), (wanted, 0))
 
 
-# Variables with which a client asks for a hit too, and not the script for hits alone.
+# Variables with which a client asks for a hit too, and not the program.
 BY_CLIENT = [{"PERL5OPT": "-MNone"}, {"PERL_UNICODE": "SD"}, {"CCK_TIMEOUT": "10.5"}]
 
 
@@ -600,9 +600,9 @@ def main(names):
         with Processes() as processes:
             subprocess.run(["sh", "-c", "sleep 0.5", servers.SECRETS[0]], check=True)
         test.check("the watch of arguments", bool(processes.found), True)
-        strict = subprocess.run(["perl", "-Mstrict", "-Mwarnings", "-c", str(TOP / "lib/cckcc/server_hit.pl")], check=False,
+        strict = subprocess.run(["perl", "-Mstrict", "-Mwarnings", "-c", str(TOP / "lib/cckcc/connect.pl")], check=False,
                                 capture_output=True, text=True)
-        test.check("the script for hits", strict.stderr, f"{TOP}/lib/cckcc/server_hit.pl syntax OK\n")
+        test.check("the script for hits", strict.stderr, f"{TOP}/lib/cckcc/connect.pl syntax OK\n")
         with Processes() as processes:
             tried(test, names)
         secrets(test, processes.found)

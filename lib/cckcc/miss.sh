@@ -1,5 +1,5 @@
 # What bin/cckcc does with a call that is no hit: a compilation that is recorded, a call that is not cached, the first call
-# of a compiler, and a call by a server that lib/cckcc/server_hit.pl can't ask. bin/cckcc sources this script, and has set
+# of a compiler, and a call by a server that lib/cckcc/connect.pl can't connect to. bin/cckcc sources this script, and has set
 # `cck_compiler`, `cck_program`, `cck_store`, `cck_server`, the address of a server or nothing, with what lib/cckcc/server.sh
 # sets, `cck_digests`, the directory of the compilers' digests or nothing, `cck_color`, which is an option of the compiler
 # or nothing, and `cck_found`, what the program printed of the call, if it was called. The words are the compiler's
@@ -387,12 +387,22 @@ send() {
     put entry "$cck_key" "$cck_scratch/entry"
 }
 
-# Takes the object of the text from the server.
+# Takes the object of the text from the server, which the program asks, or a client where that can't or has no answer.
 take_text_from_server() {
     is_up || return 1
-    converse unpack "$cck_store" --name="$cck_object" --server="$cck_mode" \
-        ${CCK_VERIFY_KEY:+--verify-key="$CCK_VERIFY_KEY"} --out="$cck_out" \
-        ${cck_dependencies:+--dependencies="$cck_dependencies"}
+    cck_found=
+    set -- --name="$cck_object" --out="$cck_out" ${cck_dependencies:+--dependencies="$cck_dependencies"}
+    if is_plain; then ask_server unpack "$@"; fi
+    if [ -n "$cck_slow" ]; then
+        fail_slow
+        return 1
+    fi
+    case $cck_found in
+    unpacked*|absent*|damaged*|forged*) ;;
+    *)
+        converse unpack "$cck_store" --server="$cck_mode" ${CCK_VERIFY_KEY:+--verify-key="$CCK_VERIFY_KEY"} "$@"
+        ;;
+    esac
     case $cck_found in
     unpacked*) ;;
     *) note_unused $cck_found; return 1 ;;

@@ -129,8 +129,8 @@ read_http() {
     esac
 }
 
-# Whether lib/cckcc/server_hit.pl may ask the server for this call: it knows no TLS, no proxy and no password of an HTTP
-# server, and each of its parameters is a line. What it can't do lib/cckcc/client.sh does.
+# Whether the program itself may ask the server for this call, by lib/cckcc/connect.pl, which knows no TLS, no proxy and no
+# password of an HTTP server, and each of whose parameters is a line. What it can't do lib/cckcc/client.sh does.
 is_plain() {
     case $cck_scheme:$cck_user$http_proxy$all_proxy$ALL_PROXY:$cck_address in
     redis:*|redis+unix:*) ;;
@@ -146,15 +146,15 @@ is_plain() {
     esac
     [ -z "$cck_has_specs$PERL5OPT$PERL5DB$PERL_UNICODE$PERLIO${GLIBC_TUNABLES+set}" ] &&
         { command -v perl 3>&1 > /dev/null; } 4>&2 2>/dev/null && [ ! -e "$cck_store/down-$cck_mark" ] &&
-        find_script server_hit.pl
+        find_script connect.pl
 }
 
-# Sets what the script has to know of the server beside the scheme, the user and the secret: `cck_host`, `cck_port` and
+# Sets what the program has to know of the server beside the scheme, the user and the secret: `cck_host`, `cck_port` and
 # `cck_database`.
 describe_server() {
     case $cck_scheme in
     redis) cck_port=${cck_port:-6379} ;;
-    redis+unix) cck_host=$cck_address ;;
+    redis+unix) cck_host=$cck_address cck_port=0 ;;
     http)
         cck_host=${cck_mark%%:*} cck_port=80 cck_database=${cck_url#http://"$cck_mark"}
         case $cck_mark in
@@ -165,15 +165,18 @@ describe_server() {
     esac
 }
 
-# Runs the script, which has the program look for an object and asks the server, and sets `cck_found` to what it prints. The
-# words are those of the program. The shell that takes what is printed becomes perl, and a here-document needs no process.
-relay() {
+# Has the program ask the server, and sets `cck_found` to what it prints, and `cck_slow` if a request took too long. The words
+# are the command and its options. The shell that takes what is printed becomes perl, which becomes the program, and a
+# here-document needs no process.
+ask_server() {
     describe_server
+    cck_command=$1
+    shift
     {
         cck_found=$(
             trap '' XFSZ
-            set -- "${LC_ALL+=$LC_ALL}" "$cck_formats" "${CCK_TIMEOUT:-2}" "$cck_max" "$cck_mode" "$cck_program" look \
-                "$cck_store" --server="$cck_mode" ${CCK_VERIFY_KEY:+--verify-key="$CCK_VERIFY_KEY"} "$@"
+            set -- "${LC_ALL+=$LC_ALL}" "${CCK_TIMEOUT:-2}" "$CCK_COMPRESS" "$cck_program" "$cck_command" "$cck_store" \
+                --server="$cck_mode" ${CCK_VERIFY_KEY:+--verify-key="$CCK_VERIFY_KEY"} "$@"
             export LC_ALL=C
             exec perl "$cck_script" "$@" <<LINES
 $cck_scheme
@@ -182,14 +185,21 @@ $cck_port
 $cck_database
 $cck_user
 $cck_secret
+$cck_formats
+$cck_max
 LINES
         )
     } 3>&2 2>/dev/null
+    # The status of SIGALRM, which ends the look-up of a name.
+    case $?:$cck_found in
+    142:*) cck_slow=1 ;;
+    *:late"$cck_newline"*) cck_slow=1 cck_found=${cck_found#*"$cck_newline"} ;;
+    esac
 }
 
 # Takes a hit of the server, and ends, if all is plain. Otherwise `cck_found` is the answer of the program, or nothing if
-# the server has to be asked again, and `cck_slow` is not empty if a request took too long. The words are the compiler's. A
-# hit of the directory starts no other process.
+# the server has to be asked again, by a client that says what failed. The words are the compiler's. A hit of the directory
+# starts no other process.
 take_hit() {
     cck_slow= cck_mode=only
     [ -z "$CCK_DIR" ] || cck_mode=keep
@@ -204,16 +214,12 @@ take_hit() {
         *) return ;;
         esac
     fi
-    relay "$@"
-    case $?:$cck_found in
-    *:hit"$cck_newline"*) cck_found=${cck_found#*"$cck_newline"}; end_by_hit ;;
-    *:asked"$cck_newline"*) ;;
-    *:slow"$cck_newline"*) cck_slow=1 ;;
-    # The status of SIGALRM.
-    142:*) cck_slow=1 cck_found= ;;
+    ask_server look "$@"
+    case $cck_found in
+    hit*) end_by_hit ;;
+    miss*|none*|passed*) ;;
     *) cck_found= ;;
     esac
-    cck_found=${cck_found#*"$cck_newline"}
 }
 
 # Ends after a hit.

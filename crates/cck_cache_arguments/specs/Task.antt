@@ -24,18 +24,24 @@ pub record IsOutputs (found : Found) (words : OutputWords) : Type 0 where
   pub object : first_value found (codes "out") ≡ Some words.object
   pub dependencies : first_value found (codes "dependencies") ≡ words.dependencies
 
--- a server: whether what it has is kept in a store, and the path of the key of signatures, if one is given
+-- a server: whether what it has is kept in a store, and the paths of its address and of the key of signatures, if they are given
 pub record ServerWords : Type 0 where
   pub keeps : Bool
+  pub address : Option (List ℕ)
   pub verify_key : Option (List ℕ)
 
 abbrev pub server_words : Server → ServerWords
-server_words server = record { keeps = server.keeps; verify_key = option_map (λ k. k.now) server.verify_key }
+server_words server = record {
+  keeps = server.keeps;
+  address = option_map (λ a. a.now) server.address;
+  verify_key = option_map (λ k. k.now) server.verify_key;
+}
 
 pub record IsServer (found : Found) (words : ServerWords) : Type 0 where
   pub mode : List ℕ
   pub given : first_value found (codes "server") ≡ Some mode
   pub keeps : IsTrue words.keeps ↔ (mode ≡ codes "keep")
+  pub address : first_value found (codes "address") ≡ words.address
   pub verify_key : first_value found (codes "verify-key") ≡ words.verify_key
 
 -- where an object file is: at a path, or at a server

@@ -118,7 +118,14 @@ const SERVER: OptionWords<'static> = (
     Need::OneOf(&["keep", "only"]),
     "server",
     "MODE",
-    "Asks a server by lines on standard output, and reads its replies on standard input: after the store, which keeps what the server has (keep), or nothing but the server (only)",
+    "Asks a server: after the store, which keeps what the server has (keep), or nothing but the server (only)",
+);
+
+const ADDRESS: OptionWords<'static> = (
+    Need::With("server"),
+    "address",
+    "FILE",
+    "The address of the server; without it lines on standard output ask for what the server has, and its replies are read on standard input",
 );
 
 const VERIFY_KEY: OptionWords<'static> = (
@@ -128,10 +135,11 @@ const VERIFY_KEY: OptionWords<'static> = (
     "The key without whose signature no value of the server is used",
 );
 
-static UNPACK: [OptionWords<'static>; 6] = [
+static UNPACK: [OptionWords<'static>; 7] = [
     (Need::Always, "name", "NAME", "The name of the object"),
     (Need::Without("server"), "packed", "FILE", "The object file"),
     SERVER,
+    ADDRESS,
     VERIFY_KEY,
     (Need::Always, "out", "FILE", "Where the object is written"),
     (
@@ -142,7 +150,7 @@ static UNPACK: [OptionWords<'static>; 6] = [
     ),
 ];
 
-static LOOK: [OptionWords<'static>; 2] = [SERVER, VERIFY_KEY];
+static LOOK: [OptionWords<'static>; 3] = [SERVER, ADDRESS, VERIFY_KEY];
 
 static SEAL: [OptionWords<'static>; 2] = [
     (

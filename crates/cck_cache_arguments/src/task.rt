@@ -34,6 +34,8 @@ pub struct Outputs<'a> {
 pub struct Server<'a> {
     /// Whether the store is asked before the server, and keeps what the server has. Otherwise nothing of the store is used.
     pub keeps: bool,
+    /// The path of the file with the address of the server, which the program then asks itself. Without one it asks by lines.
+    pub address: Option<&'a str>,
     /// The path of the key of signatures. With one, a value without the signature of this key is not used.
     pub verify_key: Option<&'a str>,
 }
@@ -210,6 +212,7 @@ fn server_of<'a>(matches: &ArgMatches<'a>) -> Option<Server<'a>>
 {
     Some(Server {
         keeps: matches.get_str("server")? == "keep",
+        address: matches.get_str("address"),
         verify_key: matches.get_str("verify-key"),
     })
 }

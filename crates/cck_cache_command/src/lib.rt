@@ -22,7 +22,7 @@ mod record;
 mod request;
 mod response;
 mod seal;
-mod server;
+mod server_key;
 mod store;
 mod unpack;
 mod why;

@@ -12,7 +12,7 @@ use crate::input::input_snapshot;
 use crate::naming::name_of;
 use crate::outputs::has_outputs;
 use crate::request::{hasher_of, snapshot_request};
-use crate::server::{Given, Peer, given_file, key_of};
+use crate::server_key::server_key;
 use anyhow::{Context, Result};
 use c_cache_keys::PreprocessorKey;
 use cck_cache_arguments::{Look, Outputs, Request};
@@ -20,6 +20,7 @@ use cck_cache_files::{
     ENTRY_FILES, Kind, StoreDirectory, entry_name, first_failing, unchanged_statuses,
 };
 use cck_cache_rules::{EntryFile, ObjectFile, PathStatus, entry_in, object_in};
+use cck_cache_server::{Given, Peer, given_file};
 use cck_cache_store::entry_view;
 use cck_files::MapFiles;
 use cck_path::Timestamp;
@@ -547,7 +548,7 @@ pub fn look<R: Files + AllocGlobal, S: Peer>(
     ensures { IfOk result (IsLookResult environment.entry.now wanted.now) }
 {
     let request = &wanted.request;
-    let verify_key = key_of(rt, wanted.server)?;
+    let verify_key = server_key(rt, wanted.server)?;
     let hasher = hasher_of(rt, environment, request)?;
     let mut files = input_snapshot(rt, request)?;
     let asked = snapshot_request(

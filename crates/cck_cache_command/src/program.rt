@@ -10,7 +10,6 @@ use crate::programs::{Named, programs_of};
 use crate::record::{Outcome, record};
 use crate::request::request_key;
 use crate::seal::seal;
-use crate::server::{Peer, StreamPeer};
 use crate::store::store_in;
 use crate::unpack::{Taken, unpack};
 use crate::why::print_why;
@@ -21,18 +20,22 @@ use cck_cache_arguments::{
 };
 use cck_cache_files::{Kind, StoreDirectory, entry_name};
 use cck_cache_options::{Call, GCC, rows_of};
+use cck_cache_server::{Peer, RemotePeer, StreamPeer, address_in};
 use cck_cache_store::{
     clear_store, limit_shares, print_files, print_stats, prune_store, verify_store,
 };
 use cck_path::Timestamp;
 use clap::Error;
 use clap::error::ErrorKind;
-use std::io;
 use std::io::{Read, Write};
 use std::rt::Files;
+use std::{fs, io, mem};
 
 /// The exit status of a program that did what was asked for.
 const DONE: u8 = 0;
+
+/// The exit status after an error.
+const FAILED: u8 = 1;
 
 /// The exit status for wrong words.
 const USAGE: u8 = 2;
@@ -40,13 +43,18 @@ const USAGE: u8 = 2;
 /// The exit status where there is no key, no object or no recording, or where a call is not cached.
 const MISS: u8 = 3;
 
+/// The line before the answer where a request to a server took too long.
+const LATE: &[u8] = b"late\n";
+
 // What the program prints.
 #[derive(Drop)]
 struct Printed {
-    // On standard output.
+    // On standard output, or to a file.
     answer: Vec<u8>,
     // On standard error: the compiler's messages, or what is wrong with the words.
     messages: Vec<u8>,
+    // The path of a file to which the answer is written in place of standard output, if there is one.
+    place: Option<String>,
 }
 
 // What a call of a compiler asks for.
@@ -468,11 +476,76 @@ fn explain(error: &Error, printed: &mut Printed) -> Result<u8> {
     }
 }
 
+// The path of the address of the server that a task asks, if it has one.
+fn address_path<'a>(task: &Task<'a>) -> Option<&'a str> {
+    let server = match task {
+        Task::Call {
+            action: Action::Look { server, .. },
+            ..
+        } => (*server)?,
+        Task::Unpack { packed, .. } => match packed.source {
+            Source::Server(server) => server,
+            Source::Path(_) => return None,
+        },
+        _ => return None,
+    };
+    server.address
+}
+
+// Does what was asked for with the server whose address a file of this path has, and to which the two streams lead. The answer
+// has the error, if there is one.
+fn run_remote<R: Files + AllocGlobal + Clone + Drop, I: Read, W: Write>(
+    rt: &R,
+    environment: &Environment<'_>,
+    task: &Task<'_>,
+    path: &str,
+    reader: &mut I,
+    writer: &mut W,
+    printed: &mut Printed,
+) -> Result<u8> {
+    let alloc = rt.alloc();
+    let text = fs::read_to_string(rt, path).context("the address of the server")?;
+    let Some(address) = address_in(&text) else {
+        bail!("the address of the server has not the lines of one");
+    };
+    printed.place = Some(String::from_str(alloc, address.answer)?);
+    let mut peer = RemotePeer::new(rt, &address, reader, writer)?;
+    let status = match run_task(rt, environment, task, &mut peer, printed) {
+        Ok(status) => status,
+        Err(error) => {
+            writeln!(printed.answer, "error: {error:#}")?;
+            FAILED
+        }
+    };
+    if peer.is_late() {
+        let answer = mem::replace(&mut printed.answer, LATE.to_vec(alloc)?);
+        printed.answer.extend_from_slice(&answer)?;
+    }
+    Ok(status)
+}
+
+// Does what was asked for, with the server of a task that has an address, or with a process that is asked by lines.
+fn run_with_peer<R: Files + AllocGlobal + Clone + Drop, I: Read, W: Write>(
+    rt: &R,
+    environment: &Environment<'_>,
+    task: &Task<'_>,
+    reader: &mut I,
+    writer: &mut W,
+    printed: &mut Printed,
+) -> Result<u8> {
+    if let Some(path) = address_path(task) {
+        return run_remote(rt, environment, task, path, reader, writer, printed);
+    }
+    let mut peer = StreamPeer { reader, writer };
+    run_task(rt, environment, task, &mut peer, printed)
+}
+
 /// Does what these words ask for, of which the first is the program's name. Returns the exit
 /// status. What is wrong with the words is written to `errors`.
 ///
 /// The error is of what could not be read or written, of a malformed line marker, or lack of memory. What was to be written
-/// before it is written.
+/// before it is written. With the address of a server the two streams lead to it, and the answer, which then has the error, is
+/// written to the file that the address names.
 pub fn run<R: Files + AllocGlobal + Clone + Drop, I: Read, W: Write, E: Write>(
     rt: &R,
     environment: &Environment<'_>,
@@ -485,18 +558,16 @@ pub fn run<R: Files + AllocGlobal + Clone + Drop, I: Read, W: Write, E: Write>(
     let mut printed = Printed {
         answer: Vec::new(alloc),
         messages: Vec::new(alloc),
+        place: None,
     };
     let ended = match task_of(alloc, words) {
-        Ok(task) => {
-            let mut peer = StreamPeer {
-                reader,
-                writer: &mut *writer,
-            };
-            run_task(rt, environment, &task, &mut peer, &mut printed)
-        }
+        Ok(task) => run_with_peer(rt, environment, &task, reader, writer, &mut printed),
         Err(error) => explain(&error, &mut printed),
     };
     errors.write_all(&printed.messages).context("the messages")?;
-    writer.write_all(&printed.answer)?;
+    match &printed.place {
+        Some(place) => fs::create(rt, place.as_str())?.write_all(&printed.answer)?,
+        None => writer.write_all(&printed.answer)?,
+    }
     ended
 }

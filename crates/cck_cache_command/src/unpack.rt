@@ -1,10 +1,11 @@
 //! Takes an object from an object file that is not in the store.
 use crate::outputs::{has_outputs, write_outputs};
-use crate::server::{Given, Peer, given_file, key_of};
+use crate::server_key::server_key;
 use anyhow::{Context, Result};
 use cck_cache_arguments::{Packed, Source};
 use cck_cache_files::{Kind, StoreDirectory};
 use cck_cache_rules::object_in;
+use cck_cache_server::{Given, Peer, given_file};
 use std::fs;
 use std::rt::Files;
 
@@ -59,7 +60,7 @@ pub fn unpack<R: Files + AllocGlobal, S: Peer>(
         }
         Source::Server(server) => server,
     };
-    let (alloc, key) = (rt.alloc(), key_of(rt, Some(server))?);
+    let (alloc, key) = (rt.alloc(), server_key(rt, Some(server))?);
     let bytes = match given_file(alloc, peer, key.as_deref(), Kind::Object, packed.name)? {
         Given::File(bytes) => bytes,
         Given::Forged => return Ok(Taken::Forged),

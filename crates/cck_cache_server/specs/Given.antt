@@ -1,26 +1,12 @@
--- a server that is asked by lines
-use Rattle.std.specs.Prelude.{◌≡◌, ◌≤◌, ◌<◌, ◌⊎◌, ℕ, List, ◌++◌, Option, Some, None, codes, length}
+-- what is taken of the values of a server
+use Rattle.std.specs.Prelude.{◌≡◌, ◌⊎◌, ℕ, List, Option, Some, None, length}
 use Rattle.cck_cache_files.specs.declared.store_directory.Kind.{Kind}
-use Rattle.cck_cache_files.specs.declared.store_directory.Kind.TheVariants.{Entry, Object}
-use Rattle.cck_cache_command.specs.declared.server.Given.{Given}
-use Rattle.cck_cache_command.specs.declared.server.Given.TheVariants.{File, Forged, Nothing}
+use Rattle.cck_cache_server.specs.Peer.{kind_word}
+use Rattle.cck_cache_server.specs.declared.given.Given.{Given}
+use Rattle.cck_cache_server.specs.declared.given.Given.TheVariants.{File, Forged, Nothing}
 use Rattle.cck_cache_rules.specs.Value.{IsUnsigned, compressed_value, signed_value}
 use Rattle.cck_cache_rules.specs.Reading.{ReadsBack}
 use Rattle.sha2.specs.Sha256.{sha256}
-
--- the name of a kind at a server
-abbrev pub kind_word : Kind → List ℕ
-kind_word Entry = codes "entry"
-kind_word Object = codes "object"
-
--- the key that a file of these bytes has: they without a line feed at their end
-abbrev pub IsKeyIn : List ℕ → List ℕ → Type 0
-IsKeyIn bytes key = (bytes ≡ key ++ codes "\n") ⊎ ((bytes ≡ key) × ((k : List ℕ) → bytes ≡ k ++ codes "\n" → ⊥))
-
--- the key of signatures that a file of these bytes has, or none where it is shorter than 16 bytes
-abbrev pub IsSigningKey : List ℕ → Option (List ℕ) → Type 0
-IsSigningKey bytes (Some key) = IsKeyIn bytes key × (16 ≤ length key)
-IsSigningKey bytes None = (key : List ℕ) → IsKeyIn bytes key → length key < 16
 
 -- what is used of a value of a kind and a name: with a key the bytes that it signed, if it signed them; without one the bytes without a signature
 abbrev pub IsTested : Option (List ℕ) → Kind → List ℕ → List ℕ → Option (List ℕ) → Type 0

@@ -1,0 +1,4 @@
+pub mod Given
+pub mod Keys
+pub mod Peer
+pub mod Redis
