@@ -310,6 +310,17 @@ def http_faults(test, server):
     faulty.stop()
 
 
+def redis_faults(test, server):
+    """Replies of a Redis server that are not as they have to be: the call compiles, and each is counted."""
+    if server.scheme != "redis":
+        return
+    for reply, wrong, event in servers.REPLIES:
+        faulty = servers.WrongRedis(wrong)
+        done = test.compile(f"redis: {reply}", "one", "a", test.machine(), **faulty.variables())
+        test.check(f"redis: {reply}", (way_of(done), done.counts[event] > 0), ("recorded", True))
+        faulty.stop()
+
+
 # What a program prints that dies in the dialogue, or says what no program says.
 DEATHS = ["", "get entry", "get entry 0\\n", "get object 0\\nget object 0\\n", "expand 10 100\\nabc", "expand 10 3\\nabc",
           "get entry 0\\nnothing\\n", "nothing", "miss\\n", "\\n"]
@@ -570,7 +581,8 @@ def words_of(file):
 
 SERVERS = [servers.Redis, servers.RedisByTls, servers.RedisBySocket, servers.Nginx, servers.NginxByTls,
            servers.Lighttpd]
-CHECKS = [checkouts, clients, faults, http_faults, deaths, known, modes, signatures, compression, damage, forge, rechecked]
+CHECKS = [checkouts, clients, faults, http_faults, redis_faults, deaths, known, modes, signatures, compression, damage,
+          forge, rechecked]
 
 
 def chosen(items, names, name_of):

@@ -4,6 +4,7 @@ import http.server
 import pathlib
 import signal
 import socket
+import socketserver
 import subprocess
 import threading
 import time
@@ -396,6 +397,51 @@ class Faulty:
 
     def variables(self):
         return {"CCK_STORE": f"http://127.0.0.1:{self.server.server_address[1]}/some/prefix"}
+
+    def stop(self):
+        self.server.shutdown()
+        self.server.server_close()
+
+
+# What a Redis server may reply to a command for a value, and what is then counted. It closes the connection after it.
+REPLIES = [
+    ("an error", b"-ERR wrong\r\n", "server-failed"),
+    ("a status", b"+wrong\r\n", "server-damaged"),
+    ("a number", b":1\r\n", "server-damaged"),
+    ("a list", b"*1\r\n$3\r\nabc\r\n", "server-damaged"),
+    ("no number of bytes", b"$\r\n", "server-failed"),
+    ("a number of bytes that is a word", b"$three\r\nabc\r\n", "server-failed"),
+    ("a number of bytes below -1", b"$-2\r\n", "server-failed"),
+    ("a line that is cut", b"$3", "server-failed"),
+    ("less bytes", b"$4\r\nabc", "server-failed"),
+    ("more bytes", b"$3\r\nabcde\r\n", "server-damaged"),
+    ("too many bytes", b"$200000000\r\n" + bytes(1000), "server-failed"),
+    ("nothing", b"", "server-failed"),
+]
+
+
+class WrongRedis:
+    """A server of Redis's protocol that has one reply for each command for a value, and stores none."""
+
+    def __init__(self, reply):
+        class Session(socketserver.StreamRequestHandler):
+            """Reads commands, and replies to them."""
+
+            def handle(self):
+                while line := self.rfile.readline():
+                    words = []
+                    for _ in range(int(line[1:])):
+                        words.append(self.rfile.read(int(self.rfile.readline()[1:]) + 2)[:-2])
+                    if words[0] == b"GET":
+                        self.wfile.write(reply)
+                        return
+                    self.wfile.write(b"+OK\r\n")
+
+        self.server = socketserver.ThreadingTCPServer(("127.0.0.1", 0), Session)
+        threading.Thread(target=self.server.serve_forever, daemon=True).start()
+
+    def variables(self):
+        return {"CCK_STORE": f"redis://127.0.0.1:{self.server.server_address[1]}/1"}
 
     def stop(self):
         self.server.shutdown()
