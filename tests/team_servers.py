@@ -3,7 +3,7 @@
 message with gcc's: three checkouts, hits with and without a client, addresses that are not valid, faults of each server,
 signatures, compression, damaged and forged values. No fault may end a call, and each is counted. No secret may be an
 argument of a process, in the log, or in the environment of a compiler, and no key in the environment of any process. Needs
-gcc, openssl, perl, redis-server, redis-cli, nginx, lighttpd with mod_webdav, curl and zstd. The program is CCK_PROGRAM, by
+gcc, openssl, bash, perl, redis-server, redis-cli, nginx, lighttpd with mod_webdav, curl and zstd. The program is CCK_PROGRAM, by
 default the one that was proved and built here. DAMAGES is the number of damaged values, and that of forged ones, 100 by
 default, and DIGESTS a directory that keeps the digests of the compiler's programs for the next run. With names of checks
 or servers only these are tried.
@@ -35,12 +35,12 @@ FILES = {
 }
 SOURCES = ["a", "b", "it's large"]
 # The programs in whose place a script notes the arguments and the environment, and calls the program.
-WATCHED = ["as", "curl", "perl", "redis-cli", "zstd"]
+WATCHED = ["as", "bash", "curl", "perl", "redis-cli", "zstd"]
 WATCH = """#!/bin/sh
 limit=$(ulimit -S -f)
 ulimit -S -f unlimited
 name=${0##*/} here=${0%/*}
-case $name in as|perl|zstd) env >>"$here/environment" ;; esac
+case $name in as|bash|perl|zstd) env >>"$here/environment" ;; esac
 printf '%s\\n' "$name" "$@" >>"$here/arguments"
 program=$(PATH=${PATH#*:}; command -v "$name")
 ulimit -S -f "$limit"
@@ -221,36 +221,43 @@ def checkouts(test, server):
             test.check(label, (way_of(done), done.counts["server-failed"]), (wanted, 0))
 
 
-# Variables with which a client asks for a hit too, and not the program.
-BY_CLIENT = [{"PERL5OPT": "-MNone"}, {"PERL_UNICODE": "SD"}, {"CCK_TIMEOUT": "10.5"}]
+# Variables with which a client asks for a hit too, and not the program, by a Unix socket and by TCP.
+BY_CLIENT = {
+    "redis+unix": [{"PERL5OPT": "-MNone"}, {"PERL_UNICODE": "SD"}, {"CCK_TIMEOUT": "10.5"}],
+    "tcp": [{"CCK_TIMEOUT": "10.5"}, {"CCK_TIMEOUT": "02"}],
+}
+# Variables that bash does not take from its environment.
+FOR_BASH = {"SHELLOPTS": "xtrace:verbose", "BASH_ENV": "/none", "POSIXLY_CORRECT": "1", "BASH_FUNC_exec%%": "() { false; }"}
 
 
 def clients(test, server):
     """A hit starts no client but by TLS, and where the environment is not plain. Each way writes the same."""
-    def hits(label, source, home, by_client, **changes):
-        """A call that hits, in the log and in the counts, and whether a client ran."""
+    def hits(label, source, home, by, **changes):
+        """A call that hits, in the log and in the counts, and which programs asked."""
         label = f"{server.scheme}: {label}, {source}.c"
         (test.seed / "arguments").write_text("")
         done = test.compile(label, "one", source, home, **{**server.variables(), **changes})
         started = (test.seed / "arguments").read_text().split("\n")
         test.arguments += "\n".join(started)
-        found = way_of(done), done.counts["server-hit"], "perl" in started, bool({"curl", "redis-cli"} & set(started))
-        test.check(label, found, ("hit", 1, not by_client, by_client))
+        asked = {"bash", "perl", "curl", "redis-cli"} & set(started)
+        test.check(label, (way_of(done), done.counts["server-hit"], asked), ("hit", 1, {by}))
 
-    by_tls = server.scheme in ("rediss", "https")
+    client = "curl" if server.scheme in ("http", "https") else "redis-cli"
+    by = {"rediss": client, "https": client, "redis+unix": "perl"}.get(server.scheme, "bash")
     for source in SOURCES:
         test.compile(f"{server.scheme}: {source}.c is recorded", "one", source, test.machine(), **server.variables())
         home = test.machine()
-        hits("a hit", source, home, by_tls)
+        hits("a hit", source, home, by)
+        hits("a hit with variables for bash", source, home, by, **FOR_BASH)
         directory = home / "kept"
         shutil.copytree(home / ".cache/cck", directory)
         variables = {"CCK_DIR": str(directory)}
-        hits("a hit that is kept", source, home, by_tls, **variables)
+        hits("a hit that is kept", source, home, by, **variables)
         done = test.compile(f"{server.scheme}: {source}.c was kept", "one", source, home,
                             **{**server.variables(), **variables})
         test.check(f"{server.scheme}: {source}.c was kept", (way_of(done), done.counts["hit"]), ("hit", 1))
-        for changes in BY_CLIENT:
-            hits(f"a hit with {changes}", source, home, True, **changes)
+        for changes in BY_CLIENT.get(server.scheme, BY_CLIENT["tcp"]):
+            hits(f"a hit with {changes}", source, home, client, **changes)
     # A server that was slow an hour ago is asked again, and then there is no mark of it.
     server.pause()
     test.compile(f"{server.scheme}: a slow server", "one", "a", home, **{**server.variables(), "CCK_TIMEOUT": "1"})
@@ -258,9 +265,9 @@ def clients(test, server):
     marks = list(home.glob(".cache/cck/down-*"))
     test.check(f"{server.scheme}: marks of a slow server", len(marks), 1)
     os.utime(marks[0], (0, 0))
-    hits("a hit after a mark", "a", home, True)
+    hits("a hit after a mark", "a", home, client)
     test.check(f"{server.scheme}: the mark", marks[0].exists(), False)
-    hits("a hit without a mark", "a", home, by_tls)
+    hits("a hit without a mark", "a", home, by)
 
 
 def faults(test, server):
@@ -338,7 +345,7 @@ def deaths(test, server):
     for printed in DEATHS:
         program.write_text(DYING % (printed, test.variables["CCK_PROGRAM"]))
         program.chmod(0o755)
-        for changes in ({}, BY_CLIENT[0]):
+        for changes in ({}, {"CCK_TIMEOUT": "10.5"}):
             label = f"{server.scheme}: a program that prints {printed} and dies, {changes}"
             done = test.compile(label, "one", "a", test.machine(), **server.variables(), **changes, CCK_PROGRAM=str(program))
             test.check(label, (way_of(done), done.counts["passed-error"]), ("passed on", 1))

@@ -1,12 +1,13 @@
-# Connects to a Redis server, or to an HTTP server, neither by TLS, and becomes the program, which asks the server on its
-# standard input and output. lib/cckcc/server.sh runs it as `perl connect.pl LOCALE SECONDS EXPANDS PROGRAM COMMAND WORD..`,
-# where LOCALE is `=` and the caller's LC_ALL, or empty where that is not set, SECONDS the time that nothing may come or be
-# sent, EXPANDS whether frames of zstd are expanded, and the words are those of the program's command.
+# Connects to a Redis server, or to an HTTP server, neither by TLS, and becomes the program, or where frames are expanded its
+# child does. The program asks the server on its standard input and output. lib/cckcc/server.sh runs it as `perl connect.pl
+# LOCALE SECONDS EXPANDS PROGRAM COMMAND WORD..`, where LOCALE is `=` and the caller's LC_ALL, or empty where that is not set,
+# SECONDS the time that nothing may come or be sent, EXPANDS whether frames of zstd are expanded, and the words are those of
+# the program's command.
 #
-# Standard input has eight lines: the scheme, the host or the path of a socket, the port, the database or what the path of a
-# name begins with, the user, the password or token, the number in the names at the server and the most bytes of a value.
-# The program has them, with the paths of its other streams, in a file that its option `--address` names: no secret is in an
-# argument or in the environment. Its answer is written to standard output, and its messages to stream 3.
+# Standard input begins with eight lines: the scheme, the host or the path of a socket, the port, the database or what the
+# path of a name begins with, the user, the password or token, the number in the names at the server and the most bytes of a
+# value. The program has them, with the paths of its other streams, in a file that its option `--address` names: no secret is
+# in an argument or in the environment. Its answer is written to standard output, and its messages to stream 3.
 #
 # It ends with status 1 where it can't connect, and by SIGALRM where it takes too long to find the server. It reads no
 # module: `warnings` alone takes longer than all that it does.
@@ -70,15 +71,19 @@ sub expanded {
     return $? == 0 && length $bytes == $size ? $bytes : '';
 }
 
-# Begins a process that replies to the program's lines for frames, until the program ends: two pipes to it.
+# Begins a process that becomes the program: two pipes of it. This process replies to its lines for frames until it ends, and
+# ends with its status.
 sub expander {
     pipe my $frames, my $to or return;
     pipe my $from, my $expanded or return;
     my $child = fork // return;
-    return ($to, $from) if $child;
+    if (!$child) {
+        close $frames;
+        close $expanded;
+        return ($to, $from);
+    }
     close $to;
     close $from;
-    open STDIN, '<', '/dev/null' and open STDOUT, '>', '/dev/null' or exit 1;
     $SIG{PIPE} = 'IGNORE';
     while (defined(my $line = <$frames>)) {
         last if $line !~ /^expand ([0-9]+) ([0-9]+)$/;
@@ -88,7 +93,8 @@ sub expander {
         my $reply = $bytes eq '' ? "-\n" : length($bytes) . "\n$bytes";
         while (length $reply) { substr $reply, 0, (syswrite $expanded, $reply or last), '' }
     }
-    exit 0;
+    waitpid $child, 0;
+    exit $? >> 8;
 }
 
 alarm $seconds;

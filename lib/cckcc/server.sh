@@ -129,8 +129,12 @@ read_http() {
     esac
 }
 
-# Whether the program itself may ask the server for this call, by lib/cckcc/connect.pl, which knows no TLS, no proxy and no
-# password of an HTTP server, and each of whose parameters is a line. What it can't do lib/cckcc/client.sh does.
+# Whether a program of this name is there, and standard output and standard error are open.
+is_there() { { command -v "$1" 3>&1 > /dev/null; } 4>&2 2>/dev/null; }
+
+# Whether the program itself may ask the server for this call: what connects it knows no TLS, no proxy and no password of an
+# HTTP server, and each parameter is a line. What it can't do lib/cckcc/client.sh does. `cck_script` is that of perl which
+# connects, or nothing where bash does: it starts in less time, and knows no Unix socket and no compressed value.
 is_plain() {
     case $cck_scheme:$cck_user$http_proxy$all_proxy$ALL_PROXY:$cck_address in
     redis:*|redis+unix:*) ;;
@@ -144,9 +148,13 @@ is_plain() {
     case ${CCK_TIMEOUT:-2} in
     0*|*[!0-9]*) return 1 ;;
     esac
-    [ -z "$cck_has_specs$PERL5OPT$PERL5DB$PERL_UNICODE$PERLIO${GLIBC_TUNABLES+set}" ] &&
-        { command -v perl 3>&1 > /dev/null; } 4>&2 2>/dev/null && [ ! -e "$cck_store/down-$cck_mark" ] &&
-        find_script connect.pl
+    if [ -n "$cck_has_specs${GLIBC_TUNABLES+set}" ] || [ -e "$cck_store/down-$cck_mark" ]; then return 1; fi
+    cck_script=
+    case $cck_scheme:$CCK_COMPRESS in
+    redis+unix:*|*:zstd) ;;
+    *) ! is_there bash || return 0 ;;
+    esac
+    [ -z "$PERL5OPT$PERL5DB$PERL_UNICODE$PERLIO" ] && is_there perl && find_script connect.pl
 }
 
 # Sets what the program has to know of the server beside the scheme, the user and the secret: `cck_host`, `cck_port` and
@@ -165,9 +173,17 @@ describe_server() {
     esac
 }
 
-# Has the program ask the server, and sets `cck_found` to what it prints, and `cck_slow` if a request took too long. The words
-# are the command and its options. The shell that takes what is printed becomes perl, which becomes the program, and a
-# here-document needs no process.
+# What bash does, whose words are a number of seconds, the host, the port and the words of the program: a child connects, and
+# becomes the program. It has the other end of a pipe, which is read until it ends, or for that time. Then it gets SIGALRM.
+cck_connect='exec 6<&0 7>&1
+    exec 4< <(exec 8>&1 5<> "/dev/tcp/$2/$3" && shift 3 && exec "$@" <&5 >&5 2>&3)
+    read -rt "$1" _ <&4
+    [ $? -le 128 ] || kill -ALRM $!
+    wait $!'
+
+# Has the program ask the server, and sets `cck_found` to what it prints, and `cck_slow` if it took too long. The words are the
+# command and its options. The shell that takes what is printed becomes bash, whose child becomes the program, or perl, which
+# does itself, and a here-document needs no process. The last three lines are those of bash: perl has its own in their place.
 ask_server() {
     describe_server
     cck_command=$1
@@ -175,10 +191,14 @@ ask_server() {
     {
         cck_found=$(
             trap '' XFSZ
-            set -- "${LC_ALL+=$LC_ALL}" "${CCK_TIMEOUT:-2}" "$CCK_COMPRESS" "$cck_program" "$cck_command" "$cck_store" \
-                --server="$cck_mode" ${CCK_VERIFY_KEY:+--verify-key="$CCK_VERIFY_KEY"} "$@"
+            set -- "$cck_store" --server="$cck_mode" ${CCK_VERIFY_KEY:+--verify-key="$CCK_VERIFY_KEY"} "$@"
+            [ -n "$cck_script" ] || exec bash -p -c "$cck_connect" bash "${CCK_TIMEOUT:-2}" "$cck_host" "$cck_port" \
+                "$cck_program" "$cck_command" --address=/dev/fd/6 "$@"
+            set -- "${LC_ALL+=$LC_ALL}" "${CCK_TIMEOUT:-2}" "$CCK_COMPRESS" "$cck_program" "$cck_command" "$@"
             export LC_ALL=C
-            exec perl "$cck_script" "$@" <<LINES
+            exec perl "$cck_script" "$@"
+        )
+    } 3>&2 2>/dev/null <<LINES
 $cck_scheme
 $cck_host
 $cck_port
@@ -187,10 +207,11 @@ $cck_user
 $cck_secret
 $cck_formats
 $cck_max
+/dev/fd/7
+
+
 LINES
-        )
-    } 3>&2 2>/dev/null
-    # The status of SIGALRM, which ends the look-up of a name.
+    # The status of SIGALRM.
     case $?:$cck_found in
     142:*) cck_slow=1 ;;
     *:late"$cck_newline"*) cck_slow=1 cck_found=${cck_found#*"$cck_newline"} ;;
