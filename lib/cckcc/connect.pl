@@ -71,8 +71,8 @@ sub expanded {
     return $? == 0 && length $bytes == $size ? $bytes : '';
 }
 
-# Begins a process that becomes the program: two pipes of it. This process replies to its lines for frames until it ends, and
-# ends with its status.
+# Returns in a child, which is to become the program, the pipe to which it writes frames and that of the replies. The parent
+# replies until the child ends, and ends with its status.
 sub expander {
     pipe my $frames, my $to or return;
     pipe my $from, my $expanded or return;

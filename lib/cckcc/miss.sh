@@ -1,5 +1,5 @@
 # What bin/cckcc does with a call that is no hit: a compilation that is recorded, a call that is not cached, the first call
-# of a compiler, and a call by a server that lib/cckcc/connect.pl can't connect to. bin/cckcc sources this script, and has set
+# of a compiler, and a call by a server that the program can't ask itself. bin/cckcc sources this script, and has set
 # `cck_compiler`, `cck_program`, `cck_store`, `cck_server`, the address of a server or nothing, with what lib/cckcc/server.sh
 # sets, `cck_digests`, the directory of the compilers' digests or nothing, `cck_color`, which is an option of the compiler
 # or nothing, and `cck_found`, what the program printed of the call, if it was called. The words are the compiler's

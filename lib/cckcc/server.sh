@@ -133,8 +133,8 @@ read_http() {
 is_there() { { command -v "$1" 3>&1 > /dev/null; } 4>&2 2>/dev/null; }
 
 # Whether the program itself may ask the server for this call: what connects it knows no TLS, no proxy and no password of an
-# HTTP server, and each parameter is a line. What it can't do lib/cckcc/client.sh does. `cck_script` is that of perl which
-# connects, or nothing where bash does: it starts in less time, and knows no Unix socket and no compressed value.
+# HTTP server, and each parameter is a line. What it can't do lib/cckcc/client.sh does. `cck_script` is the script by
+# which perl connects, or empty where bash does: it starts in less time, and knows no Unix socket and no compressed value.
 is_plain() {
     case $cck_scheme:$cck_user$http_proxy$all_proxy$ALL_PROXY:$cck_address in
     redis:*|redis+unix:*) ;;
@@ -175,7 +175,9 @@ describe_server() {
 
 # What bash does, whose words are a number of seconds, the host, the port and the words of the program: a child connects, and
 # becomes the program. It has the other end of a pipe, which is read until it ends, or for that time. Then it gets SIGALRM.
-cck_connect='exec 6<&0 7>&1
+# An older bash may not tell the number of this child.
+cck_connect='[ "${BASH_VERSINFO[0]}" -ge 5 ] || exit 1
+    exec 6<&0 7>&1
     exec 4< <(exec 8>&1 5<> "/dev/tcp/$2/$3" && shift 3 && exec "$@" <&5 >&5 2>&3)
     read -rt "$1" _ <&4
     [ $? -le 128 ] || kill -ALRM $!
