@@ -1,4 +1,6 @@
 pub mod Given
+pub mod Http
 pub mod Keys
+pub mod Number
 pub mod Peer
 pub mod Redis

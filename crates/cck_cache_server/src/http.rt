@@ -1,6 +1,10 @@
 //! Requests to an HTTP server (RFC 9112).
+ghost use Rattle.std.specs.Prelude.{◌≡◌, ℕ, IfOk, List, string_bytes};
+ghost use Rattle.cck_cache_server.specs.Http.{IsShare, http_directory, http_path};
+
 use crate::address::Address;
 use crate::connection::Connection;
+use crate::number::number_in;
 use crate::peer::kind_word;
 use cck_cache_files::Kind;
 use httparse::{EMPTY_HEADER, Header, Response, Status};
@@ -28,16 +32,31 @@ struct Head {
     closes: bool,
 }
 
-// The path of a kind and a name.
-fn path_of(
-    alloc: Global,
-    address: &Address<'_>,
-    kind: Kind,
-    name: &str,
-) -> Result<String, AllocError> {
-    let (place, formats, word) = (address.place, address.formats, kind_word(kind));
-    let first = name.get(..2).unwrap_or(name);
-    Ok(format!(in alloc; "{place}/{formats}/{word}/{first}/{name}")?)
+// What the path of a name has before the name: its first two digits.
+fn share_of(name: &str) -> &str
+    ensures { IsShare name.now result.now }
+{
+    match name.get(..2) {
+        Some(share) => share,
+        None => name,
+    }
+}
+
+// The directory of a kind, below a place.
+fn directory_of(alloc: Global, place: &str, formats: &str, kind: Kind) -> Result<String, AllocError>
+    ensures { IfOk result (λ path. string_bytes path ≡ http_directory place.now formats.now kind) }
+{
+    let word = kind_word(kind);
+    Ok(format!(in alloc; "{place}/{formats}/{word}")?)
+}
+
+// The path of a name in a directory.
+fn path_of(alloc: Global, directory: &str, name: &str) -> Result<String, AllocError>
+    ensures { IfOk result (λ path. (share : List ℕ) × IsShare name.now share
+        × (string_bytes path ≡ http_path directory.now share name.now)) }
+{
+    let share = share_of(name);
+    Ok(format!(in alloc; "{directory}/{share}/{name}")?)
 }
 
 // A request for what is at a path.
@@ -69,17 +88,12 @@ fn says_close(header: &Header<'_>) -> bool {
             .any(|word| word.trim_ascii().eq_ignore_ascii_case(b"close"))
 }
 
-// The number of bytes that a header field of that name says. `None` where it says none.
-fn number_in(header: &Header<'_>) -> Option<u64> {
-    str::from_utf8(header.value).ok()?.parse::<u64>().ok()
-}
-
 // The number of bytes of a body. `None` where the head does not say it exactly once.
 fn length_in(headers: &[Header<'_>]) -> Option<u64> {
     let mut named = headers
         .iter()
         .filter(|header| is_named(header, "Content-Length"));
-    let length = number_in(named.next()?)?;
+    let length = number_in(named.next()?.value)?;
     match named.next() {
         Some(_) => None,
         None => Some(length),
@@ -141,7 +155,8 @@ pub fn get_http<I: Read, W: Write>(
     kind: Kind,
     name: &str,
 ) -> io::Result<(Option<Vec<u8>>, bool)> {
-    let path = path_of(alloc, address, kind, name)?;
+    let directory = directory_of(alloc, address.place, address.formats, kind)?;
+    let path = path_of(alloc, directory.as_str(), name)?;
     connection.send(request_of(alloc, address, path.as_str())?.as_bytes())?;
     let head = read_head(connection, alloc)?;
     match head_in(&head) {

@@ -11,6 +11,7 @@ mod connection;
 mod given;
 mod http;
 mod keys;
+mod number;
 mod peer;
 mod redis;
 mod remote_peer;

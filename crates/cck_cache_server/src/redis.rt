@@ -1,9 +1,10 @@
 //! Requests to a Redis server, by its protocol (RESP2).
-ghost use Rattle.std.specs.Prelude.{◌≡◌, IfOk, map, string_bytes};
-ghost use Rattle.cck_cache_server.specs.Redis.{bulk_string, redis_command, redis_name};
+ghost use Rattle.std.specs.Prelude.{◌≡◌, ◌++◌, IfOk, MatchOption, map, string_bytes};
+ghost use Rattle.cck_cache_server.specs.Redis.{AreCommands, SaysLength, SaysNoLength, bulk_string, login, redis_command, redis_name, selection};
 
 use crate::address::Address;
 use crate::connection::Connection;
+use crate::number::number_in;
 use crate::peer::kind_word;
 use cck_cache_files::Kind;
 use std::alloc::{AllocError, Global};
@@ -44,31 +45,49 @@ fn name_of(alloc: Global, formats: &str, kind: Kind, name: &str) -> Result<Strin
     Ok(format!(in alloc; "cck:{formats}:{word}:{name}")?)
 }
 
+// The commands by which a server is told the user, if there is a secret.
+fn login(alloc: Global, user: &str, secret: &str) -> Result<(String, u32), AllocError>
+    ensures { IfOk result (AreCommands (login user.now secret.now)) }
+{
+    if secret.is_empty() {
+        Ok((String::new(alloc), 0))
+    } else if user.is_empty() {
+        Ok((command(alloc, &["AUTH", secret])?, 1))
+    } else {
+        Ok((command(alloc, &["AUTH", user, secret])?, 1))
+    }
+}
+
+// The commands by which a server is told the database, unless it is the default one.
+fn selection(alloc: Global, database: &str) -> Result<(String, u32), AllocError>
+    ensures { IfOk result (AreCommands (selection database.now)) }
+{
+    if database.is_empty() || database == "0" {
+        Ok((String::new(alloc), 0))
+    } else {
+        Ok((command(alloc, &["SELECT", database])?, 1))
+    }
+}
+
 // The commands that come first on a connection, and their number.
-fn first_commands(alloc: Global, address: &Address<'_>) -> Result<(String, u32), AllocError> {
-    let mut commands = String::new(alloc);
-    let mut count = 0;
-    if !address.secret.is_empty() {
-        let (user, secret) = (address.user, address.secret);
-        let login = if user.is_empty() {
-            command(alloc, &["AUTH", secret])?
-        } else {
-            command(alloc, &["AUTH", user, secret])?
-        };
-        commands.push_str(login.as_str())?;
-        count += 1;
-    }
-    if !matches!(address.place, "" | "0") {
-        commands.push_str(command(alloc, &["SELECT", address.place])?.as_str())?;
-        count += 1;
-    }
-    Ok((commands, count))
+fn first_commands(alloc: Global, address: &Address<'_>) -> Result<(String, u32), AllocError>
+    ensures { IfOk result (AreCommands (login address.now.user.now address.now.secret.now
+        ++ selection address.now.place.now)) }
+{
+    let (mut commands, count) = login(alloc, address.user, address.secret)?;
+    let (others, other_count) = selection(alloc, address.place)?;
+    commands.push_str(others.as_str())?;
+    Ok((commands, count + other_count))
 }
 
 // The number of bytes that a reply says. `None` for a line that is another reply.
-fn length_of(line: &[u8]) -> Option<u64> {
-    let digits = line.strip_prefix(b"$")?;
-    str::from_utf8(digits).ok()?.parse::<u64>().ok()
+fn length_of(line: &[u8]) -> Option<u64>
+    ensures { MatchOption result (SaysNoLength line.now) (SaysLength line.now) }
+{
+    match line {
+        [b'$', digits @ ..] => number_in(digits),
+        _ => None,
+    }
 }
 
 // Reads the value that a reply has, or `None` where it says that there is none.

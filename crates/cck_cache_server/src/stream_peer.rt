@@ -1,5 +1,6 @@
 //! A process that is asked by lines: what a store lacks is asked for on standard output, and each reply is read from
 //! standard input.
+use crate::number::number_in;
 use crate::peer::{Peer, kind_word};
 use cck_cache_files::Kind;
 use std::alloc::Global;
@@ -16,11 +17,6 @@ pub struct StreamPeer<'a, I, W> {
     pub reader: &'a mut I,
     /// The stream to which lines are written.
     pub writer: &'a mut W,
-}
-
-// The number that a line has.
-fn number_in(line: &[u8]) -> Option<u64> {
-    str::from_utf8(line).ok()?.parse::<u64>().ok()
 }
 
 impl<'a, I: Read, W: Write> StreamPeer<'a, I, W> {
