@@ -1,5 +1,5 @@
 -- which files gcc may take for copies of the files of a text
-use Rattle.std.specs.Prelude.{◌≡◌, ℕ, ℤ, ◌+◌, ◌⊎◌, Bool, true, false, List, [], ◌∷◌, ◌++◌, Contains, IsUtf8, Option, Some, None, Ok, Err, option_and_then}
+use Rattle.std.specs.Prelude.{◌≡◌, ℕ, ℤ, ◌+◌, ◌⊎◌, Bool, true, false, List, Contains, Option, Some, None, Ok, Err, option_and_then}
 use Rattle.std.specs.Fs.{IsDir, IsFile}
 use Rattle.std.specs.declared.fs.attrs.FileType.{FileType}
 use Rattle.cck_cache_files.specs.Snapshot.{named_path}
@@ -51,11 +51,6 @@ pub record AreKnown (files : FileMap) (directory : Bytes) (IsName : Bytes → Ty
 -- the absolute path of the file of such a name
 abbrev pub IsPathOfName : (Bytes → Type 0) → Bytes → Bytes → Type 0
 IsPathOfName IsName directory path = (name : Bytes) × IsName name × (path ≡ named_path directory name)
-
--- what is at a path was added, which is UTF-8; or nothing was
-abbrev pub AddsKnown : Bytes → List KnownFile → List KnownFile → Bool → Type 0
-AddsKnown path old new true = (file : KnownFile) × (new ≡ old ++ file ∷ []) × IsUtf8 path
-AddsKnown path old new false = new ≡ old
 
 -- Files of these lengths may be equal for gcc, which takes the three bytes of a byte order mark from the front of a file before it compares.
 abbrev pub IsLengthLike : ℕ → ℕ → Type 0

@@ -2,11 +2,11 @@
 //!
 //! Of a file with `#pragma once`, or one that came by `#import`, gcc reads no second one of the same
 //! length, the same time to the second and the same contents, at whatever path it finds it.
-ghost use Rattle.std.specs.Prelude.{◌≡◌, ◌↔◌, ◌⊎◌, Contains, IfOk, IsOkUnless, IsTrue, IsUtf8, List, MatchBool, None, OnErr, true};
+ghost use Rattle.std.specs.Prelude.{◌≡◌, ◌↔◌, ◌⊎◌, Contains, IfOk, IsOkUnless, IsTrue, IsUtf8, List, MatchBool, None, true};
 ghost use Rattle.std.specs.Fs.{file_type};
 ghost use Rattle.cck_cache_text.specs.Names.{is_named};
 ghost use Rattle.cck_cache_text.specs.Sets.{IsSetOf, has_key};
-ghost use Rattle.cck_cache_files.specs.Copies.{AddsKnown, AreKnown, IsInSnapshot, IsKnownAt, IsKnownOf, IsLengthLike, IsLike, IsNotTaken, IsPathOfName, IsSecondLike, MayBeTaken, known_of, second_of};
+ghost use Rattle.cck_cache_files.specs.Copies.{AreKnown, IsInSnapshot, IsKnownAt, IsKnownOf, IsLengthLike, IsLike, IsNotTaken, IsPathOfName, IsSecondLike, MayBeTaken, known_of, second_of};
 ghost use Rattle.cck_cache_files.specs.declared.copies.KnownFile.{KnownFile};
 ghost use Rattle.cck_files.specs.Calls.{Keeps};
 ghost use Rattle.cck_files.specs.FileState.{IsQuiet, fault_count};
@@ -201,31 +201,6 @@ pub fn compared_paths(
     Ok(paths)
 }
 
-/// Adds the length and the time of what is at a path, links followed. Returns whether it could be looked
-/// at.
-///
-/// The only error is lack of memory, and then nothing is added.
-pub fn add_known<R: Files>(
-    rt: &R,
-    known: &mut Vec<KnownFile>,
-    path: &[u8],
-) -> Result<bool, AllocError>
-    ensures added { IfOk result (AddsKnown path.now known.old.items known.new.items) }
-    ensures errors { OnErr result (known.new.items ≡ known.old.items) }
-{
-    let Ok(path) = std::str::from_utf8(path) else {
-        return Ok(false);
-    };
-    let Ok(found) = fs::metadata(rt, path) else {
-        return Ok(false);
-    };
-    known.push(KnownFile {
-        length: found.len(),
-        seconds: second_of(modified(&found)),
-    })?;
-    Ok(true)
-}
-
 // Whether files of these lengths may be equal, the three bytes of a byte order mark at the front of
 // one of them left out.
 fn is_length_like(a: u64, b: u64) -> bool
@@ -298,8 +273,8 @@ fn differs<R: Files + AllocGlobal>(rt: &R, contents: &[u8], path: &[u8], since: 
     }
 }
 
-// Whether the file at a path has other contents than each file of the text. `false` where that can't be
-// known.
+// Whether the file at a path has other contents than each file of the text, or contents of which gcc reads a second file too,
+// where none is imported. `false` where that can't be known.
 fn differs_from_all<R: Files + AllocGlobal>(rt: &R, path: &str, compared: &ComparedFiles) -> bool {
     let Some(paths) = &compared.paths else {
         return false;
@@ -307,6 +282,9 @@ fn differs_from_all<R: Files + AllocGlobal>(rt: &R, path: &str, compared: &Compa
     let Ok(contents) = fs::read(rt, path) else {
         return false;
     };
+    if !may_be_read_once(&contents) {
+        return true;
+    }
     for other in paths {
         if !differs(rt, &contents, other, compared.since) {
             return false;
@@ -316,7 +294,7 @@ fn differs_from_all<R: Files + AllocGlobal>(rt: &R, path: &str, compared: &Compa
 }
 
 /// Whether gcc may have taken what is at a path, links followed, for a copy of a known file: a regular
-/// file of a like length and time, and of the same contents where the paths of the known files are given;
+/// file of a like length and time, and where the paths of the known files are given of the same contents, with the word `once`;
 /// or one that did not last change before the given time, or anything else but a directory. `true` where
 /// it can't be looked at.
 pub fn may_be_copy<R: Files + AllocGlobal>(rt: &R, path: &[u8], compared: &ComparedFiles) -> bool

@@ -48,8 +48,8 @@ mod times;
 
 pub use compiler::{compiler_digest, shared_compiler_digest};
 pub use copies::{
-    ComparedFiles, KnownFile, add_known, compared_paths, is_doubtful_spelling, is_in_snapshot,
-    known_files, may_be_copy,
+    ComparedFiles, KnownFile, compared_paths, is_doubtful_spelling, is_in_snapshot, known_files,
+    may_be_copy,
 };
 pub use entry_names::{ENTRY_FILES, entry_name};
 pub use listing::{StoredFile, list_counts, list_files, list_share};

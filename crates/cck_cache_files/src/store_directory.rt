@@ -46,6 +46,20 @@ pub struct StoreDirectory {
     suffix: String,
 }
 
+// Makes a file at a path. What is there, as after a process that was killed, is removed first: a new file has the mode of this
+// process, and no other name.
+fn make_file<R: Files>(rt: &R, path: &str) -> io::Result<R::File> {
+    let mut options = OpenOptions::new();
+    options.write(true).create_new(true);
+    match options.open(rt, path) {
+        Err(error) if error.kind() == ErrorKind::AlreadyExists => {
+            fs::remove_file(rt, path)?;
+            options.open(rt, path)
+        }
+        opened => opened,
+    }
+}
+
 // Makes a store directory whose `VERSION` is not there, with that file alone.
 fn make_store<R: Files + AllocGlobal>(rt: &R, store: &StoreDirectory) -> io::Result<()> {
     let directory = store.directory.as_str();
@@ -165,7 +179,7 @@ impl StoreDirectory {
     ) -> io::Result<()> {
         let suffix = self.suffix.as_str();
         let beside = format!(in rt.alloc(); "{path}.{suffix}")?;
-        let mut file = fs::create(rt, beside.as_str())?;
+        let mut file = make_file(rt, beside.as_str())?;
         if let Err(error) = file.write_all(bytes) {
             let _ = fs::remove_file(rt, beside.as_str());
             return Err(error);

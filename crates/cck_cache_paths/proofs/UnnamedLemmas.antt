@@ -1,30 +1,22 @@
 -- The paths at which headers are looked for, and which a text does not name.
-use Rattle.std.proofs.Common.{◌≡◌, ◌∙◌, ◌<◌, ◌+◌, ◌⊎◌, inl, inr, ℕ, Bool, true, false, List, [], ◌∷◌, Option, Some, None, IsTrue, get_or, length, map, refl, sym, ap, subst, arith}
+use Rattle.std.proofs.Common.{◌≡◌, ◌∙◌, ◌<◌, ◌+◌, ◌⊎◌, inl, inr, ℕ, Bool, true, false, List, [], ◌∷◌, Some, IsTrue, get_or, length, map, refl, sym, ap, subst, arith}
 use Rattle.std.specs.BTreeSet.{BTreeSet}
 use Rattle.std.specs.Global.{Vec}
 use Rattle.std.specs.Bool.{MatchBool}
-use Rattle.std.specs.Option.{IfSome, option_map}
 use Rattle.std.specs.Prelude.{Contains}
 use Rattle.std.proofs.lemmas.List.{get_or_default, length-map}
-use Rattle.std.proofs.lemmas.List.Elements.{Contains-append_left}
-use Rattle.cck_cache_paths.specs.Unnamed.{AreAllPassed, AreCompared, AreFronts, AreUnreadBySpelling, AreUnreadTests, AreUnreadWhere, HasSpelling, IsPassed, IsSpelling, IsThere, IsUnread, IsUnreadTest, KeepsKnown, LeadsNotTo, LeadsTo, normal_path}
-use Rattle.cck_cache_paths.specs.Copies.{MayImport}
+use Rattle.cck_cache_paths.specs.Unnamed.{AreAllPassed, AreFronts, AreUnreadBySpelling, AreUnreadTests, AreUnreadWhere, HasSpelling, IsPassed, IsSpelling, IsThere, IsUnread, IsUnreadTest, LeadsNotTo, LeadsTo, normal_path}
 use Rattle.cck_cache_paths.specs.TestsAt.{GainsTest}
 use Rattle.cck_cache_files.proofs.SetLemmas.{IsAmong, more_names, next_name}
 use Rattle.cck_cache_rules.specs.PathTest.{Test, Absent, Directory, File, Searched, Plain, Real}
 use Rattle.cck_cache_text.specs.Left.{IsLeftOn}
-use Rattle.cck_cache_text.specs.Names.{is_named}
 use Rattle.cck_cache_text.specs.Sets.{Adds, has_key}
 use Rattle.cck_cache_text.proofs.SetLemmas.{has_key_at, key_at}
-use Rattle.cck_cache_files.specs.Copies.{AddsKnown, AreKnown}
-use Rattle.cck_cache_files.specs.declared.copies.KnownFile.{KnownFile}
 use Rattle.cck_cache_files.specs.PathStates.{HasOther, KeepsStates}
 use Rattle.cck_cache_files.specs.declared.path_states.PathState.TheVariants as state
 use Rattle.cck_cache_files.specs.declared.path_states.PathStates.{PathStates}
 use Rattle.cck_cache_files.proofs.StateLemmas.{first_other_kept, kept_on_the_way}
-use Rattle.cck_cache_arguments.specs.declared.request.Request.{Request}
 use Rattle.cck_files.specs.FileMap.{FileMap}
-use Rattle.cck_markers.specs.Marks.{Mark, Marks}
 use Rattle.cck_path.specs.Bytes.{Bytes, lists_of}
 use Rattle.cck_path.specs.Text.{join_path}
 
@@ -238,16 +230,3 @@ pub listed_key : (keys : BTreeSet (Vec ℕ)) (bytes : Bytes) → Contains (lists
 listed_key keys bytes at =
     let within : at.0 < length keys.keys = omega (arith, at.1, length-map keys.keys (λ k. k.items)) in
     subst (λ (q : Bytes). IsTrue (has_key keys q)) (get_or_default (lists_of keys.keys) at.0 [] bytes at.1 ∙ at.2) (has_key_at keys.keys at.0 within)
-
--- ---- files that are known
-
-pub keeps_added : (path : Bytes) (old new : List KnownFile) (is_known : Bool) → AddsKnown path old new is_known → KeepsKnown old new
-keeps_added path old new true (one, grown, text) file at = subst (λ (all : List KnownFile). Contains all file) (sym grown) (Contains-append_left old (one ∷ []) file at)
-keeps_added path old new false same file at = subst (λ (all : List KnownFile). Contains all file) (sym same) at
-
--- what is known of the files of a text, where it may import a file
-pub compared_by : (files : FileMap) (request : Request) (text : Bytes) (known : List KnownFile) (all : Option (Vec KnownFile)) → MayImport text → IfSome all (λ vs. KeepsKnown known vs.items)
-    → ((marks : List Mark) → Marks true text marks → AreKnown files request.directory.now (λ name. (name ≡ request.input.now) ⊎ IsTrue (is_named marks name)) known)
-    → AreCompared files request text (option_map (λ vs. vs.items) all)
-compared_by files request text known None imports keeps are = imports
-compared_by files request text known (Some vs) imports keeps are = (known, keeps, are)

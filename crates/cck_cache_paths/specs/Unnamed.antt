@@ -1,5 +1,6 @@
 -- the paths at which headers are looked for and which a text does not name
 use Rattle.std.specs.Prelude.{◌≡◌, ◌≢◌, ◌<◌, ◌⊎◌, ◌++◌, Bool, true, false, List, [], Contains, IsTrue, MatchBool, Option, Some, None, length, map}
+use Rattle.std.specs.List.{list_all}
 use Rattle.cck_cache_paths.specs.Copies.{MayImport}
 use Rattle.cck_cache_paths.specs.declared.unnamed.Presence.{Presence}
 use Rattle.cck_cache_paths.specs.declared.unnamed.Presence.TheVariants as presence
@@ -157,17 +158,25 @@ pub record HasUnclearPath (states : PathStates) (directory text : Bytes) (argume
   pub is_search : IsSearchList printed (Some search)
   pub unclear : (marks : List Mark) → Marks true text marks → HasUnclear states directory (IsLookedAt marks text arguments search.directories)
 
--- what was known is known
-abbrev pub KeepsKnown : List KnownFile → List KnownFile → Type 0
-KeepsKnown old new = (file : KnownFile) → Contains old file → Contains new file
+-- a test wants something else than a regular file
+abbrev pub wants_no_file : Test → Bool
+wants_no_file (Absent path) = true
+wants_no_file (File path) = false
+wants_no_file (Directory path) = true
+wants_no_file (Searched file place) = true
+wants_no_file (Plain file) = true
+wants_no_file (Real file real) = true
 
--- The files with which gcc may compare another one: those that the text names, the input, and others. None are known only where the text may import a
--- file, which gcc compares with one for which a source tests too.
-abbrev pub AreCompared : FileMap → Request → Bytes → Option (List KnownFile) → Type 0
-AreCompared files request text None = MayImport text
-AreCompared files request text (Some known) =
-    (some : List KnownFile) × KeepsKnown some known
-    × ((marks : List Mark) → Marks true text marks → AreKnown files request.directory.now (λ name. (name ≡ request.input.now) ⊎ IsTrue (is_named marks name)) some)
+-- A text may import a file, and its sources test for one that is there. gcc compares the two, and passes over the first one where they are alike.
+abbrev pub ImportsAndTests : Bytes → List Test → Type 0
+ImportsAndTests text tests = MayImport text × (list_all wants_no_file tests ≡ false)
+
+-- the files with which gcc may compare another one: those that the text names, and the input; or there is one more, for which a source tests
+abbrev pub AreCompared : FileMap → Request → Bytes → List Test → Option (List KnownFile) → Type 0
+AreCompared files request text tests None = ImportsAndTests text tests
+AreCompared files request text tests (Some known) =
+    ¬ (ImportsAndTests text tests)
+    × ((marks : List Mark) → Marks true text marks → AreKnown files request.directory.now (λ name. (name ≡ request.input.now) ⊎ IsTrue (is_named marks name)) known)
 
 -- why a compilation is not recorded by these paths
 abbrev pub IsRefusedByUnnamed : PathStates → Bytes → Bytes → List Bytes → Bytes → Refusal → Type 0

@@ -1,8 +1,9 @@
 //! The paths at which gcc looks for headers, and which the text does not name.
-ghost use Rattle.std.specs.Prelude.{◌≡◌, Contains, IfOk, IfSome, IsOkUnless, IsTrue, MatchBool, OnOk, true};
+ghost use Rattle.std.specs.Prelude.{◌≡◌, IfOk, IsOkUnless, IsTrue, MatchBool, true};
+ghost use Rattle.std.specs.List.{list_all};
 ghost use Rattle.std.specs.Option.{option_map};
-ghost use Rattle.cck_cache_paths.specs.Unnamed.{AreCompared, AreFound, AreSpellings, AreUnreadWhere, IsPresence, IsThere, IsUnnamed, IsUnnamedVerdict, KeepsKnown, LeadsNotTo, LeadsTo};
-ghost use Rattle.cck_cache_rules.specs.PathTest.{tests_of};
+ghost use Rattle.cck_cache_paths.specs.Unnamed.{AreCompared, AreFound, AreSpellings, AreUnreadWhere, IsPresence, IsThere, IsUnnamed, IsUnnamedVerdict, LeadsNotTo, LeadsTo, wants_no_file};
+ghost use Rattle.cck_cache_rules.specs.PathTest.{test_of, tests_of};
 ghost use Rattle.cck_cache_text.specs.Sets.{has_key};
 ghost use Rattle.cck_cache_files.specs.PathStates.{KeepsStates};
 ghost use Rattle.cck_files.specs.Calls.{Keeps};
@@ -14,8 +15,8 @@ use crate::copies::may_import;
 use crate::preprocessed::Preprocessed;
 use crate::tests_at::push_test;
 use cck_cache_files::{
-    ComparedFiles, KnownFile, PathState, PathStates, add_known, compared_paths,
-    is_doubtful_spelling, is_file, is_in_snapshot, is_one_file, known_files, may_be_copy,
+    ComparedFiles, KnownFile, PathState, PathStates, compared_paths, is_doubtful_spelling, is_file,
+    is_in_snapshot, is_one_file, known_files, may_be_copy,
 };
 use cck_cache_rules::{PathTest, Refusal};
 use cck_cache_text::{SearchList, add_left, looked_at_paths};
@@ -281,74 +282,38 @@ fn tests_of_names<R: Files + AllocGlobal>(
     Ok(Some(tests))
 }
 
-// Adds the file that a test wants at a path. Returns whether it could be looked at.
-fn add_tested<R: Files>(
-    rt: &R,
-    known: &mut Vec<KnownFile>,
-    test: &PathTest,
-) -> Result<bool, AllocError>
-    ensures { OnOk result (KeepsKnown known.old.items known.new.items) }
+// Whether a test wants something else than a regular file.
+fn wants_no_file(test: &PathTest) -> bool
+    ensures { result ≡ wants_no_file (test_of test.now) }
 {
-    let PathTest::File(path) = test else {
-        return Ok(true);
-    };
-    let is_known = add_known(rt, known, path)?;
-    Ok(is_known)
+    !matches!(test, PathTest::File(_))
 }
 
-// Adds the files for which sources test. Returns whether each of them could be looked at.
-fn add_asked<R: Files>(
-    rt: &R,
-    known: &mut Vec<KnownFile>,
-    asked: &[PathTest],
-) -> Result<bool, AllocError>
-    ensures { OnOk result (KeepsKnown known.old.items known.new.items) }
+// Whether none of these tests wants a regular file.
+fn want_no_file(tests: &[PathTest]) -> bool
+    ensures { result ≡ list_all wants_no_file (tests_of tests.now) }
 {
-    for test in asked {
-        if !add_tested(rt, known, test)? {
-            return Ok(false);
-        }
-    }
-    Ok(true)
+    tests.iter().all(wants_no_file)
 }
 
-// The files that are known, and those for which sources test. `None` where one of the latter can't be
-// looked at.
-fn with_asked<R: Files>(
-    rt: &R,
-    known: Vec<KnownFile>,
-    asked: &[PathTest],
-) -> Result<Option<Vec<KnownFile>>, AllocError>
-    ensures { IfOk result (λ all. IfSome all (λ files. KeepsKnown known.items files.items)) }
-{
-    let mut all = known;
-    if add_asked(rt, &mut all, asked)? {
-        Ok(Some(all))
-    } else {
-        Ok(None)
-    }
-}
-
-// The files with which gcc may compare another one: those of the text, and where that imports a file
-// also those for which its sources test, though it did not read them. `None` where one of the latter
-// can't be looked at.
-fn compared_files<R: Files + AllocGlobal>(
-    rt: &R,
+// The files with which gcc may compare another one: those of the text. `None` where the text imports a file, and its sources
+// test for one that is there: gcc passes over the first of the two once they are alike, though it reads the second one never.
+fn compared_files(
+    alloc: Global,
     files: &mut MapFiles,
     preprocessed: &Preprocessed<'_>,
     asked: &[PathTest],
 ) -> Result<Option<Vec<KnownFile>>, UtilError>
     ensures keeps { IfOk result (λ _. Keeps (λ files. files.files) fault_count IsQuiet files.old files.new) }
     ensures compared { IfOk result (λ known. AreCompared files.old.files preprocessed.now.request.now
-        preprocessed.now.text.now (option_map (λ all. all.items) known)) }
+        preprocessed.now.text.now (tests_of asked.now) (option_map (λ all. all.items) known)) }
 {
     let (request, text) = (preprocessed.request, preprocessed.text);
-    let directory = request.directory.as_bytes();
-    let known = known_files(rt.alloc(), files, directory, request.input.as_bytes(), text)?;
-    if may_import(text) {
-        let all = with_asked(rt, known, asked)?;
-        return Ok(all);
+    if may_import(text) && !want_no_file(asked) {
+        return Ok(None);
     }
+    let directory = request.directory.as_bytes();
+    let known = known_files(alloc, files, directory, request.input.as_bytes(), text)?;
     Ok(Some(known))
 }
 
@@ -393,7 +358,7 @@ pub fn unnamed_by<R: Files + AllocGlobal>(
     let Some(search) = SearchList::read(alloc, preprocessed.printed)? else {
         return Ok(Unnamed::Refused(Refusal::NoSearchList));
     };
-    let Some(known) = compared_files(rt, files, preprocessed, asked)? else {
+    let Some(known) = compared_files(alloc, files, preprocessed, asked)? else {
         return Ok(Unnamed::Refused(Refusal::OtherFile));
     };
     let directory = request.directory.as_bytes();

@@ -17,7 +17,7 @@ use Rattle.cck_cache_paths.proofs.unnamed.unnamed_by.Goals as goal
 
 pub returns-in_default-2-clause-unnamed : goal.returns-in_default-2-clause-unnamed
 returns-in_default-2-clause-unnamed g c =
-    inr (subst (λ (o : Option (Vec KnownFile)). AreCompared c.args.files.now.files c.args.preprocessed.now.request.now c.args.preprocessed.now.text.now (option_map (λ all. all.items) o)) c.in_default-2.is c.in_ok-known.ensures.compared)
+    inr ((subst (λ (o : Option (Vec KnownFile)). AreCompared c.args.files.now.files c.args.preprocessed.now.request.now c.args.preprocessed.now.text.now (tests_of c.args.asked.now) (option_map (λ all. all.items) o)) c.in_default-2.is c.in_ok-known.ensures.compared).0)
 
 pub returns-clause-unnamed : goal.returns-clause-unnamed
 returns-clause-unnamed g c =
