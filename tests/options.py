@@ -6,7 +6,8 @@ installed. Run by hand: options.py [--missing]. Needs gcc and g++; the table was
   that is spelled wrongly has no row in the program, so that its option is unknown there.
 - An option whose value may be joined to its name is not the beginning of another option: each longer option
   that gcc prints has a row of its own. Otherwise the program would read it as the shorter one with a value.
-- gcc accepts each option without a value that a cached call may have, for a source in C and for one in C++.
+- gcc accepts each option without a value that a cached call may have, for a source in C, for one in C++ and for assembler
+  code.
 - With each option that the preprocessor is given, with some values, the warning of a time macro by which the wrapper
   knows one (-Wdate-time) is on one line, if gcc accepts the option; and the class of options with which it is not is
   of no other option.
@@ -23,7 +24,7 @@ import sys
 import tempfile
 
 TOP = os.path.join(os.path.dirname(os.path.abspath(__file__)), "..")
-SOURCES = os.path.join(TOP, "crates", "cck_cache_options", "src")
+TABLES = os.path.join(TOP, "crates", "cck_cache_options", "src")
 LISTS = (
     "common", "c", "c++", "objc", "objc++", "d", "fortran", "go", "ada", "lto", "target", "optimizers", "params",
     "warnings",
@@ -36,19 +37,20 @@ SILENCING = "compiler-message"
 # Values that are tried with each option that has one.
 VALUES = ("0", "1", "20", "x", "always", "none")
 WARNING = "might prevent reproducible builds"
-# The suffixes of sources in C and in C++.
-SUFFIXES = (".c", ".cc")
+# The suffixes of sources in C, of those in C++ and of assembler code, with a small source of each, and one with a time macro.
+SOURCE, TIMED = "int small;\n", "const char *time = __TIME__;\n"
+SUFFIXES = {".c": (SOURCE, TIMED), ".cc": (SOURCE, TIMED), ".S": (".data\n", ".ascii __TIME__\n")}
 # What is no option of warnings, after -W.
 NO_WARNINGS = ("a,-L", "l,-x", "p,-w", "p,-MD,small.d")
 
 
 def text_of(name):
-    with open(os.path.join(SOURCES, name), encoding="utf-8") as file:
+    with open(os.path.join(TABLES, name), encoding="utf-8") as file:
         return file.read()
 
 
 def table():
-    literal = re.search(r'b"\\\n(.*)";', text_of("gcc.rt"), re.S).group(1)
+    literal = re.search(r'GCC: &\[u8\] = b"\\\n(.*)";', text_of("gcc.rt"), re.S).group(1)
     lines = literal.split("\\n\\\n")
     assert lines.pop() == "", "the last line has no end"
     return lines
@@ -97,7 +99,7 @@ def refused(rows, suffix):
     with tempfile.TemporaryDirectory() as room:
         path = os.path.join(room, "small" + suffix)
         with open(path, "w", encoding="utf-8") as file:
-            file.write("int small;\n")
+            file.write(SUFFIXES[suffix][0])
         for row in rows:
             if row[1] == "alone" and not is_passed(row) and not row[0].startswith("-M"):
                 done = subprocess.run(
@@ -135,21 +137,21 @@ def silenced(rows, suffix):
     with tempfile.TemporaryDirectory() as room:
         path = os.path.join(room, "time" + suffix)
         with open(path, "w", encoding="utf-8") as file:
-            file.write("const char *time = __TIME__;\n")
+            file.write(SUFFIXES[suffix][1])
         for row in rows:
             if row[2] in PREPROCESSED + (SILENCING,):
                 hiding = [words for words in words_of(row) if shows_warning(words, path) is False]
                 if row[2] != SILENCING:
                     yield from (f"the warning of a time macro is not on one line with {' '.join(words)} for *{suffix}"
                                 for words in hiding)
-                elif suffix == SUFFIXES[0] and not hiding and all(has_markers(words, path) for words in words_of(row)):
+                elif suffix == ".c" and not hiding and all(has_markers(words, path) for words in words_of(row)):
                     yield f"the warning of a time macro and the line markers are as they have to be with {row[0]}"
 
 
 def negated():
     with tempfile.TemporaryDirectory() as room:
         with open(os.path.join(room, "small.c"), "w", encoding="utf-8") as file:
-            file.write("int small;\n")
+            file.write(SOURCE)
         for ending in NO_WARNINGS:
             done = subprocess.run(["gcc", "-Wno-" + ending, "-c", "small.c"], capture_output=True, cwd=room)
             if done.returncode == 0:

@@ -337,7 +337,8 @@ echo '#line 1 "gram.y"' >gen.c
 echo 'int e;' >>gen.c
 settle
 check '#line of no file' 'refused-named-file *' same -c gen.c
-check '-march=native' 'passed on (native)*' same -c x.c -Ib -march=native
+check '-march=native' 'recorded*' same -c x.c -Ib -march=native
+check '-mcpu=native' 'passed on (native)*' same -c x.c -Ib -mcpu=native
 check '-Wp,' 'passed on (preprocessor-option)*' same -c x.c -Ib -Wp,-DX
 check '-Wp,-MD, and -MF' 'passed on (dependencies)*' same -c x.c -Ib -Wp,-MD,x.d -MF y.d
 check '-Wp,-MD, with another option' 'passed on (preprocessor-option)*' same -c x.c -Ib -Wp,-MD,x.d,-DX

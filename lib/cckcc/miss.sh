@@ -85,6 +85,11 @@ locate as
 cck_assembler=$cck_located
 locate "$cck_compiler"
 [ -n "$cck_located" ] || cck_reason=no-compiler
+# Files that the caller's mask closes for the caller can't be read again.
+case $(umask) in
+?0??) ;;
+*) cck_reason=no-scratch ;;
+esac
 # Without the server the call goes on by the directory that keeps objects, if there is one.
 if [ -n "$cck_unusable" ]; then
     note "server: not asked: $cck_why"
@@ -529,8 +534,17 @@ if [ -n "$CCK_LOG" ] && [ -n "$cck_keeps" ]; then
     done
 fi
 
+# Whether the input is assembler code that is preprocessed.
+is_assembler() {
+    case $cck_input in
+    *?.S|*?.sx) return 0 ;;
+    esac
+    return 1
+}
+
 # Whether the input is in C++, by the compiler or by its name.
 is_cplusplus() {
+    ! is_assembler || return 1
     cck_next=${cck_programs#*:}
     case ${cck_next%%:*} in
     */cc1plus) return 0 ;;
@@ -541,8 +555,16 @@ is_cplusplus() {
     return 1
 }
 
-# Whether the program for the language of the input is among those that count. A compiler may find one by PATH alone.
+# Whether the program for the language of the input is among those that count. A compiler may find one by PATH alone, and that
+# for C, which preprocesses assembler code, is not among those of a compiler for C++.
 has_proper() {
+    if is_assembler; then
+        cck_next=${cck_programs#*:}
+        case ${cck_next%%:*} in
+        */cc1) return 0 ;;
+        esac
+        return 1
+    fi
     is_cplusplus || return 0
     case $cck_programs: in
     *:/*/cc1plus:*) ;;
@@ -581,12 +603,15 @@ find_own() {
 cck_reading='
     BEGIN {
         is_c = ENVIRON["cck_is_c"] != ""
+        is_assembler = ENVIRON["cck_is_assembler"] != ""
+        first_of_test = "__ha(s(_(i(n(c(l(u(de?)?)?)?)?)?|e(m(b(ed?)?)?)?)?)?)?([^A-Za-z0-9_$]|$)"
         blank = "[ \t\r\f\013]"
         comment = "/[*]([^*]|[*]+[^*/])*"
         gap = "(" blank "|" comment "[*]+/)*"
         marker = "^(.*[*]/)?" gap "(#|%:|[?][?]=)" gap "([0-9]|\\\\" blank "*$|" comment "[*]*$)"
     }
     function read_line(line, whole) {
+        if (is_assembler && (line ~ /as_inc|as_emb|HAS_INC/ || line ~ first_of_test)) reason = "header-test"
         if (calls && (index(line, "HAS_") || index(line, "INCLUDE") || index(line, "has_") || index(line, "include"))) {
             add_tested(line)
             add_parts(line)
@@ -739,8 +764,8 @@ cck_judging='
         print found ? "" : "alone"
         if (reason == "") for (name in projects) read_file(name)
         is_other = 1
+        if (reason == "" && (calls || is_assembler)) for (name in others) if (!(name in projects)) read_file(name)
         if (reason == "" && calls) {
-            for (name in others) if (!(name in projects)) read_file(name)
             read_file(FILENAME)
             if (unread || is_pasted()) reason = "header-test"
         }
@@ -761,17 +786,19 @@ cck_judging='
 # shows those that are used; and `end`. The compiler expands macros in pragmas that the preprocessor leaves as they are,
 # pragmas that save macros hide uses, and warnings may name others.
 judge_text() {
-    cck_own=$cck_own cck_extended=$cck_extended cck_targets=$cck_targets cck_is_c=$cck_is_c LC_ALL=C awk "$cck_reading$cck_judging" \
-        "$cck_scratch/text-search" is_text=1 "$cck_scratch/text" < /dev/null
+    cck_own=$cck_own cck_extended=$cck_extended cck_targets=$cck_targets cck_is_c=$cck_is_c cck_is_assembler=$cck_is_assembler \
+        LC_ALL=C awk "$cck_reading$cck_judging" "$cck_scratch/text-search" is_text=1 "$cck_scratch/text" < /dev/null
 }
 
 # Sets what the arguments say beside the text: `cck_extended` if the call has OpenMP or OpenACC; `cck_targets` if an argument
 # may have the name of a builtin function of x86; and `cck_hidden` to why the compiler may read another text. The driver
 # hands no parameter to the preprocessor, and two are in macros. `cck_is_c` is empty in C++, where the compiler preprocesses
-# the whole text before it parses it: no declaration and no pragma of a target counts for the preprocessor.
+# the whole text before it parses it: no declaration and no pragma of a target counts for the preprocessor. So it is for
+# assembler code, in which no test for a header is judged.
 judge_arguments() {
-    cck_extended= cck_targets= cck_hidden= cck_is_c=1
+    cck_extended= cck_targets= cck_hidden= cck_is_c=1 cck_is_assembler=
     ! is_cplusplus || cck_is_c=
+    ! is_assembler || cck_is_c= cck_is_assembler=1
     case $cck_preprocessed in
     *-fopenmp*|*-fopenacc*) cck_extended=1 ;;
     esac
@@ -945,6 +972,14 @@ has_plain_names() {
     esac
 }
 
+# Whether the assembler says that it read nothing but assembler code that was preprocessed, by its list: a word that ends in a
+# colon is the object.
+reads_preprocessed_alone() {
+    LC_ALL=C awk '
+        { for (i = 1; i <= NF; i++) if ($i !~ /:$|^\\$|\/cc[A-Za-z0-9][A-Za-z0-9][A-Za-z0-9][A-Za-z0-9][A-Za-z0-9][A-Za-z0-9]\.s$/) others = 1 }
+        END { exit others || !NR }' "$cck_scratch/assembled"
+}
+
 # Whether what the arguments include are regular files: a pipe can't be read by two.
 includes_files() {
     while [ $# -gt 0 ]; do
@@ -993,6 +1028,11 @@ if [ -s "$cck_scratch/messages" ] && ! lacks '/cc[A-Za-z0-9]\{6\}\.s' "$cck_scra
     cck_refused=temporary-name
 fi
 has_plain_names "$@" || cck_refused=offload
+# The input of an assembler can name itself, and what is made of it the preprocessed file, as STABS do.
+if is_assembler; then
+    lacks '/cc[A-Za-z0-9]\{6\}\.s' "$cck_out" || cck_refused=temporary-name
+    reads_preprocessed_alone 2>/dev/null || cck_refused=assembler-include
+fi
 if [ $cck_status -ne 0 ] || [ -e "$cck_scratch/failed" ]; then
     log "not recorded (status $cck_status): $cck_input"
     count not-recorded-status

@@ -318,5 +318,59 @@ class Beside(Theme):
             self.content(self.path)
 
 
+class Assembler(Theme):
+    """Assembler code that is preprocessed: includes, comments like directives, and what the assembler reads by itself."""
+    LINES = [".long VALUE", ".long VALUE", ".long 1 /* a\ncomment */ + 2", "# it's a comment", "# it's /* a comment", ".byte 1 // more",
+             '.ascii "a # /* b"', "#ifdef VALUE\n.byte 3\n#endif", "#if VALUE > 1\n.byte 1\n#else\n.byte 2\n#endif",
+             "#define JOIN(a, b) a##b\n.long JOIN(1,+)2", "#ifndef __ASSEMBLER__\n#error\n#endif", "f@n:\tret", ".long __LINE__",
+             ".ascii __FILE__", ".long __COUNTER__", "#line 40", "#undef VALUE\n#define VALUE 5", "# pragma",
+             "#if VALUE == 2\n.byte 8\n#endif", ".ascii __BASE_FILE__", ".macro m@n\n.byte 4\n.endm\nm@n"]
+    ODD = ['# 1 "s.h"', '# 7 "x.S" 2', '# 1 "t.h" 1', '#line 9 "s.h"', '.warning "one"', "#warning one", '.incbin "data"', '.include "t.s"',
+           '.include "x.S"', '.file "y.c"', '.file "x.S"', ".ascii __DATE__", '#if __has_include("t.h")\n.byte 9\n#endif',
+           "# __has_include", '.print "one"', ".altmacro", "#define H #\nH include \"t.h\"", ".err", "it's",
+           "#pragma once", '#import "t.h"']
+    INCLUDES = ['#include "s.h"', "#include <s.h>", "#include <t.h>", '#include "t.h"', "#define NAME <t.h>\n#include NAME", '#include "a/t.h"']
+    PLACES = ["work/a/s.h", "work/b/s.h", "work/s.h", "work/a/t.h", "work/b/t.h", "work/t.h", "work/t.s", "work/b/x.S"]
+
+    def start(self):
+        project = self.project
+        for path in set(project.chance.sample(self.PLACES, 4) + ["work/b/s.h", "work/a/t.h"]):
+            self.content(path)
+        self.put("work/x.S", *self.lines(3), *project.chance.sample(self.INCLUDES, 2), *self.lines(2))
+        project.call["input"] = project.call["input"] and [project.pick(["x.S", "x.S", "./x.S", "@root/work/x.S"])]
+        self.give([["-DVALUE=2"]] + project.pick([[], [["-g"]], [["-MD"]], [["-MMD"], ["-g"]]]), project.pick([BOTH, BOTH[::-1]]))
+
+    def lines(self, most):
+        lines = []
+        for _ in range(self.project.chance.randint(1, most)):
+            self.project.number += 1
+            pool = self.ODD if self.project.is_rare(0.06) else self.LINES
+            lines.append(self.project.pick(pool).replace("@n", str(self.project.number)))
+        return lines
+
+    def content(self, path):
+        more = [self.project.pick(self.INCLUDES[2:4])] if path.endswith("s.h") and self.project.is_rare(0.4) else []
+        self.put(path, *self.lines(3), *more)
+
+    def change(self):
+        project = self.project
+        how = project.pick(["line", "header", "value", "turn"], [3, 4, 1, 1])
+        if how == "line":
+            snippets = list(project.tree["work/x.S"]["snippets"])
+            place = project.chance.randrange(len(snippets))
+            self.put("work/x.S", *snippets[:place], *self.lines(1), *snippets[place + project.pick([0, 1]):])
+        elif how == "header":
+            path = project.pick(self.PLACES)
+            if path in project.tree and project.is_rare(0.4):
+                project.do({"do": "remove", "path": path})
+            else:
+                self.content(path)
+        elif how == "value":
+            project.call["options"] = [option for option in project.call["options"] if not option[0].startswith("-DVALUE")]
+            self.give([["-DVALUE=" + project.pick(["1", "2", "3"])]])
+        else:
+            project.turn()
+
+
 # How often a project has a theme.
-THEMES = {Plain: 10, Columns: 2.5, Variables: 1.5, Missing: 1, Base: 1.5, Copies: 1.5, Readings: 1.5, Beside: 2}
+THEMES = {Plain: 10, Columns: 2.5, Variables: 1.5, Missing: 1, Base: 1.5, Copies: 1.5, Readings: 1.5, Beside: 2, Assembler: 2}

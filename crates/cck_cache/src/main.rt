@@ -8,7 +8,8 @@
 
 use anyhow::{Result, bail};
 use cck_cache_command::{
-    Environment, is_passed_on, locale, max_size, reads_all, run, search_variables, variables,
+    Environment, is_passed_on, knows_native, locale, max_size, reads_all, run, search_variables,
+    variables,
 };
 use cck_path::Timestamp;
 use jiff::tz::{SystemTimeZone, TimeZoneDatabase};
@@ -43,6 +44,7 @@ fn start(rt: &HostRuntime) -> Result<u8> {
         zone: system.time_zone(&database)?,
         variables: variables(rt)?,
         locale: locale(rt)?,
+        knows_native: knows_native(rt)?,
         reads_all: reads_all(rt)?,
         max_size: max_size(rt)?,
         is_passed_on: is_passed_on(rt)?,

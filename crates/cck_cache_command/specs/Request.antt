@@ -11,7 +11,7 @@ use Rattle.cck_cache_rules.specs.Base.{BaseOf, WordLists}
 use Rattle.cck_cache_command.specs.Input.{IsInput}
 use Rattle.cck_cache_command.specs.declared.environment.Environment.{Environment}
 use Rattle.cck_cache_arguments.specs.declared.request.Request.{Request}
-use Rattle.cck_cache_options.specs.Call.{is_cplusplus}
+use Rattle.cck_cache_options.specs.Call.{is_assembler, is_cplusplus}
 use Rattle.cck_compiler.specs.Arguments.{Arguments, only_input}
 use Rattle.cck_compiler.specs.Seen.{arguments_of}
 use Rattle.cck_compiler.specs.declared.compiler.CCompilerKind.TheVariants.{Gcc}
@@ -24,7 +24,7 @@ use Rattle.cck_snapshot.specs.declared.compiler.ExternalCompiler.{ExternalCompil
 use Rattle.cck_snapshot.specs.declared.requests.SnapshotRequest.{SnapshotRequest}
 use Rattle.cck_include.specs.Config.{activated}
 use Rattle.cck_util.specs.declared.language.Language.{Language}
-use Rattle.cck_util.specs.declared.language.Language.TheVariants.{C, Cxx}
+use Rattle.cck_util.specs.declared.language.Language.TheVariants.{AssemblerToPreprocess, C, Cxx}
 use Rattle.sha2.specs.Sha256.{sha256}
 
 -- the words that the base directory depends on
@@ -56,7 +56,9 @@ is_plusplus programs = ends_with nat_eq (before_first is_colon (after_first is_c
 
 -- the language of an input, by the compiler and by its name
 abbrev pub language_of : Request → Language
-language_of request = if is_plusplus (string_bytes request.compiler) || is_cplusplus request.input.now then Cxx else C
+language_of request =
+    if is_assembler request.input.now then AssemblerToPreprocess
+    else if is_plusplus (string_bytes request.compiler) || is_cplusplus request.input.now then Cxx else C
 
 -- gcc, whose version and assembler are part of the digest of its programs
 abbrev pub gcc : Bool → External

@@ -17,9 +17,12 @@ use std::rt::Env;
 // The variable that turns the preprocessor cache off, and the one that `__DATE__` shows.
 const OTHER_VARIABLES: [&[u8]; 2] = [b"SCCACHE_DIRECT", b"SOURCE_DATE_EPOCH"];
 
+// The variable that says which processor the compiler takes for `native`: the options that it has in its place.
+const NATIVE: &str = "CCK_NATIVE";
+
 // The variables that the compiler's messages depend on: those of the locale, and those of colours, links,
-// hints and the width of a line. They are part of the keys as arguments.
-const LOCALE: [&str; 10] = [
+// hints and the width of a line; and that of the processor. They are part of the keys as arguments.
+const LOCALE: [&str; 11] = [
     "LC_ALL",
     "LC_CTYPE",
     "LC_MESSAGES",
@@ -30,6 +33,7 @@ const LOCALE: [&str; 10] = [
     "TERM_URLS",
     "GCC_EXTRA_DIAGNOSTIC_OUTPUT",
     "COLUMNS",
+    NATIVE,
 ];
 
 // The variables with which a call is passed on, if one is set, even to nothing. By these, other programs, directories
@@ -64,9 +68,11 @@ pub struct Environment<'a> {
     pub zone: TimeZone<'a>,
     /// The variables that keys depend on, in a fixed order.
     pub variables: Vec<(Vec<u8>, Vec<u8>)>,
-    /// The variables that messages depend on, those of the locale among them, each with a zero byte after
-    /// it.
+    /// The variables that messages depend on, those of the locale among them, and that of the processor, each with a zero
+    /// byte after it.
     pub locale: Vec<u8>,
+    /// Whether it is known which processor the compiler takes for `native`.
+    pub knows_native: bool,
     /// Whether a look-up reads each file that an entry names, whatever its status is.
     pub reads_all: bool,
     /// The most bytes that the entries and objects of a store may have together. `None` where there is no limit.
@@ -126,7 +132,8 @@ pub fn variables<R: Env + AllocGlobal>(rt: &R) -> Result<Vec<(Vec<u8>, Vec<u8>)>
     Ok(found)
 }
 
-/// The variables that messages depend on and that are set, each with a zero byte after it, which no value has.
+/// The variables that messages depend on, and that of the processor, as far as they are set, each with a zero byte after it,
+/// which no value has.
 ///
 /// The error is of a variable that is not UTF-8, or lack of memory.
 pub fn locale<R: Env + AllocGlobal>(rt: &R) -> Result<Vec<u8>> {
@@ -140,6 +147,16 @@ pub fn locale<R: Env + AllocGlobal>(rt: &R) -> Result<Vec<u8>> {
         }
     }
     Ok(all)
+}
+
+/// Whether it is known which processor the compiler takes for `native`: whether `CCK_NATIVE` is set, and not empty.
+///
+/// The error is of a variable that is not UTF-8, or lack of memory.
+pub fn knows_native<R: Env + AllocGlobal>(rt: &R) -> Result<bool> {
+    Ok(match value_of(rt, NATIVE)? {
+        Some(value) => !value.is_empty(),
+        None => false,
+    })
 }
 
 // Whether a variable is set.

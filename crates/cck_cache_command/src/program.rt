@@ -1,4 +1,7 @@
 //! The program, over any files, reader and writers.
+ghost use Rattle.std.specs.Prelude.{◌≡◌, ◌++◌, [], IfOk, cond};
+ghost use Rattle.cck_cache_options.specs.Table.{entries, table_of};
+
 use crate::call::{CallPaths, call_lines, request_of};
 use crate::environment::Environment;
 use crate::input::input_snapshot;
@@ -19,7 +22,7 @@ use cck_cache_arguments::{
     Task, task_of,
 };
 use cck_cache_files::{Kind, StoreDirectory, entry_name};
-use cck_cache_options::{Call, GCC, rows_of};
+use cck_cache_options::{Call, GCC, NATIVE, Row, rows_of};
 use cck_cache_server::{Peer, RemotePeer, StreamPeer, address_in};
 use cck_cache_store::{
     clear_store, limit_shares, print_files, print_stats, prune_store, verify_store,
@@ -27,6 +30,7 @@ use cck_cache_store::{
 use cck_path::Timestamp;
 use clap::Error;
 use clap::error::ErrorKind;
+use std::alloc::{AllocError, Global};
 use std::io::{Read, Write};
 use std::rt::Files;
 use std::{fs, io, mem};
@@ -387,6 +391,25 @@ fn run_action<R: Files + AllocGlobal + Clone + Drop, S: Peer>(
     }
 }
 
+// The rows of a table of options. Those that are for the machine's processor come first where it is known.
+fn options_of<'t>(
+    alloc: Global,
+    table: &'t [u8],
+    native: &'t [u8],
+    knows_native: bool,
+) -> Result<Vec<Row<'t>>, AllocError>
+    ensures { IfOk result (λ rows. entries rows.items
+        ≡ cond knows_native (table_of native.now) [] ++ table_of table.now) }
+{
+    let rows = rows_of(alloc, table)?;
+    if !knows_native {
+        return Ok(rows);
+    }
+    let mut all = rows_of(alloc, native)?;
+    all.extend_from_slice(&rows)?;
+    Ok(all)
+}
+
 // Does what was asked for with a call of a compiler, or prints why the call is not cached.
 fn run_call<R: Files + AllocGlobal + Clone + Drop, S: Peer>(
     rt: &R,
@@ -401,7 +424,7 @@ fn run_call<R: Files + AllocGlobal + Clone + Drop, S: Peer>(
         Named::Paths(programs) => programs,
         Named::PassedOn(reason) => return print_passed(&mut printed.answer, reason),
     };
-    let rows = rows_of(alloc, GCC)?;
+    let rows = options_of(alloc, GCC, NATIVE, environment.knows_native)?;
     let (asked, paths) = match judge(alloc, &rows, &call.arguments)? {
         Judged::Asks(asked, paths) => (asked, paths),
         Judged::PassedOn(reason) => return print_passed(&mut printed.answer, reason),

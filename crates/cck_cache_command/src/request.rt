@@ -15,7 +15,7 @@ use anyhow::{Context, Result};
 use c_cache_keys::{CCompilerHasher, CCompilerKind, ParsedArguments};
 use cck_cache_arguments::Request;
 use cck_cache_files::{compiler_digest, shared_compiler_digest};
-use cck_cache_options::is_cplusplus;
+use cck_cache_options::{is_assembler, is_cplusplus};
 use cck_cache_rules::{Words, base_of};
 use cck_compiler::copy_lists;
 use cck_files::MapFiles;
@@ -108,7 +108,10 @@ fn is_plusplus(programs: &str) -> bool
 fn language_of(request: &Request<'_>) -> Language
     ensures { result ≡ language_of request.now }
 {
-    if is_plusplus(request.compiler.as_str()) || is_cplusplus(request.input.as_bytes()) {
+    let input = request.input.as_bytes();
+    if is_assembler(input) {
+        Language::AssemblerToPreprocess
+    } else if is_plusplus(request.compiler.as_str()) || is_cplusplus(input) {
         Language::Cxx
     } else {
         Language::C

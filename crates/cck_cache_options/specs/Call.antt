@@ -206,10 +206,14 @@ ends_in_cplusplus text =
 abbrev pub is_cplusplus : List ℕ → Bool
 is_cplusplus name = ends_in_cplusplus (drop 1 name)
 
-abbrev pub is_source : List ℕ → Bool
-is_source name = is_c name || is_cplusplus name
+-- a compiler takes a file of this name for assembler code to preprocess: it ends in `.S` or `.sx` and is longer
+abbrev pub is_assembler : List ℕ → Bool
+is_assembler name = ends_with nat_eq (drop 1 name) (codes ".S") || ends_with nat_eq (drop 1 name) (codes ".sx")
 
--- an argument that is no option and no value: a source in C or C++
+abbrev pub is_source : List ℕ → Bool
+is_source name = is_c name || (is_cplusplus name || is_assembler name)
+
+-- an argument that is no option and no value: a source in C or C++, or assembler code to preprocess
 abbrev pub on_input : Asked → List ℕ → State
 on_input call argument = cond (is_source argument) (with_input call call.input argument) (stop OtherInput)
 

@@ -1,5 +1,5 @@
 -- a table of options
-use Rattle.std.specs.Prelude.{ℕ, Bool, true, false, cond, ◌&&◌, ◌==◌, List, [], ◌∷◌, Option, Some, None, codes, fold, map, flat_map, length, nat_eq, nat_lt}
+use Rattle.std.specs.Prelude.{ℕ, Bool, true, false, cond, ◌&&◌, ◌==◌, List, [], ◌∷◌, Option, Some, None, option_map, codes, fold, map, flat_map, length, nat_eq, nat_lt}
 use Rattle.std.specs.List.{starts_with, slice_split}
 use Rattle.std.specs.Str.{bytes_eq}
 use Rattle.cck_cache_options.specs.declared.table.Cause.{Cause}
@@ -74,10 +74,10 @@ form_named name =
 -- the classes of options that calls which are cached may have
 abbrev pub kept_class_named : List ℕ → Option Class
 kept_class_named name =
-    cond (bytes_eq name (codes "text")) (Some Text)
-    (cond (bytes_eq name (codes "definition")) (Some Definition)
-    (cond (bytes_eq name (codes "code")) (Some Code)
+    cond (bytes_eq name (codes "code")) (Some Code)
     (cond (bytes_eq name (codes "message")) (Some Message)
+    (cond (bytes_eq name (codes "text")) (Some Text)
+    (cond (bytes_eq name (codes "definition")) (Some Definition)
     (cond (bytes_eq name (codes "compiler-message")) (Some CompilerMessage)
     (cond (bytes_eq name (codes "directory")) (Some Directory)
     (cond (bytes_eq name (codes "nothing")) (Some Nothing)
@@ -104,12 +104,12 @@ cause_named name =
     (cond (bytes_eq name (codes "passed-recorded-switches")) (Some RecordedSwitches)
     (cond (bytes_eq name (codes "passed-other-programs")) (Some OtherPrograms) None)))))))))))
 
-abbrev pub class_by : Option Cause → List ℕ → Option Class
-class_by (Some why) name = Some (Passed why)
-class_by None name = kept_class_named name
+abbrev pub class_by : Option Class → List ℕ → Option Class
+class_by (Some class) name = Some class
+class_by None name = option_map Passed (cause_named name)
 
 abbrev pub class_named : List ℕ → Option Class
-class_named name = class_by (cause_named name) name
+class_named name = class_by (kept_class_named name) name
 
 abbrev pub split_at : ℕ → List ℕ → List (List ℕ)
 split_at separator text = slice_split (λ byte. byte == separator) text

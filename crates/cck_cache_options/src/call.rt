@@ -3,7 +3,7 @@ ghost use Rattle.std.specs.Prelude.{◌≡◌, IfOk, map};
 ghost use Rattle.std.specs.Option.{option_map};
 ghost use Rattle.cck_cache_options.specs.Runs.{AreRuns, runs_entries};
 ghost use Rattle.cck_cache_options.specs.Table.{entries};
-ghost use Rattle.cck_cache_options.specs.Call.{advance, call_of, conclude, ends_in_cplusplus, finish, flag, is_c, is_contrary, is_cplusplus, is_keyed, is_preprocessed, is_source, keep, next_of, nothing_asked, on_argument, on_dash, on_input, on_option, on_value, outcome_of, parse, refused, step, take, take_dependency_file, take_output, take_preprocessor_file};
+ghost use Rattle.cck_cache_options.specs.Call.{advance, call_of, conclude, ends_in_cplusplus, finish, flag, is_assembler, is_c, is_contrary, is_cplusplus, is_keyed, is_preprocessed, is_source, keep, next_of, nothing_asked, on_argument, on_dash, on_input, on_option, on_value, outcome_of, parse, refused, step, take, take_dependency_file, take_output, take_preprocessor_file};
 
 use crate::reason::Reason;
 use crate::runs::{Runs, longest, runs_of};
@@ -252,11 +252,24 @@ pub fn is_cplusplus(name: &[u8]) -> bool
     }
 }
 
-// Whether the compiler takes a file of this name for a source in C or C++.
+/// Whether the compiler takes a file of this name for assembler code that has to be preprocessed: it ends
+/// in `.S` or `.sx` and is longer.
+///
+/// Source: "Options Controlling the Kind of Output" of the manual of GCC.
+pub fn is_assembler(name: &[u8]) -> bool
+    ensures { result ≡ is_assembler name.now }
+{
+    match name.split_first() {
+        Some((_, rest)) => rest.ends_with(b".S") || rest.ends_with(b".sx"),
+        None => false,
+    }
+}
+
+// Whether the compiler preprocesses a file of this name: a source in C or C++, or assembler code.
 fn is_source(name: &[u8]) -> bool
     ensures { result ≡ is_source name.now }
 {
-    is_c(name) || is_cplusplus(name)
+    is_c(name) || is_cplusplus(name) || is_assembler(name)
 }
 
 // The state after an argument that is no option and no value. The text may show the path of the input,

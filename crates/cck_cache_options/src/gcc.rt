@@ -1,5 +1,12 @@
 //! The options of gcc.
 
+/// The options of gcc whose code is for the machine that compiles, as rows before those of [`GCC`]: for a call of which it is
+/// known, and part of the keys, what gcc makes of them.
+pub const NATIVE: &[u8] = b"\
+-march=native alone code\n\
+-mtune=native alone code\n\
+";
+
 /// The options of gcc that are known: a line for each, with its name, its form and its class.
 pub const GCC: &[u8] = b"\
 -c alone compile\n\

@@ -3,9 +3,10 @@
 //! An argument that the table does not know, or that it knows as one of calls that are not cached, ends
 //! the reading with a reason: the call then goes to the compiler as it came.
 //!
-//! - [`rows_of`] reads a table of options from its text, and [`GCC`] is that of gcc.
-//! - [`parse`] reads the arguments of a call by the rows of a table, and [`is_cplusplus`] says which inputs
-//!   are in C++.
+//! - [`rows_of`] reads a table of options from its text. [`GCC`] is that of gcc, and [`NATIVE`] has rows that may come
+//!   before its own.
+//! - [`parse`] reads the arguments of a call by the rows of a table. [`is_cplusplus`] says which inputs are in
+//!   C++, and [`is_assembler`] which are assembler code.
 //! - [`push_word`] appends an argument as a POSIX shell reads it back, and
 //!   [`push_preprocessor_arguments`] those of a call that the preprocessor has.
 //! - [`is_definition`] says which arguments define macros, and [`macro_option`] how the preprocessor shows
@@ -23,9 +24,9 @@ mod reason;
 mod runs;
 mod table;
 
-pub use call::{Call, Keyed, Parsed, is_cplusplus, parse};
+pub use call::{Call, Keyed, Parsed, is_assembler, is_cplusplus, parse};
 pub use definition::{is_definition, macro_option};
-pub use gcc::GCC;
+pub use gcc::{GCC, NATIVE};
 pub use paths::{dependency_path, object_path};
 pub use quote::{push_preprocessor_arguments, push_word};
 pub use reason::Reason;

@@ -170,14 +170,15 @@ fn form_named(name: &[u8]) -> Option<Form>
 fn kept_class_named(name: &[u8]) -> Option<Class>
     ensures { result ≡ kept_class_named name.now }
 {
-    if is(name, b"text") {
-        Some(Class::Text)
-    } else if is(name, b"definition") {
-        Some(Class::Definition)
-    } else if is(name, b"code") {
+    // Most rows are of the first two classes.
+    if is(name, b"code") {
         Some(Class::Code)
     } else if is(name, b"message") {
         Some(Class::Message)
+    } else if is(name, b"text") {
+        Some(Class::Text)
+    } else if is(name, b"definition") {
+        Some(Class::Definition)
     } else if is(name, b"compiler-message") {
         Some(Class::CompilerMessage)
     } else if is(name, b"directory") {
@@ -240,9 +241,9 @@ fn cause_named(name: &[u8]) -> Option<Cause>
 fn class_named(name: &[u8]) -> Option<Class>
     ensures { result ≡ class_named name.now }
 {
-    match cause_named(name) {
-        Some(cause) => Some(Class::Passed(cause)),
-        None => kept_class_named(name),
+    match kept_class_named(name) {
+        Some(class) => Some(class),
+        None => cause_named(name).map(Class::Passed),
     }
 }
 
