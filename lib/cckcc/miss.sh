@@ -765,6 +765,7 @@ cck_judging='
         if (reason == "") for (name in projects) read_file(name)
         is_other = 1
         if (reason == "" && (calls || is_assembler)) for (name in others) if (!(name in projects)) read_file(name)
+        if (unread && is_assembler) reason = "header-test"
         if (reason == "" && calls) {
             read_file(FILENAME)
             if (unread || is_pasted()) reason = "header-test"
@@ -1028,7 +1029,7 @@ if [ -s "$cck_scratch/messages" ] && ! lacks '/cc[A-Za-z0-9]\{6\}\.s' "$cck_scra
     cck_refused=temporary-name
 fi
 has_plain_names "$@" || cck_refused=offload
-# The input of an assembler can name itself, and what is made of it the preprocessed file, as STABS do.
+# Assembler code can include its own file, and its object can name the preprocessed one, as with STABS.
 if is_assembler; then
     lacks '/cc[A-Za-z0-9]\{6\}\.s' "$cck_out" || cck_refused=temporary-name
     reads_preprocessed_alone 2>/dev/null || cck_refused=assembler-include

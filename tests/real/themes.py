@@ -337,7 +337,7 @@ class Assembler(Theme):
         for path in set(project.chance.sample(self.PLACES, 4) + ["work/b/s.h", "work/a/t.h"]):
             self.content(path)
         self.put("work/x.S", *self.lines(3), *project.chance.sample(self.INCLUDES, 2), *self.lines(2))
-        project.call["input"] = project.call["input"] and [project.pick(["x.S", "x.S", "./x.S", "@root/work/x.S"])]
+        project.call["input"] = [project.pick(["x.S", "x.S", "./x.S", "@root/work/x.S"])]
         self.give([["-DVALUE=2"]] + project.pick([[], [["-g"]], [["-MD"]], [["-MMD"], ["-g"]]]), project.pick([BOTH, BOTH[::-1]]))
 
     def lines(self, most):
