@@ -1,3 +1,4 @@
+pub mod CutLemmas
 pub mod KeyedLemmas
 pub mod LongestLemmas
 pub mod PartLemmas

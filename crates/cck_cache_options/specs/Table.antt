@@ -75,8 +75,8 @@ form_named name =
 abbrev pub kept_class_named : List ℕ → Option Class
 kept_class_named name =
     cond (bytes_eq name (codes "code")) (Some Code)
-    (cond (bytes_eq name (codes "message")) (Some Message)
     (cond (bytes_eq name (codes "text")) (Some Text)
+    (cond (bytes_eq name (codes "message")) (Some Message)
     (cond (bytes_eq name (codes "definition")) (Some Definition)
     (cond (bytes_eq name (codes "compiler-message")) (Some CompilerMessage)
     (cond (bytes_eq name (codes "directory")) (Some Directory)
@@ -113,6 +113,11 @@ class_named name = class_by (kept_class_named name) name
 
 abbrev pub split_at : ℕ → List ℕ → List (List ℕ)
 split_at separator text = slice_split (λ byte. byte == separator) text
+
+-- the pieces of a text that is cut at its first separator, or has none
+abbrev pub pieces_of : ℕ → List ℕ → Option (List ℕ × List ℕ) → List (List ℕ)
+pieces_of separator text None = text ∷ []
+pieces_of separator text (Some (front, rest)) = front ∷ split_at separator rest
 
 abbrev pub entry_with : List ℕ → Option Form → Option Class → Option Entry
 entry_with name (Some form) (Some class) = Some (record { name = name; form = form; class = class })

@@ -143,6 +143,15 @@ pub const GCC: &[u8] = b"\
 -Wa,--fatal-warnings alone code\n\
 -Wa,--warn alone code\n\
 -Wa,--no-warn alone code\n\
+-Wa,--generate-missing-build-notes=no alone code\n\
+-Wa,--generate-missing-build-notes=yes alone code\n\
+-Wa,-mbranches-within-32B-boundaries alone code\n\
+-Wa,-mrelax-relocations=no alone code\n\
+-Wa,-mrelax-relocations=yes alone code\n\
+-Wa,-mtune=generic32 alone code\n\
+-Wa,-mtune=generic64 alone code\n\
+-Wa,-mx86-used-note=no alone code\n\
+-Wa,-mx86-used-note=yes alone code\n\
 -Xassembler separate passed-assembler-option\n\
 -Xlinker separate passed-inputs\n\
 -T either passed-other-programs\n\

@@ -1,9 +1,10 @@
 //! A table of options, and which of its rows an argument is.
-ghost use Rattle.std.specs.Prelude.{◌≡◌, ◌++◌, IfOk, OnOk, map};
+ghost use Rattle.std.specs.Prelude.{◌≡◌, ◌++◌, ◌<◌, IfOk, IfSome, OnOk, codes, length};
 ghost use Rattle.std.specs.Option.{option_map};
 ghost use Rattle.std.specs.Str.{bytes_eq};
-ghost use Rattle.cck_cache_options.specs.Table.{after_name, better, cause_named, class_named, entries, entries_of_lines, entry, entry_of_line, fits, form_fits, form_named, kept_class_named, listed, split_at, table_of};
+ghost use Rattle.cck_cache_options.specs.Table.{after_name, better, cause_named, class_named, entries, entry, entry_in, entry_of_line, entry_with, fits, form_fits, form_named, kept_class_named, pieces_of, split_at, table_of};
 
+use memchr::memchr;
 use std::alloc::{AllocError, Global};
 
 /// Where the value of an option is.
@@ -144,14 +145,36 @@ pub(crate) fn better<'t>(argument: &[u8], best: Option<Row<'t>>, row: Row<'t>) -
 fn is(name: &[u8], other: &[u8]) -> bool
     ensures { result ≡ bytes_eq name.now other.now }
 {
-    name == other
+    // Most names differ in length.
+    name.len() == other.len() && name == other
+}
+
+// Whether a name is that of the form of most rows. A pattern is tested faster than a slice, so that a table is read faster.
+fn is_alone(name: &[u8]) -> bool
+    ensures { result ≡ bytes_eq name.now (codes "alone") }
+{
+    matches!(name, b"alone")
+}
+
+// Whether a name is that of this class of many rows.
+fn is_code(name: &[u8]) -> bool
+    ensures { result ≡ bytes_eq name.now (codes "code") }
+{
+    matches!(name, b"code")
+}
+
+// Whether a name is that of this class of many rows.
+fn is_text(name: &[u8]) -> bool
+    ensures { result ≡ bytes_eq name.now (codes "text") }
+{
+    matches!(name, b"text")
 }
 
 // The form of this name.
 fn form_named(name: &[u8]) -> Option<Form>
     ensures { result ≡ form_named name.now }
 {
-    if is(name, b"alone") {
+    if is_alone(name) {
         Some(Form::Alone)
     } else if is(name, b"joined") {
         Some(Form::Joined)
@@ -170,13 +193,12 @@ fn form_named(name: &[u8]) -> Option<Form>
 fn kept_class_named(name: &[u8]) -> Option<Class>
     ensures { result ≡ kept_class_named name.now }
 {
-    // Most rows are of the first two classes.
-    if is(name, b"code") {
+    if is_code(name) {
         Some(Class::Code)
+    } else if is_text(name) {
+        Some(Class::Text)
     } else if is(name, b"message") {
         Some(Class::Message)
-    } else if is(name, b"text") {
-        Some(Class::Text)
     } else if is(name, b"definition") {
         Some(Class::Definition)
     } else if is(name, b"compiler-message") {
@@ -247,57 +269,46 @@ fn class_named(name: &[u8]) -> Option<Class>
     }
 }
 
-// The pieces of a text, each up to the next byte of this value.
-fn pieces<'t>(alloc: Global, text: &'t [u8], separator: u8) -> Result<Vec<&'t [u8]>, AllocError>
-    ensures { IfOk result (λ parts. map (λ part. part.now) parts.items ≡ split_at separator text.now) }
+// What is before the first byte of this value in a text, and what is after it. `None` where there is none.
+fn cut<'t>(text: &'t [u8], separator: u8) -> Option<(&'t [u8], &'t [u8])>
+    ensures pieces { split_at separator text.now ≡ pieces_of separator text.now (option_map (λ cut. (cut.0.now, cut.1.now)) result) }
+    ensures shorter { IfSome result (λ cut. length cut.1.now < length text.now) }
 {
-    text.split(|byte| *byte == separator).collect(alloc)
+    match memchr(separator, text) {
+        None => None,
+        Some(end) => Some((&text[..end], &text[end + 1..])),
+    }
 }
 
-// The row of these fields: a name, a form and a class.
-fn row_of<'t>(fields: &[&'t [u8]]) -> Option<Row<'t>>
-    ensures { option_map entry result ≡ entry_of_line (map (λ part. part.now) fields.now) }
+// The row of these fields.
+fn row_of<'t>(name: &'t [u8], form: &[u8], class: &[u8]) -> Option<Row<'t>>
+    ensures { option_map entry result ≡ entry_with name.now (form_named form.now) (class_named class.now) }
 {
-    if fields.len() != 3 {
-        return None;
-    }
-    let name = fields[0];
-    let form = form_named(fields[1])?;
-    let class = class_named(fields[2])?;
+    let form = form_named(form)?;
+    let class = class_named(class)?;
     Some(Row { name, form, class })
 }
 
 // The row of a line.
-fn row_in<'t>(alloc: Global, line: &'t [u8]) -> Result<Option<Row<'t>>, AllocError>
-    ensures { IfOk result (λ row. option_map entry row ≡ entry_of_line (split_at 32 line.now)) }
+fn row_in<'t>(line: &'t [u8]) -> Option<Row<'t>>
+    ensures { option_map entry result ≡ entry_of_line (split_at 32 line.now) }
 {
-    let fields = pieces(alloc, line, b' ')?;
-    Ok(row_of(&fields))
+    let (name, rest) = cut(line, b' ')?;
+    let (form, class) = cut(rest, b' ')?;
+    match cut(class, b' ') {
+        Some(_) => None,
+        None => row_of(name, form, class),
+    }
 }
 
-// Appends a row, if there is one.
-fn push_row<'t>(rows: &mut Vec<Row<'t>>, row: Option<Row<'t>>) -> Result<(), AllocError>
-    ensures { OnOk result (entries rows.new.items ≡ entries rows.old.items ++ listed (option_map entry row.entry)) }
+// Appends the row of a line, if it has one.
+fn push_row<'t>(rows: &mut Vec<Row<'t>>, line: &'t [u8]) -> Result<(), AllocError>
+    ensures { OnOk result (entries rows.new.items ≡ entries rows.old.items ++ entry_in line.now) }
 {
-    match row {
+    match row_in(line) {
         Some(row) => Ok(rows.push(row)?),
         None => Ok(()),
     }
-}
-
-// Appends the rows of these lines.
-fn push_rows<'t>(
-    alloc: Global,
-    rows: &mut Vec<Row<'t>>,
-    lines: &[&'t [u8]],
-) -> Result<(), AllocError>
-    ensures { OnOk result (entries rows.new.items ≡ entries rows.old.items ++ entries_of_lines (map (λ line. line.now) lines.now)) }
-{
-    for line in lines {
-        let row = row_in(alloc, line)?;
-        push_row(rows, row)?;
-    }
-    Ok(())
 }
 
 /// The rows of a table in a text: a line for each, with a name, a form and a class and single spaces
@@ -308,7 +319,11 @@ pub fn rows_of<'t>(alloc: Global, text: &'t [u8]) -> Result<Vec<Row<'t>>, AllocE
     ensures { IfOk result (λ rows. entries rows.items ≡ table_of text.now) }
 {
     let mut rows = Vec::new(alloc);
-    let lines = pieces(alloc, text, b'\n')?;
-    push_rows(alloc, &mut rows, &lines)?;
+    let mut left = text;
+    while let Some((line, rest)) = cut(left, b'\n') {
+        push_row(&mut rows, line)?;
+        left = rest;
+    }
+    push_row(&mut rows, left)?;
     Ok(rows)
 }
