@@ -1,20 +1,17 @@
 -- files of a text that are copies of each other
-use Rattle.std.specs.Prelude.{◌≡◌, ◌<◌, ◌⊎◌, ℕ, Bool, true, List, IsTrue, MatchBool, codes, drop, length, nat_eq}
-use Rattle.std.specs.List.{starts_with}
+use Rattle.std.specs.Prelude.{◌≡◌, ◌⊎◌, Bool, true, List, IsTrue, MatchBool, codes}
 use Rattle.cck_cache_arguments.specs.declared.request.Request.{Request}
 use Rattle.cck_cache_files.specs.Copies.{IsPathOfName}
 use Rattle.cck_cache_files.specs.ReadOnce.{HasCopies}
 use Rattle.cck_cache_text.specs.Names.{is_named}
+use Rattle.cck_digest.specs.TimeMacros.{Has}
 use Rattle.cck_files.specs.FileMap.{FileMap}
 use Rattle.cck_markers.specs.Marks.{Mark, Marks}
 use Rattle.cck_path.specs.Bytes.{Bytes}
 
--- the word of a directive that imports a file is at this place of a text, or at one of its places
-abbrev pub begins_import : Bytes → ℕ → Bool
-begins_import text place = starts_with nat_eq (drop place text) (codes "#import ")
-
+-- a text has the word of a directive that imports a file
 abbrev pub MayImport : Bytes → Type 0
-MayImport text = (place : ℕ) × (place < length text) × (begins_import text place ≡ true)
+MayImport text = Has text (codes "#import ")
 
 -- the absolute path of the input, or of a file that these marks of a text name
 abbrev pub IsPathOfText : Request → List Mark → Bytes → Type 0

@@ -1,6 +1,6 @@
 //! Files of a text that are copies of each other.
-ghost use Rattle.std.specs.Prelude.{◌≡◌, ◌↔◌, ◌≤◌, IfOk, IsTrue, length};
-ghost use Rattle.cck_cache_paths.specs.Copies.{IsCopiesVerdict, MayImport, begins_import};
+ghost use Rattle.std.specs.Prelude.{◌↔◌, IfOk, IsTrue};
+ghost use Rattle.cck_cache_paths.specs.Copies.{IsCopiesVerdict, MayImport};
 ghost use Rattle.cck_files.specs.Calls.{Keeps};
 ghost use Rattle.cck_files.specs.FileState.{IsQuiet, fault_count};
 
@@ -8,26 +8,14 @@ use crate::preprocessed::Preprocessed;
 use cck_cache_files::{compared_paths, has_copies};
 use cck_digest::UtilError;
 use cck_files::MapFiles;
+use memchr::memmem;
 use std::alloc::Global;
-
-// Whether the word of a directive that imports a file is at this place.
-fn begins_import(text: &[u8], place: usize) -> bool
-    requires { place ≤ length text.now }
-    ensures { result ≡ begins_import text.now place }
-{
-    text[place..].starts_with(b"#import ")
-}
 
 /// Whether a text may have a directive that imports a file.
 pub fn may_import(text: &[u8]) -> bool
     ensures { IsTrue result ↔ MayImport text.now }
 {
-    for place in 0..text.len() {
-        if begins_import(text, place) {
-            return true;
-        }
-    }
-    false
+    memmem::find(text, b"#import ").is_some()
 }
 
 /// Whether two files of a text are copies, of which gcc may pass over one once they have the same time.

@@ -296,8 +296,8 @@ fn want_no_file(tests: &[PathTest]) -> bool
     tests.iter().all(wants_no_file)
 }
 
-// The files with which gcc may compare another one: those of the text. `None` where the text imports a file, and its sources
-// test for one that is there: gcc passes over the first of the two once they are alike, though it reads the second one never.
+// The files with which gcc may compare another one: those of the text. `None` where the text may import a file, and a test
+// wants a regular file: gcc compares an imported file with one that was found by a test too, which the text may not name.
 fn compared_files(
     alloc: Global,
     files: &mut MapFiles,

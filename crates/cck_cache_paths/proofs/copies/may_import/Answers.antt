@@ -1,8 +1,8 @@
-use Rattle.std.proofs.Common.{◌≡◌, true, false, ◌∙◌, below_more}
+use Rattle.std.proofs.Common.{codes, sym, ◌∙◌}
+use Rattle.cck_digest.proofs.FinderLemmas.{Has-found}
 use Rattle.cck_cache_paths.proofs.copies.may_import.Goals as goal
 
-false_true : false ≡ true → ⊥
-false_true e = cc
-
-pub loop-place-preserved : goal.loop-place-preserved
-loop-place-preserved c = below_more _ _ c.loop-place.invariant (λ is. false_true (c.if-begins_import.ensures ∙ is))
+pub returns : goal.returns
+returns c =
+    let found = Has-found c.args.text.now (codes "#import ") c.find.result c.find.ensures in
+    (λ is. found.0 (sym c.is_some.ensures ∙ is), λ has. c.is_some.ensures ∙ found.1 has)
