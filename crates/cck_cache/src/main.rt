@@ -8,8 +8,8 @@
 
 use anyhow::{Result, bail};
 use cck_cache_command::{
-    Environment, is_passed_on, knows_native, locale, max_size, reads_all, run, search_variables,
-    variables,
+    Environment, compiler_variables, is_passed_on, knows_native, max_size, reads_all, run,
+    search_variables, variables,
 };
 use cck_path::Timestamp;
 use jiff::tz::{SystemTimeZone, TimeZoneDatabase};
@@ -43,7 +43,7 @@ fn start(rt: &HostRuntime) -> Result<u8> {
         now: now(rt)?,
         zone: system.time_zone(&database)?,
         variables: variables(rt)?,
-        locale: locale(rt)?,
+        compiler_variables: compiler_variables(rt)?,
         knows_native: knows_native(rt)?,
         reads_all: reads_all(rt)?,
         max_size: max_size(rt)?,

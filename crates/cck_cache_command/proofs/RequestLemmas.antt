@@ -19,22 +19,22 @@ use Rattle.cck_snapshot.specs.Snapshot.{IsKeyOfPart, IsPart, over}
 use Rattle.cck_snapshot.specs.declared.requests.SnapshotRequest.{SnapshotRequest}
 use Rattle.sha2.specs.Sha256.{sha256}
 
--- the working directory and the locale after the arguments
-pub keyed_two : (words : WordLists) (locale : Bytes) (copied first second : List Bytes) (directory text : Bytes) → copied ≡ words.arguments → directory ≡ words.directory → text ≡ locale
-    → first ≡ copied ++ (codes "directory=" ++ directory) ∷ [] → second ≡ first ++ (codes "locale=" ++ text) ∷ [] → second ≡ keyed_arguments words locale None
-keyed_two words locale copied first second directory text same named said one two =
-    two ∙ (ap (λ (xs : List Bytes). xs ++ (codes "locale=" ++ text) ∷ []) one
-    ∙ (append_assoc copied ((codes "directory=" ++ directory) ∷ []) ((codes "locale=" ++ text) ∷ [])
-    ∙ (ap (λ (xs : List Bytes). xs ++ (codes "directory=" ++ directory) ∷ (codes "locale=" ++ text) ∷ []) same
-    ∙ (ap (λ (d : Bytes). words.arguments ++ (codes "directory=" ++ d) ∷ (codes "locale=" ++ text) ∷ []) named
-    ∙ ap (λ (l : Bytes). words.arguments ++ (codes "directory=" ++ words.directory) ∷ (codes "locale=" ++ l) ∷ []) said))))
+-- the working directory and the variables of the compiler after the arguments
+pub keyed_two : (words : WordLists) (variables : Bytes) (copied first second : List Bytes) (directory text : Bytes) → copied ≡ words.arguments → directory ≡ words.directory → text ≡ variables
+    → first ≡ copied ++ (codes "directory=" ++ directory) ∷ [] → second ≡ first ++ (codes "variables=" ++ text) ∷ [] → second ≡ keyed_arguments words variables None
+keyed_two words variables copied first second directory text same named said one two =
+    two ∙ (ap (λ (xs : List Bytes). xs ++ (codes "variables=" ++ text) ∷ []) one
+    ∙ (append_assoc copied ((codes "directory=" ++ directory) ∷ []) ((codes "variables=" ++ text) ∷ [])
+    ∙ (ap (λ (xs : List Bytes). xs ++ (codes "directory=" ++ directory) ∷ (codes "variables=" ++ text) ∷ []) same
+    ∙ (ap (λ (d : Bytes). words.arguments ++ (codes "directory=" ++ d) ∷ (codes "variables=" ++ text) ∷ []) named
+    ∙ ap (λ (l : Bytes). words.arguments ++ (codes "directory=" ++ words.directory) ∷ (codes "variables=" ++ l) ∷ []) said))))
 
 -- and the base directory after these
-pub keyed_base : (words : WordLists) (locale : Bytes) (two third : List Bytes) (bytes base : Bytes) → bytes ≡ base → third ≡ two ++ (codes "base=" ++ bytes) ∷ [] → two ≡ keyed_arguments words locale None → third ≡ keyed_arguments words locale (Some base)
-keyed_base words locale two third bytes base same more is =
+pub keyed_base : (words : WordLists) (variables : Bytes) (two third : List Bytes) (bytes base : Bytes) → bytes ≡ base → third ≡ two ++ (codes "base=" ++ bytes) ∷ [] → two ≡ keyed_arguments words variables None → third ≡ keyed_arguments words variables (Some base)
+keyed_base words variables two third bytes base same more is =
     more ∙ (ap (λ (xs : List Bytes). xs ++ (codes "base=" ++ bytes) ∷ []) is
-    ∙ (append_assoc words.arguments ((codes "directory=" ++ words.directory) ∷ (codes "locale=" ++ locale) ∷ []) ((codes "base=" ++ bytes) ∷ [])
-    ∙ ap (λ (b : Bytes). words.arguments ++ (codes "directory=" ++ words.directory) ∷ (codes "locale=" ++ locale) ∷ (codes "base=" ++ b) ∷ []) same))
+    ∙ (append_assoc words.arguments ((codes "directory=" ++ words.directory) ∷ (codes "variables=" ++ variables) ∷ []) ((codes "base=" ++ bytes) ∷ [])
+    ∙ ap (λ (b : Bytes). words.arguments ++ (codes "directory=" ++ words.directory) ∷ (codes "variables=" ++ variables) ∷ (codes "base=" ++ b) ∷ []) same))
 
 -- a request has no extra files, so their digests are the same over all files
 same_extra : (environment : Environment) (request : Request) (time : Moment) (bases : List Bytes) (asked : SnapshotRequest) (part whole : FileMap) → IsRequest environment request time bases asked

@@ -22,6 +22,7 @@ use Rattle.cck_cache_files.specs.Snapshot.{ArePut, IsPart}
 use Rattle.cck_cache_arguments.specs.declared.request.Request.{Request}
 use Rattle.cck_cache_arguments.specs.declared.task.Look.{Look}
 use Rattle.cck_cache_arguments.specs.declared.task.Outputs.{Outputs}
+use Rattle.cck_cache_arguments.specs.declared.task.Server.{Server}
 use Rattle.cck_entry.specs.Entry.{Entry, EntryText}
 use Rattle.cck_entry.specs.Statuses.{Statuses}
 use Rattle.cck_files.specs.FileMap.{FileMap}
@@ -36,6 +37,11 @@ use Rattle.cck_snapshot.specs.Snapshot.{one_pair}
 use Rattle.cck_snapshot.specs.Statuses.{AsksWith}
 use Rattle.cck_snapshot.specs.declared.requests.SnapshotRequest.{SnapshotRequest}
 use Rattle.sha2.specs.Sha256.{sha256}
+
+-- a store keeps what the server that is asked has
+abbrev pub keeps : Option Server → Bool
+keeps None = false
+keeps (Some server) = server.keeps
 
 -- The object key that is returned from an entry whose text is held under a preprocessor key, over files that have grown by those that the entry names.
 -- Whatever a preprocessor prints, there is a call that asks a store that holds this text, with these statuses of included files, and returns the key.

@@ -39,13 +39,13 @@ abbrev pub base_argument : Option Bytes → List Bytes
 base_argument None = []
 base_argument (Some base) = (codes "base=" ++ base) ∷ []
 
--- the arguments, the working directory, the locale, and the base directory of portable words
+-- the arguments, the working directory, the variables of the compiler, and the base directory of portable words
 abbrev pub keyed_arguments : WordLists → Bytes → Option Bytes → List Bytes
-keyed_arguments words locale base =
-    words.arguments ++ (codes "directory=" ++ words.directory) ∷ (codes "locale=" ++ locale) ∷ base_argument base
+keyed_arguments words variables base =
+    words.arguments ++ (codes "directory=" ++ words.directory) ∷ (codes "variables=" ++ variables) ∷ base_argument base
 
 abbrev pub AreKeyed : WordLists → Bytes → List Bytes → Type 0
-AreKeyed words locale arguments = (base : Option Bytes) × BaseOf words base × (arguments ≡ keyed_arguments words locale base)
+AreKeyed words variables arguments = (base : Option Bytes) × BaseOf words base × (arguments ≡ keyed_arguments words variables base)
 
 abbrev pub is_colon : ℕ → Bool
 is_colon byte = byte == 58
@@ -74,7 +74,7 @@ pub record IsHasher (environment : Environment) (request : Request) (hasher : CC
   pub compiler : external_of hasher.compiler ≡ gcc (is_plusplus (string_bytes request.compiler))
   pub executable : hasher.executable.items ≡ []
   pub arguments : List Bytes
-  pub keyed : AreKeyed (request_words request) environment.locale.items arguments
+  pub keyed : AreKeyed (request_words request) environment.compiler_variables.items arguments
   pub parsed : arguments_of hasher.parsed_args ≡ gcc_arguments request.input.now (language_of request) (lists_of request.definitions.items) arguments
 
 -- the request over a snapshot, at this time and with these base directories

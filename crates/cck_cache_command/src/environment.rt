@@ -20,9 +20,10 @@ const OTHER_VARIABLES: [&[u8]; 2] = [b"SCCACHE_DIRECT", b"SOURCE_DATE_EPOCH"];
 // The variable that says which processor the compiler takes for `native`: the options that it has in its place.
 const NATIVE: &str = "CCK_NATIVE";
 
-// The variables that the compiler's messages depend on: those of the locale, and those of colours, links,
-// hints and the width of a line; and that of the processor. They are part of the keys as arguments.
-const LOCALE: [&str; 11] = [
+// The variables that the compiler depends on beside those that both keys have: for its messages those of the locale, and
+// those of colours, links, hints and the width of a line, and for its code that of the processor. They are part of the
+// keys as an argument.
+const COMPILER_VARIABLES: [&str; 11] = [
     "LC_ALL",
     "LC_CTYPE",
     "LC_MESSAGES",
@@ -68,9 +69,8 @@ pub struct Environment<'a> {
     pub zone: TimeZone<'a>,
     /// The variables that keys depend on, in a fixed order.
     pub variables: Vec<(Vec<u8>, Vec<u8>)>,
-    /// The variables that messages depend on, those of the locale among them, and that of the processor, each with a zero
-    /// byte after it.
-    pub locale: Vec<u8>,
+    /// The variables of messages, those of the locale among them, and that of the processor, each with a zero byte after it.
+    pub compiler_variables: Vec<u8>,
     /// Whether it is known which processor the compiler takes for `native`.
     pub knows_native: bool,
     /// Whether a look-up reads each file that an entry names, whatever its status is.
@@ -132,13 +132,13 @@ pub fn variables<R: Env + AllocGlobal>(rt: &R) -> Result<Vec<(Vec<u8>, Vec<u8>)>
     Ok(found)
 }
 
-/// The variables that messages depend on, and that of the processor, as far as they are set, each with a zero byte after it,
-/// which no value has.
+/// The variables of messages, and that of the processor, as far as they are set, each with a zero byte after it, which no
+/// value has.
 ///
 /// The error is of a variable that is not UTF-8, or lack of memory.
-pub fn locale<R: Env + AllocGlobal>(rt: &R) -> Result<Vec<u8>> {
+pub fn compiler_variables<R: Env + AllocGlobal>(rt: &R) -> Result<Vec<u8>> {
     let mut all = Vec::new(rt.alloc());
-    for name in LOCALE {
+    for name in COMPILER_VARIABLES {
         if let Some(value) = value_of(rt, name)? {
             all.extend_from_slice(name.as_bytes())?;
             all.push(b'=')?;

@@ -28,7 +28,7 @@ mod unpack;
 mod why;
 
 pub use environment::{
-    Environment, is_passed_on, knows_native, locale, max_size, reads_all, search_variables,
-    variables,
+    Environment, compiler_variables, is_passed_on, knows_native, max_size, reads_all,
+    search_variables, variables,
 };
 pub use program::run;

@@ -1,7 +1,7 @@
 //! Looks for an object in the store.
 ghost use Rattle.std.specs.Prelude.{◌≡◌, ◌<◌, ◌⊎◌, [], IfOk, IfSome, None, Some, string_bytes, true};
 ghost use Rattle.cck_cache_command.specs.Input.{IsCalm};
-ghost use Rattle.cck_cache_command.specs.Look.{IsFoundFor, IsKeptObject, IsKeyEntry, IsLookResult, IsLooked, IsMissed, IsNamedMatch, IsNameOf, IsLookUp};
+ghost use Rattle.cck_cache_command.specs.Look.{IsFoundFor, IsKeptObject, IsKeyEntry, IsLookResult, IsLooked, IsMissed, IsNamedMatch, IsNameOf, IsLookUp, keeps};
 ghost use Rattle.cck_cache_command.specs.Request.{IsKeyOver, IsRequest};
 ghost use Rattle.cck_cache_rules.specs.PathTest.{tests_of};
 
@@ -253,7 +253,9 @@ fn kept_object<R: Files + AllocGlobal>(
 }
 
 /// Whether the store keeps what a server has.
-pub fn keeps(wanted: &Look<'_>) -> bool {
+pub fn keeps(wanted: &Look<'_>) -> bool
+    ensures { result ≡ keeps wanted.now.server }
+{
     match &wanted.server {
         Some(server) => server.keeps,
         None => false,

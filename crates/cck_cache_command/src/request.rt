@@ -55,20 +55,25 @@ pub fn push_argument(
     Ok(())
 }
 
-// A copy of the arguments that define no macros, and after them the working directory and the locale. Debug
-// information has the working directory, so it is part of each key. What is portable has its base directory
-// there too, which its key is without.
+// A copy of the arguments that define no macros, and after them the working directory and the compiler's
+// variables. Debug information has the working directory, so it is part of each key. What is portable has its base
+// directory there too, which its key is without.
 fn keyed_arguments(
     alloc: Global,
     environment: &Environment<'_>,
     request: &Request<'_>,
 ) -> Result<Vec<Vec<u8>>, AllocError>
     ensures { IfOk result (λ all.
-        AreKeyed (request_words request.now) environment.entry.now.locale.items (lists_of all.items)) }
+        AreKeyed (request_words request.now) environment.entry.now.compiler_variables.items (lists_of all.items)) }
 {
     let mut all = copy_lists(alloc, &request.arguments)?;
     push_argument(alloc, &mut all, b"directory=", request.directory.as_bytes())?;
-    push_argument(alloc, &mut all, b"locale=", &environment.locale)?;
+    push_argument(
+        alloc,
+        &mut all,
+        b"variables=",
+        &environment.compiler_variables,
+    )?;
     if let Some(base) = base_of(&base_words(request)) {
         push_argument(alloc, &mut all, b"base=", base.as_bytes())?;
     }

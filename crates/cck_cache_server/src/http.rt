@@ -1,6 +1,6 @@
 //! Requests to an HTTP server (RFC 9112).
 ghost use Rattle.std.specs.Prelude.{◌≡◌, ℕ, IfOk, List, string_bytes};
-ghost use Rattle.cck_cache_server.specs.Http.{IsShare, http_directory, http_path};
+ghost use Rattle.cck_cache_server.specs.Http.{IsShare, authorization, http_directory, http_path, http_request, named_port};
 
 use crate::address::Address;
 use crate::connection::Connection;
@@ -59,18 +59,43 @@ fn path_of(alloc: Global, directory: &str, name: &str) -> Result<String, AllocEr
     Ok(format!(in alloc; "{directory}/{share}/{name}")?)
 }
 
+// The port as it comes after the name of a host.
+fn named_port(alloc: Global, port: u16) -> Result<String, AllocError>
+    ensures { IfOk result (λ text. string_bytes text ≡ named_port port) }
+{
+    if port == HTTP_PORT {
+        return Ok(String::new(alloc));
+    }
+    Ok(format!(in alloc; ":{port}")?)
+}
+
+// The header field that has a token, if there is one.
+fn authorization(alloc: Global, token: &str) -> Result<String, AllocError>
+    ensures { IfOk result (λ text. string_bytes text ≡ authorization token.now) }
+{
+    if token.is_empty() {
+        return Ok(String::new(alloc));
+    }
+    ["Authorization: Bearer ", token, "\r\n"].concat(alloc)
+}
+
 // A request for what is at a path.
-fn request_of(alloc: Global, address: &Address<'_>, path: &str) -> Result<String, AllocError> {
-    let (host, port, secret) = (address.host, address.port, address.secret);
-    let mut request = format!(in alloc; "GET {path} HTTP/1.1\r\nHost: {host}")?;
-    if port != HTTP_PORT {
-        write!(request, ":{port}")?;
-    }
-    request.push_str("\r\nAccept: */*\r\n")?;
-    if !secret.is_empty() {
-        write!(request, "Authorization: Bearer {secret}\r\n")?;
-    }
-    request.push_str("\r\n")?;
+fn request_of(alloc: Global, address: &Address<'_>, path: &str) -> Result<String, AllocError>
+    ensures { IfOk result (λ text. string_bytes text ≡ http_request address.now path.now) }
+{
+    let port = named_port(alloc, address.port)?;
+    let authorization = authorization(alloc, address.secret)?;
+    let request = [
+        "GET ",
+        path,
+        " HTTP/1.1\r\nHost: ",
+        address.host,
+        port.as_str(),
+        "\r\nAccept: */*\r\n",
+        authorization.as_str(),
+        "\r\n",
+    ]
+    .concat(alloc)?;
     Ok(request)
 }
 
