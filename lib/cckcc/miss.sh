@@ -593,13 +593,16 @@ find_own() {
     cck_own=${cck_own%/*}/include/
 }
 
-# Functions of `judge_text`. The first two read a file of the project, without its splices. They look for the name of a test,
-# or for a beginning of one; for builtin functions of x86; for pragmas that save macros; and for what may be a line marker. A
-# file of a device is not read. The next seven are for macros that stand for a test for a header: where one is used, a word of the
-# header's name may be a macro too, which the text then shows unless it is one of the compiler, as `__LINE__`. Where the name is
-# an argument of the macro, the words are those of all names that a file has in brackets after what may be such a macro; and no
-# file and no macro may have two words that make the macro's name, of which those are kept that have a part of its end. The last
-# one says whether a raw string goes on in the next line.
+# Functions of `judge_text`. `read_line` and `read_file` read a file of the project, without its splices. They look for the name
+# of a test, or for a beginning of one; for builtin functions of x86; for pragmas that save macros; and for what may be a line
+# marker. A file of a device is not read. `without_asked` takes tests for a builtin function by its name from a line, and keeps
+# the names: such a test has one answer for preprocessor and compiler if the text has the name nowhere (`has_asked`), neither as
+# a macro nor in a declaration, and no attribute brings the function. In a definition the name may be a parameter. The next
+# ones are for macros that stand for a test for a header: where one is used, a word of the header's name may be a macro too,
+# which the text then shows unless it is one of the compiler, as `__LINE__`. Where the name is an argument of the macro, the
+# words are those of all names that a file has in brackets after what may be such a macro; and no file and no macro may have two
+# words that make the macro's name, of which those are kept that have a part of its end. `goes_on` says whether a raw string
+# goes on in the next line.
 cck_reading='
     BEGIN {
         is_c = ENVIRON["cck_is_c"] != ""
@@ -618,10 +621,13 @@ cck_reading='
         }
         if (is_other) return
         whole = line
+        line = without_asked(line)
         if (line ~ /#|%:|[?][?]=/ && line ~ marker) marks = 1
-        if (line ~ /(^|[^A-Za-z0-9_$])__ha(s(_(b(u(i(l(ti?)?)?)?)?)?)?)?([^A-Za-z0-9_$]|$)/) asks = 1
-        if (line ~ /ia32|a32_|builtin_ia3?([^A-Za-z0-9_]|$)/) targets = 1
-        if (match(line, /__ha|as_inc|as_emb|HAS_INC/) && substr(line, 1, RSTART - 1) !~ /#|%:|[?][?]=/) tests = 1
+        if (whole ~ /__ha|as_inc|as_emb|HAS_INC|a32|builtin_ia/) {
+            if (line ~ /(^|[^A-Za-z0-9_$])__ha(s(_(b(u(i(l(ti?)?)?)?)?)?)?)?([^A-Za-z0-9_$]|$)/) asks = 1
+            if (whole ~ /ia32|a32_|builtin_ia3?([^A-Za-z0-9_]|$)/) targets = 1
+            if (match(whole, /__ha|as_inc|as_emb|HAS_INC/) && substr(whole, 1, RSTART - 1) !~ /#|%:|[?][?]=/) tests = 1
+        }
         gsub(/[^A-Za-z_]/, "", line)
         letters = substr(letters, length(letters) - 10) line
         if (index(letters, "as_builtin")) asks = 1
@@ -629,6 +635,45 @@ cck_reading='
         saves = 1
         if (whole ~ /^[ \t]*#[ \t]*pragma[ \t]+(push|pop)_macro[(]"[a-z]+"[)][ \t]*$/) letters = ""
         else if (index(whole, "(")) hides = 1
+    }
+    function without_asked(line, rest, word, is_directive) {
+        if (index(line, "??/") && line ~ ("[?][?]/" blank "*$")) has_trigraphs = 1
+        if (opens && line !~ ("^" blank "*$")) {
+            if (line ~ ("^" blank "*[(/]")) asks = 1
+            opens = 0
+        }
+        if (index(line, "_as_builtin")) gsub(/_as_builtin/, "", line)
+        if (!index(line, "__has_builtin")) return line
+        if (line ~ /^#[ \t]*define[ \t]+__has_builtin[(]x[)][ \t]+(0|[(]0[)])$/) return ""
+        is_directive = line ~ /#|%:|[?][?]=/
+        if (is_directive && line !~ /^[ \t]*#[ \t]*(if|elif|ifdef|ifndef)[^A-Za-z0-9_$]/) asks = 1
+        if (is_directive) gsub(/def(ined)?[ \t]*[(]?[ \t]*__has_builtin/, "", line)
+        while (match(line, "__has_builtin" blank "*([(]" blank "*[A-Za-z_][A-Za-z0-9_]*" blank "*[)])?")) {
+            word = substr(line, RSTART, RLENGTH)
+            rest = substr(line, RSTART + RLENGTH)
+            line = substr(line, 1, RSTART - 1)
+            if (line ~ /[*]\//) asks = 1
+            if (sub(/.*[(]/, "", word)) {
+                gsub(/[^A-Za-z0-9_]/, "", word)
+                asked[word]
+                if (word ~ /ia32/) asks = 1
+            } else if (rest ~ /^[(\/]/ || (rest == "" && is_directive)) {
+                asks = 1
+            } else if (rest == "") {
+                opens = 1
+            }
+            line = line " " rest
+        }
+        return line
+    }
+    function has_asked(file, line, word, is_any) {
+        for (word in asked) is_any = 1
+        if (!is_any || has_trigraphs) return is_any
+        while ((getline line < file) > 0) {
+            if (line ~ /^# /) continue
+            for (word in asked) if (index(line, word)) return 1
+        }
+        return close(file) != 0
     }
     function read_file(name, file, line, held, is_later) {
         file = name ~ /^\// ? name : "./" name
@@ -640,6 +685,7 @@ cck_reading='
             else { read_line(held line); held = "" }
         }
         read_line(held)
+        if (opens) { asks = 1; opens = 0 }
         if (close(file) != 0) asks = unread = 1
     }
     function add_words(line) {
@@ -703,7 +749,8 @@ cck_reading='
 # named as what the compiler defines itself. A line directive enters no file; a marker in a source, or in a raw string over
 # lines, is not told from one of gcc. With OpenMP or OpenACC the compiler expands macros in a pragma, which an operator may
 # make of any line. In a pragma of diagnostics or of visibility it expands none; one that turns a warning on may warn of a
-# macro that the text does not show.
+# macro that the text does not show. What is pasted after `> struct` is the name of a class, unless `struct` is a macro, or a
+# parameter of that definition.
 cck_judging='
     !is_text {
         if (/warning: /) warns = 1
@@ -711,6 +758,7 @@ cck_judging='
         next
     }
     index($0, "R\"") && goes_on($0) { marks = 1 }
+    /target/ && /(^|[^A-Za-z0-9_$])(__)?target(_clones)?(__)?[ \t]*([(]|$)/ { sets_targets = 1 }
     !/^[ \t]*#/ { next }
     /^#define [^ (]+ *__has_include(_next)? *\( *</ {
         name = substr($0, index($0, "<"))
@@ -722,7 +770,8 @@ cck_judging='
         add_call(substr($2, 1, index($2, "(") - 1))
         stands = 1
     }
-    /^#define (struct[ (]|[^ (]+[(]([^)]*[ ,])?struct[ ,.)])/ { reason = "header-test" }
+    /^#define struct[ (]/ { reason = "header-test" }
+    /^#define [^ (]+[(]([^)]*[ ,])?struct[ ,.)].*>[ \t]*struct/ { reason = "header-test" }
     /^#(include|include_next|import)[ \t].*>[ \t]*struct[ \t]*[0-9]/ { reason = "header-test" }
     /^# [0-9]+ "/ {
         flags = name = $0
@@ -772,8 +821,9 @@ cck_judging='
         }
         if ((marks || hides) && doubts != "") reason = "target-pragma"
         if (ENVIRON["cck_targets"] != "") targets = 1
+        if (!asks && is_c && reason == "" && has_asked(FILENAME)) asks = 1
         if (!is_c) asks = 0
-        if (asks && (targets || silences)) reason = "other-file"
+        if (asks && ((targets && sets_targets) || silences)) reason = "other-file"
         if (tests && parallel && ENVIRON["cck_extended"] != "") reason = "header-test"
         if (stands && is_macro(FILENAME)) reason = "header-test"
         print shows_time ? "time-macro" : reason
@@ -841,7 +891,8 @@ declares_builtin() {
                 word = substr($0, RSTART, RLENGTH)
                 $0 = substr($0, RSTART + RLENGTH)
                 if (word in words || (is_text && (word !~ /^__/ || /^[ \t]*[(]/))) continue
-                printf "#if __has_builtin(%s)\n\"builtin\"\n#endif\n", word
+                printf "#pragma push_macro(\"%s\")\n#undef %s\n", word, word
+                printf "#if __has_builtin(%s)\n\"builtin\"\n#endif\n#pragma pop_macro(\"%s\")\n", word, word
                 words[word]
             }
         }' "$cck_scratch/declared" is_text=1 "$cck_scratch/text" > "$cck_scratch/asked.h" || return 2
