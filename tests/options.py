@@ -57,7 +57,7 @@ def table():
 
 
 def rows_of(lines, faults):
-    words = set(re.findall(r'is\(name, b"([a-z-]+)"\)', text_of("table.rt")))
+    words = set(re.findall(r'(?:is|matches!)\(name, b"([a-z-]+)"\)', text_of("table.rt")))
     forms = {"alone", "joined", "separate", "either", "equals"}
     classes = words - forms
     rows = []
