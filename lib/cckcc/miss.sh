@@ -593,16 +593,17 @@ find_own() {
     cck_own=${cck_own%/*}/include/
 }
 
-# Functions of `judge_text`. `read_line` and `read_file` read a file of the project, without its splices. They look for the name
-# of a test, or for a beginning of one; for builtin functions of x86; for pragmas that save macros; and for what may be a line
-# marker. A file of a device is not read. `without_asked` takes tests for a builtin function by its name from a line, and keeps
-# the names: such a test has one answer for preprocessor and compiler if the text has the name nowhere (`has_asked`), neither as
-# a macro nor in a declaration, and no attribute brings the function. In a definition the name may be a parameter. The next
-# ones are for macros that stand for a test for a header: where one is used, a word of the header's name may be a macro too,
-# which the text then shows unless it is one of the compiler, as `__LINE__`. Where the name is an argument of the macro, the
-# words are those of all names that a file has in brackets after what may be such a macro; and no file and no macro may have two
-# words that make the macro's name, of which those are kept that have a part of its end. `goes_on` says whether a raw string
-# goes on in the next line.
+# Functions of `judge_text`. `read_line` and `read_file` read a file of the project, without its splices. They look for the
+# name of a test, or for a beginning of one; for builtin functions of x86; for pragmas that save macros; and for what may be
+# a line marker. A file of a device is not read. `without_asked` takes tests for a builtin function by its name from a line,
+# and keeps the names: such a test has one answer for preprocessor and compiler if the text has the name nowhere
+# (`has_asked`), neither as a macro nor in a declaration, and no attribute brings the function. In a definition the name may
+# be a parameter. A word that follows such a test may be a macro, by which it has its name (`follow`). The next ones are for
+# macros that stand for a test for a header: where one is used, a word of the header's name may be a macro too, which the
+# text then shows unless it is one of the compiler, as `__LINE__`. Where the name is an argument of the macro, the words are
+# those of all names that a file has in brackets after what may be such a macro; and no file and no macro may have two words
+# that make the macro's name, of which those are kept that have a part of its end. `goes_on` says whether a raw string goes
+# on in the next line.
 cck_reading='
     BEGIN {
         is_c = ENVIRON["cck_is_c"] != ""
@@ -636,12 +637,14 @@ cck_reading='
         if (whole ~ /^[ \t]*#[ \t]*pragma[ \t]+(push|pop)_macro[(]"[a-z]+"[)][ \t]*$/) letters = ""
         else if (index(whole, "(")) hides = 1
     }
+    function follow(rest) {
+        sub("^" blank "*", "", rest)
+        if (rest ~ /^[(\/#%?\\]/) asks = 1
+        else if (match(rest, /^[A-Za-z_$][A-Za-z0-9_$]*/)) followers[substr(rest, 1, RLENGTH)]
+    }
     function without_asked(line, rest, word, is_directive) {
         if (index(line, "??/") && line ~ ("[?][?]/" blank "*$")) has_trigraphs = 1
-        if (opens && line !~ ("^" blank "*$")) {
-            if (line ~ ("^" blank "*[(/]")) asks = 1
-            opens = 0
-        }
+        if (opens && line !~ ("^" blank "*$")) { follow(line); opens = 0 }
         if (index(line, "_as_builtin")) gsub(/_as_builtin/, "", line)
         if (!index(line, "__has_builtin")) return line
         if (line ~ /^#[ \t]*define[ \t]+__has_builtin[(]x[)][ \t]+(0|[(]0[)])$/) return ""
@@ -657,21 +660,24 @@ cck_reading='
                 gsub(/[^A-Za-z0-9_]/, "", word)
                 asked[word]
                 if (word ~ /ia32/) asks = 1
-            } else if (rest ~ /^[(\/]/ || (rest == "" && is_directive)) {
-                asks = 1
-            } else if (rest == "") {
-                opens = 1
-            }
+            } else if (rest != "") follow(rest)
+            else if (is_directive) asks = 1
+            else opens = 1
             line = line " " rest
         }
         return line
     }
     function has_asked(file, line, word, is_any) {
         for (word in asked) is_any = 1
+        for (word in followers) is_any = 1
         if (!is_any || has_trigraphs) return is_any
         while ((getline line < file) > 0) {
             if (line ~ /^# /) continue
             for (word in asked) if (index(line, word)) return 1
+            if (line !~ /^#define /) continue
+            word = substr(line, 9)
+            sub(/[( ].*/, "", word)
+            if (word in followers) return 1
         }
         return close(file) != 0
     }
@@ -828,7 +834,7 @@ cck_judging='
         if (stands && is_macro(FILENAME)) reason = "header-test"
         print shows_time ? "time-macro" : reason
         print doubts (asks ? " builtins" : "")
-        print warns || has_pragmas || saves ? "all" : ""
+        print (warns || has_pragmas || saves ? "all" : "")
         print "end"
     }'
 
