@@ -56,6 +56,8 @@ compare() {
     made >"$room/$1.$2"
     others=$(diff "$room/$1.plain" "$room/$1.$2" | grep '^[<>]' | head -n 1)
     [ -z "$others" ] || fault "$1: $2: $others"
+    [ "$2" = empty ] || [ "$(logged hit):$(logged recorded)" = "$recorded:0" ] || fault "$1: $2: not all are hits"
+    recorded=$(logged recorded)
     echo "$1: $2: $(wc -l <"$room/$1.$2") files, $(logged hit) hits, $(logged recorded) recorded," \
         "$(logged refused) refused"
 }

@@ -639,8 +639,11 @@ cck_reading='
     }
     function follow(rest) {
         sub("^" blank "*", "", rest)
-        if (rest ~ /^[(\/#%?\\]/) asks = 1
-        else if (match(rest, /^[A-Za-z_$][A-Za-z0-9_$]*/)) followers[substr(rest, 1, RLENGTH)]
+        if (rest ~ /^([(\/#%?\\]|_Pragma|[^ -~])/) asks = 1
+        else if (match(rest, /^[A-Za-z_$][A-Za-z0-9_$]*/)) {
+            followers[substr(rest, 1, RLENGTH)]
+            if (substr(rest, RLENGTH + 1) ~ /^(\\|[^ -~])/) asks = 1
+        }
     }
     function without_asked(line, rest, word, is_directive) {
         if (index(line, "??/") && line ~ ("[?][?]/" blank "*$")) has_trigraphs = 1
@@ -648,6 +651,7 @@ cck_reading='
         if (index(line, "_as_builtin")) gsub(/_as_builtin/, "", line)
         if (!index(line, "__has_builtin")) return line
         if (line ~ /^#[ \t]*define[ \t]+__has_builtin[(]x[)][ \t]+(0|[(]0[)])$/) return ""
+        mentions = 1
         is_directive = line ~ /#|%:|[?][?]=/
         if (is_directive && line !~ /^[ \t]*#[ \t]*(if|elif|ifdef|ifndef)[^A-Za-z0-9_$]/) asks = 1
         if (is_directive) gsub(/def(ined)?[ \t]*[(]?[ \t]*__has_builtin/, "", line)
@@ -670,7 +674,8 @@ cck_reading='
     function has_asked(file, line, word, is_any) {
         for (word in asked) is_any = 1
         for (word in followers) is_any = 1
-        if (!is_any || has_trigraphs) return is_any
+        if (mentions && has_trigraphs) return 1
+        if (!is_any) return 0
         while ((getline line < file) > 0) {
             if (line ~ /^# /) continue
             for (word in asked) if (index(line, word)) return 1
