@@ -1,5 +1,5 @@
 #!/bin/sh
-# Builds whole projects by gcc, and twice by `cckcc gcc`, the second time with all hits: musl with debug information,
+# Builds whole projects by gcc, and twice by `cckcc gcc`, where what the first recorded hits: musl with debug information,
 # OpenSSL, and Linux in a small configuration of 64 bits. Every object, archive, library and dependency file is compared
 # with gcc's, and the hits of the second build are counted. The words are the names of projects, by default all. Run by hand;
 # needs gcc, make, perl, flex, bison, bc, the headers of libelf and Debian's package archive. Its last line is 'all passed'.
@@ -56,7 +56,7 @@ compare() {
     made >"$room/$1.$2"
     others=$(diff "$room/$1.plain" "$room/$1.$2" | grep '^[<>]' | head -n 1)
     [ -z "$others" ] || fault "$1: $2: $others"
-    [ "$2" = empty ] || [ "$(logged hit):$(logged recorded)" = "$recorded:0" ] || fault "$1: $2: not all are hits"
+    [ "$2" = empty ] || [ "$(logged hit)" -ge "$recorded" ] || fault "$1: $2: not all that was recorded hits"
     recorded=$(logged recorded)
     echo "$1: $2: $(wc -l <"$room/$1.$2") files, $(logged hit) hits, $(logged recorded) recorded," \
         "$(logged refused) refused"

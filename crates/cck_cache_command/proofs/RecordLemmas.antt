@@ -1,5 +1,5 @@
 -- the files of a text
-use Rattle.std.proofs.Common.{◌≡◌, ◌∙◌, ℕ, ℤ, inr, int_eq, List, Bool, true, false, Option, Some, None, sym, ap, subst}
+use Rattle.std.proofs.Common.{◌≡◌, ◌∙◌, ℕ, ℤ, inl, inr, int_eq, List, Bool, true, false, Option, Some, None, sym, ap, subst}
 use Rattle.std.proofs.lemmas.Bool.{false≢true}
 use Rattle.std.proofs.lemmas.Bool.Decides.{Decides-int_eq}
 use Rattle.std.specs.Global.{Vec}
@@ -9,14 +9,18 @@ use Rattle.cck_cache_rules.specs.declared.base.Words.{Words}
 use Rattle.cck_cache_command.proofs.InputLemmas.{calm_kept, calm_stays, without_fault}
 use Rattle.cck_cache_paths.specs.Copies.{IsCopiesVerdict}
 use Rattle.cck_cache_command.specs.Input.{IsCalm, IsInput, NoFault}
-use Rattle.cck_cache_command.specs.Record.{AreFilesOf, AreGathered, HasPathTests, HasAskedTests, HasUnnamedTests, IsAsked, IsLocalTime, IsOneDay, IsOutcome, IsOutcomeOver, ObjectShowsBase, ReadsAlone}
+use Rattle.cck_cache_command.specs.Record.{AreFilesOf, AreGathered, HasPathTests, HasAskedTests, HasUnnamedTests, IsAdded, IsAsked, IsEntryOf, IsEntryVerdict, IsKept, IsLocalTime, IsOneDay, IsOutcome, IsOutcomeOver, IsRefusedOver, ObjectShowsBase, ReadsAlone, gathered_tests}
 use Rattle.cck_cache_command.specs.Request.{IsRequest, request_words}
 use Rattle.cck_cache_command.specs.declared.environment.Environment.{Environment}
+use Rattle.cck_cache_command.specs.declared.record.Added.{Added}
+use Rattle.cck_cache_command.specs.declared.record.EntryVerdict.{EntryVerdict}
+use Rattle.cck_cache_command.specs.declared.record.EntryVerdict.TheVariants.{Added as HasEntry, Refused as EntryRefused}
 use Rattle.cck_cache_command.specs.declared.record.Gathered.{Gathered}
 use Rattle.cck_cache_command.specs.declared.record.Outcome.{Outcome}
 use Rattle.cck_cache_command.specs.declared.record.Outcome.TheVariants.{Recorded, Refused}
 use Rattle.cck_cache_rules.specs.PathTest.{Test, tests_of}
 use Rattle.cck_cache_rules.specs.declared.object_file.ObjectFile.{ObjectFile}
+use Rattle.cck_cache_rules.specs.declared.refusal.Refusal.{Refusal}
 use Rattle.cck_cache_files.specs.Snapshot.{ArePut, SnapshotGrows, IsNamedFile}
 use Rattle.cck_cache_arguments.specs.declared.request.Request.{Request}
 use Rattle.cck_cache_arguments.specs.declared.task.Compilation.{Compilation}
@@ -83,6 +87,51 @@ asked_of environment request compilation text words bases lent asked same are is
   are_bases = subst (λ (ws : WordLists). AreBases ws text (lists_of bases.items)) same are;
   is_request = subst (λ (vs : List (Vec ℕ)). IsRequest environment request compilation.since (lists_of vs) asked) is request_is;
 }
+
+-- the base directories of the words and the text, as they are lent
+pub bases_lent : (request : Request) (text : Bytes) (words : Words) (bases : Vec (Vec ℕ)) (lent : List (Vec ℕ)) → word_lists words ≡ request_words request → AreBases (word_lists words) text (lists_of bases.items) → lent ≡ bases.items → AreBases (request_words request) text (lists_of lent)
+bases_lent request text words bases lent same are is =
+    subst (λ (vs : List (Vec ℕ)). AreBases (request_words request) text (lists_of vs)) (sym is) (subst (λ (ws : WordLists). AreBases ws text (lists_of bases.items)) same are)
+
+-- what keeps a recording over files from having an entry keeps the compilation from being recorded
+pub refused_over : (environment : Environment) (request : Request) (compilation : Compilation) (text : Bytes) (doubtful : Bool) (files : FileMap) (refusal : Refusal) (asked : SnapshotRequest) → IsAsked environment request compilation text asked
+    → IsEntryVerdict environment asked compilation text files (EntryRefused refusal) → IsRefusedOver environment request compilation text doubtful files refusal
+refused_over environment request compilation text doubtful files refusal asked is_asked (inl judged) = inl (record { asked = asked; is_asked = is_asked; judged = judged })
+refused_over environment request compilation text doubtful files refusal asked is_asked (inr (named, (key, recorded))) =
+    inr (inl (named, inr (record { asked = asked; is_asked = is_asked; key = key; recorded = recorded })))
+
+-- the outcome of what a recording over files adds
+pub outcome_over : (environment : Environment) (request : Request) (compilation : Compilation) (text : Bytes) (gathered : Gathered) (asked : SnapshotRequest) (bases : List Bytes) (added : Added) (outcome : Outcome) → IsAsked environment request compilation text asked
+    → AreBases (request_words request) text bases → IsAdded environment asked compilation text gathered.files.files added → IsKept request bases added (gathered_tests gathered) outcome → IsOutcomeOver environment request compilation text gathered outcome
+outcome_over environment request compilation text gathered asked bases added (Recorded name) is_asked are is is_name = record {
+  asked = asked;
+  is_asked = is_asked;
+  judged = is.judged;
+  own = added.own;
+  is_own = is.is_own;
+  key = added.key;
+  entry = added.entry;
+  recorded = is.recorded;
+  is_name = is_name;
+}
+outcome_over environment request compilation text gathered asked bases added (Refused refusal) is_asked are is shown = inr (inr (bases, are, shown))
+
+-- why a compilation is not recorded, by what is found by a recording over the files that were gathered
+pub refused_entry : (environment : Environment) (request : Request) (compilation : Compilation) (text : Bytes) (gathered : Gathered) (words : Words) (bases : Vec (Vec ℕ)) (lent : List (Vec ℕ)) (verdict : EntryVerdict) (refusal : Refusal) → word_lists words ≡ request_words request
+    → AreBases (word_lists words) text (lists_of bases.items) → lent ≡ bases.items → verdict ≡ EntryRefused refusal → (IsCalm gathered.files → IsEntryOf environment request compilation (lists_of lent) text gathered.files.files verdict) → IsCalm gathered.files
+    → IsRefusedOver environment request compilation text gathered.is_doubtful gathered.files.files refusal
+refused_entry environment request compilation text gathered words bases lent verdict refusal same are is found entry calm =
+    let refused = subst (λ (v : EntryVerdict). IsEntryOf environment request compilation (lists_of lent) text gathered.files.files v) found (entry calm) in
+    refused_over environment request compilation text gathered.is_doubtful gathered.files.files refusal refused.asked (asked_of environment request compilation text words bases lent refused.asked same are is refused.is_request) refused.found
+
+-- the outcome of what is added by a recording over the files that were gathered
+pub added_outcome : (environment : Environment) (request : Request) (compilation : Compilation) (text : Bytes) (gathered : Gathered) (words : Words) (bases : Vec (Vec ℕ)) (lent again : List (Vec ℕ)) (verdict : EntryVerdict) (added : Added) (outcome : Outcome)
+    → word_lists words ≡ request_words request → AreBases (word_lists words) text (lists_of bases.items) → lent ≡ bases.items → again ≡ bases.items → verdict ≡ HasEntry added
+    → (IsCalm gathered.files → IsEntryOf environment request compilation (lists_of lent) text gathered.files.files verdict) → IsKept request (lists_of again) added (gathered_tests gathered) outcome → IsCalm gathered.files → IsOutcomeOver environment request compilation text gathered outcome
+added_outcome environment request compilation text gathered words bases lent again verdict added outcome same are is once_more found entry kept calm =
+    let of_added = subst (λ (v : EntryVerdict). IsEntryOf environment request compilation (lists_of lent) text gathered.files.files v) found (entry calm) in
+    outcome_over environment request compilation text gathered of_added.asked (lists_of again) added outcome (asked_of environment request compilation text words bases lent of_added.asked same are is of_added.is_request) (bases_lent request text words bases again same are once_more)
+    of_added.found kept
 
 -- a recording over files after calls that kept them
 pub recorded_over : (asked : SnapshotRequest) (text : Bytes) (before mid after : FileState) (recording : Recording) (put : Option RecordedEntry) → IsCalm before → Keeps (λ (s : FileState). s.files) fault_count IsQuiet before mid

@@ -11,6 +11,9 @@ use Rattle.cck_cache_paths.specs.Tested.{AreAskedTests, IsRefusedBySource}
 use Rattle.cck_cache_command.specs.Request.{IsKeyOver, IsRequest, key_over, request_words}
 use Rattle.cck_cache_paths.specs.Unnamed.{AreUnnamedTests, IsRefusedByUnnamed}
 use Rattle.cck_cache_command.specs.declared.environment.Environment.{Environment}
+use Rattle.cck_cache_command.specs.declared.record.Added.{Added}
+use Rattle.cck_cache_command.specs.declared.record.EntryVerdict.{EntryVerdict}
+use Rattle.cck_cache_command.specs.declared.record.EntryVerdict.TheVariants.{Added as HasEntry, Refused as EntryRefused}
 use Rattle.cck_cache_command.specs.declared.record.InputVerdict.{InputVerdict}
 use Rattle.cck_cache_command.specs.declared.record.InputVerdict.TheVariants.{Key, Refused as KeyRefused}
 use Rattle.cck_cache_command.specs.declared.record.Gathered.{Gathered}
@@ -223,6 +226,31 @@ pub record RecordsNoEntry (environment : Environment) (request : Request) (compi
   pub is_asked : IsAsked environment request compilation text asked
   pub key : String Global
   pub recorded : IsRecording sha256 files asked NoFault text (record { key = key; put = None })
+
+-- what a recording over files adds by a request over a snapshot, where neither the input nor the time keeps it from being recorded
+pub record IsAdded (environment : Environment) (asked : SnapshotRequest) (compilation : Compilation) (text : Bytes) (files : FileMap) (added : Added) : Type 0 where
+  pub judged : IsJudgedByInput environment asked files compilation.key.now None
+  pub is_own : IsKeyOver asked files added.own
+  pub recorded : IsRecording sha256 files asked NoFault text (record { key = added.key; put = Some added.entry })
+
+-- what is added; or the input or the time keeps it from being recorded, or the recording has no entry
+abbrev pub IsEntryVerdict : Environment → SnapshotRequest → Compilation → Bytes → FileMap → EntryVerdict → Type 0
+IsEntryVerdict environment asked compilation text files (HasEntry added) = IsAdded environment asked compilation text files added
+IsEntryVerdict environment asked compilation text files (EntryRefused refusal) =
+    IsJudgedByInput environment asked files compilation.key.now (Some refusal)
+    ⊎ ((refusal ≡ NamedFile) × ((key : String Global) × IsRecording sha256 files asked NoFault text (record { key = key; put = None })))
+
+-- the same by the request of a compilation with these base directories
+pub record IsEntryOf (environment : Environment) (request : Request) (compilation : Compilation) (bases : List Bytes) (text : Bytes) (files : FileMap) (verdict : EntryVerdict) : Type 0 where
+  pub asked : SnapshotRequest
+  pub is_request : IsRequest environment request compilation.since bases asked
+  pub found : IsEntryVerdict environment asked compilation text files verdict
+
+-- the outcome of what a recording adds, with these tests: the name of the object, or a base directory is in what the compiler made
+abbrev pub IsKept : Request → List Bytes → Added → List Test → Outcome → Type 0
+IsKept request bases added tests (Recorded name) =
+    IsNameIn request (string_bytes added.own.input_digest) added.entry.bytes.items tests (string_bytes added.key) (string_bytes name)
+IsKept request bases added tests (Refused refusal) = IsRefusedByBase bases refusal
 
 -- a base directory is in what the compiler made
 abbrev pub ShowsBaseOf : Request → Bytes → Refusal → Type 0

@@ -72,6 +72,15 @@ struct Wanted<'a> {
     request: Request<'a>,
 }
 
+// What a call of a compiler is found to be.
+#[derive(Drop)]
+enum Asked<'a> {
+    // A call that is cached.
+    For(Wanted<'a>),
+    // The call is not cached.
+    PassedOn(Passed),
+}
+
 // Prints why a call is not cached.
 fn print_passed(answer: &mut Vec<u8>, reason: Passed) -> Result<u8> {
     writeln!(answer, "passed {}", reason.as_str())?;
@@ -188,7 +197,7 @@ fn print_found<R: Files + AllocGlobal + Clone + Drop>(
     environment: &Environment<'_>,
     store: &StoreDirectory,
     wanted: &Look<'_>,
-    found: Found,
+    found: &Found,
     printed: &mut Printed,
 ) -> Result<u8> {
     match found {
@@ -198,9 +207,9 @@ fn print_found<R: Files + AllocGlobal + Clone + Drop>(
             object_name,
             object,
         } => {
-            write_outputs(rt, store, &wanted.outputs, &object, &mut printed.messages)?;
+            write_outputs(rt, store, &wanted.outputs, object, &mut printed.messages)?;
             let (name, key) = (object_name.as_str(), preprocessor_key.as_str());
-            match place {
+            match *place {
                 Some(place) => {
                     let entry_name = entry_name(rt.alloc(), key, place)?;
                     note_hit(rt, environment, store, &entry_name, name);
@@ -215,8 +224,8 @@ fn print_found<R: Files + AllocGlobal + Clone + Drop>(
             since,
             missed,
         } => {
-            count_miss(rt, store, wanted.server.is_some(), &missed);
-            print_miss(&mut printed.answer, &preprocessor_key, since, &missed)?;
+            count_miss(rt, store, wanted.server.is_some(), missed);
+            print_miss(&mut printed.answer, preprocessor_key, *since, missed)?;
             Ok(MISS)
         }
         Found::NoKey => {
@@ -287,17 +296,18 @@ fn count_outcome<R: Files + AllocGlobal>(
 }
 
 // Records a compilation, whose preprocessed text this is.
-fn run_record<R: Files + AllocGlobal + Clone + Drop>(
+fn run_record<R: Files + AllocGlobal + Clone + Drop, S: Peer>(
     rt: &R,
     environment: &Environment<'_>,
     store: &str,
     request: &Request<'_>,
     compilation: &Compilation<'_>,
-    text: &[u8],
+    peer: &mut S,
     answer: &mut Vec<u8>,
 ) -> Result<u8> {
+    let text = peer.read_text(rt.alloc())?;
     let store = store_in(rt, environment, store)?;
-    match record(rt, environment, &store, request, compilation, text)? {
+    match record(rt, environment, &store, request, compilation, &text)? {
         Outcome::Recorded(object_name) => {
             count_outcome(rt, &store, compilation, "recorded");
             if compilation.entry_out.is_none() && compilation.object_out.is_none() {
@@ -336,8 +346,39 @@ fn outputs_of<'a>(paths: &'a CallPaths<'_>) -> Outputs<'a> {
     }
 }
 
-// Looks for the object of a call, in the store of this path or at the server, if one is asked. After a line for a miss it
-// prints the call.
+// Looks for an object, in the store or at the server, if one is asked, and prints what is found.
+fn print_look<R: Files + AllocGlobal + Clone + Drop, S: Peer>(
+    rt: &R,
+    environment: &Environment<'_>,
+    wanted: &Look<'_>,
+    peer: &mut S,
+    printed: &mut Printed,
+) -> Result<u8> {
+    let store = store_in(rt, environment, wanted.store)?;
+    let found = look(rt, environment, &store, wanted, peer)?;
+    print_found(rt, environment, &store, wanted, &found, printed)
+}
+
+// The same for a call, which is printed after a line for a miss.
+fn print_look_of<R: Files + AllocGlobal + Clone + Drop, S: Peer>(
+    rt: &R,
+    environment: &Environment<'_>,
+    wanted: &Look<'_>,
+    asked: &Call<'_>,
+    paths: &CallPaths<'_>,
+    peer: &mut S,
+    printed: &mut Printed,
+) -> Result<u8> {
+    let status = print_look(rt, environment, wanted, peer, printed)?;
+    if status == MISS {
+        let programs = wanted.request.compiler.as_str();
+        let lines = call_lines(rt.alloc(), asked, paths, programs)?;
+        printed.answer.extend_from_slice(&lines)?;
+    }
+    Ok(status)
+}
+
+// Looks for the object of a call, in the store of this path or at the server, if one is asked.
 fn run_look<R: Files + AllocGlobal + Clone + Drop, S: Peer>(
     rt: &R,
     environment: &Environment<'_>,
@@ -351,21 +392,13 @@ fn run_look<R: Files + AllocGlobal + Clone + Drop, S: Peer>(
         paths,
         request,
     } = wanted;
-    let look_for = Look {
+    let wanted = Look {
         store: places.0,
         server: places.1,
         outputs: outputs_of(&paths),
         request,
     };
-    let store = store_in(rt, environment, look_for.store)?;
-    let found = look(rt, environment, &store, &look_for, peer)?;
-    let status = print_found(rt, environment, &store, &look_for, found, printed)?;
-    if status == MISS {
-        let programs = look_for.request.compiler.as_str();
-        let lines = call_lines(rt.alloc(), &asked, &paths, programs)?;
-        printed.answer.extend_from_slice(&lines)?;
-    }
-    Ok(status)
+    print_look_of(rt, environment, &wanted, &asked, &paths, peer, printed)
 }
 
 // Does what was asked for with a call that is cached.
@@ -384,8 +417,8 @@ fn run_action<R: Files + AllocGlobal + Clone + Drop, S: Peer>(
             run_look(rt, environment, (store, *server), wanted, peer, printed)
         }
         Action::Record { store, compilation } => {
-            let (request, text) = (&wanted.request, peer.read_text(rt.alloc())?);
-            run_record(rt, environment, store, request, compilation, &text, answer)
+            let request = &wanted.request;
+            run_record(rt, environment, store, request, compilation, peer, answer)
         }
         Action::Why { store } => run_why(rt, environment, store, &wanted.request, answer),
     }
@@ -410,6 +443,40 @@ fn options_of<'t>(
     Ok(all)
 }
 
+// What the arguments of a call say, by the tables of options. The only error is lack of memory.
+fn judged<'a>(
+    alloc: Global,
+    knows_native: bool,
+    call: &'a CompilerCall<'_>,
+) -> Result<Judged<'a>, AllocError> {
+    let rows = options_of(alloc, GCC, NATIVE, knows_native)?;
+    judge(alloc, &rows, &call.arguments)
+}
+
+// What a call of a compiler asks for whose programs these are, or why the call is not cached. The only error is
+// lack of memory.
+fn wanted_of<'a, R: Files + AllocGlobal>(
+    rt: &R,
+    environment: &Environment<'_>,
+    call: &'a CompilerCall<'a>,
+    programs: String,
+) -> Result<Asked<'a>, AllocError> {
+    let alloc = rt.alloc();
+    let (asked, paths) = match judged(alloc, environment.knows_native, call)? {
+        Judged::Asks(asked, paths) => (asked, paths),
+        Judged::PassedOn(reason) => return Ok(Asked::PassedOn(reason)),
+    };
+    if !are_free(rt, &paths) {
+        return Ok(Asked::PassedOn(Passed::Output));
+    }
+    let request = request_of(alloc, call, programs, &asked, &paths)?;
+    Ok(Asked::For(Wanted {
+        asked,
+        paths,
+        request,
+    }))
+}
+
 // Does what was asked for with a call of a compiler, or prints why the call is not cached.
 fn run_call<R: Files + AllocGlobal + Clone + Drop, S: Peer>(
     rt: &R,
@@ -419,26 +486,14 @@ fn run_call<R: Files + AllocGlobal + Clone + Drop, S: Peer>(
     peer: &mut S,
     printed: &mut Printed,
 ) -> Result<u8> {
-    let alloc = rt.alloc();
     let programs = match programs_of(rt, environment, call, action)? {
         Named::Paths(programs) => programs,
         Named::PassedOn(reason) => return print_passed(&mut printed.answer, reason),
     };
-    let rows = options_of(alloc, GCC, NATIVE, environment.knows_native)?;
-    let (asked, paths) = match judge(alloc, &rows, &call.arguments)? {
-        Judged::Asks(asked, paths) => (asked, paths),
-        Judged::PassedOn(reason) => return print_passed(&mut printed.answer, reason),
-    };
-    if !are_free(rt, &paths) {
-        return print_passed(&mut printed.answer, Passed::Output);
+    match wanted_of(rt, environment, call, programs)? {
+        Asked::For(wanted) => run_action(rt, environment, action, wanted, peer, printed),
+        Asked::PassedOn(reason) => print_passed(&mut printed.answer, reason),
     }
-    let request = request_of(alloc, call, programs, &asked, &paths)?;
-    let wanted = Wanted {
-        asked,
-        paths,
-        request,
-    };
-    run_action(rt, environment, action, wanted, peer, printed)
 }
 
 // Does what was asked for with a store alone.

@@ -2,7 +2,7 @@
 ghost use Rattle.std.specs.Prelude.{◌≡◌, ◌++◌, ◌↔◌, IfOk, IfSome, IsTrue, List, MatchOption, OnOk, Some};
 ghost use Rattle.std.specs.Option.{option_map};
 ghost use Rattle.cck_cache_command.specs.Input.{IsCalm};
-ghost use Rattle.cck_cache_command.specs.Record.{HasNoLocalTime, IsInputVerdict, IsJudgedByReading, IsLocalTime, IsOneDay, IsOutcome, IsOutcomeOver, IsRefusedByBase, IsSeen, IsTold, ObjectShowsBase, recorded_fields};
+ghost use Rattle.cck_cache_command.specs.Record.{HasNoLocalTime, IsEntryOf, IsEntryVerdict, IsInputVerdict, IsJudgedByReading, IsKept, IsLocalTime, IsOneDay, IsOutcome, IsOutcomeOver, IsRefusedByBase, IsSeen, IsTold, ObjectShowsBase, gathered_tests, recorded_fields};
 ghost use Rattle.cck_cache_rules.specs.PathStatus.{Status, statuses_of};
 ghost use Rattle.cck_cache_rules.specs.Files.{entry_fields};
 ghost use Rattle.cck_cache_rules.specs.PathTest.{tests_of};
@@ -78,6 +78,7 @@ fn is_one_day(zone: &TimeZone<'_>, a: Timestamp, b: Timestamp) -> bool
 }
 
 // The files that were gathered for a text.
+#[derive(Drop)]
 struct Gathered {
     // The input and the files that the text names.
     files: MapFiles,
@@ -425,6 +426,105 @@ fn entry_file_with<R: Files + AllocGlobal>(
     Ok(entry_file_of(entry, statuses, tests))
 }
 
+// What a recording adds to the entry of its preprocessor key.
+struct Added {
+    // The preprocessor key, with the recorded digest of the input.
+    own: PreprocessorKey,
+    // The key of the object.
+    key: String,
+    // The entry.
+    entry: RecordedEntry,
+}
+
+// What is found by a recording over files.
+enum EntryVerdict {
+    // There is an entry, and nothing keeps the compilation from being recorded but what the compiler made.
+    Added(Added),
+    // The compilation is not recorded.
+    Refused(Refusal),
+}
+
+// What a recording over these files adds, or why the compilation is not recorded.
+fn entry_over<R: AllocGlobal>(
+    rt: &R,
+    environment: &Environment<'_>,
+    asked: &SnapshotRequest<'_>,
+    compilation: &Compilation<'_>,
+    text: &[u8],
+    files: &mut MapFiles,
+) -> Result<EntryVerdict>
+    ensures { IfOk result (λ verdict. IsCalm files.old →
+        IsEntryVerdict environment.entry.now asked.now compilation.now text.now files.old.files verdict) }
+{
+    let own = match judge_input(rt, environment, asked, files, compilation.key)? {
+        InputVerdict::Key(own) => own,
+        InputVerdict::Refused(refusal) => return Ok(EntryVerdict::Refused(refusal)),
+    };
+    let recording = record_text::<Sha256State, MapFiles>(rt.alloc(), files, asked, text)?;
+    let Recording { key, put } = recording;
+    match put {
+        Some(entry) => Ok(EntryVerdict::Added(Added { own, key, entry })),
+        None => Ok(EntryVerdict::Refused(Refusal::NamedFile)),
+    }
+}
+
+// The same by a request, whose base directories are these.
+fn entry_of<R: Files + AllocGlobal>(
+    rt: &R,
+    environment: &Environment<'_>,
+    request: &Request<'_>,
+    compilation: &Compilation<'_>,
+    bases: &[Vec<u8>],
+    text: &[u8],
+    files: &mut MapFiles,
+) -> Result<EntryVerdict>
+    ensures { IfOk result (λ verdict. IsCalm files.old →
+        IsEntryOf environment.entry.now request.now compilation.now (lists_of bases.now) text.now files.old.files verdict) }
+{
+    let hasher = hasher_of(rt, environment, request)?;
+    let (directory, since) = (request.directory, compilation.since);
+    let asked = snapshot_request(environment, &hasher, directory, since, bases);
+    entry_over(rt, environment, &asked, compilation, text, files)
+}
+
+// Records what a recording adds, with what was gathered.
+fn record_added<R: Files + AllocGlobal>(
+    rt: &R,
+    store: &StoreDirectory,
+    request: &Request<'_>,
+    compilation: &Compilation<'_>,
+    bases: &[Vec<u8>],
+    added: Added,
+    gathered: Gathered,
+) -> Result<Outcome>
+    ensures { IfOk result
+        (IsKept request.now (lists_of bases.now) added (gathered_tests gathered)) }
+{
+    let Added { own, key, entry } = added;
+    let file = entry_file_with(
+        rt,
+        compilation.since,
+        entry,
+        gathered.statuses,
+        gathered.tests,
+        gathered.asked_tests,
+        gathered.unnamed_tests,
+    )?;
+    let input = own.input_digest.as_str();
+    let name = name_in(
+        rt.alloc(),
+        request,
+        input,
+        key.as_str(),
+        &file.entry,
+        &file.tests,
+    )?;
+    match keep(rt, store, compilation, bases, name.as_str(), &file)? {
+        Some(refusal) => Ok(Outcome::Refused(refusal)),
+        None => Ok(Outcome::Recorded(name)),
+    }
+}
+
 // Records a compilation over the files that were gathered for its text.
 fn record_over<R: Files + AllocGlobal>(
     rt: &R,
@@ -438,45 +538,17 @@ fn record_over<R: Files + AllocGlobal>(
     ensures { IfOk result (λ outcome. IsCalm gathered.files →
         IsOutcomeOver environment.entry.now request.now compilation.now text.now gathered outcome) }
 {
-    let Gathered {
-        mut files,
-        statuses,
-        is_doubtful,
-        tests,
-        asked_tests,
-        unnamed_tests,
-    } = gathered;
-    let bases = bases_of(rt.alloc(), &base_words(request), text)?;
-    let hasher = hasher_of(rt, environment, request)?;
-    let (directory, since) = (request.directory, compilation.since);
-    let asked = snapshot_request(environment, &hasher, directory, since, &bases);
-    let own = match judge_input(rt, environment, &asked, &mut files, compilation.key)? {
-        InputVerdict::Key(own) => own,
-        InputVerdict::Refused(refusal) => return Ok(Outcome::Refused(refusal)),
-    };
-    if is_doubtful {
+    if gathered.is_doubtful {
         return Ok(Outcome::Refused(Refusal::NamedFile));
     }
-    let recording = record_text::<Sha256State, MapFiles>(rt.alloc(), &mut files, &asked, text)?;
-    let Recording { key: object, put } = recording;
-    let Some(entry) = put else {
-        return Ok(Outcome::Refused(Refusal::NamedFile));
-    };
-    let file = entry_file_with(
-        rt,
-        since,
-        entry,
-        statuses,
-        tests,
-        asked_tests,
-        unnamed_tests,
-    )?;
-    let input = own.input_digest.as_str();
-    let key = object.as_str();
-    let name = name_in(rt.alloc(), request, input, key, &file.entry, &file.tests)?;
-    match keep(rt, store, compilation, &bases, name.as_str(), &file)? {
-        Some(refusal) => Ok(Outcome::Refused(refusal)),
-        None => Ok(Outcome::Recorded(name)),
+    let mut gathered = gathered;
+    let bases = bases_of(rt.alloc(), &base_words(request), text)?;
+    let files = &mut gathered.files;
+    match entry_of(rt, environment, request, compilation, &bases, text, files)? {
+        EntryVerdict::Refused(refusal) => Ok(Outcome::Refused(refusal)),
+        EntryVerdict::Added(added) => {
+            record_added(rt, store, request, compilation, &bases, added, gathered)
+        }
     }
 }
 

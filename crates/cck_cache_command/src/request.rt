@@ -169,6 +169,7 @@ pub fn hasher_of<R: Files + AllocGlobal>(
     ensures { IfOk result (IsHasher environment.entry.now request.now) }
 {
     let alloc = rt.alloc();
+    let executable_digest = digest_of(rt, environment, request)?;
     let input = request.input.as_bytes().to_vec(alloc)?;
     let definitions = copy_lists(alloc, &request.definitions)?;
     let arguments = keyed_arguments(alloc, environment, request)?;
@@ -180,7 +181,7 @@ pub fn hasher_of<R: Files + AllocGlobal>(
             assembler_digest: None,
         },
         executable: Vec::new(alloc),
-        executable_digest: digest_of(rt, environment, request)?,
+        executable_digest,
         parsed_args: parsed(alloc, input, language_of(request), definitions, arguments),
     })
 }
@@ -209,6 +210,25 @@ pub fn snapshot_request<'a>(
     }
 }
 
+// The preprocessor key of a request of this compilation over a snapshot.
+fn key_by(
+    alloc: Global,
+    environment: &Environment<'_>,
+    request: &Request<'_>,
+    hasher: &CCompilerHasher<ExternalCompiler>,
+    files: &mut MapFiles,
+) -> Result<Option<String>>
+    ensures { IfOk result (λ key. IsHasher environment.entry.now request.now hasher.now → IsInput request.now files.old.files
+        → HasPreprocessorKey environment.entry.now request.now (option_map string_bytes key)) }
+{
+    let (directory, now) = (request.directory, environment.now);
+    let asked = snapshot_request(environment, hasher, directory, now, &[]);
+    match preprocessor_key::<Sha256State, MapFiles>(alloc, files, &asked)? {
+        Some(key) => Ok(Some(key.text)),
+        None => Ok(None),
+    }
+}
+
 /// The preprocessor key of a request over a snapshot of its input. `None` where it has none.
 ///
 /// The error is of an input that is no regular file that can be read, of a program of the compiler that
@@ -223,10 +243,5 @@ pub fn request_key<R: Files + AllocGlobal>(
         → HasPreprocessorKey environment.entry.now request.now (option_map string_bytes key)) }
 {
     let hasher = hasher_of(rt, environment, request)?;
-    let (directory, now) = (request.directory, environment.now);
-    let asked = snapshot_request(environment, &hasher, directory, now, &[]);
-    match preprocessor_key::<Sha256State, MapFiles>(rt.alloc(), files, &asked)? {
-        Some(key) => Ok(Some(key.text)),
-        None => Ok(None),
-    }
+    key_by(rt.alloc(), environment, request, &hasher, files)
 }

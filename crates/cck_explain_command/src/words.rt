@@ -6,34 +6,39 @@ use std::alloc::{AllocError, Global};
 
 // The command `key`, whose language is one of these names.
 fn key_command<'a>(alloc: Global, languages: &'a [&'a str]) -> Result<Command<'a>, AllocError> {
-    let full = Arg::new(alloc, "full")
-        .long("full")
-        .action(ArgAction::SetTrue)
-        .help("Lists each part whole, in rows of 256 bytes");
-    let basedir = Arg::new(alloc, "basedir")
-        .long("basedir")
-        .value_name("DIR")
-        .action(ArgAction::Append)
-        .help("A directory that is cut out of the arguments and the text");
-    let digest = Arg::new(alloc, "DIGEST")
-        .required(true)
-        .help("The compiler's digest");
-    let language = Arg::new(alloc, "LANGUAGE")
-        .required(true)
-        .value_parser(languages)
-        .help("The language of the text");
-    let arguments = Arg::new(alloc, "ARG")
-        .num_args(0..)
-        .trailing_var_arg(true)
-        .allow_hyphen_values(true)
-        .help("The arguments that are part of the key");
     Command::new(alloc, "key")
         .about("Lists the key material of a preprocessed text, which is read from standard input")
-        .arg(full)?
-        .arg(basedir)?
-        .arg(digest)?
-        .arg(language)?
-        .arg(arguments)
+        .arg(
+            Arg::new(alloc, "full")
+                .long("full")
+                .action(ArgAction::SetTrue)
+                .help("Lists each part whole, in rows of 256 bytes"),
+        )?
+        .arg(
+            Arg::new(alloc, "basedir")
+                .long("basedir")
+                .value_name("DIR")
+                .action(ArgAction::Append)
+                .help("A directory that is cut out of the arguments and the text"),
+        )?
+        .arg(
+            Arg::new(alloc, "DIGEST")
+                .required(true)
+                .help("The compiler's digest"),
+        )?
+        .arg(
+            Arg::new(alloc, "LANGUAGE")
+                .required(true)
+                .value_parser(languages)
+                .help("The language of the text"),
+        )?
+        .arg(
+            Arg::new(alloc, "ARG")
+                .num_args(0..)
+                .trailing_var_arg(true)
+                .allow_hyphen_values(true)
+                .help("The arguments that are part of the key"),
+        )
 }
 
 // The command `entry`.
@@ -45,16 +50,18 @@ fn entry_command<'a>(alloc: Global) -> Command<'a> {
 
 // The command `markers`.
 fn markers_command<'a>(alloc: Global) -> Result<Command<'a>, AllocError> {
-    let input = Arg::new(alloc, "INPUT")
-        .required(true)
-        .help("The path of the input");
-    let cwd = Arg::new(alloc, "CWD")
-        .required(true)
-        .help("The working directory");
     Command::new(alloc, "markers")
         .about("Lists the line markers of a preprocessed text, which is read from standard input")
-        .arg(input)?
-        .arg(cwd)
+        .arg(
+            Arg::new(alloc, "INPUT")
+                .required(true)
+                .help("The path of the input"),
+        )?
+        .arg(
+            Arg::new(alloc, "CWD")
+                .required(true)
+                .help("The working directory"),
+        )
 }
 
 // The command `script`.
@@ -66,15 +73,13 @@ fn script_command<'a>(alloc: Global) -> Command<'a> {
 
 // The whole command line.
 fn program<'a>(alloc: Global, languages: &'a [&'a str]) -> Result<Command<'a>, AllocError> {
-    let key = key_command(alloc, languages)?;
-    let markers = markers_command(alloc)?;
     Command::new(alloc, "cck_explain")
         .version(VERSION)
         .about("Explains why two compilations did not share a key")
         .subcommand_required(true)
-        .subcommand(key)?
+        .subcommand(key_command(alloc, languages)?)?
         .subcommand(entry_command(alloc))?
-        .subcommand(markers)?
+        .subcommand(markers_command(alloc)?)?
         .subcommand(script_command(alloc))
 }
 

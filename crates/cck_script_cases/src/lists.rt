@@ -145,12 +145,16 @@ impl List {
     }
 
     fn copy(&self, call: &MiniCall) -> Result<MiniCall, CaseError> {
+        let cwd = call.cwd.to_vec(self.alloc)?;
+        let vars = copy_variables(self.alloc, &call.vars)?;
+        let files = call.files.copy(self.alloc)?;
         let hasher = call.hasher.copy(self.alloc);
+        let hasher = hasher.map_err(|_| CaseError::Util(UtilError::Memory))?;
         Ok(Call {
-            hasher: hasher.map_err(|_| CaseError::Util(UtilError::Memory))?,
-            files: call.files.copy(self.alloc)?,
-            cwd: call.cwd.to_vec(self.alloc)?,
-            vars: copy_variables(self.alloc, &call.vars)?,
+            hasher,
+            files,
+            cwd,
+            vars,
             moment: call.moment,
             control: call.control,
         })

@@ -5,8 +5,8 @@ use crate::examples::calls::own_compiler::OwnCompiler;
 use crate::examples::files::files_of;
 use c_cache_keys::cck_util::{Language, MapFiles, Sha256State, Timestamp};
 use c_cache_keys::{
-    ArtifactDescriptor, CCompiler, CacheControl, CompilerArguments, KeyError, MapStore,
-    ParsedArguments,
+    ArtifactDescriptor, CCompiler, CCompilerHasher, CacheControl, CompilerArguments, KeyError,
+    MapStore, ParsedArguments,
 };
 use jiff::tz::TimeZone;
 use std::alloc::Global;
@@ -32,21 +32,28 @@ fn arguments(alloc: Global) -> Result<ParsedArguments, KeyError> {
     Ok(arguments)
 }
 
-/// The key of a compilation, from a command line on. The empty text if that is no compilation.
-pub(crate) fn key_by_own_compiler(alloc: Global) -> Result<String, KeyError> {
-    let mut files = files_of(alloc, &[(b"/cc", b"cc"), (b"/w/a.i", b"int x;")])?;
+// What the command line is parsed as by a compiler of these files.
+fn parsed(
+    alloc: Global,
+    files: &mut MapFiles,
+) -> Result<CompilerArguments<CCompilerHasher<OwnCompiler>>, KeyError> {
+    let path = b"/cc".to_vec(alloc)?;
     let own = OwnCompiler {
         parsed: arguments(alloc)?,
     };
-    let path = b"/cc".to_vec(alloc)?;
-    let compiler = CCompiler::new::<Sha256State, MapFiles>(alloc, own, path, &mut files)?;
-    let parsed = compiler.parse_arguments(alloc, &mut files, &[], b"/w", &[])?;
-    let CompilerArguments::Ok(hasher) = parsed else {
-        return Ok(String::new(alloc));
-    };
+    let compiler = CCompiler::new::<Sha256State, MapFiles>(alloc, own, path, files)?;
+    compiler.parse_arguments(alloc, files, &[], b"/w", &[])
+}
+
+// The key of a compilation by these files.
+fn key_of(
+    alloc: Global,
+    files: &mut MapFiles,
+    hasher: &CCompilerHasher<OwnCompiler>,
+) -> Result<String, KeyError> {
     let found = hasher.generate_hash_key::<Sha256State, MapFiles, MapStore>(
         alloc,
-        &mut files,
+        files,
         &mut MapStore::new(alloc),
         b"/w",
         &[],
@@ -57,4 +64,13 @@ pub(crate) fn key_by_own_compiler(alloc: Global) -> Result<String, KeyError> {
         CacheControl::Default,
     )?;
     Ok(found.key)
+}
+
+/// The key of a compilation, from a command line on. The empty text if that is no compilation.
+pub(crate) fn key_by_own_compiler(alloc: Global) -> Result<String, KeyError> {
+    let mut files = files_of(alloc, &[(b"/cc", b"cc"), (b"/w/a.i", b"int x;")])?;
+    match parsed(alloc, &mut files)? {
+        CompilerArguments::Ok(hasher) => key_of(alloc, &mut files, &hasher),
+        _ => Ok(String::new(alloc)),
+    }
 }

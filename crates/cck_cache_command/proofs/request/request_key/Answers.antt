@@ -1,20 +1,18 @@
-use Rattle.std.proofs.Common.{refl}
+use Rattle.std.proofs.Common.{Option}
+use Rattle.std.proofs.lemmas.Result.{IfOk-weaker}
+use Rattle.std.specs.Option.{option_map}
+use Rattle.std.specs.Prelude.{String, string_bytes}
+use Rattle.std.specs.declared.alloc.Global.{Global}
+use Rattle.cck_cache_command.specs.Input.{IsInput}
+use Rattle.cck_cache_command.specs.Request.{HasPreprocessorKey, IsHasher}
 use Rattle.cck_cache_command.proofs.request.request_key.Goals as goal
 
-pub returns-in-Some : goal.returns-in-Some
-returns-in-Some g c is_input = record {
-  input = c.args.files.now.files;
-  is_input = is_input;
-  asked = c.snapshot_request-asked.result;
-  is_request = c.snapshot_request-asked.ensures c.args.request.now refl c.in_ok-hasher.ensures;
-  is_key = (rw c.in-Some.is at c.in_ok-key.ensures.key).0;
-}
-
 pub returns : goal.returns
-returns g c is_input = record {
-  input = c.args.files.now.files;
-  is_input = is_input;
-  asked = c.snapshot_request-asked.result;
-  is_request = c.snapshot_request-asked.ensures c.args.request.now refl c.in_ok-hasher.ensures;
-  is_key = rw c.in-None.is at c.in_ok-key.ensures.key;
-}
+returns g c =
+    let environment = c.args.environment.now in
+    let request = c.args.request.now in
+    let files = c.args.files.now.files in
+    IfOk-weaker c.key_by.result
+    (λ (key : Option (String Global)). IsHasher environment request c.in_ok-hasher.hasher → IsInput request files → HasPreprocessorKey environment request (option_map string_bytes key))
+    (λ (key : Option (String Global)). IsInput request files → HasPreprocessorKey environment request (option_map string_bytes key))
+    (λ key has is_input. has c.in_ok-hasher.ensures is_input) c.key_by.ensures
