@@ -32,7 +32,10 @@ build() {
     : >"$CCK_LOG"
     case $1 in
     musl) make -s clean && make -s -j "$jobs" CC="$2" ;;
-    openssl) make -s clean && make -s -j "$jobs" CC="$2" build_libs build_programs ;;
+    openssl)
+        # (each of the two goals runs make once more, so one comes after the other)
+        make -s clean && make -s -j "$jobs" CC="$2" build_libs && make -s -j "$jobs" CC="$2" build_programs
+        ;;
     linux)
         rm -rf "$tree"
         mkdir "$tree"
