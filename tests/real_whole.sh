@@ -27,22 +27,30 @@ configure() {
     esac >"$room/configured" 2>&1
 }
 
-# Builds the project $1 anew by the compiler $2.
+# The wrapper around gcc under the name of gcc, since OpenSSL writes the name of its compiler into an object.
+mkdir "$room/bin"
+printf '#!/bin/sh\nexec cckcc %s "$@"\n' "$(command -v gcc)" >"$room/bin/gcc"
+chmod +x "$room/bin/gcc"
+plain=$PATH
+
+# Builds the project $1 anew by the gcc of the search path $2.
 build() {
     : >"$CCK_LOG"
+    PATH=$2
     case $1 in
-    musl) make -s clean && make -s -j "$jobs" CC="$2" ;;
+    musl) make -s clean && make -s -j "$jobs" CC=gcc ;;
     openssl)
         # (each of the two goals runs make once more, so one comes after the other)
-        make -s clean && make -s -j "$jobs" CC="$2" build_libs && make -s -j "$jobs" CC="$2" build_programs
+        make -s clean && make -s -j "$jobs" CC=gcc build_libs && make -s -j "$jobs" CC=gcc build_programs
         ;;
     linux)
         rm -rf "$tree"
         mkdir "$tree"
         cp "$room/config" "$tree/.config"
-        make -s O="$tree" CC="$2" olddefconfig && make -s -j "$jobs" O="$tree" CC="$2" vmlinux
+        make -s O="$tree" CC=gcc olddefconfig && make -s -j "$jobs" O="$tree" CC=gcc vmlinux
         ;;
-    esac >"$room/built" 2>&1 || fault "$1 by $2: $(tail -n 1 "$room/built")"
+    esac >"$room/built" 2>&1 || fault "$1: $(tail -n 1 "$room/built")"
+    PATH=$plain
 }
 
 # A line for each file that a build makes: its digest and its path.
@@ -69,10 +77,10 @@ for project in ${*:-musl openssl linux}; do
     unpack "$project" "$project"
     cd "$room/$project"
     configure "$project"
-    build "$project" gcc
+    build "$project" "$plain"
     made >"$room/$project.plain"
     for name in empty hits; do
-        build "$project" 'cckcc gcc'
+        build "$project" "$room/bin:$plain"
         compare "$project" "$name"
     done
     cd "$room"
