@@ -33,7 +33,6 @@ const WORDS: [(&str, Word); 10] = [
 ];
 
 /// What lines give to calls on bytes, arguments and keys.
-#[derive(Drop)]
 pub struct Given {
     /// The allocator of all that is given.
     pub alloc: Global,
@@ -57,6 +56,24 @@ pub struct Given {
     pub assembler: Option<String>,
     /// `base TEXT`: the first of two texts or paths that a call takes. Empty at first.
     pub base: Vec<u8>,
+}
+
+impl Drop for Given {
+    fn drop(self) {
+        let Given {
+            alloc: _,
+            basedirs: _,
+            arguments: _,
+            variables: _,
+            extra_hashes: _,
+            compiler: _,
+            language: _,
+            plusplus: _,
+            multiarch: _,
+            assembler: _,
+            base: _,
+        } = self;
+    }
 }
 
 impl Given {

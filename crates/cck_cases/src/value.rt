@@ -6,7 +6,6 @@ use std::borrow::CowSlice;
 use std::cmp::Ordering;
 
 /// What a call returns.
-#[derive(Drop)]
 pub enum Value<'a> {
     /// These bytes.
     Bytes(Vec<u8>),
@@ -32,6 +31,25 @@ pub enum Value<'a> {
     Order(Ordering),
     /// A time, or `-`.
     Moment(Option<Timestamp>),
+}
+
+impl Drop for Value<'_> {
+    fn drop(self) {
+        match self {
+            Value::Bytes(_)
+            | Value::Slice(_)
+            | Value::Text(_)
+            | Value::Word(_)
+            | Value::Flag(_)
+            | Value::Number(_)
+            | Value::Part(_)
+            | Value::Found(_)
+            | Value::Cut(_)
+            | Value::Numbers(_)
+            | Value::Order(_)
+            | Value::Moment(_) => {}
+        }
+    }
 }
 
 impl Value<'_> {

@@ -42,7 +42,7 @@ pub enum ColorMode {
 /// A command line of a compiler, parsed.
 ///
 /// Upstream's `compiler::c::ParsedArguments`.
-#[derive(Debug, Drop, PartialEq, Eq)]
+#[derive(Debug, PartialEq, Eq)]
 pub struct ParsedArguments {
     /// The file that is compiled.
     pub input: Vec<u8>,
@@ -84,6 +84,33 @@ pub struct ParsedArguments {
     pub suppress_rewrite_includes_only: bool,
     /// The argument that keeps the request out of the preprocessor cache, if there is one.
     pub too_hard_for_preprocessor_cache_mode: Option<Vec<u8>>,
+}
+
+impl Drop for ParsedArguments {
+    fn drop(self) {
+        let ParsedArguments {
+            input: _,
+            double_dash_input: _,
+            language: _,
+            compilation_flag: _,
+            depfile: _,
+            outputs: _,
+            dependency_args: _,
+            preprocessor_args: _,
+            common_args: _,
+            arch_args: _,
+            unhashed_args: _,
+            extra_dist_files: _,
+            extra_hash_files: _,
+            uses_external_assembler: _,
+            msvc_show_includes: _,
+            msvc_explicit_language: _,
+            profile_generate: _,
+            color_mode: _,
+            suppress_rewrite_includes_only: _,
+            too_hard_for_preprocessor_cache_mode: _,
+        } = self;
+    }
 }
 
 impl ParsedArguments {

@@ -1,7 +1,6 @@
 //! Cuts base directories out of a text by one search for each of them. `strip_basedirs`, which
 //! takes all in one pass, is compared with this.
 use cck_util::UtilError;
-use memchr::memmem::Finder;
 use std::alloc::Global;
 use std::borrow::CowSlice;
 
@@ -19,19 +18,9 @@ fn is_boundary(text: &[u8], at: usize) -> bool {
 
 // Adds the boundaries of the text at which this base directory occurs.
 fn add_places(text: &[u8], basedir: &[u8], places: &mut Vec<usize>) -> Result<(), UtilError> {
-    let finder = Finder::new(basedir);
-    let mut from = 0usize;
-    // The next search starts one byte later, since two occurrences may overlap.
-    for _ in 0..text.len() {
-        match finder.find(text.get(from..).unwrap_or_default()) {
-            Some(distance) => {
-                let at = from.saturating_add(distance);
-                if is_boundary(text, at) {
-                    places.push(at)?;
-                }
-                from = at.saturating_add(1);
-            }
-            None => return Ok(()),
+    for at in 0..text.len() {
+        if text[at..].starts_with(basedir) && is_boundary(text, at) {
+            places.push(at)?;
         }
     }
     Ok(())
