@@ -67,7 +67,7 @@ compare() {
     made >"$room/$1.$2"
     others=$(diff "$room/$1.plain" "$room/$1.$2" | grep '^[<>]' | head -n 1)
     [ -z "$others" ] || fault "$1: $2: $others"
-    [ "$2" = empty ] || [ "$(logged hit)" -ge "$recorded" ] || fault "$1: $2: not all that was recorded hits"
+    [ "$2" = empty ] || [ "$(logged hit)" = "$recorded" ] || fault "$1: $2: not all that was recorded hits"
     recorded=$(logged recorded)
     echo "$1: $2: $(wc -l <"$room/$1.$2") files, $(logged hit) hits, $(logged recorded) recorded," \
         "$(logged refused) refused"

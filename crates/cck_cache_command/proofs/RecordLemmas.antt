@@ -102,8 +102,8 @@ refused_over environment request compilation text doubtful files refusal asked i
 
 -- the outcome of what a recording over files adds
 pub outcome_over : (environment : Environment) (request : Request) (compilation : Compilation) (text : Bytes) (gathered : Gathered) (asked : SnapshotRequest) (bases : List Bytes) (added : Added) (outcome : Outcome) → IsAsked environment request compilation text asked
-    → AreBases (request_words request) text bases → IsAdded environment asked compilation text gathered.files.files added → IsKept request bases added (gathered_tests gathered) outcome → IsOutcomeOver environment request compilation text gathered outcome
-outcome_over environment request compilation text gathered asked bases added (Recorded name) is_asked are is is_name = record {
+    → AreBases (request_words request) text bases → IsAdded environment asked compilation text gathered.files.files added → IsKept request bases added (gathered_tests gathered) outcome → gathered.is_doubtful ≡ false → IsOutcomeOver environment request compilation text gathered outcome
+outcome_over environment request compilation text gathered asked bases added (Recorded name) is_asked are is is_name settled = (settled, record {
   asked = asked;
   is_asked = is_asked;
   judged = is.judged;
@@ -113,8 +113,8 @@ outcome_over environment request compilation text gathered asked bases added (Re
   entry = added.entry;
   recorded = is.recorded;
   is_name = is_name;
-}
-outcome_over environment request compilation text gathered asked bases added (Refused refusal) is_asked are is shown = inr (inr (bases, are, shown))
+})
+outcome_over environment request compilation text gathered asked bases added (Refused refusal) is_asked are is shown settled = inr (inr (bases, are, shown))
 
 -- why a compilation is not recorded, by what is found by a recording over the files that were gathered
 pub refused_entry : (environment : Environment) (request : Request) (compilation : Compilation) (text : Bytes) (gathered : Gathered) (words : Words) (bases : Vec (Vec ℕ)) (lent : List (Vec ℕ)) (verdict : EntryVerdict) (refusal : Refusal) → word_lists words ≡ request_words request
@@ -127,11 +127,11 @@ refused_entry environment request compilation text gathered words bases lent ver
 -- the outcome of what is added by a recording over the files that were gathered
 pub added_outcome : (environment : Environment) (request : Request) (compilation : Compilation) (text : Bytes) (gathered : Gathered) (words : Words) (bases : Vec (Vec ℕ)) (lent again : List (Vec ℕ)) (verdict : EntryVerdict) (added : Added) (outcome : Outcome)
     → word_lists words ≡ request_words request → AreBases (word_lists words) text (lists_of bases.items) → lent ≡ bases.items → again ≡ bases.items → verdict ≡ HasEntry added
-    → (IsCalm gathered.files → IsEntryOf environment request compilation (lists_of lent) text gathered.files.files verdict) → IsKept request (lists_of again) added (gathered_tests gathered) outcome → IsCalm gathered.files → IsOutcomeOver environment request compilation text gathered outcome
-added_outcome environment request compilation text gathered words bases lent again verdict added outcome same are is once_more found entry kept calm =
+    → (IsCalm gathered.files → IsEntryOf environment request compilation (lists_of lent) text gathered.files.files verdict) → gathered.is_doubtful ≡ false → IsKept request (lists_of again) added (gathered_tests gathered) outcome → IsCalm gathered.files → IsOutcomeOver environment request compilation text gathered outcome
+added_outcome environment request compilation text gathered words bases lent again verdict added outcome same are is once_more found entry settled kept calm =
     let of_added = subst (λ (v : EntryVerdict). IsEntryOf environment request compilation (lists_of lent) text gathered.files.files v) found (entry calm) in
     outcome_over environment request compilation text gathered of_added.asked (lists_of again) added outcome (asked_of environment request compilation text words bases lent of_added.asked same are is of_added.is_request) (bases_lent request text words bases again same are once_more)
-    of_added.found kept
+    of_added.found kept settled
 
 -- a recording over files after calls that kept them
 pub recorded_over : (asked : SnapshotRequest) (text : Bytes) (before mid after : FileState) (recording : Recording) (put : Option RecordedEntry) → IsCalm before → Keeps (λ (s : FileState). s.files) fault_count IsQuiet before mid
@@ -145,6 +145,6 @@ recorded_over asked text before mid after recording put calm first second is rec
 -- an outcome over the files that were gathered is the outcome
 pub outcome_all : (environment : Environment) (request : Request) (compilation : Compilation) (text : Bytes) (gathered : Gathered) (outcome : Outcome) → ReadsAlone request text compilation.made
     → AreGathered request compilation.since text gathered.files.files (tests_of gathered.tests.items) (tests_of gathered.asked_tests.items) (tests_of gathered.unnamed_tests.items) → IsOutcomeOver environment request compilation text gathered outcome → IsOutcome environment request compilation text outcome
-outcome_all environment request compilation text gathered (Recorded name) alone are is = (alone, (gathered.files.files, tests_of gathered.tests.items, tests_of gathered.asked_tests.items, tests_of gathered.unnamed_tests.items, are, is))
+outcome_all environment request compilation text gathered (Recorded name) alone are is = (alone, (gathered.files.files, tests_of gathered.tests.items, tests_of gathered.asked_tests.items, tests_of gathered.unnamed_tests.items, are, is.1))
 outcome_all environment request compilation text gathered (Refused refusal) alone are is =
     inr (inr (gathered.is_doubtful, gathered.files.files, tests_of gathered.tests.items, tests_of gathered.asked_tests.items, tests_of gathered.unnamed_tests.items, are, is))

@@ -268,7 +268,8 @@ gathered_tests gathered = (tests_of gathered.tests.items ++ tests_of gathered.as
 
 abbrev pub IsOutcomeOver : Environment → Request → Compilation → Bytes → Gathered → Outcome → Type 0
 IsOutcomeOver environment request compilation text gathered (Recorded name) =
-    IsRecordedOver environment request compilation text gathered.files.files (gathered_tests gathered) name
+    (gathered.is_doubtful ≡ false)
+    × IsRecordedOver environment request compilation text gathered.files.files (gathered_tests gathered) name
 IsOutcomeOver environment request compilation text gathered (Refused refusal) =
     IsRefusedOver environment request compilation text gathered.is_doubtful gathered.files.files refusal
 

@@ -1,6 +1,8 @@
 //! The program, over any files, reader and writers.
 ghost use Rattle.std.specs.Prelude.{◌≡◌, ◌++◌, [], IfOk, cond};
+ghost use Rattle.cck_cache_command.specs.Judge.{IsJudged};
 ghost use Rattle.cck_cache_options.specs.Table.{entries, table_of};
+ghost use Rattle.cck_path.specs.Bytes.{lists_of};
 
 use crate::call::{CallPaths, call_lines, request_of};
 use crate::environment::Environment;
@@ -76,7 +78,7 @@ struct Wanted<'a> {
 #[derive(Drop)]
 enum Asked<'a> {
     // A call that is cached.
-    For(Wanted<'a>),
+    Cached(Wanted<'a>),
     // The call is not cached.
     PassedOn(Passed),
 }
@@ -443,14 +445,19 @@ fn options_of<'t>(
     Ok(all)
 }
 
-// What the arguments of a call say, by the tables of options. The only error is lack of memory.
+// What the arguments of a call say, by these tables of options. The only error is lack of memory.
 fn judged<'a>(
     alloc: Global,
+    table: &[u8],
+    native: &[u8],
     knows_native: bool,
-    call: &'a CompilerCall<'_>,
-) -> Result<Judged<'a>, AllocError> {
-    let rows = options_of(alloc, GCC, NATIVE, knows_native)?;
-    judge(alloc, &rows, &call.arguments)
+    arguments: &'a [Vec<u8>],
+) -> Result<Judged<'a>, AllocError>
+    ensures { IfOk result (IsJudged
+        (cond knows_native (table_of native.now) [] ++ table_of table.now) (lists_of arguments.now)) }
+{
+    let rows = options_of(alloc, table, native, knows_native)?;
+    judge(alloc, &rows, arguments)
 }
 
 // What a call of a compiler asks for whose programs these are, or why the call is not cached. The only error is
@@ -461,8 +468,8 @@ fn wanted_of<'a, R: Files + AllocGlobal>(
     call: &'a CompilerCall<'a>,
     programs: String,
 ) -> Result<Asked<'a>, AllocError> {
-    let alloc = rt.alloc();
-    let (asked, paths) = match judged(alloc, environment.knows_native, call)? {
+    let (alloc, knows_native) = (rt.alloc(), environment.knows_native);
+    let (asked, paths) = match judged(alloc, GCC, NATIVE, knows_native, &call.arguments)? {
         Judged::Asks(asked, paths) => (asked, paths),
         Judged::PassedOn(reason) => return Ok(Asked::PassedOn(reason)),
     };
@@ -470,7 +477,7 @@ fn wanted_of<'a, R: Files + AllocGlobal>(
         return Ok(Asked::PassedOn(Passed::Output));
     }
     let request = request_of(alloc, call, programs, &asked, &paths)?;
-    Ok(Asked::For(Wanted {
+    Ok(Asked::Cached(Wanted {
         asked,
         paths,
         request,
@@ -491,7 +498,7 @@ fn run_call<R: Files + AllocGlobal + Clone + Drop, S: Peer>(
         Named::PassedOn(reason) => return print_passed(&mut printed.answer, reason),
     };
     match wanted_of(rt, environment, call, programs)? {
-        Asked::For(wanted) => run_action(rt, environment, action, wanted, peer, printed),
+        Asked::Cached(wanted) => run_action(rt, environment, action, wanted, peer, printed),
         Asked::PassedOn(reason) => print_passed(&mut printed.answer, reason),
     }
 }

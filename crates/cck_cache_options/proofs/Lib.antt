@@ -1,4 +1,5 @@
 pub mod CutLemmas
+mod Examples
 pub mod KeyedLemmas
 pub mod LongestLemmas
 pub mod PartLemmas

@@ -156,14 +156,14 @@ fn is_alone(name: &[u8]) -> bool
     matches!(name, b"alone")
 }
 
-// Whether a name is that of this class of many rows.
+// Whether a name is that of the first class, to which most rows belong.
 fn is_code(name: &[u8]) -> bool
     ensures { result ≡ bytes_eq name.now (codes "code") }
 {
     matches!(name, b"code")
 }
 
-// Whether a name is that of this class of many rows.
+// Whether a name is that of the second class. Most other rows belong to it.
 fn is_text(name: &[u8]) -> bool
     ensures { result ≡ bytes_eq name.now (codes "text") }
 {

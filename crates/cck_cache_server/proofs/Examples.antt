@@ -1,5 +1,5 @@
 -- The definitions at literal values.
-use Rattle.std.proofs.Common.{arith, inl, inr, ◌≡◌, ◌<◌, ℕ, true, false, cond, Some, None, [], ◌∷◌, ◌++◌, codes, refl}
+use Rattle.std.proofs.Common.{arith, inl, inr, ◌≡◌, Some, [], ◌∷◌, codes, refl}
 use Rattle.std.specs.Fmt.{digits}
 use Rattle.cck_cache_files.specs.declared.store_directory.Kind.TheVariants.{Entry, Object}
 use Rattle.cck_cache_server.specs.Http.{IsShare, authorization, http_directory, http_path, named_port, request_with}
@@ -64,3 +64,7 @@ a_request = refl
 -- the line feed at the end of a file is no part of its key
 a_key : IsKeyIn (codes "secret\n") (codes "secret")
 a_key = inl refl
+
+-- a key has 16 bytes at least
+a_signing_key : IsSigningKey (codes "0123456789abcdef\n") (Some (codes "0123456789abcdef"))
+a_signing_key = (inl refl, omega arith)

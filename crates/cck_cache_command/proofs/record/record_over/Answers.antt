@@ -17,5 +17,5 @@ returns-in-Added g c =
     (λ (outcome : Outcome). IsCalm c.args.gathered.files → IsOutcomeOver c.args.environment.now c.args.request.now c.args.compilation.now c.args.text.now c.args.gathered outcome)
     (λ outcome.
     added_outcome c.args.environment.now c.args.request.now c.args.compilation.now c.args.text.now c.args.gathered c.base_words.result c.in_ok-bases.bases c.deref.result.now c.deref-in-Added.result.now c.in_ok-refusal.field-0 c.in-Added.added outcome
-    c.base_words.ensures c.in_ok-bases.ensures c.deref.ensures.value c.deref-in-Added.ensures.value c.in-Added.is c.in_ok-refusal.ensures)
+    c.base_words.ensures c.in_ok-bases.ensures c.deref.ensures.value c.deref-in-Added.ensures.value c.in-Added.is c.in_ok-refusal.ensures c.if-gathered.false)
     c.record_added.ensures

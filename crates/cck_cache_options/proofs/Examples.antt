@@ -1,0 +1,17 @@
+-- The definitions at literal values.
+use Rattle.std.proofs.Common.{◌≡◌, [], ◌∷◌, codes, refl}
+use Rattle.cck_cache_options.specs.Table.{entry_in, table_of}
+use Rattle.cck_cache_options.specs.declared.table.Cause.TheVariants.{LinkTimeOptimization}
+use Rattle.cck_cache_options.specs.declared.table.Class.TheVariants.{Code, Passed}
+use Rattle.cck_cache_options.specs.declared.table.Form.TheVariants.{Alone, Either}
+
+two_rows : table_of (codes "-g alone code\n-flto either passed-link-time-optimization\n")
+    ≡ record { name = codes "-g"; form = Alone; class = Code } ∷ record { name = codes "-flto"; form = Either; class = Passed LinkTimeOptimization } ∷ []
+two_rows = refl
+
+-- a line of two fields is no row, nor is one of an unknown class
+no_row : entry_in (codes "-g alone") ≡ []
+no_row = refl
+
+no_class : entry_in (codes "-g alone other") ≡ []
+no_class = refl
