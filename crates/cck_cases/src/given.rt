@@ -76,6 +76,16 @@ impl Drop for Given {
     }
 }
 
+fn set_words(alloc: Global, words: &mut Vec<Vec<u8>>, text: &str) -> Result<(), CaseError> {
+    *words = words_of(alloc, text)?;
+    Ok(())
+}
+
+fn set_text(alloc: Global, place: &mut Option<String>, text: &str) -> Result<(), CaseError> {
+    *place = Some(String::from_str(alloc, text)?);
+    Ok(())
+}
+
 impl Given {
     /// Returns the state in which nothing is given.
     pub fn new(alloc: Global) -> Given {
@@ -116,18 +126,33 @@ impl Given {
             return Ok(false);
         };
         match word {
-            Word::Basedirs => self.basedirs = words_of(self.alloc, rest)?,
-            Word::Arguments => self.arguments = words_of(self.alloc, rest)?,
-            Word::Variables => self.variables = variables_of(self.alloc, rest)?,
+            Word::Basedirs => set_words(self.alloc, &mut self.basedirs, rest)?,
+            Word::Arguments => set_words(self.alloc, &mut self.arguments, rest)?,
+            Word::Variables => self.set_variables(rest)?,
             Word::ExtraHashes => self.set_hashes(rest)?,
-            Word::Compiler => self.compiler = Some(String::from_str(self.alloc, rest)?),
-            Word::Language => self.language = rest.parse::<Language>()?,
+            Word::Compiler => set_text(self.alloc, &mut self.compiler, rest)?,
+            Word::Language => self.set_language(rest)?,
             Word::Plusplus => self.plusplus = true,
             Word::Multiarch => self.multiarch = true,
-            Word::Assembler => self.assembler = Some(String::from_str(self.alloc, rest)?),
-            Word::Base => self.base = bytes_of(self.alloc, rest)?,
+            Word::Assembler => set_text(self.alloc, &mut self.assembler, rest)?,
+            Word::Base => self.set_base(rest)?,
         }
         Ok(true)
+    }
+
+    fn set_variables(&mut self, rest: &str) -> Result<(), CaseError> {
+        self.variables = variables_of(self.alloc, rest)?;
+        Ok(())
+    }
+
+    fn set_language(&mut self, name: &str) -> Result<(), CaseError> {
+        self.language = name.parse::<Language>()?;
+        Ok(())
+    }
+
+    fn set_base(&mut self, text: &str) -> Result<(), CaseError> {
+        self.base = bytes_of(self.alloc, text)?;
+        Ok(())
     }
 
     fn set_hashes(&mut self, rest: &str) -> Result<(), CaseError> {

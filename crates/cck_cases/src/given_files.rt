@@ -1,7 +1,7 @@
 //! What lines give for calls on files: the files, the call time, the zone and the options.
 use crate::case_error::CaseError;
 use crate::table::find;
-use crate::text::{bytes_of, moment_of, number, optional_moment_of};
+use crate::text::{bytes_of, moment_of, number, optional_moment_of, parts_of};
 use cck_include::PreprocessorCacheModeConfig;
 use cck_util::{FileKind, MapFiles, Node, Timestamp};
 use std::alloc::Global;
@@ -53,7 +53,7 @@ pub struct GivenFiles {
 
 // The regular file of the text `MODIFIED CHANGED TEXT`.
 fn file_of(alloc: Global, rest: &str) -> Result<Node, CaseError> {
-    let (modified, rest) = rest.split_once(' ').ok_or(CaseError::Line)?;
+    let (modified, rest) = parts_of(rest)?;
     let (changed, text) = rest.split_once(' ').unwrap_or((rest, ""));
     let (modified, changed) = (optional_moment_of(modified)?, optional_moment_of(changed)?);
     Ok(Node {
@@ -86,9 +86,9 @@ impl GivenFiles {
             Word::Folder => self.put(rest, FileKind::Folder)?,
             Word::Other => self.put(rest, FileKind::Other)?,
             Word::Link => self.link(rest)?,
-            Word::Gone => self.files.remove(&bytes_of(self.alloc, rest)?),
-            Word::FailAt => self.files.fail_at(number(rest)?),
-            Word::FailAfter => self.files.fail_after(number(rest)?),
+            Word::Gone => self.remove(rest)?,
+            Word::FailAt => self.fail_at(number(rest)?),
+            Word::FailAfter => self.fail_after(number(rest)?),
             Word::Moment => self.moment = moment_of(rest)?,
             Word::Zone => self.zone = number(rest)?,
             Word::Option => self.set_option(rest)?,
@@ -97,7 +97,7 @@ impl GivenFiles {
     }
 
     fn put_file(&mut self, rest: &str) -> Result<(), CaseError> {
-        let (path, rest) = rest.split_once(' ').ok_or(CaseError::Line)?;
+        let (path, rest) = parts_of(rest)?;
         let node = file_of(self.alloc, rest)?;
         self.files.put(&bytes_of(self.alloc, path)?, node)?;
         Ok(())
@@ -114,15 +114,28 @@ impl GivenFiles {
         Ok(())
     }
 
+    fn remove(&mut self, path: &str) -> Result<(), CaseError> {
+        self.files.remove(&bytes_of(self.alloc, path)?);
+        Ok(())
+    }
+
+    fn fail_at(&mut self, call: u64) {
+        self.files.fail_at(call);
+    }
+
+    fn fail_after(&mut self, call: u64) {
+        self.files.fail_after(call);
+    }
+
     fn link(&mut self, rest: &str) -> Result<(), CaseError> {
-        let (path, target) = rest.split_once(' ').ok_or(CaseError::Line)?;
+        let (path, target) = parts_of(rest)?;
         let path = bytes_of(self.alloc, path)?;
         self.files.link(&path, &bytes_of(self.alloc, target)?)?;
         Ok(())
     }
 
     fn set_option(&mut self, rest: &str) -> Result<(), CaseError> {
-        let (name, state) = rest.split_once(' ').ok_or(CaseError::Line)?;
+        let (name, state) = parts_of(rest)?;
         let is_on = match state {
             "on" => true,
             "off" => false,

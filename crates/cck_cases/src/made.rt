@@ -1,7 +1,7 @@
 //! Bytes that lines make before a call.
 use crate::case_error::CaseError;
 use crate::table::find;
-use crate::text::{byte_of, bytes_of, number};
+use crate::text::{byte_of, bytes_of, number, parts_of};
 use std::alloc::Global;
 
 #[derive(Clone, Copy)]
@@ -72,23 +72,24 @@ impl MadeBytes {
             Word::Repeat => self.repeat(rest)?,
             Word::Hex => self.hex(rest)?,
             Word::Put => self.put(rest)?,
-            Word::Cut => self.bytes.truncate(number::<usize>(rest)?),
+            Word::Cut => self.cut(rest)?,
             Word::Save => self.save(rest)?,
-            Word::Use => {
-                self.bytes.clear();
-                self.append(rest)?;
-            }
+            Word::Use => self.take(rest)?,
             Word::Append => self.append(rest)?,
         }
         Ok(true)
     }
 
     fn repeat(&mut self, rest: &str) -> Result<(), CaseError> {
-        let (count, text) = rest.split_once(' ').ok_or(CaseError::Line)?;
+        let (count, text) = parts_of(rest)?;
         let count = number::<usize>(count)?;
         let piece = bytes_of(self.alloc, text)?;
+        self.add_often(count, &piece)
+    }
+
+    fn add_often(&mut self, count: usize, piece: &[u8]) -> Result<(), CaseError> {
         for _ in 0..count {
-            self.bytes.extend_from_slice(&piece)?;
+            self.bytes.extend_from_slice(piece)?;
         }
         Ok(())
     }
@@ -101,7 +102,7 @@ impl MadeBytes {
     }
 
     fn put(&mut self, rest: &str) -> Result<(), CaseError> {
-        let (at, digits) = rest.split_once(' ').ok_or(CaseError::Line)?;
+        let (at, digits) = parts_of(rest)?;
         let byte = byte_of(digits)?;
         match self.bytes.get_mut(number::<usize>(at)?) {
             Some(place) => *place = byte,
@@ -110,11 +111,21 @@ impl MadeBytes {
         Ok(())
     }
 
+    fn cut(&mut self, length: &str) -> Result<(), CaseError> {
+        self.bytes.truncate(number::<usize>(length)?);
+        Ok(())
+    }
+
     fn save(&mut self, name: &str) -> Result<(), CaseError> {
         let bytes = Vec::from_slice(self.alloc, &self.bytes)?;
         self.saved
             .push((String::from_str(self.alloc, name)?, bytes))?;
         Ok(())
+    }
+
+    fn take(&mut self, name: &str) -> Result<(), CaseError> {
+        self.bytes.clear();
+        self.append(name)
     }
 
     fn append(&mut self, name: &str) -> Result<(), CaseError> {

@@ -18,8 +18,12 @@ fn push_byte(alloc: Global, text: &mut String, byte: u8) -> Result<(), AllocErro
         b'\n' => text.push_str("\\n"),
         b'\\' => text.push_str("\\\\"),
         b' '..=b'~' => text.push(char::from(byte)),
-        _ => text.push_str(&format!(in alloc; "\\x{byte:02x}")?),
+        _ => push_hex(alloc, text, byte),
     }
+}
+
+fn push_hex(alloc: Global, text: &mut String, byte: u8) -> Result<(), AllocError> {
+    text.push_str(&format!(in alloc; "\\x{byte:02x}")?)
 }
 
 // The bytes as a vector file may write them.

@@ -22,7 +22,14 @@ pub fn run_file<S: Subject + Drop>(rt: &HostRuntime, name: &str) -> io::Result<b
     let text = fs::read_to_string(rt, name)?;
     let mut report = Report::new(alloc, name);
     let is_run = run_lines::<S>(alloc, &text, &mut report).is_ok();
-    report.end().map_err(|_| no_memory())?;
+    end(rt, &mut report, is_run)
+}
+
+// Prints the report, and returns whether nothing differs.
+fn end(rt: &HostRuntime, report: &mut Report<'_>, is_run: bool) -> io::Result<bool> {
+    if report.end().is_err() {
+        return Err(no_memory());
+    }
     rt.print(report.text())?;
     if !is_run {
         return Err(no_memory());

@@ -16,12 +16,22 @@ struct Returned {
     is_expected: bool,
 }
 
-#[derive(Drop)]
 struct Session<S: Drop> {
     alloc: Global,
     subject: S,
     made: MadeBytes,
     last: Option<Returned>,
+}
+
+impl<S: Drop> Drop for Session<S> {
+    fn drop(self) {
+        let Session {
+            alloc: _,
+            subject: _,
+            made: _,
+            last: _,
+        } = self;
+    }
 }
 
 /// Runs the cases of a text. The only error is lack of memory.
@@ -36,20 +46,34 @@ pub(crate) fn run_lines<S: Subject + Drop>(
         made: MadeBytes::new(alloc),
         last: None,
     };
-    let mut number: usize = 0;
-    for line in text.split('\n') {
-        number = number.saturating_add(1);
-        if let Err(error) = session.follow(number, line, report) {
-            if error.is_memory() {
-                return Err(error);
-            }
-            report.reject(number, "the line can't be read")?;
-        }
-    }
-    session.settle(report)
+    session.run(text, report)
 }
 
 impl<S: Subject + Drop> Session<S> {
+    fn run(&mut self, text: &str, report: &mut Report<'_>) -> Result<(), CaseError> {
+        let mut number: usize = 0;
+        for line in text.split('\n') {
+            number = number.saturating_add(1);
+            self.read(number, line, report)?;
+        }
+        self.settle(report)
+    }
+
+    // Follows a line, or reports that it can't be read. The only error is lack of memory.
+    fn read(
+        &mut self,
+        number: usize,
+        line: &str,
+        report: &mut Report<'_>,
+    ) -> Result<(), CaseError> {
+        match self.follow(number, line, report) {
+            Err(error) if !error.is_memory() => {
+                Ok(report.reject(number, "the line can't be read")?)
+            }
+            followed => followed,
+        }
+    }
+
     fn follow(
         &mut self,
         number: usize,

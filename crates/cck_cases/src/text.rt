@@ -35,6 +35,14 @@ pub fn variables_of(alloc: Global, text: &str) -> Result<Vec<(Vec<u8>, Vec<u8>)>
     Ok(variables)
 }
 
+/// Returns what is before the first space of a text, and what is after it.
+pub(crate) fn parts_of(text: &str) -> Result<(&str, &str), CaseError> {
+    match text.split_once(' ') {
+        Some(parts) => Ok(parts),
+        None => Err(CaseError::Line),
+    }
+}
+
 /// Returns the number in a text.
 pub fn number<T: FromStr>(text: &str) -> Result<T, CaseError>
 where

@@ -4,6 +4,7 @@ use cck_util::Timestamp;
 use std::alloc::{AllocError, Global};
 use std::borrow::CowSlice;
 use std::cmp::Ordering;
+use std::fmt::Debug;
 
 /// What a call returns.
 pub enum Value<'a> {
@@ -55,23 +56,27 @@ impl Drop for Value<'_> {
 impl Value<'_> {
     /// Returns the value as a vector file writes it, before it is escaped.
     pub(crate) fn write(&self, alloc: Global, out: &mut Vec<u8>) -> Result<(), AllocError> {
-        match self {
-            Value::Bytes(bytes) => out.extend_from_slice(bytes),
-            Value::Slice(bytes) => out.extend_from_slice(bytes),
-            Value::Text(text) => out.extend_from_slice(text.as_bytes()),
-            Value::Word(word) => out.extend_from_slice(word.as_bytes()),
-            Value::Flag(true) => out.extend_from_slice(b"true"),
-            Value::Flag(false) => out.extend_from_slice(b"false"),
-            Value::Number(number) => write_number(alloc, out, *number),
-            Value::Part(part) => write_part(out, *part),
-            Value::Found(None) => write_part(out, None),
-            Value::Found(Some(bytes)) => write_part(out, Some(bytes)),
-            Value::Cut(kept) => write_cut(out, kept),
-            Value::Numbers(numbers) => write_numbers(alloc, out, numbers),
-            Value::Order(order) => out.extend_from_slice(order_word(*order).as_bytes()),
-            Value::Moment(moment) => write_moment(alloc, out, *moment),
-        }
+        let bytes: &[u8] = match self {
+            Value::Bytes(bytes) => bytes,
+            Value::Slice(bytes) => bytes,
+            Value::Text(text) => text.as_bytes(),
+            Value::Word(word) => word.as_bytes(),
+            Value::Flag(flag) => flag_word(*flag).as_bytes(),
+            Value::Order(order) => order_word(*order).as_bytes(),
+            Value::Number(number) => return write_number(alloc, out, *number),
+            Value::Part(part) => return write_part(out, *part),
+            Value::Found(None) => return write_part(out, None),
+            Value::Found(Some(bytes)) => return write_part(out, Some(bytes)),
+            Value::Cut(kept) => return write_cut(out, kept),
+            Value::Numbers(numbers) => return write_numbers(alloc, out, numbers),
+            Value::Moment(moment) => return write_moment(alloc, out, *moment),
+        };
+        out.extend_from_slice(bytes)
     }
+}
+
+fn flag_word(flag: bool) -> &'static str {
+    if flag { "true" } else { "false" }
 }
 
 fn write_number(alloc: Global, out: &mut Vec<u8>, number: u64) -> Result<(), AllocError> {
@@ -147,12 +152,15 @@ pub(crate) fn write_error(
     out: &mut Vec<u8>,
     error: CaseError,
 ) -> Result<(), AllocError> {
-    let text = match error {
-        CaseError::Util(error) => format!(in alloc; "error {error:?}")?,
-        CaseError::Entry(error) => format!(in alloc; "error {error:?}")?,
-        CaseError::File(error) => format!(in alloc; "error {error:?}")?,
-        CaseError::Language => format!(in alloc; "error UnknownLanguage")?,
-        CaseError::Line => format!(in alloc; "error WrongLine")?,
-    };
-    out.extend_from_slice(text.as_bytes())
+    match error {
+        CaseError::Util(error) => write_shown(alloc, out, &error),
+        CaseError::Entry(error) => write_shown(alloc, out, &error),
+        CaseError::File(error) => write_shown(alloc, out, &error),
+        CaseError::Language => out.extend_from_slice(b"error UnknownLanguage"),
+        CaseError::Line => out.extend_from_slice(b"error WrongLine"),
+    }
+}
+
+fn write_shown<T: Debug>(alloc: Global, out: &mut Vec<u8>, error: &T) -> Result<(), AllocError> {
+    out.extend_from_slice(format!(in alloc; "error {error:?}")?.as_bytes())
 }

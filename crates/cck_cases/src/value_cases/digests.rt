@@ -46,25 +46,40 @@ pub(crate) fn call<'a>(
     pieces: &[Vec<u8>],
     bytes: &[u8],
 ) -> Result<Value<'a>, CaseError> {
-    let alloc = given.alloc;
-    let mut digest = Digest::<Sha256State>::new();
-    digest.update(&given.base);
     match call {
-        DigestCall::Hex => return Ok(Value::Text(hex(alloc, bytes)?)),
-        DigestCall::BufferSize => return Ok(Value::Number(HASH_BUFFER_SIZE as u64)),
-        DigestCall::State => return state(alloc, pieces),
-        DigestCall::Digest => digest.update(bytes),
-        DigestCall::Pieces => update_each(&mut digest, pieces),
-        DigestCall::Delimiter => digest.delimiter(bytes),
-        DigestCall::Length => hash_length(&mut digest, bytes.len()),
-        DigestCall::LengthPrefixed => hash_len_prefixed(&mut digest, bytes),
-        DigestCall::TextList => hash_text_list(&mut digest, &given.extra_hashes),
-        DigestCall::Option => hash_option(&mut digest, given.assembler()),
-        DigestCall::VariableList => feed_variable_list(given, &mut digest)?,
-        DigestCall::RequestVariables => hash_request_variables(&mut digest, &given.variables),
-        DigestCall::Arguments => feed_arguments(given, &mut digest)?,
+        DigestCall::Hex => Ok(Value::Text(hex(given.alloc, bytes)?)),
+        DigestCall::BufferSize => Ok(Value::Number(HASH_BUFFER_SIZE as u64)),
+        DigestCall::State => state(given.alloc, pieces),
+        _ => {
+            let mut digest = Digest::<Sha256State>::new();
+            digest.update(&given.base);
+            feed(call, given, pieces, bytes, &mut digest)?;
+            Ok(Value::Text(digest.finish(given.alloc)?))
+        }
     }
-    Ok(Value::Text(digest.finish(alloc)?))
+}
+
+fn feed(
+    call: DigestCall,
+    given: &Given,
+    pieces: &[Vec<u8>],
+    bytes: &[u8],
+    digest: &mut Digest<Sha256State>,
+) -> Result<(), CaseError> {
+    match call {
+        DigestCall::Hex | DigestCall::BufferSize | DigestCall::State => {}
+        DigestCall::Digest => digest.update(bytes),
+        DigestCall::Pieces => update_each(digest, pieces),
+        DigestCall::Delimiter => digest.delimiter(bytes),
+        DigestCall::Length => hash_length(digest, bytes.len()),
+        DigestCall::LengthPrefixed => hash_len_prefixed(digest, bytes),
+        DigestCall::TextList => hash_text_list(digest, &given.extra_hashes),
+        DigestCall::Option => hash_option(digest, given.assembler()),
+        DigestCall::VariableList => feed_variable_list(given, digest)?,
+        DigestCall::RequestVariables => hash_request_variables(digest, &given.variables),
+        DigestCall::Arguments => feed_arguments(given, digest)?,
+    }
+    Ok(())
 }
 
 fn update_each(digest: &mut Digest<Sha256State>, pieces: &[Vec<u8>]) {

@@ -2,7 +2,7 @@
 use crate::value_cases::texts::text_of;
 use crate::{CaseError, Given, Value};
 use cck_util::{CACHE_VERSION, HashKeyParams, Language, Sha256State};
-use std::alloc::Global;
+use std::alloc::{AllocError, Global};
 
 #[derive(Clone, Copy)]
 pub(crate) enum KeyCall {
@@ -45,13 +45,17 @@ fn language_of(name: &[u8]) -> Result<Language, CaseError> {
 fn languages<'a>(alloc: Global) -> Result<Value<'a>, CaseError> {
     let mut lines = String::new(alloc);
     for language in Language::ALL {
-        let name = language.as_str();
-        if !lines.is_empty() {
-            lines.push('\n')?;
-        }
-        lines.push_str(&format!(in alloc; "{language:?} {name}")?)?;
+        add_language(alloc, &mut lines, language)?;
     }
     Ok(Value::Text(lines))
+}
+
+fn add_language(alloc: Global, lines: &mut String, language: Language) -> Result<(), AllocError> {
+    if !lines.is_empty() {
+        lines.push('\n')?;
+    }
+    let name = language.as_str();
+    lines.push_str(&format!(in alloc; "{language:?} {name}")?)
 }
 
 fn key<'a>(given: &Given, text: &[u8]) -> Result<Value<'a>, CaseError> {

@@ -1,7 +1,7 @@
 //! Cuts base directories out of a text by one search for each of them. `strip_basedirs`, which
 //! takes all in one pass, is compared with this.
 use cck_util::UtilError;
-use std::alloc::Global;
+use std::alloc::{AllocError, Global};
 use std::borrow::CowSlice;
 
 fn is_separator(byte: u8) -> bool {
@@ -55,8 +55,19 @@ pub(crate) fn strip_by_searches<'a>(
     }
     places.sort()?;
     let mut kept = Vec::new(alloc);
+    keep_between(text, basedirs, &places, &mut kept)?;
+    Ok(CowSlice::Owned(kept))
+}
+
+// Adds what remains of the text if the base directories at these places are cut.
+fn keep_between(
+    text: &[u8],
+    basedirs: &[Vec<u8>],
+    places: &[usize],
+    kept: &mut Vec<u8>,
+) -> Result<(), AllocError> {
     let mut copied = 0;
-    for place in &places {
+    for place in places {
         // A place inside the last cut is skipped.
         if *place >= copied {
             kept.extend_from_slice(text.get(copied..*place).unwrap_or_default())?;
@@ -64,6 +75,5 @@ pub(crate) fn strip_by_searches<'a>(
             copied = place.saturating_add(longest_prefix(rest, basedirs));
         }
     }
-    kept.extend_from_slice(text.get(copied..).unwrap_or_default())?;
-    Ok(CowSlice::Owned(kept))
+    kept.extend_from_slice(text.get(copied..).unwrap_or_default())
 }

@@ -1,4 +1,5 @@
 //! The lines that configure a reader and a writer.
+use crate::text::parts_of;
 use crate::{CaseError, FailReader, FailWriter, Failures, number};
 use std::alloc::Global;
 use std::io;
@@ -42,8 +43,8 @@ impl Streams {
     }
 
     fn set_reader(&mut self, rest: &str) -> Result<(), CaseError> {
-        let (step, rest) = rest.split_once(' ').ok_or(CaseError::Line)?;
-        let (passing, kind) = rest.split_once(' ').ok_or(CaseError::Line)?;
+        let (step, rest) = parts_of(rest)?;
+        let (passing, kind) = parts_of(rest)?;
         self.step = number(step)?;
         self.passing_reads = number(passing)?;
         self.kind = kind_of(kind)?;

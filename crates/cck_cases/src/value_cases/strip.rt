@@ -1,4 +1,5 @@
 //! Base directories cut out of texts and arguments.
+use crate::text::parts_of;
 use crate::value_cases::searches::strip_by_searches;
 use crate::{CaseError, Given, Value, bytes_of, number, write_cut, write_numbers};
 use cck_util::{
@@ -30,16 +31,27 @@ pub(crate) const CALLS: [(&str, StripCall); 7] = [
 
 /// Base directories: a text, followed by no letter, by one letter, and so on.
 pub(crate) fn basedirs_with(alloc: Global, rest: &str) -> Result<Vec<Vec<u8>>, CaseError> {
-    let (count, rest) = rest.split_once(' ').ok_or(CaseError::Line)?;
-    let (first, letter) = rest.split_once(' ').ok_or(CaseError::Line)?;
+    let (count, rest) = parts_of(rest)?;
+    let (first, letter) = parts_of(rest)?;
     let mut basedir = bytes_of(alloc, first)?;
     let letter = bytes_of(alloc, letter)?;
     let mut basedirs = Vec::new(alloc);
-    for _ in 0..number::<usize>(count)? {
-        basedirs.push(basedir.clone()?)?;
-        basedir.extend_from_slice(&letter)?;
-    }
+    add_basedirs(&mut basedirs, number(count)?, &mut basedir, &letter)?;
     Ok(basedirs)
+}
+
+// Adds the base directory `count` times. After each time it ends in one more letter.
+fn add_basedirs(
+    basedirs: &mut Vec<Vec<u8>>,
+    count: usize,
+    basedir: &mut Vec<u8>,
+    letter: &[u8],
+) -> Result<(), CaseError> {
+    for _ in 0..count {
+        basedirs.push(basedir.clone()?)?;
+        basedir.extend_from_slice(letter)?;
+    }
+    Ok(())
 }
 
 pub(crate) fn call<'a>(
@@ -49,16 +61,20 @@ pub(crate) fn call<'a>(
 ) -> Result<Value<'a>, CaseError> {
     let (alloc, dirs) = (given.alloc, given.basedirs.as_slice());
     match call {
-        StripCall::Text => match strip_text(given, bytes)? {
-            Some(kept) => Ok(Value::Cut(kept)),
-            None => Ok(Value::Word(DIFFERS)),
-        }
+        StripCall::Text => stripped(given, bytes),
         StripCall::LongestAt => longest_at_each(given, bytes),
         StripCall::Argument => Ok(Value::Cut(strip_basedirs_from_arg(alloc, bytes, dirs)?)),
         StripCall::Positions => Ok(Value::Numbers(pathname_positions(alloc, bytes)?)),
         StripCall::AllTexts => all(given, bytes, false),
         StripCall::CountTexts => count_texts(given, bytes),
         StripCall::AllArguments => all(given, bytes, true),
+    }
+}
+
+fn stripped<'a>(given: &Given, text: &'a [u8]) -> Result<Value<'a>, CaseError> {
+    match strip_text(given, text)? {
+        Some(kept) => Ok(Value::Cut(kept)),
+        None => Ok(Value::Word(DIFFERS)),
     }
 }
 
@@ -86,13 +102,21 @@ fn twice(given: &Given) -> Result<Vec<Vec<u8>>, CaseError> {
 // also does when each base directory is given twice.
 fn strip_text<'a>(given: &Given, text: &'a [u8]) -> Result<Option<CowSlice<'a, u8>>, CaseError> {
     let kept = strip_basedirs(given.alloc, text, &given.basedirs)?;
-    let searched = strip_by_searches(given.alloc, text, &given.basedirs)?;
-    let stripped_twice = strip_basedirs(given.alloc, text, &twice(given)?)?;
-    if is_same(&kept, &searched) && is_same(&kept, &stripped_twice) {
+    if is_as_searched(given, text, &kept)? && is_as_of_twice(given, text, &kept)? {
         Ok(Some(kept))
     } else {
         Ok(None)
     }
+}
+
+fn is_as_searched(given: &Given, text: &[u8], kept: &CowSlice<'_, u8>) -> Result<bool, CaseError> {
+    let searched = strip_by_searches(given.alloc, text, &given.basedirs)?;
+    Ok(is_same(kept, &searched))
+}
+
+fn is_as_of_twice(given: &Given, text: &[u8], kept: &CowSlice<'_, u8>) -> Result<bool, CaseError> {
+    let stripped = strip_basedirs(given.alloc, text, &twice(given)?)?;
+    Ok(is_same(kept, &stripped))
 }
 
 // The length of the longest base directory at each place of the text, and at its end.

@@ -1,10 +1,11 @@
 //! Prefixes, escapes, lengths, durations and variables.
+use crate::text::parts_of;
 use crate::value_cases::streams::Streams;
 use crate::{CaseError, CaseLine, Given, Value, number};
 use cck_util::{
     OsStrExt, ascii_unescape_default, first_value, fmt_duration_as_secs, write_length_prefixed,
 };
-use std::alloc::Global;
+use std::alloc::{AllocError, Global};
 use std::str;
 use std::time::Duration;
 
@@ -63,18 +64,23 @@ pub(crate) fn text_of(bytes: &[u8]) -> Result<&str, CaseError> {
 fn unescape<'a>(alloc: Global, text: &str) -> Result<Value<'a>, CaseError> {
     let bytes = ascii_unescape_default(alloc, text.as_bytes())?;
     let mut digits = String::new(alloc);
-    for byte in &bytes {
+    add_digits(alloc, &mut digits, &bytes)?;
+    Ok(Value::Text(digits))
+}
+
+fn add_digits(alloc: Global, digits: &mut String, bytes: &[u8]) -> Result<(), AllocError> {
+    for byte in bytes {
         if !digits.is_empty() {
             digits.push(' ')?;
         }
         digits.push_str(&format!(in alloc; "{byte:02x}")?)?;
     }
-    Ok(Value::Text(digits))
+    Ok(())
 }
 
 // The duration of a number of seconds and nanoseconds.
 fn duration<'a>(alloc: Global, rest: &str) -> Result<Value<'a>, CaseError> {
-    let (seconds, nanoseconds) = rest.split_once(' ').ok_or(CaseError::Line)?;
+    let (seconds, nanoseconds) = parts_of(rest)?;
     let (seconds, nanoseconds) = (number::<u64>(seconds)?, number::<u32>(nanoseconds)?);
     if nanoseconds >= 1_000_000_000 {
         return Err(CaseError::Line);

@@ -1,4 +1,5 @@
 //! Times, and the times of a file.
+use crate::text::parts_of;
 use crate::{CaseError, Value, moment_of, number, optional_moment_of};
 use cck_util::{FileKind, Metadata, MetadataCtimeExt, Timestamp};
 
@@ -30,7 +31,7 @@ pub(crate) fn call<'a>(call: TimeCall, rest: &str) -> Result<Value<'a>, CaseErro
 }
 
 fn of_parts<'a>(rest: &str) -> Result<Value<'a>, CaseError> {
-    let (seconds, nanoseconds) = rest.split_once(' ').ok_or(CaseError::Line)?;
+    let (seconds, nanoseconds) = parts_of(rest)?;
     let (seconds, nanoseconds) = (number::<i64>(seconds)?, number::<u32>(nanoseconds)?);
     if nanoseconds >= 1_000_000_000 {
         return Err(CaseError::Line);
@@ -39,7 +40,7 @@ fn of_parts<'a>(rest: &str) -> Result<Value<'a>, CaseError> {
 }
 
 fn compare<'a>(rest: &str) -> Result<Value<'a>, CaseError> {
-    let (a, b) = rest.split_once(' ').ok_or(CaseError::Line)?;
+    let (a, b) = parts_of(rest)?;
     Ok(Value::Order(moment_of(a)?.cmp(&moment_of(b)?)))
 }
 
