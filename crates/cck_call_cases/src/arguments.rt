@@ -10,18 +10,17 @@ enum TextWord {
     Flag,
     Depfile,
     TooHard,
-    Output,
-    OptionalOutput,
 }
 
-const TEXT_WORDS: [(&str, TextWord); 6] = [
+const TEXT_WORDS: [(&str, TextWord); 4] = [
     ("input", TextWord::Input),
     ("compilation_flag", TextWord::Flag),
     ("depfile", TextWord::Depfile),
     ("too_hard", TextWord::TooHard),
-    ("output", TextWord::Output),
-    ("optional_output", TextWord::OptionalOutput),
 ];
+
+// The words of outputs, and whether the output may be left out.
+const OUTPUT_WORDS: [(&str, bool); 2] = [("output", false), ("optional_output", true)];
 
 #[derive(Clone, Copy)]
 enum ListWord {
@@ -81,6 +80,8 @@ pub(crate) fn give(
 ) -> Result<bool, CaseError> {
     if let Some(word) = find(&TEXT_WORDS, name) {
         give_text(alloc, args, word, rest)?;
+    } else if let Some(optional) = find(&OUTPUT_WORDS, name) {
+        put_output(alloc, args, rest, optional)?;
     } else if let Some(word) = find(&LIST_WORDS, name) {
         give_list(alloc, args, word, rest)?;
     } else if let Some(word) = find(&FLAG_WORDS, name) {
@@ -97,15 +98,12 @@ fn give_text(
     word: TextWord,
     rest: &str,
 ) -> Result<(), CaseError> {
+    let text = bytes_of(alloc, rest)?;
     match word {
-        TextWord::Input => args.input = bytes_of(alloc, rest)?,
-        TextWord::Flag => args.compilation_flag = bytes_of(alloc, rest)?,
-        TextWord::Depfile => args.depfile = Some(bytes_of(alloc, rest)?),
-        TextWord::TooHard => {
-            args.too_hard_for_preprocessor_cache_mode = Some(bytes_of(alloc, rest)?);
-        }
-        TextWord::Output => put_output(alloc, args, rest, false)?,
-        TextWord::OptionalOutput => put_output(alloc, args, rest, true)?,
+        TextWord::Input => args.input = text,
+        TextWord::Flag => args.compilation_flag = text,
+        TextWord::Depfile => args.depfile = Some(text),
+        TextWord::TooHard => args.too_hard_for_preprocessor_cache_mode = Some(text),
     }
     Ok(())
 }

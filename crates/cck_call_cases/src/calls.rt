@@ -90,11 +90,8 @@ impl Calls {
     }
 
     fn key_call<'a>(&mut self, call: KeyCall, rest: &str) -> Result<Value<'a>, CaseError> {
-        let alloc = self.given.alloc;
         match call {
-            KeyCall::Compile => keys::result_value(alloc, &self.compile()?),
-            KeyCall::Toolchain => keys::toolchain_value(alloc, self.compile()?),
-            KeyCall::ResultShown => keys::result_shown(alloc, &self.compile()?),
+            KeyCall::Compile(part) => keys::part_value(self.given.alloc, part, self.compile()?),
             KeyCall::Control => keys::control_shown(&self.request),
             KeyCall::Preprocess => self.preprocess(),
             KeyCall::Preprocessed => Ok(Value::Number(self.noting.count)),
@@ -129,20 +126,42 @@ impl Calls {
         }
     }
 
+    // Adds a call of what is given to the list.
+    fn add_call(&mut self) -> Result<(), CaseError> {
+        let is_bytewise = self.noting.is_bytewise;
+        let call = lists::call_of(&self.request, &self.given, &self.given_files, is_bytewise)?;
+        self.list.push(call)?;
+        Ok(())
+    }
+
     // Takes what a line gives to calls in a list and to what counts calls on one path.
     fn give_own(&mut self, word: &str, rest: &str) -> Result<bool, CaseError> {
         match word {
-            "add_call" => {
-                let mut call = lists::call_of(&self.request, &self.given, &self.given_files)?;
-                call.files.is_bytewise = self.noting.is_bytewise;
-                self.list.push(call)?;
-            }
+            "add_call" => self.add_call()?,
             "counted_path" => self.noting.path = bytes_of(self.given.alloc, rest)?,
             "count" => self.noting.count = number(rest)?,
             "bytewise" => self.noting.is_bytewise = true,
             _ => return Ok(false),
         }
         Ok(true)
+    }
+
+    // Makes a call on errors, a list of calls or a store.
+    fn other_call<'a>(
+        &'a mut self,
+        name: &str,
+        line: CaseLine<'a>,
+    ) -> Result<Value<'a>, CaseError> {
+        if let Some(call) = find(&errors::CALLS, name) {
+            return errors::call(self.given.alloc, call, line.rest);
+        }
+        if name == "run_calls" {
+            return self.run_calls();
+        }
+        match find(&stores::CALLS, name) {
+            Some(call) => self.stores.call(call, line),
+            None => Err(CaseError::Line),
+        }
     }
 }
 
@@ -187,15 +206,6 @@ impl Subject for Calls {
         if let Some(call) = find(&compilers::CALLS, name) {
             return self.compiler_call(call);
         }
-        if let Some(call) = find(&errors::CALLS, name) {
-            return errors::call(self.given.alloc, call, line.rest);
-        }
-        if name == "run_calls" {
-            return self.run_calls();
-        }
-        match find(&stores::CALLS, name) {
-            Some(call) => self.stores.call(call, line),
-            None => Err(CaseError::Line),
-        }
+        self.other_call(name, line)
     }
 }

@@ -2,7 +2,10 @@
 use crate::fixed_compiler::FixedCompiler;
 use crate::request::GivenRequest;
 use crate::shown::{error_value, or_out_of_memory, write_arguments, write_word, write_words};
-use c_cache_keys::{CCompiler, CCompilerHasher, CCompilerImpl, CompilerArguments, ParsedArguments};
+use c_cache_keys::{
+    CCompiler, CCompilerHasher, CCompilerImpl, CCompilerKind, CompilerArguments, KeyError,
+    ParsedArguments,
+};
 use cck_cases::{CaseError, Given, Value};
 use cck_util::{MapFiles, Sha256State};
 use std::alloc::Global;
@@ -49,33 +52,63 @@ pub(crate) fn call<'a>(
         CompilerCall::LanguageColorOutput => language_color_output(request),
         CompilerCall::Archs => archs(alloc, args),
         CompilerCall::IsMultiarch => Ok(Value::Flag(args.is_multiarch())),
-        CompilerCall::OutputPretty => Ok(Value::Text(or_out_of_memory(args.output_pretty(alloc))?)),
+        CompilerCall::OutputPretty => output_pretty(alloc, args),
     }
 }
 
 // The family of the compiler and the hex digest of its executable.
 fn new_compiler<'a>(request: &GivenRequest, files: &mut MapFiles) -> Result<Value<'a>, CaseError> {
     let alloc = request.alloc;
-    let compiler = or_out_of_memory(request.hasher.compiler.copy(alloc))?;
+    let copy = or_out_of_memory(made_compiler(request, files)?.copy(alloc))?;
+    kind_and_digest(alloc, copy.kind(), &copy.executable_digest)
+}
+
+fn made_compiler(
+    request: &GivenRequest,
+    files: &mut MapFiles,
+) -> Result<CCompiler<FixedCompiler>, CaseError> {
+    let alloc = request.alloc;
     let executable = request.hasher.executable.to_vec(alloc)?;
-    let made = CCompiler::new::<Sha256State, MapFiles>(alloc, compiler, executable, files)?;
-    let copy = or_out_of_memory(made.copy(alloc))?;
-    let (kind, digest) = (copy.kind(), copy.executable_digest.as_str());
+    let compiler = or_out_of_memory(request.hasher.compiler.copy(alloc))?;
+    let made = CCompiler::new::<Sha256State, MapFiles>(alloc, compiler, executable, files);
+    Ok(made?)
+}
+
+fn kind_and_digest<'a>(
+    alloc: Global,
+    kind: CCompilerKind,
+    digest: &str,
+) -> Result<Value<'a>, CaseError> {
     Ok(Value::Text(format!(in alloc; "{kind:?} {digest}")?))
 }
 
 // The compiler that parses each command line into the arguments that are given.
-fn compiler_of(request: &mut GivenRequest) -> Result<CCompiler<FixedCompiler>, CaseError> {
+fn compiler_of(request: &mut GivenRequest) -> Result<CCompiler<FixedCompiler>, KeyError> {
     let alloc = request.alloc;
-    request.hasher.compiler.parsed = or_out_of_memory(request.hasher.parsed_args.copy(alloc))?;
+    request.hasher.compiler.parsed = request.hasher.parsed_args.copy(alloc)?;
     let executable = request.hasher.executable.to_vec(alloc)?;
-    let digest = request.hasher.executable_digest.as_str();
-    let executable_digest = String::from_str(alloc, digest)?;
+    let executable_digest = String::from_str(alloc, &request.hasher.executable_digest)?;
     Ok(CCompiler {
-        compiler: or_out_of_memory(request.hasher.compiler.copy(alloc))?,
+        compiler: request.hasher.compiler.copy(alloc)?,
         executable,
         executable_digest,
     })
+}
+
+// What a compiler of its own, which is then freed, parses the command line as.
+fn parsed(
+    request: &mut GivenRequest,
+    given: &Given,
+    files: &mut MapFiles,
+) -> Result<CompilerArguments<CCompilerHasher<FixedCompiler>>, KeyError> {
+    let compiler = compiler_of(request)?;
+    compiler.parse_arguments::<MapFiles>(
+        request.alloc,
+        files,
+        &given.arguments,
+        &request.cwd,
+        &given.variables,
+    )
 }
 
 // What the command line is parsed as: all that it says, or the extra files alone.
@@ -86,22 +119,22 @@ fn parse<'a>(
     files_alone: bool,
 ) -> Result<Value<'a>, CaseError> {
     let alloc = request.alloc;
-    let compiler = compiler_of(request)?;
-    let parsed = compiler.parse_arguments::<MapFiles>(
-        alloc,
-        files,
-        &given.arguments,
-        &request.cwd,
-        &given.variables,
-    );
-    match parsed {
+    match parsed(request, given, files) {
         Ok(CompilerArguments::Ok(hasher)) => parsed_value(alloc, &hasher, files_alone),
         Ok(CompilerArguments::CannotCache(reason, detail)) => {
-            Ok(Value::Text(format!(in alloc; "cannot cache {reason} {detail:?}")?))
+            cannot_cache_value(alloc, reason, &detail)
         }
         Ok(CompilerArguments::NotCompilation) => Ok(Value::Word("no compilation")),
         Err(error) => error_value(alloc, error),
     }
+}
+
+fn cannot_cache_value<'a>(
+    alloc: Global,
+    reason: &str,
+    detail: &Option<String>,
+) -> Result<Value<'a>, CaseError> {
+    Ok(Value::Text(format!(in alloc; "cannot cache {reason} {detail:?}")?))
 }
 
 fn parsed_value<'a>(
@@ -134,12 +167,21 @@ fn write_hasher(
 // What the compiler itself says of the command line, as `Debug` prints it.
 fn parsed_shown<'a>(request: &mut GivenRequest, given: &Given) -> Result<Value<'a>, CaseError> {
     let alloc = request.alloc;
-    let compiler = compiler_of(request)?;
-    let parsed = compiler
-        .compiler
-        .parse_arguments(alloc, &given.arguments, &request.cwd, &given.variables);
-    let parsed = or_out_of_memory(parsed)?;
+    let parsed = or_out_of_memory(parsed_itself(request, given))?;
     Ok(Value::Text(format!(in alloc; "{parsed:?}")?))
+}
+
+fn parsed_itself(
+    request: &mut GivenRequest,
+    given: &Given,
+) -> Result<CompilerArguments<ParsedArguments>, KeyError> {
+    let compiler = compiler_of(request)?;
+    compiler.compiler.parse_arguments(
+        request.alloc,
+        &given.arguments,
+        &request.cwd,
+        &given.variables,
+    )
 }
 
 // All that a copy of the compilation says.
@@ -156,10 +198,15 @@ fn language_color_output<'a>(request: &GivenRequest) -> Result<Value<'a>, CaseEr
     Ok(Value::Text(format!(in alloc; "{language:?} {color:?} {name}")?))
 }
 
+fn output_pretty<'a>(alloc: Global, args: &ParsedArguments) -> Result<Value<'a>, CaseError> {
+    Ok(Value::Text(or_out_of_memory(args.output_pretty(alloc))?))
+}
+
 fn archs<'a>(alloc: Global, args: &ParsedArguments) -> Result<Value<'a>, CaseError> {
+    let archs = or_out_of_memory(args.archs(alloc))?;
     let mut out = Vec::new(alloc);
     out.extend_from_slice(b"archs")?;
-    for arch in or_out_of_memory(args.archs(alloc))? {
+    for arch in &archs {
         out.push(b' ')?;
         write_word(&mut out, arch)?;
     }

@@ -28,7 +28,6 @@ pub enum FixedReading {
 ///
 /// Each time it preprocesses it asks first whether something is at [`PREPROCESSED`], and does
 /// nothing with the result.
-#[derive(Drop)]
 pub struct FixedCompiler {
     /// The text that is printed.
     pub text: Vec<u8>,
@@ -46,6 +45,21 @@ pub struct FixedCompiler {
     pub parsed: ParsedArguments,
     /// The detail where the result can't be cached.
     pub detail: Option<String>,
+}
+
+impl Drop for FixedCompiler {
+    fn drop(self) {
+        let FixedCompiler {
+            text: _,
+            kind: _,
+            plusplus: _,
+            version: _,
+            assembler: _,
+            reading: _,
+            parsed: _,
+            detail: _,
+        } = self;
+    }
 }
 
 impl CCompilerImpl for FixedCompiler {
@@ -127,7 +141,6 @@ impl CCompilerImpl for FixedCompiler {
         let version = copy_text(&self.version)?;
         let assembler = copy_text(&self.assembler)?;
         let detail = copy_text(&self.detail)?;
-        let parsed = self.parsed.copy(alloc)?;
         Ok(FixedCompiler {
             text: self.text.to_vec(alloc)?,
             kind: self.kind,
@@ -135,7 +148,7 @@ impl CCompilerImpl for FixedCompiler {
             version,
             assembler,
             reading: self.reading,
-            parsed,
+            parsed: self.parsed.copy(alloc)?,
             detail,
         })
     }

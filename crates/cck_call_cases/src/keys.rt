@@ -7,11 +7,17 @@ use cck_cases::{CaseError, Given, GivenFiles, Value, zone_of};
 use cck_util::{Files, Sha256State, UtilError};
 use std::alloc::Global;
 
+/// What is returned of the result of a call for a key.
+#[derive(Clone, Copy)]
+pub(crate) enum ResultPart {
+    Short,
+    Toolchain,
+    Shown,
+}
+
 #[derive(Clone, Copy)]
 pub(crate) enum KeyCall {
-    Compile,
-    Toolchain,
-    ResultShown,
+    Compile(ResultPart),
     Control,
     Preprocess,
     Preprocessed,
@@ -19,9 +25,9 @@ pub(crate) enum KeyCall {
 }
 
 pub(crate) const CALLS: [(&str, KeyCall); 7] = [
-    ("compile", KeyCall::Compile),
-    ("toolchain", KeyCall::Toolchain),
-    ("compile_shown", KeyCall::ResultShown),
+    ("compile", KeyCall::Compile(ResultPart::Short)),
+    ("toolchain", KeyCall::Compile(ResultPart::Toolchain)),
+    ("compile_shown", KeyCall::Compile(ResultPart::Shown)),
     ("control", KeyCall::Control),
     ("preprocess", KeyCall::Preprocess),
     ("preprocessed", KeyCall::Preprocessed),
@@ -55,8 +61,21 @@ pub(crate) fn key_of<S: PreprocessorStore>(
     )
 }
 
-/// The result of a call for a key, in short.
-pub(crate) fn result_value<'a>(
+/// What is asked for of the result of a call for a key.
+pub(crate) fn part_value<'a>(
+    alloc: Global,
+    part: ResultPart,
+    returned: Result<HashResult, KeyError>,
+) -> Result<Value<'a>, CaseError> {
+    match part {
+        ResultPart::Short => result_value(alloc, &returned),
+        ResultPart::Toolchain => toolchain_value(alloc, returned),
+        ResultPart::Shown => result_shown(alloc, &returned),
+    }
+}
+
+// The result of a call for a key, in short.
+fn result_value<'a>(
     alloc: Global,
     returned: &Result<HashResult, KeyError>,
 ) -> Result<Value<'a>, CaseError> {
@@ -65,8 +84,8 @@ pub(crate) fn result_value<'a>(
     Ok(Value::Bytes(out))
 }
 
-/// The key of the toolchain that a call for a key returns.
-pub(crate) fn toolchain_value<'a>(
+// The key of the toolchain that a call for a key returns.
+fn toolchain_value<'a>(
     alloc: Global,
     returned: Result<HashResult, KeyError>,
 ) -> Result<Value<'a>, CaseError> {
@@ -76,8 +95,8 @@ pub(crate) fn toolchain_value<'a>(
     }
 }
 
-/// The result of a call for a key, as `Debug` prints it.
-pub(crate) fn result_shown<'a>(
+// The result of a call for a key, as `Debug` prints it.
+fn result_shown<'a>(
     alloc: Global,
     returned: &Result<HashResult, KeyError>,
 ) -> Result<Value<'a>, CaseError> {

@@ -17,24 +17,33 @@ pub(crate) fn call_of(
     request: &GivenRequest,
     given: &Given,
     given_files: &GivenFiles,
+    is_bytewise: bool,
 ) -> Result<FixedCall, CaseError> {
     let alloc = request.alloc;
+    let cwd = request.cwd.to_vec(alloc)?;
+    let vars = copy_variables(alloc, &given.variables)?;
+    let files = noting(alloc, given_files, is_bytewise)?;
     Ok(Call {
         hasher: or_out_of_memory(request.hasher.copy(alloc))?,
-        files: noting(alloc, given_files)?,
-        cwd: request.cwd.to_vec(alloc)?,
-        vars: copy_variables(alloc, &given.variables)?,
+        files,
+        cwd,
+        vars,
         moment: given_files.moment,
         control: request.control,
     })
 }
 
-fn noting(alloc: Global, given_files: &GivenFiles) -> Result<NotingFiles, CaseError> {
+fn noting(
+    alloc: Global,
+    given_files: &GivenFiles,
+    is_bytewise: bool,
+) -> Result<NotingFiles, CaseError> {
+    let path = PREPROCESSED.to_vec(alloc)?;
     Ok(NotingFiles {
         files: given_files.files.copy(alloc)?,
-        path: PREPROCESSED.to_vec(alloc)?,
+        path,
         count: 0,
-        is_bytewise: false,
+        is_bytewise,
     })
 }
 

@@ -14,7 +14,6 @@ use std::alloc::Global;
 ///
 /// A call counts where its path has the same components. The count is a `u64` and stays at
 /// `u64::MAX`. A read gives as many bytes as there are and fit, or one of them.
-#[derive(Drop)]
 pub struct NotingFiles {
     /// The files.
     pub files: MapFiles,
@@ -24,6 +23,17 @@ pub struct NotingFiles {
     pub count: u64,
     /// Whether a read gives one byte at most.
     pub is_bytewise: bool,
+}
+
+impl Drop for NotingFiles {
+    fn drop(self) {
+        let NotingFiles {
+            files: _,
+            path: _,
+            count: _,
+            is_bytewise: _,
+        } = self;
+    }
 }
 
 impl NotingFiles {

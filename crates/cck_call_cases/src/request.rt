@@ -7,45 +7,49 @@ use cck_util::Language;
 use std::alloc::Global;
 
 #[derive(Clone, Copy)]
-enum Word {
+enum BytesWord {
     Printed,
-    Kind,
-    Plusplus,
-    Version,
-    Assembler,
-    CannotCache,
-    CannotCacheFor,
-    NotCompilation,
+    Executable,
+    Cwd,
 }
 
-const WORDS: [(&str, Word); 8] = [
-    ("printed", Word::Printed),
-    ("kind", Word::Kind),
-    ("plusplus", Word::Plusplus),
-    ("version", Word::Version),
-    ("assembler", Word::Assembler),
-    ("cannot_cache", Word::CannotCache),
-    ("cannot_cache_for", Word::CannotCacheFor),
-    ("not_compilation", Word::NotCompilation),
+const BYTES_WORDS: [(&str, BytesWord); 3] = [
+    ("printed", BytesWord::Printed),
+    ("executable", BytesWord::Executable),
+    ("cwd", BytesWord::Cwd),
 ];
 
 #[derive(Clone, Copy)]
-enum CallWord {
-    Executable,
+enum TextWord {
     Digest,
-    Language,
-    Cwd,
-    Recache,
-    AnyKey,
+    Version,
+    Assembler,
+    CannotCacheFor,
 }
 
-const CALL_WORDS: [(&str, CallWord); 6] = [
-    ("executable", CallWord::Executable),
-    ("compiler", CallWord::Digest),
-    ("language", CallWord::Language),
-    ("cwd", CallWord::Cwd),
-    ("recache", CallWord::Recache),
-    ("any_key", CallWord::AnyKey),
+const TEXT_WORDS: [(&str, TextWord); 4] = [
+    ("compiler", TextWord::Digest),
+    ("version", TextWord::Version),
+    ("assembler", TextWord::Assembler),
+    ("cannot_cache_for", TextWord::CannotCacheFor),
+];
+
+#[derive(Clone, Copy)]
+enum FlagWord {
+    Plusplus,
+    Reading(FixedReading),
+    Control(CacheControl),
+}
+
+const FLAG_WORDS: [(&str, FlagWord); 5] = [
+    ("plusplus", FlagWord::Plusplus),
+    ("cannot_cache", FlagWord::Reading(FixedReading::CannotCache)),
+    (
+        "not_compilation",
+        FlagWord::Reading(FixedReading::NotCompilation),
+    ),
+    ("recache", FlagWord::Control(CacheControl::ForceRecache)),
+    ("any_key", FlagWord::Control(CacheControl::Default)),
 ];
 
 const KINDS: [(&str, CCompilerKind); 10] = [
@@ -115,47 +119,58 @@ impl GivenRequest {
 
     /// Takes what a line gives, and returns whether it knows the line's word.
     pub(crate) fn give(&mut self, name: &str, rest: &str) -> Result<bool, CaseError> {
-        if let Some(word) = find(&WORDS, name) {
-            self.give_compiler(word, rest)?;
-            return Ok(true);
+        if let Some(word) = find(&BYTES_WORDS, name) {
+            self.give_bytes(word, rest)?;
+        } else if let Some(word) = find(&TEXT_WORDS, name) {
+            self.give_text(word, rest)?;
+        } else if let Some(word) = find(&FLAG_WORDS, name) {
+            self.give_flag(word);
+        } else {
+            return self.give_name(name, rest);
         }
-        if let Some(word) = find(&CALL_WORDS, name) {
-            self.give_call(word, rest)?;
-            return Ok(true);
-        }
-        arguments::give(self.alloc, &mut self.hasher.parsed_args, name, rest)
+        Ok(true)
     }
 
-    fn give_compiler(&mut self, word: Word, rest: &str) -> Result<(), CaseError> {
-        let alloc = self.alloc;
-        let compiler = &mut self.hasher.compiler;
+    fn give_bytes(&mut self, word: BytesWord, rest: &str) -> Result<(), CaseError> {
+        let bytes = bytes_of(self.alloc, rest)?;
         match word {
-            Word::Printed => compiler.text = bytes_of(alloc, rest)?,
-            Word::Kind => compiler.kind = find(&KINDS, rest).ok_or(CaseError::Line)?,
-            Word::Plusplus => compiler.plusplus = true,
-            Word::Version => compiler.version = Some(String::from_str(alloc, rest)?),
-            Word::Assembler => compiler.assembler = Some(String::from_str(alloc, rest)?),
-            Word::CannotCache => compiler.reading = FixedReading::CannotCache,
-            Word::CannotCacheFor => {
-                compiler.reading = FixedReading::CannotCache;
-                compiler.detail = Some(String::from_str(alloc, rest)?);
-            }
-            Word::NotCompilation => compiler.reading = FixedReading::NotCompilation,
+            BytesWord::Printed => self.hasher.compiler.text = bytes,
+            BytesWord::Executable => self.hasher.executable = bytes,
+            BytesWord::Cwd => self.cwd = bytes,
         }
         Ok(())
     }
 
-    fn give_call(&mut self, word: CallWord, rest: &str) -> Result<(), CaseError> {
+    fn give_text(&mut self, word: TextWord, rest: &str) -> Result<(), CaseError> {
+        let text = String::from_str(self.alloc, rest)?;
+        let hasher = &mut self.hasher;
         match word {
-            CallWord::Executable => self.hasher.executable = bytes_of(self.alloc, rest)?,
-            CallWord::Digest => {
-                self.hasher.executable_digest = String::from_str(self.alloc, rest)?;
+            TextWord::Digest => hasher.executable_digest = text,
+            TextWord::Version => hasher.compiler.version = Some(text),
+            TextWord::Assembler => hasher.compiler.assembler = Some(text),
+            TextWord::CannotCacheFor => {
+                hasher.compiler.reading = FixedReading::CannotCache;
+                hasher.compiler.detail = Some(text);
             }
-            CallWord::Language => self.hasher.parsed_args.language = rest.parse::<Language>()?,
-            CallWord::Cwd => self.cwd = bytes_of(self.alloc, rest)?,
-            CallWord::Recache => self.control = CacheControl::ForceRecache,
-            CallWord::AnyKey => self.control = CacheControl::Default,
         }
         Ok(())
+    }
+
+    fn give_flag(&mut self, word: FlagWord) {
+        match word {
+            FlagWord::Plusplus => self.hasher.compiler.plusplus = true,
+            FlagWord::Reading(reading) => self.hasher.compiler.reading = reading,
+            FlagWord::Control(control) => self.control = control,
+        }
+    }
+
+    // Takes the name of a family or of a language, or what is given of the command line.
+    fn give_name(&mut self, name: &str, rest: &str) -> Result<bool, CaseError> {
+        match name {
+            "kind" => self.hasher.compiler.kind = find(&KINDS, rest).ok_or(CaseError::Line)?,
+            "language" => self.hasher.parsed_args.language = rest.parse::<Language>()?,
+            _ => return arguments::give(self.alloc, &mut self.hasher.parsed_args, name, rest),
+        }
+        Ok(true)
     }
 }

@@ -1,5 +1,5 @@
 //! How what the calls return is written.
-use c_cache_keys::{ArtifactDescriptor, HashResult, KeyError, ParsedArguments};
+use c_cache_keys::{ArtifactDescriptor, ColorMode, HashResult, KeyError, ParsedArguments};
 use cck_cases::{CaseError, Value};
 use cck_util::UtilError;
 use std::alloc::Global;
@@ -60,10 +60,16 @@ pub(crate) fn write_word(out: &mut Vec<u8>, word: &[u8]) -> Result<(), CaseError
     Ok(())
 }
 
-// Writes a line of a name and a word.
-fn write_field(out: &mut Vec<u8>, name: &str, word: &[u8]) -> Result<(), CaseError> {
+// Begins a line with a name.
+fn write_name(out: &mut Vec<u8>, name: &str) -> Result<(), CaseError> {
     out.push(b'\n')?;
     out.extend_from_slice(name.as_bytes())?;
+    Ok(())
+}
+
+// Writes a line of a name and a word.
+fn write_field(out: &mut Vec<u8>, name: &str, word: &[u8]) -> Result<(), CaseError> {
+    write_name(out, name)?;
     out.push(b' ')?;
     write_word(out, word)
 }
@@ -78,16 +84,14 @@ fn write_option(out: &mut Vec<u8>, name: &str, word: &Option<Vec<u8>>) -> Result
 
 // Writes a line of a name and its words.
 fn write_list(out: &mut Vec<u8>, name: &str, words: &[Vec<u8>]) -> Result<(), CaseError> {
-    out.push(b'\n')?;
-    out.extend_from_slice(name.as_bytes())?;
+    write_name(out, name)?;
     write_words(out, words)
 }
 
 // Writes a line of a name, where the flag is set.
 fn write_flag(out: &mut Vec<u8>, name: &str, is_set: bool) -> Result<(), CaseError> {
     if is_set {
-        out.push(b'\n')?;
-        out.extend_from_slice(name.as_bytes())?;
+        write_name(out, name)?;
     }
     Ok(())
 }
@@ -115,17 +119,29 @@ pub(crate) fn write_arguments(
     out: &mut Vec<u8>,
     args: &ParsedArguments,
 ) -> Result<(), CaseError> {
+    write_texts(out, args)?;
+    write_outputs(out, args)?;
+    write_lists(out, args)?;
+    write_flags(out, args)?;
+    write_color(alloc, out, args.color_mode)
+}
+
+fn write_texts(out: &mut Vec<u8>, args: &ParsedArguments) -> Result<(), CaseError> {
     write_field(out, "input", &args.input)?;
     write_field(out, "language", args.language.as_str().as_bytes())?;
     write_field(out, "compilation_flag", &args.compilation_flag)?;
     write_option(out, "depfile", &args.depfile)?;
-    write_option(out, "too_hard", &args.too_hard_for_preprocessor_cache_mode)?;
+    write_option(out, "too_hard", &args.too_hard_for_preprocessor_cache_mode)
+}
+
+fn write_outputs(out: &mut Vec<u8>, args: &ParsedArguments) -> Result<(), CaseError> {
     for (name, output) in args.outputs.iter() {
         write_output(out, name, output)?;
     }
-    write_lists(out, args)?;
-    write_flags(out, args)?;
-    let color = args.color_mode;
+    Ok(())
+}
+
+fn write_color(alloc: Global, out: &mut Vec<u8>, color: ColorMode) -> Result<(), CaseError> {
     out.extend_from_slice(format!(in alloc; "\ncolor {color:?}")?.as_bytes())?;
     Ok(())
 }

@@ -24,18 +24,23 @@ pub(crate) const CALLS: [(&str, StoreCall); 6] = [
 ];
 
 #[derive(Clone, Copy)]
-enum Word {
+enum NumberWord {
     FailAt,
     FailAfter,
     ForgetAt,
+}
+
+#[derive(Clone, Copy)]
+enum Word {
+    Number(NumberWord),
     New,
     Empty,
 }
 
 const WORDS: [(&str, Word); 5] = [
-    ("store_fail_at", Word::FailAt),
-    ("store_fail_after", Word::FailAfter),
-    ("store_forget_at", Word::ForgetAt),
+    ("store_fail_at", Word::Number(NumberWord::FailAt)),
+    ("store_fail_after", Word::Number(NumberWord::FailAfter)),
+    ("store_forget_at", Word::Number(NumberWord::ForgetAt)),
     ("new_store", Word::New),
     ("empty_store", Word::Empty),
 ];
@@ -71,13 +76,19 @@ impl Stores {
             return Ok(false);
         };
         match word {
-            Word::FailAt => self.map.fail_at(number(rest)?),
-            Word::FailAfter => self.map.fail_after(number(rest)?),
-            Word::ForgetAt => self.map.forget_at(number(rest)?),
+            Word::Number(word) => self.give_number(word, number(rest)?),
             Word::New => self.map = MapStore::new(self.alloc),
             Word::Empty => self.is_empty = true,
         }
         Ok(true)
+    }
+
+    fn give_number(&mut self, word: NumberWord, number: u64) {
+        match word {
+            NumberWord::FailAt => self.map.fail_at(number),
+            NumberWord::FailAfter => self.map.fail_after(number),
+            NumberWord::ForgetAt => self.map.forget_at(number),
+        }
     }
 
     /// Makes a call on the store.
@@ -86,17 +97,40 @@ impl Stores {
         call: StoreCall,
         line: CaseLine<'a>,
     ) -> Result<Value<'a>, CaseError> {
-        let (alloc, key) = (self.alloc, line.rest);
         match call {
-            StoreCall::Put if self.is_empty => put(alloc, &mut self.empty, key, line.bytes),
-            StoreCall::Put => put(alloc, &mut self.map, key, line.bytes),
-            StoreCall::Get if self.is_empty => get(alloc, &mut self.empty, key),
-            StoreCall::Get => get(alloc, &mut self.map, key),
-            StoreCall::Held => Ok(Value::Part(self.map.held(key))),
-            StoreCall::Holds => Ok(Value::Flag(self.map.held(key).is_some())),
-            StoreCall::Shown if self.is_empty => shown_empty(alloc, &self.empty),
-            StoreCall::Shown => shown_map(alloc, &self.map),
+            StoreCall::Put => self.put(line.rest, line.bytes),
+            StoreCall::Get => self.get(line.rest),
+            StoreCall::Held => Ok(Value::Part(self.map.held(line.rest))),
+            StoreCall::Holds => Ok(Value::Flag(self.map.held(line.rest).is_some())),
+            StoreCall::Shown if self.is_empty => shown_empty(self.alloc, &self.empty),
+            StoreCall::Shown => shown_map(self.alloc, &self.map),
             StoreCall::Count => Ok(Value::Number(self.map.calls())),
+        }
+    }
+
+    fn put<'a>(&mut self, key: &str, bytes: &[u8]) -> Result<Value<'a>, CaseError> {
+        let alloc = self.alloc;
+        let put = if self.is_empty {
+            self.empty.put_preprocessor_cache_entry(alloc, key, bytes)
+        } else {
+            self.map.put_preprocessor_cache_entry(alloc, key, bytes)
+        };
+        match put {
+            Ok(()) => Ok(Value::Word("done")),
+            Err(error) => error_value(error),
+        }
+    }
+
+    fn get<'a>(&mut self, key: &str) -> Result<Value<'a>, CaseError> {
+        let alloc = self.alloc;
+        let found = if self.is_empty {
+            self.empty.get_preprocessor_cache_entry(alloc, key)
+        } else {
+            self.map.get_preprocessor_cache_entry(alloc, key)
+        };
+        match found {
+            Ok(found) => Ok(Value::Found(found)),
+            Err(error) => error_value(error),
         }
     }
 }
@@ -105,29 +139,6 @@ fn error_value<'a>(error: StoreError) -> Result<Value<'a>, CaseError> {
     match error {
         StoreError::Fault => Ok(Value::Word("error Fault")),
         StoreError::Memory => Err(CaseError::Util(UtilError::Memory)),
-    }
-}
-
-fn put<'a, S: PreprocessorStore>(
-    alloc: Global,
-    store: &mut S,
-    key: &str,
-    bytes: &[u8],
-) -> Result<Value<'a>, CaseError> {
-    match store.put_preprocessor_cache_entry(alloc, key, bytes) {
-        Ok(()) => Ok(Value::Word("done")),
-        Err(error) => error_value(error),
-    }
-}
-
-fn get<'a, S: PreprocessorStore>(
-    alloc: Global,
-    store: &mut S,
-    key: &str,
-) -> Result<Value<'a>, CaseError> {
-    match store.get_preprocessor_cache_entry(alloc, key) {
-        Ok(found) => Ok(Value::Found(found)),
-        Err(error) => error_value(error),
     }
 }
 

@@ -25,15 +25,21 @@ fn recorded(alloc: Global, files: &mut MapFiles, path: &[u8]) -> Result<String, 
     Ok(found.unwrap_or(String::new(alloc)))
 }
 
+// A header, with its recorded digest.
+fn header(alloc: Global, files: &mut MapFiles, path: &[u8]) -> Result<(String, Vec<u8>), Error> {
+    let digest = recorded(alloc, files, path)?;
+    Ok((digest, path.to_vec(alloc)?))
+}
+
 // An entry with two results of the same two headers. For the greater key the second header had
 // other contents.
 fn two_results(alloc: Global, files: &mut MapFiles) -> Result<PreprocessorCacheEntry, Error> {
+    let first = header(alloc, files, b"/1")?;
+    let second = header(alloc, files, b"/2")?;
+    let other = String::from_str(alloc, &first.0)?;
+    let mut included = vec![in alloc; first]?;
+    included.push(second)?;
     let mut entry = PreprocessorCacheEntry::new(alloc);
-    let first = recorded(alloc, files, b"/1")?;
-    let second = recorded(alloc, files, b"/2")?;
-    let other = String::from_str(alloc, &first)?;
-    let mut included = vec![in alloc; (first, b"/1".to_vec(alloc)?)]?;
-    included.push((second, b"/2".to_vec(alloc)?))?;
     entry.add_result(files, Timestamp::new(1000, 0), "a", &included)?;
     included[1].0 = other;
     entry.add_result(files, Timestamp::new(1000, 0), "b", &included)?;
@@ -51,16 +57,24 @@ pub(crate) fn look_up_over_counted_files(alloc: Global) -> Option<(String, u64)>
         calls: 0,
         reads: 0,
     };
+    let key = key_over(alloc, &entry, &mut files)?;
+    Some((key, files.reads))
+}
+
+fn key_over(
+    alloc: Global,
+    entry: &PreprocessorCacheEntry,
+    files: &mut CountedFiles<MapFiles>,
+) -> Option<String> {
     let found = entry.lookup_result_digest::<Sha256State, CountedFiles<MapFiles>>(
         alloc,
-        &mut files,
+        files,
         Timestamp::new(2000, 0),
         &TimeZone::UTC,
         &[],
         PreprocessorCacheModeConfig::activated(),
     );
-    let key = String::from_str(alloc, found.ok()??).ok()?;
-    Some((key, files.reads))
+    String::from_str(alloc, found.ok()??).ok()
 }
 
 // A directory at `/h`, modified and changed at the start of 1970.
@@ -76,18 +90,31 @@ fn dated_directory(alloc: Global) -> Result<MapFiles, UtilError> {
     Ok(files)
 }
 
+// An entry whose only include is that directory.
+fn directory_entry(alloc: Global, files: &mut MapFiles) -> Result<PreprocessorCacheEntry, Error> {
+    let path = b"/h".to_vec(alloc)?;
+    let included = vec![in alloc; (String::new(alloc), path)]?;
+    let mut entry = PreprocessorCacheEntry::new(alloc);
+    entry.add_result(files, Timestamp::new(1, 0), "k", &included)?;
+    Ok(entry)
+}
+
 /// Whether a directory matches an include, if its size and its times are those that were recorded.
 /// `None` if a call fails.
 pub(crate) fn is_directory_found(alloc: Global) -> Option<bool> {
     let mut files = dated_directory(alloc).ok()?;
-    let path = b"/h".to_vec(alloc).ok()?;
-    let included = vec![in alloc; (String::new(alloc), path)].ok()?;
-    let mut entry = PreprocessorCacheEntry::new(alloc);
-    let moment = Timestamp::new(1, 0);
-    entry.add_result(&mut files, moment, "k", &included).ok()?;
+    let entry = directory_entry(alloc, &mut files).ok()?;
+    is_found_by_times(alloc, &entry, &mut files)
+}
+
+fn is_found_by_times(
+    alloc: Global,
+    entry: &PreprocessorCacheEntry,
+    files: &mut MapFiles,
+) -> Option<bool> {
     let found = entry.lookup_result_digest::<Sha256State, MapFiles>(
         alloc,
-        &mut files,
+        files,
         Timestamp::new(2, 0),
         &TimeZone::UTC,
         &[],

@@ -8,14 +8,18 @@ use std::alloc::{AllocError, Global};
 use std::io;
 use std::io::Write;
 
+fn words(alloc: Global) -> Result<Vec<Vec<u8>>, UtilError> {
+    let mut words = Vec::new(alloc);
+    for word in [b"a", b"b", b"c"] {
+        words.push(word.to_vec(alloc)?)?;
+    }
+    Ok(words)
+}
+
 /// The key of an object, and that of a copy of its parts for a C++ compiler. The first parts are
 /// unchanged.
 pub(crate) fn keys_of_a_copy(alloc: Global) -> Result<(String, String), UtilError> {
-    let arguments = vec![in alloc;
-        b"a".to_vec(alloc)?,
-        b"b".to_vec(alloc)?,
-        b"c".to_vec(alloc)?,
-    ]?;
+    let arguments = words(alloc)?;
     let params = HashKeyParams::new("abcd", Language::C, &arguments, b"hello world");
     let other = params.clone()?.with_plusplus(true);
     let first = params.compute::<Sha256State>(alloc)?;
