@@ -80,6 +80,23 @@ fn change_of<H: HashState>(
     }
 }
 
+// How an included file differs that does not match what was recorded of it.
+fn difference_at<H: HashState, F: Files>(
+    alloc: Global,
+    files: &mut F,
+    include: &IncludeRef<'_>,
+) -> Result<Difference, AllocError>
+    ensures keeps { Keeps F.file_map F.faults F.is_quiet files.old files.new }
+    ensures difference { let found = contents_at (F.file_map files.old) (components include.now.path.now) in
+        IfOk result (IsDifference H.hash (Rose (F.faults files.old) (F.faults files.new)) found include.now.digest.now) }
+{
+    match read_contents(alloc, files, include.path) {
+        Ok(contents) => Ok(change_of::<H>(alloc, &contents, include.digest)?),
+        Err(FileError::Memory) => Err(AllocError),
+        Err(_) => Ok(Difference::Missing),
+    }
+}
+
 /// Returns how an included file differs from what was recorded of it, or `None` if it
 /// [matches](include_matches). `known` is that of [`include_matches`].
 ///
@@ -105,9 +122,5 @@ pub fn difference_of<H: HashState, F: Files>(
     if include_matches::<H, F>(alloc, files, known, include, context)? {
         return Ok(None);
     }
-    match read_contents(alloc, files, include.path) {
-        Ok(contents) => Ok(Some(change_of::<H>(alloc, &contents, include.digest)?)),
-        Err(FileError::Memory) => Err(AllocError),
-        Err(_) => Ok(Some(Difference::Missing)),
-    }
+    Ok(Some(difference_at::<H, F>(alloc, files, include)?))
 }

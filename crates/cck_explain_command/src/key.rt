@@ -10,7 +10,7 @@ ghost use Rattle.cck_util.specs.Key.{object_key};
 
 use crate::error::ExplainError;
 use crate::line::put_parts;
-use crate::part::{Part, material_parts};
+use crate::part::{Part, argument_name, material_parts};
 use crate::request::ExplainKeyRequest;
 use cck_command::print;
 use cck_explain_listing::{push_argument_cuts, push_text_cuts};
@@ -60,7 +60,7 @@ fn push_arguments_cuts(
         ≡ lines.old.items ++ arguments_cut_lines (lists_of basedirs.now) 0 (lists_of arguments.now)) }
 {
     for (index, argument) in arguments.iter().enumerate() {
-        let name = format!(in alloc; "arguments[{index}]")?;
+        let name = argument_name(alloc, index)?;
         push_argument_cuts(alloc, lines, name.as_str(), argument, basedirs)?;
     }
     Ok(())

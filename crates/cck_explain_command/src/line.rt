@@ -107,11 +107,10 @@ fn put_part<W: Write>(
         (buffer.old.items ++ part_lines offset (listed_part is_full part.now))) }
 {
     if is_full {
-        put_rows(alloc, writer, buffer, offset, part)?;
+        put_rows(alloc, writer, buffer, offset, part)
     } else {
-        put_line(alloc, writer, buffer, offset, part.name(), part.bytes())?;
+        put_line(alloc, writer, buffer, offset, part.name(), part.bytes())
     }
-    Ok(())
 }
 
 /// Puts the lines of these parts into the writer through the buffer, each with its offset in all of

@@ -3,8 +3,10 @@ ghost use Rattle.std.specs.Prelude.{◌≡◌, ◌∷◌, ◌++◌, [], IfOk, On
 ghost use Rattle.std.specs.Cow.{cow_slice_items};
 ghost use Rattle.cck_path.specs.Bytes.{lists_of};
 ghost use Rattle.cck_strip.specs.Argument.{stripped_argument};
-ghost use Rattle.cck_util.specs.Key.{key_parts};
-ghost use Rattle.cck_explain_command.specs.Key.{frame_parts, length_part, list_parts, material_parts, part};
+ghost use Rattle.cck_strip.specs.Text.{stripped_text};
+ghost use Rattle.cck_util.specs.Key.{cache_version, key_parts};
+ghost use Rattle.cck_util.specs.Language.{language_name};
+ghost use Rattle.cck_explain_command.specs.Key.{frame_parts, item_name, length_part, list_parts, material_parts, part};
 ghost use Rattle.cck_explain_command.specs.ExplainKeyRequest.{params_for};
 
 use crate::request::ExplainKeyRequest;
@@ -90,6 +92,13 @@ fn push_frame<'a>(
     Ok(())
 }
 
+/// The name of the argument of this index.
+pub fn argument_name(alloc: Global, index: usize) -> Result<String, AllocError>
+    ensures { IfOk result (λ name. string_bytes name ≡ item_name (codes "arguments") index) }
+{
+    Ok(format!(in alloc; "arguments[{index}]")?)
+}
+
 // Appends the count of the arguments, and a frame for each without its base directories.
 fn push_arguments<'a>(
     alloc: Global,
@@ -102,12 +111,72 @@ fn push_arguments<'a>(
 {
     push_length(alloc, parts, "arguments", arguments.len())?;
     for (index, argument) in arguments.iter().enumerate() {
-        let name = format!(in alloc; "arguments[{index}]")?;
+        let name = argument_name(alloc, index)?;
         let Ok(stripped) = strip_basedirs_from_arg(alloc, argument, basedirs) else {
             return Err(AllocError);
         };
         push_frame(alloc, parts, name.as_str(), stripped)?;
     }
+    Ok(())
+}
+
+// Appends the parts before the arguments.
+fn push_first_parts<'a>(
+    alloc: Global,
+    parts: &mut Vec<Part<'a>>,
+    request: &'a ExplainKeyRequest<'_>,
+) -> Result<(), AllocError>
+    ensures { OnOk result (parts.new.items ≡ parts.old.items
+        ++ frame_parts (codes "CACHE_VERSION") cache_version
+        ++ frame_parts (codes "compiler_digest") request.now.compiler_digest.now
+        ++ part (codes "plusplus") (0 ∷ []) ∷ []
+        ++ frame_parts (codes "language") (language_name request.now.language)) }
+{
+    push_frame(
+        alloc,
+        parts,
+        "CACHE_VERSION",
+        CowSlice::Borrowed(CACHE_VERSION),
+    )?;
+    push_frame(
+        alloc,
+        parts,
+        "compiler_digest",
+        CowSlice::Borrowed(request.compiler_digest.as_bytes()),
+    )?;
+    let plusplus = String::from_str(alloc, "plusplus")?;
+    push_part(parts, plusplus, CowSlice::Borrowed(&[0]))?;
+    let language = request.language.as_str();
+    push_frame(
+        alloc,
+        parts,
+        "language",
+        CowSlice::Borrowed(language.as_bytes()),
+    )?;
+    Ok(())
+}
+
+// Appends the parts after the arguments.
+fn push_last_parts<'a>(
+    alloc: Global,
+    parts: &mut Vec<Part<'a>>,
+    basedirs: &[Vec<u8>],
+    text: &'a [u8],
+) -> Result<(), AllocError>
+    ensures { OnOk result (parts.new.items ≡ parts.old.items
+        ++ length_part (codes "extra_hashes") 0 ∷ []
+        ++ part (codes "assembler_digest.option") (0 ∷ []) ∷ []
+        ++ length_part (codes "env_vars") 0 ∷ []
+        ++ frame_parts (codes "preprocessor_output") (stripped_text (lists_of basedirs.now) text.now)) }
+{
+    push_length(alloc, parts, "extra_hashes", 0)?;
+    let assembler = String::from_str(alloc, "assembler_digest.option")?;
+    push_part(parts, assembler, CowSlice::Borrowed(&[0]))?;
+    push_length(alloc, parts, "env_vars", 0)?;
+    let Ok(output) = strip_basedirs(alloc, text, basedirs) else {
+        return Err(AllocError);
+    };
+    push_frame(alloc, parts, "preprocessor_output", output)?;
     Ok(())
 }
 
@@ -123,41 +192,8 @@ pub fn material_parts<'a>(
     ensures { IfOk result (λ parts. parts.items ≡ material_parts (key_parts (params_for request.now text.now))) }
 {
     let mut parts = Vec::new(alloc);
-    let language = request.language.as_str();
-    push_frame(
-        alloc,
-        &mut parts,
-        "CACHE_VERSION",
-        CowSlice::Borrowed(CACHE_VERSION),
-    )?;
-    push_frame(
-        alloc,
-        &mut parts,
-        "compiler_digest",
-        CowSlice::Borrowed(request.compiler_digest.as_bytes()),
-    )?;
-    push_part(
-        &mut parts,
-        String::from_str(alloc, "plusplus")?,
-        CowSlice::Borrowed(&[0]),
-    )?;
-    push_frame(
-        alloc,
-        &mut parts,
-        "language",
-        CowSlice::Borrowed(language.as_bytes()),
-    )?;
+    push_first_parts(alloc, &mut parts, request)?;
     push_arguments(alloc, &mut parts, &request.arguments, &request.basedirs)?;
-    push_length(alloc, &mut parts, "extra_hashes", 0)?;
-    push_part(
-        &mut parts,
-        String::from_str(alloc, "assembler_digest.option")?,
-        CowSlice::Borrowed(&[0]),
-    )?;
-    push_length(alloc, &mut parts, "env_vars", 0)?;
-    let Ok(output) = strip_basedirs(alloc, text, &request.basedirs) else {
-        return Err(AllocError);
-    };
-    push_frame(alloc, &mut parts, "preprocessor_output", output)?;
+    push_last_parts(alloc, &mut parts, &request.basedirs, text)?;
     Ok(parts)
 }

@@ -25,6 +25,18 @@ pub enum WatchedCall {
     },
 }
 
+// A copy of what a get returned.
+fn copy_of(
+    alloc: Global,
+    returned: &Result<Option<Vec<u8>>, StoreError>,
+) -> Result<Result<Option<Vec<u8>>, StoreError>, AllocError> {
+    match returned {
+        Ok(Some(bytes)) => Ok(Ok(Some(bytes.to_vec(alloc)?))),
+        Ok(None) => Ok(Ok(None)),
+        Err(error) => Ok(Err(*error)),
+    }
+}
+
 /// A store in memory that passes each call on to a [`MapStore`], and keeps the calls and their results
 /// until they are taken. Its value is that of the `MapStore`.
 #[derive(Drop)]
@@ -78,12 +90,8 @@ impl WatchedStore {
     ) -> Result<(), AllocError>
         ensures { self.new ≡ self.old }
     {
-        let returned = match returned {
-            Ok(Some(bytes)) => Ok(Some(bytes.to_vec(alloc)?)),
-            Ok(None) => Ok(None),
-            Err(error) => Err(*error),
-        };
         let key = String::from_str(alloc, key)?;
+        let returned = copy_of(alloc, returned)?;
         self.calls.push(WatchedCall::Get { key, returned })?;
         Ok(())
     }

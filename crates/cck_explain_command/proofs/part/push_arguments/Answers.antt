@@ -8,9 +8,9 @@ use Rattle.cck_explain_command.proofs.part.push_arguments.Goals as goal
 
 pub loop-index-preserved : goal.loop-index-preserved
 loop-index-preserved c =
-    let i = c.loop-index.index-counter in
+    let i = c.loop-index.index in
     let strip = stripped_argument (lists_of c.args.basedirs.now) in
-    let name : c.as_str.result.now ≡ item_name (codes "arguments") i = c.as_str.ensures.value ∙ c.in_ok-name.ensures.ok in
+    let name : c.as_str.result.now ≡ item_name (codes "arguments") i = c.as_str.ensures.value ∙ c.in_ok-name.ensures in
     let bytes = c.in-Ok.ensures.value ∙ ap strip c.deref.ensures.value in
     let more = frames_more (λ a. a.items) strip (codes "arguments") c.args.arguments.now i c.index-arguments-index.result _ _ c.loop-index-test.true c.index-arguments-index.is name bytes in
     c.in_ok-push_frame.ensures

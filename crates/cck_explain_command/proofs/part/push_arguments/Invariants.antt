@@ -8,4 +8,4 @@ use Rattle.cck_explain_command.proofs.part.push_arguments.Given as goal
 abbrev pub invariant-loop-index : goal.invariant-loop-index
 invariant-loop-index l =
     l.parts.items ≡ l.fn.parts.items ++ length_part (codes "arguments") (length l.arguments)
-    ∷ frames_parts (codes "arguments") 0 (map (stripped_argument (lists_of l.basedirs)) (lists_of (take l.index-counter l.arguments)))
+    ∷ frames_parts (codes "arguments") 0 (map (stripped_argument (lists_of l.basedirs)) (lists_of (take l.index l.arguments)))
