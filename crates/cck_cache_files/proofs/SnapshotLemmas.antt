@@ -13,8 +13,9 @@ use Rattle.cck_files.specs.FileMap.{FileMap, FileNode, exists_at}
 use Rattle.cck_files.specs.FileState.{FileState, IsQuiet, fault_count}
 use Rattle.cck_markers.specs.Marks.{Mark, Name}
 use Rattle.cck_path.specs.Bytes.{Bytes}
-use Rattle.cck_path.specs.Path.{Path, components, path_cmp, path_cmp_total, path_cmp-IsAntisymmetric}
-use Rattle.cck_cache_files.specs.Snapshot.{ArePut, SnapshotGrows, IsAdded, IsNamedFile, IsPart, IsNodePut, StaysCalm, named_path, none_put, one_more, with_node}
+use Rattle.cck_path.specs.Path.{Path, components, joined, normal, path_cmp, path_cmp_total, path_cmp-IsAntisymmetric}
+use Rattle.cck_path.specs.Text.{path_text}
+use Rattle.cck_cache_files.specs.Snapshot.{ArePut, GrowsAt, SnapshotGrows, IsAdded, IsNamedFile, IsPart, IsNodePut, StaysCalm, named_path, none_put, one_more, with_node}
 
 -- one node was put
 pub added : (before after : FileState) (path : Bytes) (n : FileNode) → after ≡ record before { files = with_node before.files path n } → IsAdded before path after
@@ -111,12 +112,38 @@ pub grows_named : (done : List Mark) (mark : Mark) (cwd : Bytes) (a b : FileStat
 grows_named done mark cwd a b =
     grows_among (IsNamedFile done cwd) (IsNamedFile (done ++ mark ∷ []) cwd) a b (named_more done mark cwd)
 
--- a file is put at the path of one mark more
-pub grows_by_name : (done : List Mark) (name : Bytes) (is_system : Bool) (cwd : Bytes) (a b c : FileState) (path : Bytes) → path ≡ named_path cwd name
-    → SnapshotGrows (IsNamedFile done cwd) a b → IsNodePut b.files path c.files → (IsQuiet b → IsPart b.files c.files) → StaysCalm b c
+put_both : (At : Bytes → Type 0) (a b c : FileMap) → ArePut At a b → ArePut At b c → ArePut At a c
+put_both At a b c first (none_put same) = subst (λ (m : FileMap). ArePut At a m) (sym same) first
+put_both At a b c first (one_more m path before at is) = one_more m path (put_both At a b m first before) at is
+
+grows_both : (At : Bytes → Type 0) (a b c : FileState) → SnapshotGrows At a b → SnapshotGrows At b c → SnapshotGrows At a c
+grows_both At a b c first second = record {
+  put = put_both At a.files b.files c.files first.put second.put;
+  kept = λ quiet p n held. second.kept (first.calm.stays_quiet quiet) p n (first.kept quiet p n held);
+  calm = calm_all a b c first.calm second.calm;
+}
+
+-- the file of one mark more
+pub grows_by_name : (done : List Mark) (name : Bytes) (is_system : Bool) (cwd : Bytes) (a b c : FileState)
+    → SnapshotGrows (IsNamedFile done cwd) a b → GrowsAt (named_path cwd name) b c
     → SnapshotGrows (IsNamedFile (done ++ Name name is_system ∷ []) cwd) a c
-grows_by_name done name is_system cwd a b c path leads grown put kept calm =
-    grows_more (IsNamedFile (done ++ Name name is_system ∷ []) cwd) a b c path
+grows_by_name done name is_system cwd a b c grown more =
+    let All : Bytes → Type 0 = IsNamedFile (done ++ Name name is_system ∷ []) cwd in
+    grows_both All a b c
     (grows_named done (Name name is_system) cwd a b grown)
-    (record { name = name; is_system = is_system; among = Contains-push done (Name name is_system); leads = leads })
-    put kept calm
+    (grows_among (λ at. at ≡ named_path cwd name) All b c
+    (λ path leads. record { name = name; is_system = is_system; among = Contains-push done (Name name is_system); leads = leads }) more)
+
+-- nothing is put
+pub grows_not_at : (path : Bytes) (a : FileState) → GrowsAt path a a
+grows_not_at path a = grows_not (λ at. at ≡ path) a
+
+-- a file is put at a path
+pub grows_at : (named path : Bytes) (a b : FileState) (r : Result (Unit {0}) UtilError) → path ≡ named → OnOk r (IsNodePut a.files path b.files) → (IsQuiet a → IsPart a.files b.files) → StaysCalm a b → OnOk r (GrowsAt named a b)
+grows_at named path a b (Ok done) same put kept calm = grows_more (λ at. at ≡ named) a a b path (grows_not (λ at. at ≡ named) a) same put kept calm
+grows_at named path a b (Err e) same put kept calm = tt
+
+-- the path that joins a name to the working directory leads to its file
+pub leads_by : (cwd name whole text path at : Bytes) → components whole ≡ joined (components cwd) (components name) → text ≡ whole → path ≡ path_text (normal (components text)) → at ≡ path → at ≡ named_path cwd name
+leads_by cwd name whole text path at is same leads there =
+    there ∙ (leads ∙ (ap (λ (b : Bytes). path_text (normal (components b))) same ∙ ap (λ (p : Path). path_text (normal p)) is))

@@ -1,18 +1,19 @@
 -- The states that are kept of paths.
-use Rattle.std.proofs.Common.{◌≡◌, ◌≢◌, ◌<◌, ◌≤◌, ◌+◌, ◌⊎◌, ℕ, List, length, take, get_or, Bool, true, false, not, Option, Some, None, IsTrue, IsUtf8, refl, sym, ap, ◌∙◌, subst, ⊎_elim, arith, rules, BuildHasherDefault, FoldHasher}
+use Rattle.std.proofs.Common.{◌≡◌, ◌≢◌, ◌<◌, ◌≤◌, ◌+◌, ◌⊎◌, ℕ, zero, suc, List, length, take, Bool, true, false, Option, Some, None, Bor, IsTrue, IsUtf8, MatchBool, MatchOption, inl, inr, refl, sym, ap, ◌∙◌, subst, ⊎_elim, arith, BuildHasherDefault, FoldHasher}
 use Rattle.std.proofs.lemmas.Bool.{cases_Bool}
-use Rattle.std.proofs.lemmas.Option.{get_or_from_slice_get}
+use Rattle.std.proofs.lemmas.List.{length-take-le, take_all}
 use Rattle.std.proofs.lemmas.Str.{IsUtf8-from_is_utf8, is_utf8-from_IsUtf8}
 use Rattle.std.proofs.lemmas.Cmp.{nat_list_eq_equiv}
 use Rattle.std.proofs.lemmas.Slice.Eq.{bytes_eq-Decides}
 use Rattle.std.specs.HashMap.{HashMap, UpdatesBy, get_by}
 use Rattle.std.specs.Global.{Vec}
 use Rattle.std.specs.Map.{KeepsOthers}
+use Rattle.std.specs.Prelude.{ltb}
 use Rattle.std.specs.Str.{bytes_eq, is_utf8}
-use denote.Enum.Bare.{differs_false, sameb}
-use Rattle.cck_cache_files.specs.PathStates.{AreOnTheWay, EndsAt, IsFirstOther, IsStateOf, KeepsStates, LeadsOn, state_at}
+use denote.Enum.Bare.{sameb}
+use Rattle.cck_cache_files.specs.PathStates.{AreOnTheWay, EndsAt, HasOther, IsFirstEnd, IsFirstOther, IsStateOf, IsUnchanged, KeepsStates, LeadsOn, LeadsOnBy, state_at}
 use Rattle.cck_cache_files.specs.declared.path_states.PathState.{PathState}
-use Rattle.cck_cache_files.specs.declared.path_states.PathState.TheVariants.{Directory, Doubtful}
+use Rattle.cck_cache_files.specs.declared.path_states.PathState.TheVariants.{Directory, Doubtful, Link}
 use Rattle.cck_cache_files.specs.declared.path_states.PathStates.{PathStates}
 use Rattle.cck_cache_files.specs.contracts.path_states.PathState.{the_type}
 
@@ -86,11 +87,11 @@ KeepsStates-state old new path state h = record {
 pub kept_after : (first old new : PathStates) (path : List ℕ) (state : PathState) → KeepsStates first old → IsStateOf old new path state → KeepsStates first new
 kept_after first old new path state h is = KeepsStates-trans first old new h (KeepsStates-state old new path state is)
 
--- ---- the way to a path
+-- no state was added after others
+pub kept_unchanged : (first old new : PathStates) → KeepsStates first old → IsUnchanged old new → KeepsStates first new
+kept_unchanged first old new h same = record { since = same.since ∙ h.since; states = λ path state e. same.states path ∙ h.states path state e }
 
--- no other state is that of a directory
-pub is_directory : (state : PathState) → not (sameb the_type state Directory) ≡ false → state ≡ Directory
-is_directory state e = differs_false the_type (search rules) state Directory e
+-- ---- the way to a path
 
 -- the states that were kept are kept, and the path before each slash up to this place has one of these
 pub record OnTheWay (P : PathState → Type 0) (first now : PathStates) (path : List ℕ) (count : ℕ) : Type 0 where
@@ -116,6 +117,9 @@ one_more Q count before at place l =
     (λ same. subst Q (sym same) at)
     (let choice : (place < count) ⊎ (place ≡ count) = grind arith in choice)
 
+pub way_begins : (P : PathState → Type 0) (states : PathStates) (path : List ℕ) → OnTheWay P states states path 0
+way_begins P states path = record { keeps = record { since = refl; states = λ path state e. e }; way = λ place l. absurd (omega (arith, l)) }
+
 -- the path before a slash has one of the states
 pub way_goes_on : (P : PathState → Type 0) (first old new : PathStates) (path : List ℕ) (place : ℕ) (state : PathState) → OnTheWay P first old path place
     → IsStateOf old new (take place path) state → P state → OnTheWay P first new path (place + 1)
@@ -134,8 +138,63 @@ way_passes P first states path place h none = record {
   way = one_more (λ at. EndsAt path at → (s : PathState) × (state_at states (take at path) ≡ Some s) × P s) place h.way (λ ends. absurd (none ends));
 }
 
-pub no_slash : (path : List ℕ) (place : ℕ) → get_or path place 0 ≢ 47 → ¬ (EndsAt path place)
-no_slash path place ne ends = ne (get_or_from_slice_get path place 47 0 ends.slash)
+-- no slash ends the path of the root
+pub at_the_root : (path : List ℕ) (place : ℕ) → place ≤ 0 → MatchBool (ltb 0 place) (EndsAt path place) (¬ (EndsAt path place))
+at_the_root path zero l = λ ends. let inside : 0 < 0 = ends.inside in omega arith
+at_the_root path (suc n) l = absurd (omega (arith, l))
 
-pub at_the_root : (path : List ℕ) (place : ℕ) → place ≤ 0 → ¬ (EndsAt path place)
-at_the_root path place l ends = let inside : 0 < place = ends.inside in omega arith
+-- ---- the first path that does not lead on
+
+pub by_links : (links : Bool) (state : PathState) → state ≡ Link → MatchBool links (LeadsOnBy links state) (¬ (LeadsOnBy links state))
+by_links true state is = inr is
+by_links false state is = λ same. let two : Link ≡ Directory = sym is ∙ same in cc
+
+-- the end of a path was reached
+pub way_ends : (P : PathState → Type 0) (first now : PathStates) (path : List ℕ) (place : ℕ) → length path ≤ place → OnTheWay P first now path place → AreOnTheWay P now path (length path)
+way_ends P first now path place le h = λ at l. h.way at (omega (arith, l, le))
+
+-- the path before this place, which is the first that does not lead on
+pub first_end : (links : Bool) (first old new : PathStates) (path front : List ℕ) (place : ℕ) (state : PathState) → front ≡ take place path → place < length path
+    → OnTheWay (LeadsOnBy links) first old path place → EndsAt path place → IsStateOf old new front state → ¬ (LeadsOnBy links state) → IsFirstEnd links new path front state
+first_end links first old new path front place state same within way ends is stops =
+    let size : length front ≡ place = ap length same ∙ length-take-le place path (omega (arith, within)) in
+    record {
+      front_is = same ∙ ap (λ (n : ℕ). take n path) (sym size);
+      state_is = is.state_is;
+      before = subst (λ (n : ℕ). AreOnTheWay (LeadsOnBy links) new path n) (sym size) (kept_on_the_way (LeadsOnBy links) old new path place (KeepsStates-state old new front state is) way.way);
+      ends = subst (EndsAt path) (sym size) ends;
+      stops = stops;
+    }
+
+-- what is found of a path: the first path on the way that does not lead on, or that all lead on
+abbrev IsEndFound : Bool → PathStates → List ℕ → Option (Bor (List ℕ) × PathState) → Type 0
+IsEndFound links states path found =
+    MatchOption found (AreOnTheWay (LeadsOnBy links) states path (length path)) (λ end. IsFirstEnd links states path end.0.now end.1)
+
+some_end : (links : Bool) (states : PathStates) (path : List ℕ) (found : Option (Bor (List ℕ) × PathState)) (end : Bor (List ℕ) × PathState) → found ≡ Some end → IsEndFound links states path found → IsFirstEnd links states path end.0.now end.1
+some_end links states path found end is h = rw is at h
+
+no_end : (links : Bool) (states : PathStates) (path : List ℕ) (found : Option (Bor (List ℕ) × PathState)) → found ≡ None → IsEndFound links states path found → AreOnTheWay (LeadsOnBy links) states path (length path)
+no_end links states path found is h = rw is at h
+
+module _ (states : PathStates) (path : List ℕ) (found : Option (Bor (List ℕ) × PathState)) where
+  pub first_other_found : (end : Bor (List ℕ) × PathState) → found ≡ Some end → IsEndFound true states path found → IsFirstOther states path end.0.now end.1
+  first_other_found end is h =
+      let it = some_end true states path found end is h in
+      record { front_is = it.front_is; state_is = it.state_is; before = it.before; ends = inr (it.ends, it.stops) }
+
+  pub whole_path : (new : PathStates) (state : PathState) → found ≡ None → IsEndFound true states path found → IsStateOf states new path state → IsFirstOther new path path state
+  whole_path new state none h is = record {
+    front_is = sym (take_all (length path) path (omega arith));
+    state_is = is.state_is;
+    before = kept_on_the_way LeadsOn states new path (length path) (KeepsStates-state states new path state is) (no_end true states path found none h);
+    ends = inl refl;
+  }
+
+  pub other_found : (end : Bor (List ℕ) × PathState) → found ≡ Some end → IsEndFound false states path found → HasOther states path
+  other_found end is h =
+      let it = some_end false states path found end is h in
+      (length end.0.now, it.ends, end.1, subst (λ (p : List ℕ). state_at states p ≡ Some end.1) it.front_is it.state_is, it.stops)
+
+  pub no_other : found ≡ None → IsEndFound false states path found → AreOnTheWay (λ state. state ≡ Directory) states path (length path)
+  no_other none h = no_end false states path found none h

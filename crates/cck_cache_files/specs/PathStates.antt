@@ -57,6 +57,19 @@ IsThere state = (state ≡ Directory) ⊎ ((state ≡ Link) ⊎ (state ≡ File)
 abbrev pub LeadsOn : PathState → Type 0
 LeadsOn state = (state ≡ Directory) ⊎ (state ≡ Link)
 
+-- a directory, or where links count a link
+abbrev pub LeadsOnBy : Bool → PathState → Type 0
+LeadsOnBy true state = LeadsOn state
+LeadsOnBy false state = state ≡ Directory
+
+-- the first path on the way to a path that does not lead on, where links count or not, and its state
+pub record IsFirstEnd (links : Bool) (states : PathStates) (path front : List ℕ) (state : PathState) : Type 0 where
+  pub front_is : front ≡ take (length front) path
+  pub state_is : state_at states front ≡ Some state
+  pub before : AreOnTheWay (LeadsOnBy links) states path (length front)
+  pub ends : EndsAt path (length front)
+  pub stops : ¬ (LeadsOnBy links state)
+
 -- the first path on the way to a path that does not lead on, or the whole path, and its state
 pub record IsFirstOther (states : PathStates) (path front : List ℕ) (state : PathState) : Type 0 where
   pub front_is : front ≡ take (length front) path

@@ -42,6 +42,10 @@ pub record SnapshotGrows (At : Bytes → Type 0) (before after : FileState) : Ty
   pub kept : IsQuiet before → IsPart before.files after.files
   pub calm : StaysCalm before after
 
+-- the same at one path
+abbrev pub GrowsAt : Bytes → FileState → FileState → Type 0
+GrowsAt path before after = SnapshotGrows (λ at. at ≡ path) before after
+
 -- the path of the file of a name, in this working directory
 abbrev pub named_path : Bytes → Bytes → Bytes
 named_path cwd name = path_text (normal (joined (components cwd) (components name)))

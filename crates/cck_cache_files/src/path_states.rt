@@ -1,7 +1,7 @@
 //! What there is on the way to a path.
-ghost use Rattle.std.specs.Prelude.{◌≡◌, ℕ, List, None, length, IfOk, IsTrue, IsUtf8, MatchBool, OnErr};
+ghost use Rattle.std.specs.Prelude.{◌≡◌, ℕ, List, None, length, ◌<◌, IfOk, IsTrue, IsUtf8, MatchBool, MatchOption, OnErr};
 ghost use Rattle.std.specs.Fs.{file_type};
-ghost use Rattle.cck_cache_files.specs.PathStates.{AreOnTheWay, HasOther, IsFirstOther, IsStateFound, IsStateOf, IsThere, IsUnchanged, KeepsStates, LeadsOn, state_at};
+ghost use Rattle.cck_cache_files.specs.PathStates.{AreOnTheWay, EndsAt, HasOther, IsFirstEnd, IsFirstOther, IsStateFound, IsStateOf, IsThere, IsUnchanged, KeepsStates, LeadsOnBy, state_at};
 
 use crate::times::{changed, is_settled, modified};
 use cck_path::Timestamp;
@@ -39,12 +39,13 @@ impl PathState {
         }
     }
 
-    // Whether a path may lead on: a directory, or a link, which may lead to one.
-    fn leads_on(self) -> bool
-        ensures { MatchBool result (LeadsOn self) (¬ (LeadsOn self)) }
+    // Whether a path may lead on: a directory, or where links count a link, which may lead to one.
+    fn leads_on(self, links: bool) -> bool
+        ensures { MatchBool result (LeadsOnBy links self) (¬ (LeadsOnBy links self)) }
     {
         match self {
-            PathState::Directory | PathState::Link => true,
+            PathState::Directory => true,
+            PathState::Link => links,
             PathState::Absent | PathState::File | PathState::Doubtful => false,
         }
     }
@@ -127,6 +128,14 @@ pub fn is_file<R: Files>(rt: &R, path: &[u8]) -> bool
     }
 }
 
+// Whether a slash at this place ends a directory's path, which is not empty.
+fn ends_at(path: &[u8], place: usize) -> bool
+    requires { place < length path.now }
+    ensures { MatchBool result (EndsAt path.now place) (¬ (EndsAt path.now place)) }
+{
+    place > 0 && path[place] == b'/'
+}
+
 impl PathStates {
     /// No states. Files and links must have changed before this time.
     pub fn new<R: AllocGlobal>(rt: &R, since: Timestamp) -> PathStates
@@ -158,6 +167,32 @@ impl PathStates {
         Ok(state)
     }
 
+    // The first path on the way to an absolute path, the path itself not included, at which there is neither a
+    // directory nor, where links count, a link; and its state.
+    fn first_end<'a, R: Files + AllocGlobal>(
+        &mut self,
+        rt: &R,
+        path: &'a [u8],
+        links: bool,
+    ) -> Result<Option<(&'a [u8], PathState)>, AllocError>
+        ensures first { IfOk result (λ found. MatchOption found
+            (AreOnTheWay (LeadsOnBy links) self.new path.now (length path.now))
+            (λ end. IsFirstEnd links self.new path.now end.0.now end.1)) }
+        ensures kept { KeepsStates self.old self.new }
+    {
+        for place in 0..path.len() {
+            if !ends_at(path, place) {
+                continue;
+            }
+            let front = &path[..place];
+            let state = self.state_of(rt, front)?;
+            if !state.leads_on(links) {
+                return Ok(Some((front, state)));
+            }
+        }
+        Ok(None)
+    }
+
     /// The first path on the way to an absolute path, the path itself included, at which there is
     /// neither a directory nor a link, and its state; the whole path where there is none.
     ///
@@ -170,14 +205,8 @@ impl PathStates {
         ensures first { IfOk result (λ other. IsFirstOther self.new path.now other.0.now other.1) }
         ensures kept { KeepsStates self.old self.new }
     {
-        for (place, byte) in path.iter().enumerate() {
-            if *byte == b'/' && place > 0 {
-                let front = &path[..place];
-                let state = self.state_of(rt, front)?;
-                if !state.leads_on() {
-                    return Ok((front, state));
-                }
-            }
+        if let Some(end) = self.first_end(rt, path, true)? {
+            return Ok(end);
         }
         Ok((path, self.state_of(rt, path)?))
     }
@@ -195,14 +224,9 @@ impl PathStates {
             (AreOnTheWay (λ state. state ≡ PathState.Directory) self.new path.now (length path.now))) }
         ensures kept { KeepsStates self.old self.new }
     {
-        for (place, byte) in path.iter().enumerate() {
-            if *byte == b'/' && place > 0 {
-                let state = self.state_of(rt, &path[..place])?;
-                if state != PathState::Directory {
-                    return Ok(true);
-                }
-            }
+        match self.first_end(rt, path, false)? {
+            Some(_) => Ok(true),
+            None => Ok(false),
         }
-        Ok(false)
     }
 }

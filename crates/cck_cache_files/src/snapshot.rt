@@ -1,12 +1,12 @@
 //! Real files, as they are now, in memory.
-ghost use Rattle.std.specs.Prelude.{◌≡◌, [], IfOk, IfSome, IsOkUnless, IsTrue, List, OnErr, OnOk, true};
+ghost use Rattle.std.specs.Prelude.{◌≡◌, IfSome, IsOkUnless, IsTrue, List, OnErr, OnOk, true};
 ghost use Rattle.cck_files.specs.Calls.{Keeps};
 ghost use Rattle.cck_files.specs.FileMap.{contents_of_kind};
 ghost use Rattle.cck_files.specs.FileState.{IsQuiet, fault_count};
 ghost use Rattle.cck_markers.specs.Marks.{Marks};
 ghost use Rattle.cck_markers.specs.Marks as marks;
 ghost use Rattle.cck_cache_files.specs.PathStates.{KeepsStates};
-ghost use Rattle.cck_cache_files.specs.Snapshot.{SnapshotGrows, IsAdded, IsNamedFile, IsPart, IsNodePut, StaysCalm};
+ghost use Rattle.cck_cache_files.specs.Snapshot.{GrowsAt, SnapshotGrows, IsAdded, IsNamedFile, IsPart, IsNodePut, StaysCalm, named_path};
 
 use crate::path_states::PathStates;
 use crate::times::{changed, modified};
@@ -20,17 +20,24 @@ use std::io::Read;
 use std::os::unix::fs::MetadataExt;
 use std::rt::Files;
 
-// A node without contents.
-fn node_of<R: AllocGlobal>(rt: &R, kind: FileKind, metadata: &Metadata) -> Node
+// A node with these contents.
+fn node_of(kind: FileKind, contents: Vec<u8>, metadata: &Metadata) -> Node
     ensures kind { result.kind ≡ kind }
-    ensures empty { result.contents.items ≡ [] }
+    ensures contents { result.contents ≡ contents }
 {
     Node {
         kind,
-        contents: Vec::new(rt.alloc()),
+        contents,
         modified: modified(metadata),
         changed: changed(metadata),
     }
+}
+
+// Reads a file, and returns its status after that. `None` where it can't be read.
+fn read_into<R: Files>(rt: &R, path: &str, contents: &mut Vec<u8>) -> Option<Metadata> {
+    let mut file = fs::open(rt, path).ok()?;
+    file.read_to_end(contents).ok()?;
+    file.metadata().ok()
 }
 
 // The node of the regular file at a path, with room for this many bytes before it is read. `None`
@@ -46,15 +53,11 @@ fn read_regular<R: Files + AllocGlobal>(rt: &R, path: &str, length: u64) -> Opti
     let room = usize::try_from(length).ok()?.saturating_add(1);
     let mut contents = Vec::new(rt.alloc());
     contents.reserve(room).ok()?;
-    let mut file = fs::open(rt, path).ok()?;
-    file.read_to_end(&mut contents).ok()?;
-    let metadata = file.metadata().ok()?;
+    let metadata = read_into(rt, path, &mut contents)?;
     if !metadata.is_file() || contents.len() as u64 != metadata.len() {
         return None;
     }
-    let mut node = node_of(rt, FileKind::File, &metadata);
-    node.contents = contents;
-    Some(node)
+    Some(node_of(FileKind::File, contents, &metadata))
 }
 
 // The node at a path, links followed. It has contents only if it is a regular file. `None` where it
@@ -66,10 +69,10 @@ fn read_node<R: Files + AllocGlobal>(rt: &R, path: &str) -> Option<Node>
 {
     let metadata = fs::metadata(rt, path).ok()?;
     if metadata.is_dir() {
-        return Some(node_of(rt, FileKind::Folder, &metadata));
+        return Some(node_of(FileKind::Folder, Vec::new(rt.alloc()), &metadata));
     }
     if !metadata.is_file() {
-        return Some(node_of(rt, FileKind::Other, &metadata));
+        return Some(node_of(FileKind::Other, Vec::new(rt.alloc()), &metadata));
     }
     read_regular(rt, path, metadata.len())
 }
@@ -137,7 +140,10 @@ fn leads_there<R: Files + AllocGlobal>(
     if joined == path {
         return Ok(true);
     }
-    Ok(!states.has_other(rt, joined)? && is_one_file(rt, joined, path))
+    if states.has_other(rt, joined)? {
+        return Ok(false);
+    }
+    Ok(is_one_file(rt, joined, path))
 }
 
 /// Puts what is at a path into the snapshot, as [`add_file`] does, if the snapshot has nothing there.
@@ -172,6 +178,29 @@ fn has_one(files: &mut MapFiles, paths: &[Vec<u8>]) -> bool
     false
 }
 
+// Puts the file of a name into the snapshot, or adds its path to those that are left out.
+fn add_named<R: Files + AllocGlobal>(
+    rt: &R,
+    files: &mut MapFiles,
+    states: &mut PathStates,
+    left_out: &mut Vec<Vec<u8>>,
+    cwd: &[u8],
+    name: &[u8],
+) -> Result<(), UtilError>
+    ensures named { OnOk result (GrowsAt (named_path cwd.now name.now) files.old files.new) }
+    ensures kept { KeepsStates states.old states.new }
+    ensures errors { IsOkUnless result UtilError.Memory }
+{
+    let alloc = rt.alloc();
+    let joined = join_path(alloc, cwd, name)?;
+    let path = normalize_path(alloc, &joined)?;
+    if leads_there(rt, states, &joined, &path)? {
+        return add_new_file(rt, files, &path);
+    }
+    left_out.push(path)?;
+    Ok(())
+}
+
 /// Puts the files that a preprocessed text names into the snapshot. A name is left out if a link on
 /// the way to it is in doubt, or its path with `.` and `..` may lead elsewhere. Returns whether the
 /// snapshot has something at the path of such a name. The states that were kept are kept.
@@ -189,8 +218,7 @@ pub fn add_named_files<R: Files + AllocGlobal>(
     ensures kept { KeepsStates states.old states.new }
     ensures errors { IsOkUnless result UtilError.Memory }
 {
-    let alloc = rt.alloc();
-    let mut left_out: Vec<Vec<u8>> = Vec::new(alloc);
+    let mut left_out: Vec<Vec<u8>> = Vec::new(rt.alloc());
     let mut last: &[u8] = b"";
     for mark in Markers::new(text) {
         let Mark::Name { name, .. } = mark else {
@@ -200,13 +228,7 @@ pub fn add_named_files<R: Files + AllocGlobal>(
             continue;
         }
         last = name;
-        let joined = join_path(alloc, cwd, name)?;
-        let path = normalize_path(alloc, &joined)?;
-        if leads_there(rt, states, &joined, &path)? {
-            add_new_file(rt, files, &path)?;
-        } else {
-            left_out.push(path)?;
-        }
+        add_named(rt, files, states, &mut left_out, cwd, name)?;
     }
     Ok(has_one(files, &left_out))
 }

@@ -1,18 +1,13 @@
-use Rattle.std.proofs.Common.{◌≡◌, ◌∙◌, List, [], ◌∷◌, ◌++◌, refl, sym, ap, subst}
+use Rattle.std.proofs.Common.{◌≡◌, ◌∙◌, List, [], ◌∷◌, ◌++◌, refl, sym, subst}
 use Rattle.std.proofs.lemmas.List.{append-nil}
-use Rattle.cck_files.specs.FileState.{FileState}
 use Rattle.cck_markers.specs.Marks.{Mark, Name}
 use Rattle.cck_markers.specs.Markers.{MarksLeft, Unread, Yields, mark_of, unread_text}
 use Rattle.cck_markers.proofs.ItemLemmas.{gives_both}
 use Rattle.cck_markers.proofs.OneList.{one_list}
-use Rattle.cck_path.specs.Bytes.{Bytes}
-use Rattle.cck_path.specs.Path.{Path, components, normal}
-use Rattle.cck_path.specs.Text.{path_text}
-use Rattle.cck_cache_files.specs.Snapshot.{SnapshotGrows, IsNamedFile, named_path}
+use Rattle.cck_cache_files.specs.Snapshot.{SnapshotGrows, IsNamedFile}
 use Rattle.cck_cache_files.proofs.SnapshotLemmas.{grows_by_name, grows_kept, grows_named, grows_not}
 use Rattle.cck_cache_files.proofs.StateLemmas.{KeepsStates-trans}
 use Rattle.cck_cache_files.proofs.snapshot.add_named_files.Goals as goal
-use Rattle.cck_cache_files.proofs.snapshot.add_named_files.Goals.{then-branch+in_ok-add_new_file, else-branch+in_ok-push}
 
 pub loop-mark-init : goal.loop-mark-init
 loop-mark-init g c =
@@ -44,23 +39,11 @@ loop-mark-preserved g c =
     let done = c.loop-mark.invariant.0 in
     let name = c.in-Name.name.now in
     let is_system = c.in-Name.is_system in
-    let cwd = c.args.cwd.now in
-    let step : Yields c.loop-mark.mark-iterator (Name name is_system ∷ []) c.next.new.self = rw c.in-Name.is at c.in-Some.ensures.steps in
-    let all = done ++ Name name is_system ∷ [] in (
-      all,
+    let step : Yields c.loop-mark.mark-iterator (Name name is_system ∷ []) c.next.new.self = rw c.in-Name.is at c.in-Some.ensures.steps in (
+      done ++ Name name is_system ∷ [],
       gives_both (unread_text c.args.text.now) c.loop-mark.mark-iterator c.next.new.self done (Name name is_system ∷ []) c.loop-mark.invariant.1 step,
-      elim c.if-branch.branch [
-        | then-branch+in_ok-add_new_file w ↦
-            let leads : w.deref-then-branch.result.now ≡ named_path cwd name =
-            w.deref-then-branch.ensures.value ∙ (c.in_ok-path.ensures.bytes ∙ (ap (λ (b : Bytes). path_text (normal (components b))) c.deref.ensures.value ∙ ap (λ (p : Path). path_text (normal p)) c.in_ok-joined.ensures.components)) in
-            subst (λ (s : FileState). SnapshotGrows (IsNamedFile all cwd) c.args.files.now s) (sym w.files-is)
-            (grows_by_name done name is_system cwd c.args.files.now c.loop-mark.files w.add_new_file.new.files
-            w.deref-then-branch.result.now leads c.loop-mark.invariant.2 w.in_ok-add_new_file.ensures.put w.add_new_file.ensures.kept w.add_new_file.ensures.calm)
-        | else-branch+in_ok-push w ↦
-            subst (λ (s : FileState). SnapshotGrows (IsNamedFile all cwd) c.args.files.now s) (sym w.files-is)
-            (grows_named done (Name name is_system) cwd c.args.files.now c.loop-mark.files c.loop-mark.invariant.2)
-      ],
-      KeepsStates-trans c.args.states.now c.loop-mark.states c.leads_there.new.states c.loop-mark.invariant.3 c.leads_there.ensures.kept,
+      grows_by_name done name is_system c.args.cwd.now c.args.files.now c.loop-mark.files c.add_named.new.files c.loop-mark.invariant.2 c.in_ok-add_named.ensures.named,
+      KeepsStates-trans c.args.states.now c.loop-mark.states c.add_named.new.states c.loop-mark.invariant.3 c.add_named.ensures.kept,
     )
 
 pub returns-clause-named : goal.returns-clause-named
@@ -74,11 +57,5 @@ returns-clause-named g c marks others =
 pub returns-clause-kept : goal.returns-clause-kept
 returns-clause-kept g c = c.loop-mark.invariant.3
 
-pub returns-in_err-leads_there-clause-kept : goal.returns-in_err-leads_there-clause-kept
-returns-in_err-leads_there-clause-kept g c = KeepsStates-trans c.args.states.now c.loop-mark.states c.leads_there.new.states c.loop-mark.invariant.3 c.leads_there.ensures.kept
-
-pub returns-in_err-add_new_file-clause-kept : goal.returns-in_err-add_new_file-clause-kept
-returns-in_err-add_new_file-clause-kept g c = KeepsStates-trans c.args.states.now c.loop-mark.states c.leads_there.new.states c.loop-mark.invariant.3 c.leads_there.ensures.kept
-
-pub returns-in_err-push-clause-kept : goal.returns-in_err-push-clause-kept
-returns-in_err-push-clause-kept g c = KeepsStates-trans c.args.states.now c.loop-mark.states c.leads_there.new.states c.loop-mark.invariant.3 c.leads_there.ensures.kept
+pub returns-in_err-add_named-clause-kept : goal.returns-in_err-add_named-clause-kept
+returns-in_err-add_named-clause-kept g c = KeepsStates-trans c.args.states.now c.loop-mark.states c.add_named.new.states c.loop-mark.invariant.3 c.add_named.ensures.kept
